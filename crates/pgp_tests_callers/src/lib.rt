@@ -23,6 +23,8 @@ mod trace_objects;
 #[cfg(test)]
 mod trace_session;
 #[cfg(test)]
+mod trace_words;
+#[cfg(test)]
 mod uses;
 #[cfg(test)]
 mod uses_arrays;

@@ -3,10 +3,7 @@
 
 use crate::checks::{holds, refused_more, same};
 use crate::failing::{FailingReader, FailingWriter, PieceReader};
-use crate::trace_objects::{
-    ANSWER_OBJECTS, ANSWERS, GSS_OBJECTS, OBJECTS, OPEN_OBJECTS, TLS_OBJECTS,
-};
-use crate::trace_session::{LATER, LATER_LINES, LINES, OPEN_LINES, OTHER, OTHER_LINES, SESSION};
+use crate::trace_words::{Outcome, comes_to};
 use pgp_frontend_read::PasswordKind;
 use pgp_line::style::{Form, Style};
 use pgp_program::fault::Fault;
@@ -15,12 +12,12 @@ use pgp_trace::pipe::Pipe;
 use pgp_trace::run::run;
 use pgp_trace::side::{Phase, Side};
 use pgp_trace::stream::list;
+use pgp_trace::view::View;
 use std::alloc::Global;
-use std::io::Read;
 use std::process::Abort;
 
 /// A refusal to encrypt, the end of a log-in, a setting, a state and a key, and the front of another state.
-const STREAM: &[u8] =
+pub const STREAM: &[u8] =
     b"NR\x00\x00\x00\x08\x00\x00\x00\x00S\x00\x00\x00\x08n\x00\n\x00Z\x00\x00\x00\x05IK\x00\x00\x00\x0c\x00\x00\x00\x01abcdZ\x00";
 
 const ONE: &str = "         0        1 N SSLResponse or GSSENCResponse\n";
@@ -37,13 +34,16 @@ const FOUR: &str =
 const FIVE: &str =
     "         0        1 N SSLResponse or GSSENCResponse\n         1        9 R AuthenticationOk\n        10        9 S ParameterStatus      name \"n\" value \"\\x0a\"\n        19        6 Z ReadyForQuery        idle\n        25       13 K BackendKeyData       process 1 key (4 bytes)\n";
 
-const ALL: &str =
+pub const ALL: &str =
     "         0        1 N SSLResponse or GSSENCResponse\n         1        9 R AuthenticationOk\n        10        9 S ParameterStatus      name \"n\" value \"\\x0a\"\n        19        6 Z ReadyForQuery        idle\n        25       13 K BackendKeyData       process 1 key (4 bytes)\nrest 2\n";
 
-const SHORT: Style = Style {
-    form: Form::Columns,
-    limit: 64,
-    secrets: false,
+const SHORT: View<'static> = View {
+    style: Style {
+        form: Form::Columns,
+        limit: 64,
+        secrets: false,
+    },
+    only: &[],
 };
 
 const BEGINNING: Side<'static> = Side::Server(Phase::Beginning);
@@ -66,30 +66,6 @@ fn a_stream_is_listed_however_it_is_cut(rt: HostRuntime) {
     for cuts in 0..512u16 {
         lists(&rt, rt.alloc(), BEGINNING, STREAM, cuts, ALL);
     }
-}
-
-/// What a run of the program comes to: its status, what it writes, and what it says on standard error.
-#[derive(Clone, Copy)]
-struct Outcome<'a> {
-    status: u8,
-    written: &'a str,
-    reported: &'a str,
-}
-
-/// The program on these words and this input comes to this.
-fn comes_to<R: Read>(
-    rt: &impl Abort,
-    alloc: Global,
-    words: &[&str],
-    input: &mut R,
-    wanted: &Outcome<'_>,
-) {
-    let mut output = Vec::new(alloc);
-    let mut errors = Vec::new(alloc);
-    let status = run(alloc, words, input, &mut output, &mut errors);
-    same(rt, status, wanted.status);
-    holds(rt, output.as_slice() == wanted.written.as_bytes());
-    holds(rt, errors.as_slice() == wanted.reported.as_bytes());
 }
 
 /// The lines of the frames that are whole in so many bytes of the stream.
@@ -178,39 +154,8 @@ fn each_allocation_is_refused(rt: HostRuntime) {
     refused_more(&rt, refusals_of(&rt, rt.alloc(), BEGINNING, STREAM, ALL), 2);
 }
 
-const OPEN: &str =
-    "         0        1 N SSLResponse or GSSENCResponse\n         1        9 R AuthenticationOk\n        10        9 S ParameterStatus      name \"n\" value \"\\x0a\"\n        19        6 Z ReadyForQuery        idle\n        25       13 K BackendKeyData       process 1 key \"abcd\"\nrest 2\n";
-
-const USAGE: &str =
-    "usage: pgtrace server [--json] [--full] [--secrets] [--resume] | client [--json] [--full] [--secrets] [--resume] [--password-kind password|initial|response].. | --help | --version\n";
-
-#[test]
-fn words_decide_what_runs(rt: HostRuntime) {
-    let runs: [(&[&str], u8, &str, &str); 10] = [
-        (&["server"], 0, ALL, ""),
-        (&["--help"], 0, USAGE, ""),
-        (&["--version"], 0, "pgtrace 0.1.0\n", ""),
-        (&[], 2, "", USAGE),
-        (&["server", "--secrets"], 0, OPEN, ""),
-        (&["server", "-full"], 2, "", USAGE),
-        (&["server", "--full", "--secrets", "--full"], 0, OPEN, ""),
-        (&["server", "--password-kind", "password"], 2, "", USAGE),
-        (&["client", "--password-kind"], 2, "", USAGE),
-        (&["Server"], 2, "", USAGE),
-    ];
-    for (words, status, written, reported) in runs {
-        let wanted = Outcome {
-            status,
-            written,
-            reported,
-        };
-        let mut input = STREAM;
-        comes_to(&rt, rt.alloc(), words, &mut input, &wanted);
-    }
-}
-
 /// The question for TLS, a startup packet, a password, a query, and the front of a further message.
-const CLIENT: &[u8] =
+pub const CLIENT: &[u8] =
     b"\x00\x00\x00\x08\x04\xd2\x16/\x00\x00\x00\x10\x00\x03\x00\x00user\x00a\x00\x00p\x00\x00\x00\x07pw\x00Q\x00\x00\x00\x06x\x00X\x00";
 
 const CLIENT_ALL: &str =
@@ -241,164 +186,6 @@ fn each_allocation_of_a_clients_listing_is_refused(rt: HostRuntime) {
         refusals_of(&rt, rt.alloc(), side, CLIENT, CLIENT_UNTOLD),
         2,
     );
-}
-
-/// The kinds of the session's first four messages of tag `p`.
-const KINDS: &[&str] = &[
-    "client",
-    "--password-kind",
-    "password",
-    "--password-kind",
-    "initial",
-    "--password-kind",
-    "initial",
-    "--password-kind",
-    "response",
-];
-
-const OPEN_KINDS: &[&str] = &[
-    "client",
-    "--password-kind",
-    "password",
-    "--secrets",
-    "--password-kind",
-    "initial",
-    "--password-kind",
-    "initial",
-    "--full",
-    "--password-kind",
-    "response",
-];
-
-const JSON_KINDS: &[&str] = &[
-    "client",
-    "--json",
-    "--password-kind",
-    "password",
-    "--password-kind",
-    "initial",
-    "--password-kind",
-    "initial",
-    "--password-kind",
-    "response",
-];
-
-/// Runs the program on these words and bytes: it writes these lines, and nothing else.
-fn writes(rt: &impl Abort, alloc: Global, words: &[&str], bytes: &[u8], lines: &str) {
-    let wanted = Outcome {
-        status: 0,
-        written: lines,
-        reported: "",
-    };
-    let mut input = bytes;
-    comes_to(rt, alloc, words, &mut input, &wanted);
-}
-
-#[test]
-fn each_message_of_a_client_has_its_line(rt: HostRuntime) {
-    writes(&rt, rt.alloc(), KINDS, SESSION, LINES);
-}
-
-#[test]
-fn each_secret_of_a_client_is_shown_where_asked_for(rt: HostRuntime) {
-    writes(&rt, rt.alloc(), OPEN_KINDS, SESSION, OPEN_LINES);
-}
-
-#[test]
-fn each_version_of_a_client_has_its_line(rt: HostRuntime) {
-    writes(&rt, rt.alloc(), &["client"], LATER, LATER_LINES);
-    writes(&rt, rt.alloc(), &["client"], OTHER, OTHER_LINES);
-}
-
-#[test]
-fn each_message_has_its_object(rt: HostRuntime) {
-    let open: &[&str] = &["server", "--secrets", "--json", "--full"];
-    writes(
-        &rt,
-        rt.alloc(),
-        &["server", "--json"],
-        ANSWERS,
-        ANSWER_OBJECTS,
-    );
-    writes(&rt, rt.alloc(), open, ANSWERS, OPEN_OBJECTS);
-    writes(&rt, rt.alloc(), JSON_KINDS, SESSION, OBJECTS);
-    writes(&rt, rt.alloc(), &["server", "--json"], b"NS", TLS_OBJECTS);
-    writes(&rt, rt.alloc(), &["server", "--json"], b"NG", GSS_OBJECTS);
-}
-
-/// Bytes, and what the program comes to on them: words, its lines, and what it says on standard error.
-type Run<'a> = (&'a [&'a str], &'a [u8], &'a str, &'a str);
-
-const ENCRYPTED: &str =
-    "pgtrace: what follows is encrypted; a stream that begins in mid-session is listed with --resume\n";
-
-const UNOPENED: &str =
-    "pgtrace: no packet that opens a connection stands there: what follows is encrypted, or the stream begins in mid-session and is listed with --resume\n";
-
-/// After an answer that agrees to encrypt, the bytes that follow are counted alone: a record of TLS, and a token of GSSAPI. A stream from
-/// mid-session is listed where that is said, and else it is said what to do.
-#[test]
-fn what_is_left_is_explained(rt: HostRuntime) {
-    let runs: [Run<'_>; 9] = [
-        (
-            &["server"],
-            b"S",
-            "         0        1 S SSLResponse\nrest 0\n",
-            "",
-        ),
-        (
-            &["server"],
-            b"NS\x16\x03\x03\x00\x7a",
-            "         0        1 N SSLResponse or GSSENCResponse\n         1        1 S SSLResponse\nstopped rest 5\n",
-            ENCRYPTED,
-        ),
-        (
-            &["server"],
-            b"G\x00\x00\x00\x04abcd",
-            "         0        1 G GSSENCResponse\nstopped rest 8\n",
-            ENCRYPTED,
-        ),
-        (
-            &["server", "--resume"],
-            b"S\x00\x00\x00\x08n\x00v\x00",
-            "         0        9 S ParameterStatus      name \"n\" value \"v\"\nrest 0\n",
-            "",
-        ),
-        (
-            &["server", "--json"],
-            b"Z\x00\x00\x00\x03",
-            "{\"rest\":5,\"stopped\":true}\n",
-            "pgtrace: no message of a server stands where the stream begins\n",
-        ),
-        (
-            &["server", "--resume"],
-            b"Z\x00\x00\x00\x03",
-            "stopped rest 5\n",
-            "",
-        ),
-        (&["client"], b"Q\x00\x00\x00\x06x\x00", "rest 7\n", UNOPENED),
-        (
-            &["client", "--resume"],
-            b"Q\x00\x00\x00\x06x\x00",
-            "         0        7 Q Query                query \"x\"\nrest 0\n",
-            "",
-        ),
-        (
-            &["client"],
-            b"\x00\x00\x00\x08\x04\xd2\x16/\x16\x03\x01\x00\x02\x01",
-            "         0        8 - SSLRequest\nrest 6\n",
-            UNOPENED,
-        ),
-    ];
-    for (words, bytes, written, reported) in runs {
-        let wanted = Outcome {
-            status: 0,
-            written,
-            reported,
-        };
-        let mut input = bytes;
-        comes_to(&rt, rt.alloc(), words, &mut input, &wanted);
-    }
 }
 
 /// Where nobody reads the listing any more, a front of it was written, nothing is said, and the status is 0.

@@ -7,12 +7,13 @@ use Rattle.pgp_trace.specs.declared.frame.Next.TheVariants.{Line, Waits, Stops}
 use Rattle.pgp_trace.specs.declared.side.Phase.{Phase}
 use Rattle.pgp_trace.specs.declared.side.Phase.TheVariants.{Beginning, Messages, Encrypted}
 use Rattle.pgp_trace.specs.Sides.{Side, Server, AreAnswers, Ends, answered, phase_behind}
-use Rattle.pgp_trace.specs.Listing.{IsAnswerLine, IsFirst, IsListing, IsServerLine, LineOf, Lines, NoLines, OneLine, answer_line, last_line, place_behind}
+use Rattle.pgp_trace.specs.Listing.{IsAnswerLine, IsListing, LineOf, Listed, Lines, NoLines, OneLine, answer_line, answer_name, last_line, name_in, place_behind}
+use Rattle.pgp_trace.specs.View.{View, shown}
 use Rattle.pgp_trace.specs.Steps.{HasLine, ListsNext, phase_of}
 use Rattle.pgp_trace.proofs.Ends.{answered_stays}
 use Rattle.pgp_trace.proofs.FrameLines.{frame_long}
 use Rattle.pgp_trace.proofs.Shorter.{frame_has}
-use Rattle.pgp_trace.proofs.Sides.{server_line, stays_server}
+use Rattle.pgp_trace.proofs.Sides.{Told, listed, server_line, stays_server, told}
 
 -- ---- a step
 
@@ -27,21 +28,23 @@ none_there (Some x) never = absurd (never x refl)
 -- the first message, where no answer stands there
 pub first_lists : (style : Style) (place : ℕ) (byte : ℕ) (bytes rest line : List ℕ) (next : Next) → phase_behind byte ≡ None → ListsNext style place (Server Messages) (byte ∷ bytes) rest line (Server Messages) next
     → ListsNext style place (Server Beginning) (byte ∷ bytes) rest line (Server (phase_of next)) next
-first_lists style place byte bytes rest line Line none has = record {
+first_lists style place byte bytes rest line (Line name) none has = record {
   frame = has.frame;
   whole = has.whole;
   reported = inr (record { reported = has.reported.0; none = some_more has.frame byte bytes rest has.whole (frame_has style place (Server Messages) (Server Messages) has.frame line has.reported) none; behind = refl });
+  named = has.named;
 }
 first_lists style place byte bytes rest line Waits none at = record { same = at.same; ending = (none, at.ending); side = refl }
 first_lists style place byte bytes rest line Stops none at = record { same = at.same; ending = (none, at.ending); side = refl }
 
 -- an answer
 pub answer_lists : (style : Style) (place byte : ℕ) (rest line : List ℕ) (phase : Phase) → phase_behind byte ≡ Some phase → line ≡ answer_line style place byte
-    → HasLine style place (Server Beginning) (byte ∷ rest) rest line (Server phase)
+    → HasLine style place (Server Beginning) (byte ∷ rest) rest line (Server phase) (answer_name byte)
 answer_lists style place byte rest line phase answers reported = record {
   frame = byte ∷ [];
   whole = refl;
   reported = inl (record { phase = phase; reported = record { byte = byte; whole = refl; answers = answers; reported = reported }; behind = refl });
+  named = refl;
 }
 
 -- ---- answers
@@ -96,7 +99,7 @@ one_front (z ∷ zs) (w ∷ ws) x y p q m n e =
 -- ---- how far a stream has come
 
 -- answers with their lines, and then messages with theirs
-pub record Begun (style : Style) (start : ℕ) (bytes lines : List ℕ) : Type 0 where
+pub record Begun (view : View) (start : ℕ) (bytes lines : List ℕ) : Type 0 where
   pub answers : List ℕ
   pub more : List ℕ
   pub first : List ℕ
@@ -104,27 +107,27 @@ pub record Begun (style : Style) (start : ℕ) (bytes lines : List ℕ) : Type 0
   pub whole : bytes ≡ answers ++ more
   pub text : lines ≡ first ++ rest
   pub plain : AreAnswers answers
-  pub fronts : Lines style start (Server Beginning) answers first (Server Beginning)
+  pub fronts : Lines view start (Server Beginning) answers first (Server Beginning)
   pub none : answered more ≡ None
   pub some : 0 < length more
-  pub backs : Lines style (start + length answers) (Server Messages) more rest (Server Messages)
+  pub backs : Lines view (start + length answers) (Server Messages) more rest (Server Messages)
 
-pub data HasCome (style : Style) (start : ℕ) (bytes lines : List ℕ) (to : Side) : Type 0 where
-  StillAnswers : to ≡ Server Beginning → AreAnswers bytes → HasCome style start bytes lines to
-  NowEncrypted : to ≡ Server Encrypted → ((answers rest : List ℕ) → AreAnswers answers → answered rest ≡ None → bytes ≡ answers ++ rest → ⊥) → HasCome style start bytes lines to
-  NowMessages : to ≡ Server Messages → Begun style start bytes lines → HasCome style start bytes lines to
+pub data HasCome (view : View) (start : ℕ) (bytes lines : List ℕ) (to : Side) : Type 0 where
+  StillAnswers : to ≡ Server Beginning → AreAnswers bytes → HasCome view start bytes lines to
+  NowEncrypted : to ≡ Server Encrypted → ((answers rest : List ℕ) → AreAnswers answers → answered rest ≡ None → bytes ≡ answers ++ rest → ⊥) → HasCome view start bytes lines to
+  NowMessages : to ≡ Server Messages → Begun view start bytes lines → HasCome view start bytes lines to
 
-answer_comes : (phase : Phase) (style : Style) (start place : ℕ) (bytes lines frame line : List ℕ) (to : Side) → AreAnswers bytes → IsAnswerLine style place frame line phase → to ≡ Server phase → HasCome style start (bytes ++ frame) (lines ++ line) to
-answer_comes Beginning style start place bytes lines frame line to plain is e = StillAnswers e (subst (λ l. AreAnswers (bytes ++ l)) (sym is.whole) (push_answer bytes is.byte plain is.answers))
-answer_comes Messages style start place bytes lines frame line to plain is e = absurd (never_messages is.byte is.answers)
-answer_comes Encrypted style start place bytes lines frame line to plain is e =
+answer_comes : (phase : Phase) (view : View) (start place : ℕ) (bytes lines frame row line : List ℕ) (to : Side) → AreAnswers bytes → IsAnswerLine view.style place frame row phase → to ≡ Server phase → HasCome view start (bytes ++ frame) (lines ++ line) to
+answer_comes Beginning view start place bytes lines frame row line to plain is e = StillAnswers e (subst (λ l. AreAnswers (bytes ++ l)) (sym is.whole) (push_answer bytes is.byte plain is.answers))
+answer_comes Messages view start place bytes lines frame row line to plain is e = absurd (never_messages is.byte is.answers)
+answer_comes Encrypted view start place bytes lines frame row line to plain is e =
     NowEncrypted e (λ answers rest others none f. never_plain bytes answers rest is.byte plain is.answers others (ap (λ l. bytes ++ l) (sym is.whole) ∙ f) none)
 
-message_comes : (style : Style) (start : ℕ) (bytes lines frame line : List ℕ) (to : Side) → Lines style start (Server Beginning) bytes lines (Server Beginning) → AreAnswers bytes → IsFirst style (place_behind (start + length bytes)) frame line to
-    → HasCome style start (bytes ++ frame) (lines ++ line) to
-message_comes style start bytes lines frame line to before plain is =
+message_comes : (view : View) (start : ℕ) (bytes lines frame line : List ℕ) (to : Side) → Lines view start (Server Beginning) bytes lines (Server Beginning) → AreAnswers bytes → (has : Told view (place_behind (start + length bytes)) frame line) → answered frame ≡ None → to ≡ Server Messages
+    → HasCome view start (bytes ++ frame) (lines ++ line) to
+message_comes view start bytes lines frame line to before plain has none behind =
     let here : place_behind (start + length bytes) ≡ place_behind ((start + length bytes) + 0) = ap place_behind (omega arith) in
-    NowMessages is.behind (record {
+    NowMessages behind (record {
       answers = bytes;
       more = frame;
       first = lines;
@@ -133,20 +136,20 @@ message_comes style start bytes lines frame line to before plain is =
       text = refl;
       plain = plain;
       fronts = before;
-      none = is.none;
-      some = omega (arith, frame_long is.reported.first frame is.reported.whole);
-      backs = OneLine {bytes = []} {lines = []} {here = Server Messages} frame line NoLines (subst (λ p. IsServerLine style p frame line) here is.reported, refl);
+      none = none;
+      some = omega (arith, frame_long has.reported.first frame has.reported.whole);
+      backs = OneLine {bytes = []} {lines = []} {here = Server Messages} frame line NoLines (listed view (place_behind ((start + length bytes) + 0)) frame line (subst (λ p. Told view p frame line) here has));
     })
 
-first_comes : (style : Style) (start : ℕ) (bytes lines frame line : List ℕ) (to : Side) → Lines style start (Server Beginning) bytes lines (Server Beginning) → AreAnswers bytes → LineOf style (place_behind (start + length bytes)) (Server Beginning) frame line to
-    → HasCome style start (bytes ++ frame) (lines ++ line) to
-first_comes style start bytes lines frame line to before plain (inl is) = answer_comes is.phase style start (place_behind (start + length bytes)) bytes lines frame line to plain is.reported is.behind
-first_comes style start bytes lines frame line to before plain (inr is) = message_comes style start bytes lines frame line to before plain is
+first_comes : (view : View) (start : ℕ) (bytes lines frame text row : List ℕ) (to : Side) → Lines view start (Server Beginning) bytes lines (Server Beginning) → AreAnswers bytes
+    → (has : LineOf view.style (place_behind (start + length bytes)) (Server Beginning) frame row to) → text ≡ shown view (name_in view.style (place_behind (start + length bytes)) (Server Beginning) frame row to has) row → HasCome view start (bytes ++ frame) (lines ++ text) to
+first_comes view start bytes lines frame text row to before plain (inl is) e = answer_comes is.phase view start (place_behind (start + length bytes)) bytes lines frame row text to plain is.reported is.behind
+first_comes view start bytes lines frame text row to before plain (inr is) e = message_comes view start bytes lines frame text to before plain (record { line = row; reported = is.reported; is = e }) is.none is.behind
 
-more_comes : (style : Style) (start : ℕ) (bytes lines frame line : List ℕ) (to : Side) → Begun style start bytes lines → LineOf style (place_behind (start + length bytes)) (Server Messages) frame line to → HasCome style start (bytes ++ frame) (lines ++ line) to
-more_comes style start bytes lines frame line to b is =
+more_comes : (view : View) (start : ℕ) (bytes lines frame line : List ℕ) (to : Side) → Begun view start bytes lines → Listed view (place_behind (start + length bytes)) (Server Messages) frame line to → HasCome view start (bytes ++ frame) (lines ++ line) to
+more_comes view start bytes lines frame line to b is =
     let place : place_behind (start + length bytes) ≡ place_behind ((start + length b.answers) + length b.more) = ap place_behind (omega (arith, ap length b.whole, length-append b.answers b.more)) in
-    NowMessages is.1 (record {
+    NowMessages is.reported.1 (record {
       answers = b.answers;
       more = b.more ++ frame;
       first = b.first;
@@ -157,20 +160,21 @@ more_comes style start bytes lines frame line to b is =
       fronts = b.fronts;
       none = answered_stays b.more frame b.some b.none;
       some = omega (arith, b.some, length-append b.more frame);
-      backs = OneLine frame line b.backs (subst (λ p. IsServerLine style p frame line) place is.0, refl);
+      backs = OneLine frame line b.backs (listed view (place_behind ((start + length b.answers) + length b.more)) frame line (subst (λ p. Told view p frame line) place (told view (place_behind (start + length bytes)) frame line to is)));
     })
 
-comes : (style : Style) (start : ℕ) (bytes lines frame line : List ℕ) (here to : Side) → Lines style start (Server Beginning) bytes lines here → LineOf style (place_behind (start + length bytes)) here frame line to → HasCome style start bytes lines here
-    → HasCome style start (bytes ++ frame) (lines ++ line) to
-comes style start bytes lines frame line here to before has (StillAnswers e plain) =
-    first_comes style start bytes lines frame line to (subst (λ h. Lines style start (Server Beginning) bytes lines h) e before) plain (subst (λ h. LineOf style (place_behind (start + length bytes)) h frame line to) e has)
-comes style start bytes lines frame line here to before has (NowEncrypted e some) = absurd (subst (λ h. LineOf style (place_behind (start + length bytes)) h frame line to) e has)
-comes style start bytes lines frame line here to before has (NowMessages e b) =
-    more_comes style start bytes lines frame line to b (subst (λ h. LineOf style (place_behind (start + length bytes)) h frame line to) e has)
+comes : (view : View) (start : ℕ) (bytes lines frame line : List ℕ) (here to : Side) → Lines view start (Server Beginning) bytes lines here → Listed view (place_behind (start + length bytes)) here frame line to → HasCome view start bytes lines here
+    → HasCome view start (bytes ++ frame) (lines ++ line) to
+comes view start bytes lines frame line here to before has (StillAnswers e plain) =
+    let here_is = subst (λ h. Listed view (place_behind (start + length bytes)) h frame line to) e has in
+    first_comes view start bytes lines frame line here_is.line to (subst (λ h. Lines view start (Server Beginning) bytes lines h) e before) plain here_is.reported here_is.is
+comes view start bytes lines frame line here to before has (NowEncrypted e some) = absurd (subst (λ h. Listed view (place_behind (start + length bytes)) h frame line to) e has).reported
+comes view start bytes lines frame line here to before has (NowMessages e b) =
+    more_comes view start bytes lines frame line to b (subst (λ h. Listed view (place_behind (start + length bytes)) h frame line to) e has)
 
-pub has_come : (style : Style) (start : ℕ) (bytes lines : List ℕ) (to : Side) → Lines style start (Server Beginning) bytes lines to → HasCome style start bytes lines to
-has_come style start [] [] _ NoLines = StillAnswers refl tt
-has_come style start _ _ to (OneLine {bytes = bytes} {lines = lines} {here = here} frame line before has) = comes style start bytes lines frame line here to before has (has_come style start bytes lines here before)
+pub has_come : (view : View) (start : ℕ) (bytes lines : List ℕ) (to : Side) → Lines view start (Server Beginning) bytes lines to → HasCome view start bytes lines to
+has_come view start [] [] _ NoLines = StillAnswers refl tt
+has_come view start _ _ to (OneLine {bytes = bytes} {lines = lines} {here = here} frame line before has) = comes view start bytes lines frame line here to before has (has_come view start bytes lines here before)
 
 -- ---- and back
 
@@ -179,58 +183,59 @@ none_front [] more e = refl
 none_front (x ∷ xs) more e = e
 
 -- the answers so far, and then messages
-record Rejoined (style : Style) (start : ℕ) (answers first more rest : List ℕ) : Type 0 where
-  listed : Lines style start (Server Beginning) (answers ++ more) (first ++ rest) (Server Messages)
+record Rejoined (view : View) (start : ℕ) (answers first more rest : List ℕ) : Type 0 where
+  listed : Lines view start (Server Beginning) (answers ++ more) (first ++ rest) (Server Messages)
 
-abbrev nothing_or : Style → ℕ → List ℕ → List ℕ → List ℕ → List ℕ → Type 0
-nothing_or style start answers first more rest = ((more ≡ []) × (rest ≡ [])) ⊎ Rejoined style start answers first more rest
+abbrev nothing_or : View → ℕ → List ℕ → List ℕ → List ℕ → List ℕ → Type 0
+nothing_or view start answers first more rest = ((more ≡ []) × (rest ≡ [])) ⊎ Rejoined view start answers first more rest
 
-one_more : (style : Style) (start : ℕ) (answers first bytes lines frame line : List ℕ) → Lines style start (Server Beginning) answers first (Server Beginning) → answered (bytes ++ frame) ≡ None
-    → IsServerLine style (place_behind ((start + length answers) + length bytes)) frame line → nothing_or style start answers first bytes lines → Rejoined style start answers first (bytes ++ frame) (lines ++ line)
-one_more style start answers first bytes lines frame line fronts none is (inl (e, f)) =
+one_more : (view : View) (start : ℕ) (answers first bytes lines frame line : List ℕ) → Lines view start (Server Beginning) answers first (Server Beginning) → answered (bytes ++ frame) ≡ None
+    → Told view (place_behind ((start + length answers) + length bytes)) frame line → nothing_or view start answers first bytes lines → Rejoined view start answers first (bytes ++ frame) (lines ++ line)
+one_more view start answers first bytes lines frame line fronts none is (inl (e, f)) =
     let here : place_behind ((start + length answers) + length bytes) ≡ place_behind (start + length answers) = ap place_behind (omega (arith, ap length e)) in
     let at : answered frame ≡ None = ap (λ l. answered (l ++ frame)) (sym e) ∙ none in
+    let there = subst (λ p. Told view p frame line) here is in
     record {
-      listed = rw (e, f) (OneLine frame line fronts (inr (record { reported = subst (λ p. IsServerLine style p frame line) here is; none = at; behind = refl })));
+      listed = rw (e, f) (OneLine frame line fronts (record { line = there.line; reported = inr (record { reported = there.reported; none = at; behind = refl }); is = there.is }));
     }
-one_more style start answers first bytes lines frame line fronts none is (inr joined) =
+one_more view start answers first bytes lines frame line fronts none is (inr joined) =
     let here : place_behind ((start + length answers) + length bytes) ≡ place_behind (start + length (answers ++ bytes)) = ap place_behind (omega (arith, length-append answers bytes)) in
     record {
-      listed = subst (λ l. Lines style start (Server Beginning) l (first ++ (lines ++ line)) (Server Messages)) (append_assoc answers bytes frame)
-          (subst (λ l. Lines style start (Server Beginning) ((answers ++ bytes) ++ frame) l (Server Messages)) (append_assoc first lines line)
-          (OneLine frame line joined.listed (subst (λ p. IsServerLine style p frame line) here is, refl)));
+      listed = subst (λ l. Lines view start (Server Beginning) l (first ++ (lines ++ line)) (Server Messages)) (append_assoc answers bytes frame)
+          (subst (λ l. Lines view start (Server Beginning) ((answers ++ bytes) ++ frame) l (Server Messages)) (append_assoc first lines line)
+          (OneLine frame line joined.listed (listed view (place_behind (start + length (answers ++ bytes))) frame line (subst (λ p. Told view p frame line) here is))));
     }
 
-rejoins : (style : Style) (start : ℕ) (answers first more rest : List ℕ) (to : Side) → Lines style start (Server Beginning) answers first (Server Beginning) → Lines style (start + length answers) (Server Messages) more rest to → answered more ≡ None
-    → nothing_or style start answers first more rest
-rejoins style start answers first [] [] _ fronts NoLines none = inl (refl, refl)
-rejoins style start answers first _ _ to fronts (OneLine {bytes = bytes} {lines = lines} {here = here} frame line before has) none =
-    inr (one_more style start answers first bytes lines frame line fronts none (server_line style (start + length answers) (place_behind ((start + length answers) + length bytes)) bytes lines frame line here to before has)
-    (rejoins style start answers first bytes lines here fronts before (none_front bytes frame none)))
+rejoins : (view : View) (start : ℕ) (answers first more rest : List ℕ) (to : Side) → Lines view start (Server Beginning) answers first (Server Beginning) → Lines view (start + length answers) (Server Messages) more rest to → answered more ≡ None
+    → nothing_or view start answers first more rest
+rejoins view start answers first [] [] _ fronts NoLines none = inl (refl, refl)
+rejoins view start answers first _ _ to fronts (OneLine {bytes = bytes} {lines = lines} {here = here} frame line before has) none =
+    inr (one_more view start answers first bytes lines frame line fronts none (server_line view (start + length answers) (place_behind ((start + length answers) + length bytes)) bytes lines frame line here to before has)
+    (rejoins view start answers first bytes lines here fronts before (none_front bytes frame none)))
 
-rejoined : (style : Style) (start : ℕ) (answers first more rest : List ℕ) → 0 < length more → nothing_or style start answers first more rest → Lines style start (Server Beginning) (answers ++ more) (first ++ rest) (Server Messages)
-rejoined style start answers first more rest some (inl e) = absurd (omega (arith, some, ap length e.0))
-rejoined style start answers first more rest some (inr joined) = joined.listed
+rejoined : (view : View) (start : ℕ) (answers first more rest : List ℕ) → 0 < length more → nothing_or view start answers first more rest → Lines view start (Server Beginning) (answers ++ more) (first ++ rest) (Server Messages)
+rejoined view start answers first more rest some (inl e) = absurd (omega (arith, some, ap length e.0))
+rejoined view start answers first more rest some (inr joined) = joined.listed
 
-pub rejoin : (style : Style) (start : ℕ) (answers first more rest : List ℕ) (to : Side) → Lines style start (Server Beginning) answers first (Server Beginning) → Lines style (start + length answers) (Server Messages) more rest to → answered more ≡ None → 0 < length more
-    → Lines style start (Server Beginning) (answers ++ more) (first ++ rest) (Server Messages)
-rejoin style start answers first more rest to fronts backs none some = rejoined style start answers first more rest some (rejoins style start answers first more rest to fronts backs none)
+pub rejoin : (view : View) (start : ℕ) (answers first more rest : List ℕ) (to : Side) → Lines view start (Server Beginning) answers first (Server Beginning) → Lines view (start + length answers) (Server Messages) more rest to → answered more ≡ None → 0 < length more
+    → Lines view start (Server Beginning) (answers ++ more) (first ++ rest) (Server Messages)
+rejoin view start answers first more rest to fronts backs none some = rejoined view start answers first more rest some (rejoins view start answers first more rest to fronts backs none)
 
 -- ---- a stream without answers
 
-nothing_listed : (style : Style) (start : ℕ) (from to : Side) (bytes lines : List ℕ) → Lines style start from bytes lines to → bytes ≡ [] → lines ≡ []
-nothing_listed style start from _ [] [] NoLines e = refl
-nothing_listed style start from to _ _ (OneLine {bytes = bytes} {lines = lines} {here = here} frame line before has) e =
-    absurd (omega (arith, ap length e, length-append bytes frame, frame_has style (place_behind (start + length bytes)) here to frame line has))
+nothing_listed : (view : View) (start : ℕ) (from to : Side) (bytes lines : List ℕ) → Lines view start from bytes lines to → bytes ≡ [] → lines ≡ []
+nothing_listed view start from _ [] [] NoLines e = refl
+nothing_listed view start from to _ _ (OneLine {bytes = bytes} {lines = lines} {here = here} frame line before has) e =
+    absurd (omega (arith, ap length e, length-append bytes frame, frame_has view.style (place_behind (start + length bytes)) here to frame has.line has.reported))
 
 no_answer : (answers rest : List ℕ) → AreAnswers answers → answered (answers ++ rest) ≡ None → answers ≡ []
 no_answer [] rest plain none = refl
 no_answer (x ∷ xs) rest plain none = absurd (none_some Beginning (phase_behind x) plain.0 none)
 
-as_messages : (style : Style) (bytes output : List ℕ) → answered bytes ≡ None → (l : IsListing style (Server Beginning) bytes output) → HasCome style 0 l.front l.lines l.to → IsListing style (Server Messages) bytes output
-as_messages style bytes output none l (StillAnswers e plain) =
+as_messages : (view : View) (bytes output : List ℕ) → answered bytes ≡ None → (l : IsListing view (Server Beginning) bytes output) → HasCome view 0 l.front l.lines l.to → IsListing view (Server Messages) bytes output
+as_messages view bytes output none l (StillAnswers e plain) =
     let empty = no_answer l.front l.rest plain (ap answered (sym l.whole) ∙ none) in
-    let lines = nothing_listed style 0 (Server Beginning) l.to l.front l.lines l.listed empty in
+    let lines = nothing_listed view 0 (Server Beginning) l.to l.front l.lines l.listed empty in
     record {
       to = Server Messages;
       front = [];
@@ -240,13 +245,13 @@ as_messages style bytes output none l (StillAnswers e plain) =
       whole = l.whole ∙ ap (λ x. x ++ l.rest) empty;
       listed = NoLines;
       ending = (subst (λ s. Ends s l.stopped l.rest) e l.ending).1;
-      text = l.text ∙ ap (λ x. x ++ last_line style l.stopped (place_behind (length l.rest))) lines;
+      text = l.text ∙ ap (λ x. x ++ last_line view l.stopped (place_behind (length l.rest))) lines;
     }
-as_messages style bytes output none l (NowEncrypted e some) = absurd (some [] l.front tt (none_front l.front l.rest (ap answered (sym l.whole) ∙ none)) refl)
-as_messages style bytes output none l (NowMessages e b) =
+as_messages view bytes output none l (NowEncrypted e some) = absurd (some [] l.front tt (none_front l.front l.rest (ap answered (sym l.whole) ∙ none)) refl)
+as_messages view bytes output none l (NowMessages e b) =
     let front = none_front l.front l.rest (ap answered (sym l.whole) ∙ none) in
     let empty = no_answer b.answers b.more b.plain (ap answered (sym b.whole) ∙ front) in
-    let lines = nothing_listed style 0 (Server Beginning) (Server Beginning) b.answers b.first b.fronts empty in
+    let lines = nothing_listed view 0 (Server Beginning) (Server Beginning) b.answers b.first b.fronts empty in
     let bytes_are : b.more ≡ l.front = sym (b.whole ∙ ap (λ x. x ++ b.more) empty) in
     let lines_are : b.rest ≡ l.lines = sym (b.text ∙ ap (λ x. x ++ b.rest) lines) in
     let start : 0 + length b.answers ≡ 0 = omega (arith, ap length empty) in
@@ -257,19 +262,19 @@ as_messages style bytes output none l (NowMessages e b) =
       lines = l.lines;
       stopped = l.stopped;
       whole = l.whole;
-      listed = subst (λ n. Lines style n (Server Messages) l.front l.lines (Server Messages)) start
-          (subst (λ x. Lines style (0 + length b.answers) (Server Messages) x l.lines (Server Messages)) bytes_are
-          (subst (λ x. Lines style (0 + length b.answers) (Server Messages) b.more x (Server Messages)) lines_are b.backs));
+      listed = subst (λ n. Lines view n (Server Messages) l.front l.lines (Server Messages)) start
+          (subst (λ x. Lines view (0 + length b.answers) (Server Messages) x l.lines (Server Messages)) bytes_are
+          (subst (λ x. Lines view (0 + length b.answers) (Server Messages) b.more x (Server Messages)) lines_are b.backs));
       ending = subst (λ s. Ends s l.stopped l.rest) e l.ending;
       text = l.text;
     }
 
-pub whole : (style : Style) (bytes output : List ℕ) → answered bytes ≡ None → IsListing style (Server Beginning) bytes output → IsListing style (Server Messages) bytes output
-whole style bytes output none l = as_messages style bytes output none l (has_come style 0 l.front l.lines l.to l.listed)
+pub whole : (view : View) (bytes output : List ℕ) → answered bytes ≡ None → IsListing view (Server Beginning) bytes output → IsListing view (Server Messages) bytes output
+whole view bytes output none l = as_messages view bytes output none l (has_come view 0 l.front l.lines l.to l.listed)
 
-at_first : (style : Style) (bytes output : List ℕ) → answered bytes ≡ None → (l : IsListing style (Server Messages) bytes output) → nothing_or style 0 [] [] l.front l.lines → IsListing style (Server Beginning) bytes output
-at_first style bytes output none l (inl (e, f)) =
-    let ends = subst (λ s. Ends s l.stopped l.rest) (stays_server style 0 l.front l.lines l.to l.listed) l.ending in
+at_first : (view : View) (bytes output : List ℕ) → answered bytes ≡ None → (l : IsListing view (Server Messages) bytes output) → nothing_or view 0 [] [] l.front l.lines → IsListing view (Server Beginning) bytes output
+at_first view bytes output none l (inl (e, f)) =
+    let ends = subst (λ s. Ends s l.stopped l.rest) (stays_server view 0 l.front l.lines l.to l.listed) l.ending in
     let is : bytes ≡ l.rest = l.whole ∙ ap (λ x. x ++ l.rest) e in
     record {
       to = Server Beginning;
@@ -280,9 +285,9 @@ at_first style bytes output none l (inl (e, f)) =
       whole = is;
       listed = NoLines;
       ending = (ap answered (sym is) ∙ none, ends);
-      text = l.text ∙ ap (λ x. x ++ last_line style l.stopped (place_behind (length l.rest))) f;
+      text = l.text ∙ ap (λ x. x ++ last_line view l.stopped (place_behind (length l.rest))) f;
     }
-at_first style bytes output none l (inr joined) = record {
+at_first view bytes output none l (inr joined) = record {
   to = Server Messages;
   front = l.front;
   rest = l.rest;
@@ -290,10 +295,10 @@ at_first style bytes output none l (inr joined) = record {
   stopped = l.stopped;
   whole = l.whole;
   listed = joined.listed;
-  ending = subst (λ s. Ends s l.stopped l.rest) (stays_server style 0 l.front l.lines l.to l.listed) l.ending;
+  ending = subst (λ s. Ends s l.stopped l.rest) (stays_server view 0 l.front l.lines l.to l.listed) l.ending;
   text = l.text;
 }
 
-pub other : (style : Style) (bytes output : List ℕ) → answered bytes ≡ None → IsListing style (Server Messages) bytes output → IsListing style (Server Beginning) bytes output
-other style bytes output none l =
-    at_first style bytes output none l (rejoins style 0 [] [] l.front l.lines l.to NoLines l.listed (none_front l.front l.rest (ap answered (sym l.whole) ∙ none)))
+pub other : (view : View) (bytes output : List ℕ) → answered bytes ≡ None → IsListing view (Server Messages) bytes output → IsListing view (Server Beginning) bytes output
+other view bytes output none l =
+    at_first view bytes output none l (rejoins view 0 [] [] l.front l.lines l.to NoLines l.listed (none_front l.front l.rest (ap answered (sym l.whole) ∙ none)))

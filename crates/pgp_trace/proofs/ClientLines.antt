@@ -12,7 +12,7 @@ use Rattle.pgp_frontend_read.specs.declared.error.ClientError.{ClientError}
 use Rattle.pgp_frontend_read.specs.declared.message.PasswordKind as code
 use Rattle.pgp_line.specs.declared.style.Style.{Style}
 use Rattle.pgp_line.specs.Line.{closing}
-use Rattle.pgp_trace.specs.Listing.{client_front}
+use Rattle.pgp_trace.specs.Listing.{client_frame_name, client_front}
 use Rattle.pgp_trace.specs.Client.{client_line}
 use Rattle.pgp_trace.specs.Sides.{Client, Ends, expected, is_reported, kinds_behind}
 use Rattle.pgp_trace.specs.Steps.{HasLine}
@@ -155,12 +155,12 @@ pub taken_less : (kind : PasswordKind) (old new : Unread) (x : ClientMessage) �
 taken_less kind old new m step = omega (arith, framed_long (tag_of m) (payload m), ap length step.stands.whole, length-append (bytes_of m) new.bytes)
 
 -- so the line of it is the line of a frame
-pub passed_line : (style : Style) (place : ℕ) (opened now : Bool) (kinds behind : List code.PasswordKind) (bytes frame rest line : List ℕ) (kind : PasswordKind) (r : Result ClientMessage ClientError)
+pub passed_line : (style : Style) (place : ℕ) (opened now : Bool) (kinds behind : List code.PasswordKind) (bytes frame rest line name : List ℕ) (kind : PasswordKind) (r : Result ClientMessage ClientError)
     → kind ≡ expected kinds → length rest < length bytes
     → Step kind (record { bytes = bytes; opened = opened }) (step_of r) (record { bytes = rest; opened = now })
     → frame ≡ take (length bytes - length rest) bytes → line ≡ client_line style (is_reported kinds) r (client_front style place opened frame) ++ closing style ++ 10 ∷ []
-    → behind ≡ kinds_behind opened frame kinds → HasLine style place (Client opened kinds) bytes rest line (Client now behind)
-passed_line style place opened now kinds behind bytes frame rest line kind r reported less step is has moved =
+    → behind ≡ kinds_behind opened frame kinds → name ≡ client_frame_name (is_reported kinds) r → HasLine style place (Client opened kinds) bytes rest line (Client now behind) name
+passed_line style place opened now kinds behind bytes frame rest line name kind r reported less step is has moved named =
     let whole : bytes ≡ frame ++ rest = splits kind (left bytes opened) (left rest now) r less step ∙ ap (λ l. l ++ rest) (sym is) in
     record {
       frame = frame;
@@ -174,34 +174,35 @@ passed_line style place opened now kinds behind bytes frame rest line kind r rep
         };
         behind = ap (Client now) moved;
       };
+      named = named;
     }
 
-abbrev pub LineBehind : Style → ℕ → Bool → List code.PasswordKind → List ℕ → List ℕ → List ℕ → Bool → List code.PasswordKind → Type 0
-LineBehind style place opened kinds bytes rest line now behind = HasLine style place (Client opened kinds) bytes rest line (Client now behind)
+abbrev pub LineBehind : Style → ℕ → Bool → List code.PasswordKind → List ℕ → List ℕ → List ℕ → Bool → List code.PasswordKind → List ℕ → Type 0
+LineBehind style place opened kinds bytes rest line now behind name = HasLine style place (Client opened kinds) bytes rest line (Client now behind) name
 
 same_unread : (new : Unread) (rest : List ℕ) (now : Bool) → rest ≡ new.bytes → now ≡ new.opened → new ≡ left rest now
 same_unread new rest now r o = ap (λ b. left b new.opened) (sym r) ∙ ap (left rest) (sym o)
 
-pub message_passed : (style : Style) (place : ℕ) (opened now : Bool) (kinds behind : List code.PasswordKind) (bytes frame rest line : List ℕ) (kind : PasswordKind) (x : ClientMessage) (old new : Unread)
+pub message_passed : (style : Style) (place : ℕ) (opened now : Bool) (kinds behind : List code.PasswordKind) (bytes frame rest line name : List ℕ) (kind : PasswordKind) (x : ClientMessage) (old new : Unread)
     → old ≡ record { bytes = bytes; opened = opened } → rest ≡ new.bytes → now ≡ new.opened → kind ≡ expected kinds → Step kind old (Ok (Some x)) new
     → frame ≡ take (length bytes - length rest) bytes → line ≡ client_line style (is_reported kinds) (Ok x) (client_front style place opened frame) ++ closing style ++ 10 ∷ []
-    → behind ≡ kinds_behind opened frame kinds → LineBehind style place opened kinds bytes rest line now behind
-message_passed style place opened now kinds behind bytes frame rest line kind x old new was r o reported step is has moved =
+    → behind ≡ kinds_behind opened frame kinds → name ≡ client_frame_name (is_reported kinds) (Ok x) → LineBehind style place opened kinds bytes rest line now behind name
+message_passed style place opened now kinds behind bytes frame rest line name kind x old new was r o reported step is has moved named =
     let here : Step kind (left bytes opened) (Ok (Some x)) (left rest now) =
     subst (λ (u : Unread). Step kind u (Ok (Some x)) (left rest now)) was (subst (λ (u : Unread). Step kind old (Ok (Some x)) u) (same_unread new rest now r o) step) in
-    passed_line style place opened now kinds behind bytes frame rest line kind (Ok x) reported (taken_less kind (left bytes opened) (left rest now) x here) here is has moved
+    passed_line style place opened now kinds behind bytes frame rest line name kind (Ok x) reported (taken_less kind (left bytes opened) (left rest now) x here) here is has moved named
 
-pub refusal_passed : (style : Style) (place : ℕ) (opened now : Bool) (kinds behind : List code.PasswordKind) (bytes frame rest line : List ℕ) (kind : PasswordKind) (e : ClientError) (old new : Unread)
+pub refusal_passed : (style : Style) (place : ℕ) (opened now : Bool) (kinds behind : List code.PasswordKind) (bytes frame rest line name : List ℕ) (kind : PasswordKind) (e : ClientError) (old new : Unread)
     → old ≡ record { bytes = bytes; opened = opened } → rest ≡ new.bytes → now ≡ new.opened → kind ≡ expected kinds → Refuses kind old e new
     → (length rest ≡ length bytes → ⊥)
     → frame ≡ take (length bytes - length rest) bytes → line ≡ client_line style (is_reported kinds) (Err e) (client_front style place opened frame) ++ closing style ++ 10 ∷ []
-    → behind ≡ kinds_behind opened frame kinds → LineBehind style place opened kinds bytes rest line now behind
-refusal_passed style place opened now kinds behind bytes frame rest line kind e old new was r o reported step differ is has moved =
+    → behind ≡ kinds_behind opened frame kinds → name ≡ client_frame_name (is_reported kinds) (Err e) → LineBehind style place opened kinds bytes rest line now behind name
+refusal_passed style place opened now kinds behind bytes frame rest line name kind e old new was r o reported step differ is has moved named =
     let here : Refuses kind (left bytes opened) e (left rest now) =
     subst (λ (u : Unread). Refuses kind u e (left rest now)) was (subst (λ (u : Unread). Refuses kind old e u) (same_unread new rest now r o) step) in
     let le : length rest ≤ length bytes = no_longer kind opened now bytes rest (Err e) here in
     let less : length rest < length bytes = omega (arith, le, differ) in
-    passed_line style place opened now kinds behind bytes frame rest line kind (Err e) reported less here is has moved
+    passed_line style place opened now kinds behind bytes frame rest line name kind (Err e) reported less here is has moved named
 
 -- where nothing was passed, no frame stands first
 ends_by : (opened : Bool) (kinds : List code.PasswordKind) (bytes rest : List ℕ) (kind : PasswordKind) (e : ClientError) (new : Unread) → rest ≡ new.bytes → length rest ≡ length bytes

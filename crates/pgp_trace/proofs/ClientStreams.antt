@@ -15,11 +15,12 @@ use Rattle.pgp_frontend_read.proofs.Pieces.{took}
 use Rattle.pgp_frontend_read.proofs.Fronts.{behind_length}
 use Rattle.pgp_frontend_read.proofs.Handing.{refused_behind}
 use Rattle.pgp_line.specs.declared.style.Style.{Style}
-use Rattle.pgp_trace.specs.Client.{client_line}
+use Rattle.pgp_trace.specs.Client.{client_line, client_name}
 use Rattle.pgp_trace.specs.ClientSecrets.{AlikeMessages, AlikeAnswers, AlikeClientFrames, AlikeClientStreams, NoClientFrames, OneClientAlike, ReadsAs}
 use Rattle.pgp_line.specs.Line.{Length, Tag, closing, followed, opening}
-use Rattle.pgp_trace.specs.Listing.{IsNextLine, LineOf, Lines, NoLines, OneLine, client_front, client_tag, place_behind}
-use Rattle.pgp_trace.specs.Secrets.{quiet}
+use Rattle.pgp_trace.specs.Listing.{IsNextLine, Listed, Lines, NoLines, OneLine, client_frame_name, client_front, client_tag, place_behind}
+use Rattle.pgp_trace.specs.View.{View, shown}
+use Rattle.pgp_trace.specs.Secrets.{quiet, quietly}
 use Rattle.pgp_trace.specs.Sides.{Side, Server, Client, expected, is_password, is_reported, kinds_behind}
 use Rattle.pgp_trace.proofs.Parts.{front_taken}
 use Rattle.pgp_trace.proofs.ClientHiding.{password, initial, response, key, unreported}
@@ -79,19 +80,64 @@ same_password true (x ∷ xs) (y ∷ ys) t n = ap (λ k. k == 112) t
 same_kinds : (opened : Bool) (kinds : List code.PasswordKind) (f g : List ℕ) → client_tag opened f ≡ client_tag opened g → length f ≡ length g → kinds_behind opened f kinds ≡ kinds_behind opened g kinds
 same_kinds opened kinds f g t n = ap (λ (p : Bool). if p then drop 1 kinds else kinds) (same_password opened f g t n)
 
-line_alike : (style : Style) (place : ℕ) (opened : Bool) (kinds : List code.PasswordKind) (f g line : List ℕ) (to : Side) → AlikeClientFrames opened kinds f g
-    → IsNextLine (quiet style) place opened kinds f line to → IsNextLine (quiet style) place opened kinds g line to
-line_alike style place opened kinds f g line to alike is =
+-- what stands in the listing of a client's frame
+record Told (view : View) (place : ℕ) (opened : Bool) (kinds : List code.PasswordKind) (frame text : List ℕ) (to : Side) : Type 0 where
+  line : List ℕ
+  reported : IsNextLine view.style place opened kinds frame line to
+  is : text ≡ shown view (client_frame_name (is_reported kinds) reported.reported.result) line
+
+password_name : (reported : Bool) (a : List ℕ) (y : ClientMessage) → AlikeMessages (PasswordMessage a) y → client_name reported (PasswordMessage a) ≡ client_name reported y
+password_name true a (PasswordMessage b) e = refl
+password_name false a (PasswordMessage b) e = refl
+password_name reported a y e = ap (client_name reported) e
+
+initial_name : (reported : Bool) (m a : List ℕ) (y : ClientMessage) → AlikeMessages (SaslInitialResponse m (Some a)) y → client_name reported (SaslInitialResponse m (Some a)) ≡ client_name reported y
+initial_name true m a (SaslInitialResponse n (Some b)) e = refl
+initial_name false m a (SaslInitialResponse n (Some b)) e = refl
+initial_name reported m a y e = ap (client_name reported) e
+
+response_name : (reported : Bool) (a : List ℕ) (y : ClientMessage) → AlikeMessages (SaslResponse a) y → client_name reported (SaslResponse a) ≡ client_name reported y
+response_name true a (SaslResponse b) e = refl
+response_name false a (SaslResponse b) e = refl
+response_name reported a y e = ap (client_name reported) e
+
+key_name : (reported : Bool) (process : _) (a : List ℕ) (y : ClientMessage) → AlikeMessages (CancelRequest process a) y → client_name reported (CancelRequest process a) ≡ client_name reported y
+key_name true p a (CancelRequest q b) e = refl
+key_name false p a (CancelRequest q b) e = refl
+key_name reported p a y e = ap (client_name reported) e
+
+message_names : (reported : Bool) (x y : ClientMessage) → AlikeMessages x y → client_name reported x ≡ client_name reported y
+message_names reported (PasswordMessage a) y e = password_name reported a y e
+message_names reported (SaslInitialResponse m (Some a)) y e = initial_name reported m a y e
+message_names reported (SaslResponse a) y e = response_name reported a y e
+message_names reported (CancelRequest p a) y e = key_name reported p a y e
+message_names reported x y e = ap (client_name reported) e
+
+names_alike : (reported : Bool) (r s : Result ClientMessage ClientError) → AlikeAnswers r s → client_frame_name reported r ≡ client_frame_name reported s
+names_alike reported (Ok x) (Ok y) e = message_names reported x y e
+names_alike reported (Err d) (Err e) h = refl
+names_alike reported (Ok x) (Err e) h = absurd h
+names_alike reported (Err d) (Ok y) h = absurd h
+
+line_alike : (view : View) (place : ℕ) (opened : Bool) (kinds : List code.PasswordKind) (f g text : List ℕ) (to : Side) → AlikeClientFrames opened kinds f g
+    → Told (quietly view) place opened kinds f text to → Told (quietly view) place opened kinds g text to
+line_alike view place opened kinds f g text to alike told =
+    let is = told.reported in
+    let style = view.style in
     let (s, reads, same) = alike.read is.reported.result is.now is.reported.step in
     record {
-      now = is.now;
+      line = told.line;
       reported = record {
-        result = s;
-        step = reads;
-        reported = is.reported.reported ∙ ap (λ l. l ++ closing style ++ 10 ∷ []) (answers_alike style (is_reported kinds) is.reported.result s (client_front (quiet style) place opened f) same
-            ∙ ap (client_line (quiet style) (is_reported kinds) s) (same_front (quiet style) place opened f g alike.tagged alike.long));
+        now = is.now;
+        reported = record {
+          result = s;
+          step = reads;
+          reported = is.reported.reported ∙ ap (λ l. l ++ closing style ++ 10 ∷ []) (answers_alike style (is_reported kinds) is.reported.result s (client_front (quiet style) place opened f) same
+              ∙ ap (client_line (quiet style) (is_reported kinds) s) (same_front (quiet style) place opened f g alike.tagged alike.long));
+        };
+        behind = is.behind ∙ ap (Client is.now) (same_kinds opened kinds f g alike.tagged alike.long);
       };
-      behind = is.behind ∙ ap (Client is.now) (same_kinds opened kinds f g alike.tagged alike.long);
+      is = told.is ∙ ap (λ n. shown (quietly view) n told.line) (names_alike (is_reported kinds) is.reported.result s same);
     }
 
 framed_some : (tag : Option ℕ) (body : List ℕ) → 0 < length (framed tag body)
@@ -185,24 +231,26 @@ record ClientAt (side : Side) : Type 0 where
   kinds : List code.PasswordKind
   is : side ≡ Client opened kinds
 
-next_line : (style : Style) (place : ℕ) (here to : Side) (frame line : List ℕ) (c : ClientAt here) → LineOf style place here frame line to → IsNextLine style place c.opened c.kinds frame line to
-next_line style place here to frame line c has = subst (λ h. LineOf style place h frame line to) c.is has
+next_line : (view : View) (place : ℕ) (here to : Side) (frame text : List ℕ) (c : ClientAt here) → Listed view place here frame text to → Told view place c.opened c.kinds frame text to
+next_line view place here to frame text c has =
+    let there = subst (λ h. Listed view place h frame text to) c.is has in
+    record { line = there.line; reported = there.reported; is = there.is }
 
 -- after a client's lines come a client's
-stays_client : (style : Style) (start : ℕ) (opened : Bool) (kinds : List code.PasswordKind) (bytes lines : List ℕ) (to : Side) → Lines style start (Client opened kinds) bytes lines to → ClientAt to
-stays_client style start opened kinds [] [] _ NoLines = record { opened = opened; kinds = kinds; is = refl }
-stays_client style start opened kinds _ _ to (OneLine {bytes = bytes} {lines = lines} {here = here} frame line before has) =
-    let c = stays_client style start opened kinds bytes lines here before in
-    let next = next_line style (place_behind (start + length bytes)) here to frame line c has in
-    record { opened = next.now; kinds = kinds_behind c.opened frame c.kinds; is = next.behind }
+stays_client : (view : View) (start : ℕ) (opened : Bool) (kinds : List code.PasswordKind) (bytes lines : List ℕ) (to : Side) → Lines view start (Client opened kinds) bytes lines to → ClientAt to
+stays_client view start opened kinds [] [] _ NoLines = record { opened = opened; kinds = kinds; is = refl }
+stays_client view start opened kinds _ _ to (OneLine {bytes = bytes} {lines = lines} {here = here} frame line before has) =
+    let c = stays_client view start opened kinds bytes lines here before in
+    let next = next_line view (place_behind (start + length bytes)) here to frame line c has in
+    record { opened = next.reported.now; kinds = kinds_behind c.opened frame c.kinds; is = next.reported.behind }
 
-listed_chain : (style : Style) (start : ℕ) (opened : Bool) (kinds : List code.PasswordKind) (bytes lines : List ℕ) (to : Side) → Lines style start (Client opened kinds) bytes lines to → AreChain (Client opened kinds) to bytes
-listed_chain style start opened kinds [] [] _ NoLines = record { frames = []; chain = NoLink; whole = refl }
-listed_chain style start opened kinds _ _ to (OneLine {bytes = bytes} {lines = lines} {here = here} frame line before has) =
-    let c = stays_client style start opened kinds bytes lines here before in
-    let next = next_line style (place_behind (start + length bytes)) here to frame line c has in
-    let so_far = subst (λ h. AreChain (Client opened kinds) h bytes) c.is (listed_chain style start opened kinds bytes lines here before) in
-    subst (λ t. AreChain (Client opened kinds) t (bytes ++ frame)) (sym next.behind) (more_chain bytes frame next.reported.result so_far next.reported.step)
+listed_chain : (view : View) (start : ℕ) (opened : Bool) (kinds : List code.PasswordKind) (bytes lines : List ℕ) (to : Side) → Lines view start (Client opened kinds) bytes lines to → AreChain (Client opened kinds) to bytes
+listed_chain view start opened kinds [] [] _ NoLines = record { frames = []; chain = NoLink; whole = refl }
+listed_chain view start opened kinds _ _ to (OneLine {bytes = bytes} {lines = lines} {here = here} frame line before has) =
+    let c = stays_client view start opened kinds bytes lines here before in
+    let next = next_line view (place_behind (start + length bytes)) here to frame line c has in
+    let so_far = subst (λ h. AreChain (Client opened kinds) h bytes) c.is (listed_chain view start opened kinds bytes lines here before) in
+    subst (λ t. AreChain (Client opened kinds) t (bytes ++ frame)) (sym next.reported.behind) (more_chain bytes frame next.reported.reported.result so_far next.reported.reported.step)
 
 last_same : (fs gs : List (List ℕ)) (f g : List ℕ) → fs ++ f ∷ [] ≡ gs ++ g ∷ [] → (fs ≡ gs) × (f ≡ g)
 last_same [] [] f g e = (refl, ap (λ l. get_or l 0 []) e)
@@ -253,18 +301,18 @@ nothing_alike all other from to alike e = none_long other (sym (same_length from
     none_long [] z = refl
     none_long (x ∷ xs) z = absurd (omega (arith, z))
 
-pub client_streams_hidden : (style : Style) (start : ℕ) (opened : Bool) (kinds : List code.PasswordKind) (a lines : List ℕ) (to too : Side) → Lines (quiet style) start (Client opened kinds) a lines to → (b : List ℕ)
-    → AlikeClientStreams (Client opened kinds) a b too → Lines (quiet style) start (Client opened kinds) b lines to
-client_streams_hidden style start opened kinds [] [] _ too NoLines b alike =
-    subst (λ l. Lines (quiet style) start (Client opened kinds) l [] (Client opened kinds)) (sym (nothing_alike [] b (Client opened kinds) too alike refl)) NoLines
+pub client_streams_hidden : (view : View) (start : ℕ) (opened : Bool) (kinds : List code.PasswordKind) (a lines : List ℕ) (to too : Side) → Lines (quietly view) start (Client opened kinds) a lines to → (b : List ℕ)
+    → AlikeClientStreams (Client opened kinds) a b too → Lines (quietly view) start (Client opened kinds) b lines to
+client_streams_hidden view start opened kinds [] [] _ too NoLines b alike =
+    subst (λ l. Lines (quietly view) start (Client opened kinds) l [] (Client opened kinds)) (sym (nothing_alike [] b (Client opened kinds) too alike refl)) NoLines
 client_streams_hidden loud start opened kinds _ _ to too (OneLine {bytes = bytes} {lines = lines} {here = here} frame line before has) b alike =
-    let style = quiet loud in
-    let c = stays_client style start opened kinds bytes lines here before in
-    let next = next_line style (place_behind (start + length bytes)) here to frame line c has in
-    let so_far = subst (λ h. AreChain (Client opened kinds) h bytes) c.is (listed_chain style start opened kinds bytes lines here before) in
-    let end = ends_alike (Client opened kinds) too c.opened next.now c.kinds (bytes ++ frame) b alike bytes frame next.reported.result so_far next.reported.step refl in
+    let view = quietly loud in
+    let c = stays_client view start opened kinds bytes lines here before in
+    let next = next_line view (place_behind (start + length bytes)) here to frame line c has in
+    let so_far = subst (λ h. AreChain (Client opened kinds) h bytes) c.is (listed_chain view start opened kinds bytes lines here before) in
+    let end = ends_alike (Client opened kinds) too c.opened next.reported.now c.kinds (bytes ++ frame) b alike bytes frame next.reported.reported.result so_far next.reported.reported.step refl in
     let rest = client_streams_hidden loud start opened kinds bytes lines here (Client c.opened c.kinds) before end.before end.alike in
     let place : place_behind (start + length bytes) ≡ place_behind (start + length end.before) = ap (λ n. place_behind (start + n)) (same_length (Client opened kinds) bytes end.before (Client c.opened c.kinds) end.alike) in
-    let line_of = line_alike loud (place_behind (start + length end.before)) c.opened c.kinds frame end.last line to end.same (subst (λ p. IsNextLine style p c.opened c.kinds frame line to) place next) in
-    subst (λ l. Lines style start (Client opened kinds) l (lines ++ line) to) (sym end.whole)
-    (OneLine end.last line rest (subst (λ h. LineOf style (place_behind (start + length end.before)) h end.last line to) (sym c.is) line_of))
+    let line_of = line_alike loud (place_behind (start + length end.before)) c.opened c.kinds frame end.last line to end.same (subst (λ p. Told view p c.opened c.kinds frame line to) place next) in
+    subst (λ l. Lines view start (Client opened kinds) l (lines ++ line) to) (sym end.whole)
+    (OneLine end.last line rest (subst (λ h. Listed view (place_behind (start + length end.before)) h end.last line to) (sym c.is) (record { line = line_of.line; reported = line_of.reported; is = line_of.is })))

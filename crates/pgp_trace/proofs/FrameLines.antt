@@ -1,6 +1,6 @@
 -- The line of one frame.
 use Rattle.std.proofs.Common.{◌≡◌, ℕ, ◌-◌, ◌≤◌, List, [], ◌∷◌, ◌++◌, length, take, drop, Result, Ok, Err, refl, sym, ap, subst, ◌∙◌, arith, length-append}
-use Rattle.std.specs.Prelude.{slice_index, OnOk}
+use Rattle.std.specs.Prelude.{slice_index}
 use Rattle.std.proofs.lemmas.List.{append-nil}
 use Rattle.pgp_base.specs.Wire.{uint32}
 use Rattle.pgp_base.specs.declared.error.Error.{Error}
@@ -10,10 +10,11 @@ use Rattle.pgp_line.specs.declared.style.Style.{Style}
 use Rattle.pgp_line.specs.Line.{Length, Tag, closing, followed, opening}
 use Rattle.pgp_trace.specs.Shown.{Shows, called}
 use Rattle.pgp_trace.specs.Unread.{ShowsUnread}
-use Rattle.pgp_trace.specs.Listing.{front, IsServerLine}
+use Rattle.pgp_trace.specs.Listing.{front, unread_name}
+use Rattle.pgp_trace.specs.Names.{name_of}
 use Rattle.pgp_trace.specs.Sides.{Server}
 use Rattle.pgp_trace.specs.declared.side.Phase.TheVariants.{Messages}
-use Rattle.pgp_trace.specs.Steps.{IsFrameOf, HasLine, ReportsFault}
+use Rattle.pgp_trace.specs.Steps.{IsFrameOf, IsNamedLine, HasLine, ReportsFault}
 use Rattle.pgp_trace.proofs.Parts.{front_taken}
 
 -- what a line begins with, by the bytes of the frame
@@ -35,55 +36,55 @@ payload_behind f = refl
 pub body_is : (bytes : List ℕ) (m : Message) → IsFrameOf bytes (Ok m) → drop 5 bytes ≡ payload_of m
 body_is bytes m is = ap (drop 5) is.whole ∙ payload_behind is.first ∙ is.body.parts ∙ append-nil (payload_of m)
 
-pub message_reported : (style : Style) (place : ℕ) (bytes : List ℕ) (m : Message) (is : IsFrameOf bytes (Ok m)) (begins named said line : List ℕ)
-    → begins ≡ begun style place bytes → named ≡ followed style begins (called m ∷ []) → Shows style m named said → line ≡ said ++ closing style ++ 10 ∷ [] → IsServerLine style place bytes line
-message_reported style place bytes m is begins named said line b n shows e =
+pub message_reported : (style : Style) (place : ℕ) (bytes : List ℕ) (m : Message) (is : IsFrameOf bytes (Ok m)) (begins called_so said line name : List ℕ)
+    → begins ≡ begun style place bytes → called_so ≡ followed style begins (called m ∷ []) → Shows style m called_so said → line ≡ said ++ closing style ++ 10 ∷ [] → name ≡ name_of m → IsNamedLine style place bytes line name
+message_reported style place bytes m is begins called_so said line name b n shows e named =
     let head = b ∙ begun_is style place is.first bytes is.whole in
     record {
-      first = is.first;
-      whole = is.whole;
-      fits = is.fits;
-      reported = record {
-        result = Ok m;
-        body = is.body;
-        text = said;
-        reported = subst (λ l. Shows style m l said) (n ∙ ap (λ l. followed style l (called m ∷ [])) head) shows;
-        ended = e;
+      is = record {
+        first = is.first;
+        whole = is.whole;
+        fits = is.fits;
+        reported = record {
+          result = Ok m;
+          body = is.body;
+          text = said;
+          reported = subst (λ l. Shows style m l said) (n ∙ ap (λ l. followed style l (called m ∷ [])) head) shows;
+          ended = e;
+        };
       };
+      named = named;
     }
 
-pub message_ended : {E : Type 0} (r : Result (Unit {0}) E) (style : Style) (place : ℕ) (bytes : List ℕ) (m : Message) (is : IsFrameOf bytes (Ok m)) (begins named said line : List ℕ)
-    → begins ≡ begun style place bytes → named ≡ followed style begins (called m ∷ []) → Shows style m named said → OnOk r (line ≡ said ++ closing style ++ 10 ∷ []) → OnOk r (IsServerLine style place bytes line)
-message_ended (Ok x) style place bytes m is begins named said line b n shows e = message_reported style place bytes m is begins named said line b n shows e
-message_ended (Err x) style place bytes m is begins named said line b n shows e = tt
-
-pub fault_ended : {E : Type 0} (r : Result (Unit {0}) E) (style : Style) (place : ℕ) (bytes body : List ℕ) (e : Error) (begins said line : List ℕ)
-    → begins ≡ begun style place bytes → body ≡ drop 5 bytes → ShowsUnread style (slice_index bytes 0) body e begins said → OnOk r (line ≡ said ++ closing style ++ 10 ∷ []) → OnOk r (ReportsFault style place bytes e line)
-fault_ended (Ok x) style place bytes body e begins said line b d shows end = record {
+pub fault_ended : (style : Style) (place : ℕ) (bytes body : List ℕ) (e : Error) (begins said line : List ℕ)
+    → begins ≡ begun style place bytes → body ≡ drop 5 bytes → ShowsUnread style (slice_index bytes 0) body e begins said → line ≡ said ++ closing style ++ 10 ∷ [] → ReportsFault style place bytes e line
+fault_ended style place bytes body e begins said line b d shows end = record {
   text = said;
   shown = subst (λ l. ShowsUnread style (slice_index bytes 0) (drop 5 bytes) e l said) b (subst (λ l. ShowsUnread style (slice_index bytes 0) l e begins said) d shows);
   ended = end;
 }
-fault_ended (Err x) style place bytes body e begins said line b d shows end = tt
 
-pub fault_reported : (style : Style) (place : ℕ) (bytes : List ℕ) (r : Error) (is : IsFrameOf bytes (Err r)) (line : List ℕ) → ReportsFault style place bytes r line → IsServerLine style place bytes line
-fault_reported style place bytes r is line reports =
+pub fault_reported : (style : Style) (place : ℕ) (bytes : List ℕ) (r : Error) (is : IsFrameOf bytes (Err r)) (line name : List ℕ) → ReportsFault style place bytes r line → name ≡ unread_name (slice_index bytes 0) → IsNamedLine style place bytes line name
+fault_reported style place bytes r is line name reports named =
     let f = is.first in
     let tag : slice_index bytes 0 ≡ f.tag = ap (λ l. slice_index l 0) is.whole in
     let body : drop 5 bytes ≡ f.payload = ap (drop 5) is.whole ∙ payload_behind f in
     let head = begun_is style place f bytes is.whole in
     record {
-      first = f;
-      whole = is.whole;
-      fits = is.fits;
-      reported = record {
-        result = Err r;
-        body = is.body;
-        text = reports.text;
-        reported = subst (λ k. ShowsUnread style k f.payload r (front style place f) reports.text) tag (subst (λ l. ShowsUnread style (slice_index bytes 0) l r (front style place f) reports.text) body
-            (subst (λ l. ShowsUnread style (slice_index bytes 0) (drop 5 bytes) r l reports.text) head reports.shown));
-        ended = reports.ended;
+      is = record {
+        first = f;
+        whole = is.whole;
+        fits = is.fits;
+        reported = record {
+          result = Err r;
+          body = is.body;
+          text = reports.text;
+          reported = subst (λ k. ShowsUnread style k f.payload r (front style place f) reports.text) tag (subst (λ l. ShowsUnread style (slice_index bytes 0) l r (front style place f) reports.text) body
+              (subst (λ l. ShowsUnread style (slice_index bytes 0) (drop 5 bytes) r l reports.text) head reports.shown));
+          ended = reports.ended;
+        };
       };
+      named = named ∙ ap unread_name tag;
     }
 
 -- the bytes before the rest are the frame that was taken
@@ -99,9 +100,11 @@ pub no_longer : (old new : List ℕ) (r : Result Message Error) → TakesFrame o
 no_longer old new r t = omega (arith, ap length t.whole, length-append (frame_bytes t.first) new)
 
 -- and what has its line there has it here
-pub line_here : (style : Style) (place : ℕ) (old new bytes line : List ℕ) (r : Result Message Error) → TakesFrame old r new → bytes ≡ take (length old - length new) old → IsServerLine style place bytes line → HasLine style place (Server Messages) old new line (Server Messages)
-line_here style place old new bytes line r t e has = record {
+pub line_here : (style : Style) (place : ℕ) (old new bytes line name : List ℕ) (r : Result Message Error) → TakesFrame old r new → bytes ≡ take (length old - length new) old → IsNamedLine style place bytes line name
+    → HasLine style place (Server Messages) old new line (Server Messages) name
+line_here style place old new bytes line name r t e has = record {
   frame = bytes;
   whole = t.whole ∙ ap (λ l. l ++ new) (sym (front_taken (frame_bytes t.first) new old t.whole) ∙ sym e);
-  reported = (has, refl);
+  reported = (has.is, refl);
+  named = has.named;
 }

@@ -21,3 +21,4 @@ pub mod ClientStreams
 pub mod OneListing
 pub mod OptionLemmas
 pub mod CommandLemmas
+pub mod Named

@@ -7,7 +7,7 @@ use Rattle.pgp_base.specs.declared.error.Error.{Error}
 use Rattle.pgp_base.specs.OneList.{HasOneCountedList, HasOneMarkedList}
 use Rattle.pgp_base.specs.PartReading.{text_at}
 use Rattle.pgp_base.proofs.OneLists.{one_counted_list, one_marked_list}
-use Rattle.pgp_message.specs.BackendMessage.{AuthenticationOk, AuthenticationKerberosV5, AuthenticationCleartextPassword, AuthenticationMd5Password, AuthenticationScmCredential, AuthenticationGss, AuthenticationGssContinue, AuthenticationSspi, AuthenticationSasl, AuthenticationSaslContinue, AuthenticationSaslFinal, Message, ParseComplete, BindComplete, CloseComplete, NotificationResponse, CommandComplete, DataRow, ErrorResponse, CopyInResponse, CopyOutResponse, EmptyQueryResponse, BackendKeyData, NegotiateProtocolVersion, NoticeResponse, Authentication, ParameterStatus, RowDescription, ReadyForQuery, CopyDone, CopyData, NoData, PortalSuspended, ParameterDescription, payload_of}
+use Rattle.pgp_message.specs.BackendMessage.{Body, AuthenticationOk, AuthenticationKerberosV5, AuthenticationCleartextPassword, AuthenticationMd5Password, AuthenticationScmCredential, AuthenticationGss, AuthenticationGssContinue, AuthenticationSspi, AuthenticationSasl, AuthenticationSaslContinue, AuthenticationSaslFinal, Message, ParseComplete, BindComplete, CloseComplete, NotificationResponse, CommandComplete, DataRow, ErrorResponse, CopyInResponse, CopyOutResponse, EmptyQueryResponse, BackendKeyData, NegotiateProtocolVersion, NoticeResponse, Authentication, ParameterStatus, RowDescription, ReadyForQuery, CopyDone, CopyData, NoData, PortalSuspended, ParameterDescription, payload_of}
 use Rattle.pgp_message.specs.Items.{TextSpelled, TextRefused, FormatSpelled, FormatRefused, TypeSpelled, TypeRefused, RangeSpelled, RangeRefused, FieldSpelled, FieldRefused, ErrorFieldSpelled, ErrorFieldRefused}
 use Rattle.pgp_message.specs.ItemReading.{format_at, type_at, range_at, field_at, error_field_at}
 use Rattle.pgp_message.specs.Stream.{Frame, frame_bytes, IsFrame, IsEnding}
@@ -37,7 +37,8 @@ use Rattle.pgp_trace.specs.Shown.{Shows, ShowsCounted, ShowsMarked, ShowsTexts, 
 use Rattle.pgp_trace.specs.Unread.{ShowsCopyBoth, ShowsResult, ShowsUnread, CallResult, CopyBoth, Rejected, copy_parts, result_parts}
 use Rattle.pgp_trace.proofs.PlainBodies.{one_copy, one_result}
 use Rattle.pgp_trace.specs.Sides.{Side, Server, Client, Ends, IsRefusedPacket, answered, expected, is_reported, kinds_behind, phase_behind}
-use Rattle.pgp_trace.specs.Listing.{GoesOn, IsAnswerLine, IsListing, IsLineOf, IsNextLine, IsServerLine, LineOf, Lines, NoLines, OneLine, answer_line, client_front, front, last_line, place_behind}
+use Rattle.pgp_trace.specs.Listing.{GoesOn, IsAnswerLine, IsListing, IsLineOf, IsNextLine, IsServerLine, LineOf, Listed, Lines, NoLines, OneLine, answer_line, answer_name, client_frame_name, client_front, front, last_line, name_in, place_behind, server_name}
+use Rattle.pgp_trace.specs.View.{View, shown}
 use Rattle.pgp_trace.proofs.ClientStreams.{behind, frame_some, one_first}
 use Rattle.pgp_trace.proofs.Shorter.{frame_has}
 use Rattle.pgp_trace.proofs.Beginnings.{none_some}
@@ -163,11 +164,22 @@ pub record Same (f g line other x y : List ℕ) (to too : Side) : Type 0 where
   pub rests : x ≡ y
   pub sides : to ≡ too
 
-server_one : (style : Style) (place : ℕ) (f g line other x y : List ℕ) → IsServerLine style place f line → IsServerLine style place g other → f ++ x ≡ g ++ y → (f ≡ g) × (line ≡ other) × (x ≡ y)
+same_read : (f g : Frame) (r s : Result Message Error) → IsFrame f → f ≡ g → Body f.tag f.payload r → Body g.tag g.payload s → r ≡ s
+same_read f g r s fits e a b = sym (one_body f.tag f.payload r fits.payload a) ∙ one_body f.tag f.payload s fits.payload (subst (λ (h : Frame). Body h.tag h.payload s) (sym e) b)
+
+same_name : (f g : Frame) (r s : Result Message Error) → f ≡ g → r ≡ s → server_name f.tag r ≡ server_name g.tag s
+same_name f g r s e h = ap (λ (k : Frame). server_name k.tag r) e ∙ ap (server_name g.tag) h
+
+server_one : (style : Style) (place : ℕ) (f g line other x y : List ℕ) (a : IsServerLine style place f line) (b : IsServerLine style place g other) → f ++ x ≡ g ++ y
+    → (f ≡ g) × (line ≡ other) × (x ≡ y) × (server_name a.first.tag a.reported.result ≡ server_name b.first.tag b.reported.result)
 server_one style place f g line other x y a b e =
     let one = front_is_one a.first b.first x y a.fits b.fits (ap (λ l. l ++ x) (sym a.whole) ∙ e ∙ ap (λ l. l ++ y) b.whole) in
-    let reported = subst (λ (h : Frame). IsLineOf style place h line) one.0 a.reported in
-    (a.whole ∙ ap frame_bytes one.0 ∙ sym b.whole, line_of_one style place b.first line other b.fits reported b.reported, one.1)
+    let reported = subst (λ (h : Frame). IsLineOf style place h line) one.0 a.reported in (
+      a.whole ∙ ap frame_bytes one.0 ∙ sym b.whole,
+      line_of_one style place b.first line other b.fits reported b.reported,
+      one.1,
+      same_name a.first b.first a.reported.result b.reported.result one.0 (same_read a.first b.first a.reported.result b.reported.result a.fits one.0 a.reported.body b.reported.body),
+    )
 
 front_answer : (byte : ℕ) (f x y : List ℕ) (phase : Phase) → phase_behind byte ≡ Some phase → byte ∷ x ≡ f ++ y → 0 < length f → answered f ≡ None → ⊥
 front_answer byte [] x y phase is e some none = absurd (omega (arith, some))
@@ -176,7 +188,8 @@ front_answer byte (z ∷ zs) x y phase is e some none = none_some phase (phase_b
 same_phase : (a b : Phase) → (let x : Option Phase = Some a in x ≡ Some b) → a ≡ b
 same_phase a b e = cc
 
-answers_one : (style : Style) (place : ℕ) (f g line other x y : List ℕ) (p q : Phase) → IsAnswerLine style place f line p → IsAnswerLine style place g other q → f ++ x ≡ g ++ y → (f ≡ g) × (line ≡ other) × (x ≡ y) × (p ≡ q)
+answers_one : (style : Style) (place : ℕ) (f g line other x y : List ℕ) (p q : Phase) (a : IsAnswerLine style place f line p) (b : IsAnswerLine style place g other q) → f ++ x ≡ g ++ y
+    → (f ≡ g) × (line ≡ other) × (x ≡ y) × (p ≡ q) × (answer_name a.byte ≡ answer_name b.byte)
 answers_one style place f g line other x y p q a b e =
     let all : a.byte ∷ x ≡ b.byte ∷ y = ap (λ l. l ++ x) (sym a.whole) ∙ e ∙ ap (λ l. l ++ y) b.whole in
     let byte : a.byte ≡ b.byte = ap (λ l. get_or l 0 0) all in (
@@ -184,6 +197,7 @@ answers_one style place f g line other x y p q a b e =
       a.reported ∙ ap (answer_line style place) byte ∙ sym b.reported,
       ap (λ l. drop 1 l) all,
       same_phase p q (sym a.answers ∙ ap phase_behind byte ∙ b.answers),
+      ap answer_name byte,
     )
 
 same_result : (r s : Result ClientMessage ClientError) → step_of r ≡ step_of s → r ≡ s
@@ -192,35 +206,38 @@ same_result (Ok x) (Err d) e = absurd cc
 same_result (Err d) (Ok y) e = absurd cc
 same_result (Err d) (Err e) f = cc
 
-client_one : (style : Style) (place : ℕ) (opened : Bool) (kinds : List code.PasswordKind) (f g line other x y : List ℕ) (to too : Side) → IsNextLine style place opened kinds f line to → IsNextLine style place opened kinds g other too → f ++ x ≡ g ++ y
-    → Same f g line other x y to too
+client_one : (style : Style) (place : ℕ) (opened : Bool) (kinds : List code.PasswordKind) (f g line other x y : List ℕ) (to too : Side) (a : IsNextLine style place opened kinds f line to) (b : IsNextLine style place opened kinds g other too) → f ++ x ≡ g ++ y
+    → Same f g line other x y to too × (client_frame_name (is_reported kinds) a.reported.result ≡ client_frame_name (is_reported kinds) b.reported.result)
 client_one style place opened kinds f g line other x y to too a b e =
     let one = one_first opened a.now b.now kinds f g x y a.reported.result b.reported.result a.reported.step b.reported.step e in
     let step = subst (λ l. Step (expected kinds) (record { bytes = l; opened = opened }) (step_of a.reported.result) (record { bytes = []; opened = a.now })) one.0 a.reported.step in
     let both = step_one (expected kinds) (record { bytes = g; opened = opened }) (record { bytes = []; opened = a.now }) (record { bytes = []; opened = b.now }) (step_of a.reported.result) (step_of b.reported.result) step b.reported.step in
-    let result = same_result a.reported.result b.reported.result both.0 in
-    record {
-      frames = one.0;
-      lines = a.reported.reported ∙ ap (λ r. client_line style (is_reported kinds) r (client_front style place opened f) ++ closing style ++ 10 ∷ []) result
-          ∙ ap (λ l. client_line style (is_reported kinds) b.reported.result (client_front style place opened l) ++ closing style ++ 10 ∷ []) one.0 ∙ sym b.reported.reported;
-      rests = one.1;
-      sides = a.behind ∙ ap (λ n. Client n (kinds_behind opened f kinds)) one.2 ∙ ap (λ l. Client b.now (kinds_behind opened l kinds)) one.0 ∙ sym b.behind;
-    }
+    let result = same_result a.reported.result b.reported.result both.0 in (
+      record {
+        frames = one.0;
+        lines = a.reported.reported ∙ ap (λ r. client_line style (is_reported kinds) r (client_front style place opened f) ++ closing style ++ 10 ∷ []) result
+            ∙ ap (λ l. client_line style (is_reported kinds) b.reported.result (client_front style place opened l) ++ closing style ++ 10 ∷ []) one.0 ∙ sym b.reported.reported;
+        rests = one.1;
+        sides = a.behind ∙ ap (λ n. Client n (kinds_behind opened f kinds)) one.2 ∙ ap (λ l. Client b.now (kinds_behind opened l kinds)) one.0 ∙ sym b.behind;
+      },
+      ap (client_frame_name (is_reported kinds)) result,
+    )
 
-pub line_one : (style : Style) (place : ℕ) (from to too : Side) (f g line other x y : List ℕ) → LineOf style place from f line to → LineOf style place from g other too → f ++ x ≡ g ++ y → Same f g line other x y to too
+pub line_one : (style : Style) (place : ℕ) (from to too : Side) (f g line other x y : List ℕ) (a : LineOf style place from f line to) (b : LineOf style place from g other too) → f ++ x ≡ g ++ y
+    → Same f g line other x y to too × (name_in style place from f line to a ≡ name_in style place from g other too b)
 line_one style place (Server Beginning) to too f g line other x y (inl a) (inl b) e =
     let one = answers_one style place f g line other x y a.phase b.phase a.reported b.reported e in
-    record { frames = one.0; lines = one.1; rests = one.2; sides = a.behind ∙ ap Server one.3 ∙ sym b.behind }
+    (record { frames = one.0; lines = one.1; rests = one.2; sides = a.behind ∙ ap Server one.3 ∙ sym b.behind }, one.4)
 line_one style place (Server Beginning) to too f g line other x y (inl a) (inr b) e =
     absurd (front_answer a.reported.byte g x y a.phase a.reported.answers (ap (λ l. l ++ x) (sym a.reported.whole) ∙ e) (frame_has style place (Server Beginning) too g other (inr b)) b.none)
 line_one style place (Server Beginning) to too f g line other x y (inr a) (inl b) e =
     absurd (front_answer b.reported.byte f y x b.phase b.reported.answers (ap (λ l. l ++ y) (sym b.reported.whole) ∙ sym e) (frame_has style place (Server Beginning) to f line (inr a)) a.none)
 line_one style place (Server Beginning) to too f g line other x y (inr a) (inr b) e =
     let one = server_one style place f g line other x y a.reported b.reported e in
-    record { frames = one.0; lines = one.1; rests = one.2; sides = a.behind ∙ sym b.behind }
+    (record { frames = one.0; lines = one.1; rests = one.2; sides = a.behind ∙ sym b.behind }, one.3)
 line_one style place (Server Messages) to too f g line other x y a b e =
     let one = server_one style place f g line other x y a.0 b.0 e in
-    record { frames = one.0; lines = one.1; rests = one.2; sides = a.1 ∙ sym b.1 }
+    (record { frames = one.0; lines = one.1; rests = one.2; sides = a.1 ∙ sym b.1 }, one.3)
 line_one style place (Server Encrypted) to too f g line other x y a b e = absurd a
 line_one style place (Client opened kinds) to too f g line other x y a b e = client_one style place opened kinds f g line other x y to too a b e
 
@@ -289,27 +306,37 @@ ends_one (Client opened kinds) true false rest a b = absurd (stops_there opened 
 
 -- ---- lines, the first at first
 
-data Rows (style : Style) (to : Side) : ℕ → Side → List ℕ → List ℕ → Type 0 where
-  NoRows : {start : ℕ} → Rows style to start to [] []
-  OneRow : {start : ℕ} {from mid : Side} {bytes lines : List ℕ} (frame line : List ℕ) → LineOf style (place_behind start) from frame line mid → Rows style to (start + length frame) mid bytes lines → Rows style to start from (frame ++ bytes) (line ++ lines)
+text_one : (view : View) (place : ℕ) (from to too : Side) (f g text other x y : List ℕ) → Listed view place from f text to → Listed view place from g other too → f ++ x ≡ g ++ y → Same f g text other x y to too
+text_one view place from to too f g text other x y a b e =
+    let one = line_one view.style place from to too f g a.line b.line x y a.reported b.reported e in
+    record {
+      frames = one.0.frames;
+      lines = a.is ∙ ap (λ n. shown view n a.line) one.1 ∙ ap (shown view (name_in view.style place from g b.line too b.reported)) one.0.lines ∙ sym b.is;
+      rests = one.0.rests;
+      sides = one.0.sides;
+    }
+
+data Rows (view : View) (to : Side) : ℕ → Side → List ℕ → List ℕ → Type 0 where
+  NoRows : {start : ℕ} → Rows view to start to [] []
+  OneRow : {start : ℕ} {from mid : Side} {bytes lines : List ℕ} (frame line : List ℕ) → Listed view (place_behind start) from frame line mid → Rows view to (start + length frame) mid bytes lines → Rows view to start from (frame ++ bytes) (line ++ lines)
 
 -- one more, after the others
-row_more : (style : Style) (here : Side) (start : ℕ) (from to : Side) (bytes lines frame line : List ℕ) → Rows style here start from bytes lines → LineOf style (place_behind (start + length bytes)) here frame line to → Rows style to start from (bytes ++ frame) (lines ++ line)
-row_more style _ start from to [] [] frame line NoRows has =
+row_more : (view : View) (here : Side) (start : ℕ) (from to : Side) (bytes lines frame line : List ℕ) → Rows view here start from bytes lines → Listed view (place_behind (start + length bytes)) here frame line to → Rows view to start from (bytes ++ frame) (lines ++ line)
+row_more view _ start from to [] [] frame line NoRows has =
     let here : place_behind (start + 0) ≡ place_behind start = ap place_behind (omega arith) in
-    subst (λ l. Rows style to start from l line) (append-nil frame)
-    (subst (λ l. Rows style to start from (frame ++ []) l) (append-nil line)
-    (OneRow {start = start} frame line (subst (λ p. LineOf style p from frame line to) here has) NoRows))
-row_more style here start from to _ _ frame line (OneRow {mid = mid} {bytes = bytes} {lines = lines} f l is rest) has =
+    subst (λ l. Rows view to start from l line) (append-nil frame)
+    (subst (λ l. Rows view to start from (frame ++ []) l) (append-nil line)
+    (OneRow {start = start} frame line (subst (λ p. Listed view p from frame line to) here has) NoRows))
+row_more view here start from to _ _ frame line (OneRow {mid = mid} {bytes = bytes} {lines = lines} f l is rest) has =
     let place : place_behind (start + length (f ++ bytes)) ≡ place_behind ((start + length f) + length bytes) = ap place_behind (omega (arith, length-append f bytes)) in
-    let more = row_more style here (start + length f) mid to bytes lines frame line rest (subst (λ p. LineOf style p here frame line to) place has) in
-    subst (λ x. Rows style to start from x ((l ++ lines) ++ line)) (sym (append_assoc f bytes frame))
-    (subst (λ x. Rows style to start from (f ++ (bytes ++ frame)) x) (sym (append_assoc l lines line))
+    let more = row_more view here (start + length f) mid to bytes lines frame line rest (subst (λ p. Listed view p here frame line to) place has) in
+    subst (λ x. Rows view to start from x ((l ++ lines) ++ line)) (sym (append_assoc f bytes frame))
+    (subst (λ x. Rows view to start from (f ++ (bytes ++ frame)) x) (sym (append_assoc l lines line))
     (OneRow f l is more))
 
-rows_of : (style : Style) (start : ℕ) (from to : Side) (bytes lines : List ℕ) → Lines style start from bytes lines to → Rows style to start from bytes lines
-rows_of style start from _ [] [] NoLines = NoRows
-rows_of style start from to _ _ (OneLine {bytes = bytes} {lines = lines} {here = here} frame line before has) = row_more style here start from to bytes lines frame line (rows_of style start from here bytes lines before) has
+rows_of : (view : View) (start : ℕ) (from to : Side) (bytes lines : List ℕ) → Lines view start from bytes lines to → Rows view to start from bytes lines
+rows_of view start from _ [] [] NoLines = NoRows
+rows_of view start from to _ _ (OneLine {bytes = bytes} {lines = lines} {here = here} frame line before has) = row_more view here start from to bytes lines frame line (rows_of view start from here bytes lines before) has
 
 -- what stands at the end is one thing
 record SameEnd (lines others x y : List ℕ) (s t : Bool) : Type 0 where
@@ -317,20 +344,20 @@ record SameEnd (lines others x y : List ℕ) (s t : Bool) : Type 0 where
   rests : x ≡ y
   ends : s ≡ t
 
-rows_one : (style : Style) (to too : Side) (start : ℕ) (from : Side) (a b lines others x y : List ℕ) (s t : Bool) → Rows style to start from a lines → Ends to s x → Rows style too start from b others → Ends too t y → a ++ x ≡ b ++ y → SameEnd lines others x y s t
-rows_one style _ _ start from [] [] [] [] x y s t NoRows ends NoRows others e = record { texts = refl; rests = e; ends = ends_one from s t y (subst (Ends from s) e ends) others }
-rows_one style _ too start from [] _ [] _ x y s t NoRows ends (OneRow {mid = mid} {bytes = bytes} {lines = more} g k is rest) others e =
-    absurd (no_line style (place_behind start) from mid s x g k (bytes ++ y) ends is (e ∙ append_assoc g bytes y))
-rows_one style to _ start from _ [] _ [] x y s t (OneRow {mid = mid} {bytes = bytes} {lines = more} f l is rest) ends NoRows others e =
-    absurd (no_line style (place_behind start) from mid t y f l (bytes ++ x) others is (sym e ∙ append_assoc f bytes x))
-rows_one style to too start from _ _ _ _ x y s t (OneRow {mid = mid} {bytes = bytes} {lines = more} f l is rest) ends (OneRow {mid = other} {bytes = left} {lines = less} g k has tail) others e =
-    let one = line_one style (place_behind start) from mid other f g l k (bytes ++ x) (left ++ y) is has (sym (append_assoc f bytes x) ∙ e ∙ append_assoc g left y) in
-    let here : Rows style too (start + length f) mid left less = subst (λ (h : Side). Rows style too (start + length f) h left less) (sym one.sides) (subst (λ h. Rows style too (start + length h) other left less) (sym one.frames) tail) in
-    let same = rows_one style to too (start + length f) mid bytes left more less x y s t rest ends here others one.rests in
+rows_one : (view : View) (to too : Side) (start : ℕ) (from : Side) (a b lines others x y : List ℕ) (s t : Bool) → Rows view to start from a lines → Ends to s x → Rows view too start from b others → Ends too t y → a ++ x ≡ b ++ y → SameEnd lines others x y s t
+rows_one view _ _ start from [] [] [] [] x y s t NoRows ends NoRows others e = record { texts = refl; rests = e; ends = ends_one from s t y (subst (Ends from s) e ends) others }
+rows_one view _ too start from [] _ [] _ x y s t NoRows ends (OneRow {mid = mid} {bytes = bytes} {lines = more} g k is rest) others e =
+    absurd (no_line view.style (place_behind start) from mid s x g is.line (bytes ++ y) ends is.reported (e ∙ append_assoc g bytes y))
+rows_one view to _ start from _ [] _ [] x y s t (OneRow {mid = mid} {bytes = bytes} {lines = more} f l is rest) ends NoRows others e =
+    absurd (no_line view.style (place_behind start) from mid t y f is.line (bytes ++ x) others is.reported (sym e ∙ append_assoc f bytes x))
+rows_one view to too start from _ _ _ _ x y s t (OneRow {mid = mid} {bytes = bytes} {lines = more} f l is rest) ends (OneRow {mid = other} {bytes = left} {lines = less} g k has tail) others e =
+    let one = text_one view (place_behind start) from mid other f g l k (bytes ++ x) (left ++ y) is has (sym (append_assoc f bytes x) ∙ e ∙ append_assoc g left y) in
+    let here : Rows view too (start + length f) mid left less = subst (λ (h : Side). Rows view too (start + length f) h left less) (sym one.sides) (subst (λ h. Rows view too (start + length h) other left less) (sym one.frames) tail) in
+    let same = rows_one view to too (start + length f) mid bytes left more less x y s t rest ends here others one.rests in
     record { texts = ap (λ h. h ++ more) one.lines ∙ ap (λ h. k ++ h) same.texts; rests = same.rests; ends = same.ends }
 
-pub one_listing : (style : Style) (from : Side) (bytes output other : List ℕ) → IsListing style from bytes output → IsListing style from bytes other → output ≡ other
-one_listing style from bytes output other a b =
-    let same = rows_one style a.to b.to 0 from a.front b.front a.lines b.lines a.rest b.rest a.stopped b.stopped (rows_of style 0 from a.to a.front a.lines a.listed) a.ending (rows_of style 0 from b.to b.front b.lines b.listed) b.ending (sym a.whole ∙ b.whole) in
-    a.text ∙ ap (λ l. l ++ last_line style a.stopped (place_behind (length a.rest))) same.texts ∙ ap (λ s. b.lines ++ last_line style s (place_behind (length a.rest))) same.ends
-    ∙ ap (λ l. b.lines ++ last_line style b.stopped (place_behind (length l))) same.rests ∙ sym b.text
+pub one_listing : (view : View) (from : Side) (bytes output other : List ℕ) → IsListing view from bytes output → IsListing view from bytes other → output ≡ other
+one_listing view from bytes output other a b =
+    let same = rows_one view a.to b.to 0 from a.front b.front a.lines b.lines a.rest b.rest a.stopped b.stopped (rows_of view 0 from a.to a.front a.lines a.listed) a.ending (rows_of view 0 from b.to b.front b.lines b.listed) b.ending (sym a.whole ∙ b.whole) in
+    a.text ∙ ap (λ l. l ++ last_line view a.stopped (place_behind (length a.rest))) same.texts ∙ ap (λ s. b.lines ++ last_line view s (place_behind (length a.rest))) same.ends
+    ∙ ap (λ l. b.lines ++ last_line view b.stopped (place_behind (length l))) same.rests ∙ sym b.text

@@ -4,25 +4,26 @@ use Rattle.pgp_base.specs.declared.error.Error.{Error}
 use Rattle.pgp_message.specs.BackendMessage.{Message}
 use Rattle.pgp_message.specs.Stream.{Frames, BackendRun, TakesFrame}
 use Rattle.pgp_message.proofs.Runs.{frames_none, frames_next}
-use Rattle.pgp_line.specs.declared.style.Style.{Style}
+use Rattle.pgp_trace.specs.View.{View}
 use Rattle.pgp_message.specs.Stream.{IsEnding}
-use Rattle.pgp_trace.specs.Listing.{IsServerLine, Lines, NoLines, OneLine, IsListing, IsRunBehindAnswers, place_behind}
+use Rattle.pgp_trace.specs.Listing.{Lines, NoLines, OneLine, IsListing, IsRunBehindAnswers, place_behind}
 use Rattle.pgp_trace.specs.Sides.{Side, Server, Ends}
 use Rattle.pgp_trace.specs.declared.side.Phase.TheVariants.{Beginning, Messages, Encrypted}
 use Rattle.pgp_trace.proofs.Ends.{answered_stays}
 use Rattle.pgp_trace.proofs.Beginnings.{HasCome, StillAnswers, NowEncrypted, NowMessages, has_come}
-use Rattle.pgp_trace.proofs.Sides.{stays_server, server_line}
+use Rattle.pgp_trace.proofs.Sides.{Told, stays_server, server_line}
 
 -- the frames that were listed, and a result for each
 record Read (front rest : List ℕ) : Type 0 where
   results : List (Result Message Error)
   frames : Frames (front ++ rest) results rest
 
-read_of : (style : Style) (start : ℕ) (front lines : List ℕ) (to : Side) → Lines style start (Server Messages) front lines to → (rest : List ℕ) → Read front rest
-read_of style start [] [] _ NoLines rest = record { results = []; frames = frames_none rest }
-read_of style start _ _ to (OneLine {bytes = bytes} {lines = lines} {here = here} frame line before has) rest =
-    let is : IsServerLine style (place_behind (start + length bytes)) frame line = server_line style start (place_behind (start + length bytes)) bytes lines frame line here to before has in
-    let so_far = read_of style start bytes lines here before (frame ++ rest) in
+read_of : (view : View) (start : ℕ) (front lines : List ℕ) (to : Side) → Lines view start (Server Messages) front lines to → (rest : List ℕ) → Read front rest
+read_of view start [] [] _ NoLines rest = record { results = []; frames = frames_none rest }
+read_of view start _ _ to (OneLine {bytes = bytes} {lines = lines} {here = here} frame line before has) rest =
+    let has_line : Told view (place_behind (start + length bytes)) frame line = server_line view start (place_behind (start + length bytes)) bytes lines frame line here to before has in
+    let is = has_line.reported in
+    let so_far = read_of view start bytes lines here before (frame ++ rest) in
     let takes : TakesFrame (frame ++ rest) is.reported.result rest = record { first = is.first; whole = ap (λ l. l ++ rest) is.whole; fits = is.fits; body = is.reported.body } in
     record {
       results = so_far.results ++ is.reported.result ∷ [];
@@ -30,20 +31,20 @@ read_of style start _ _ to (OneLine {bytes = bytes} {lines = lines} {here = here
           (frames_next (bytes ++ (frame ++ rest)) (frame ++ rest) rest so_far.results is.reported.result so_far.frames takes);
     }
 
-pub run_of : (style : Style) (bytes output : List ℕ) (l : IsListing style (Server Messages) bytes output) → (results : List (Result Message Error)) × BackendRun bytes results l.stopped l.rest
-run_of style bytes output l =
-    let read = read_of style 0 l.front l.lines l.to l.listed l.rest in
-    let ends : IsEnding l.stopped l.rest = subst (λ s. Ends s l.stopped l.rest) (stays_server style 0 l.front l.lines l.to l.listed) l.ending in
+pub run_of : (view : View) (bytes output : List ℕ) (l : IsListing view (Server Messages) bytes output) → (results : List (Result Message Error)) × BackendRun bytes results l.stopped l.rest
+run_of view bytes output l =
+    let read = read_of view 0 l.front l.lines l.to l.listed l.rest in
+    let ends : IsEnding l.stopped l.rest = subst (λ s. Ends s l.stopped l.rest) (stays_server view 0 l.front l.lines l.to l.listed) l.ending in
     (read.results, record { run = subst (λ b. Frames b read.results l.rest) (sym l.whole) read.frames; ending = ends })
 
 -- from the first byte on
-begun_run : (style : Style) (bytes output : List ℕ) (l : IsListing style (Server Beginning) bytes output) → HasCome style 0 l.front l.lines l.to → (l.to ≡ Server Encrypted) ⊎ IsRunBehindAnswers bytes l.stopped l.rest
-begun_run style bytes output l (NowEncrypted e some) = inl e
-begun_run style bytes output l (StillAnswers e plain) =
+begun_run : (view : View) (bytes output : List ℕ) (l : IsListing view (Server Beginning) bytes output) → HasCome view 0 l.front l.lines l.to → (l.to ≡ Server Encrypted) ⊎ IsRunBehindAnswers bytes l.stopped l.rest
+begun_run view bytes output l (NowEncrypted e some) = inl e
+begun_run view bytes output l (StillAnswers e plain) =
     let ends = subst (λ s. Ends s l.stopped l.rest) e l.ending in
     inr (record { answers = l.front; more = l.rest; results = []; whole = l.whole; plain = plain; none = ends.0; run = record { run = frames_none l.rest; ending = ends.1 } })
-begun_run style bytes output l (NowMessages e b) =
-    let read = read_of style (0 + length b.answers) b.more b.rest (Server Messages) b.backs l.rest in
+begun_run view bytes output l (NowMessages e b) =
+    let read = read_of view (0 + length b.answers) b.more b.rest (Server Messages) b.backs l.rest in
     inr (record {
       answers = b.answers;
       more = b.more ++ l.rest;
@@ -54,5 +55,5 @@ begun_run style bytes output l (NowMessages e b) =
       run = record { run = read.frames; ending = subst (λ s. Ends s l.stopped l.rest) e l.ending };
     })
 
-pub run_behind : (style : Style) (bytes output : List ℕ) (l : IsListing style (Server Beginning) bytes output) → (l.to ≡ Server Encrypted) ⊎ IsRunBehindAnswers bytes l.stopped l.rest
-run_behind style bytes output l = begun_run style bytes output l (has_come style 0 l.front l.lines l.to l.listed)
+pub run_behind : (view : View) (bytes output : List ℕ) (l : IsListing view (Server Beginning) bytes output) → (l.to ≡ Server Encrypted) ⊎ IsRunBehindAnswers bytes l.stopped l.rest
+run_behind view bytes output l = begun_run view bytes output l (has_come view 0 l.front l.lines l.to l.listed)

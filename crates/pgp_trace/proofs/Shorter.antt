@@ -15,5 +15,5 @@ frame_has style place (Server Messages) to frame line is = omega (arith, frame_l
 frame_has style place (Server Encrypted) to frame line is = absurd is
 frame_has style place (Client opened kinds) to frame line is = omega (arith, step_long (expected kinds) (record { bytes = frame; opened = opened }) (record { bytes = []; opened = is.now }) is.reported.result is.reported.step)
 
-pub shorter : (style : Style) (place : ℕ) (from to : Side) (old new line : List ℕ) → HasLine style place from old new line to → length new < length old
-shorter style place from to old new line has = omega (arith, ap length has.whole, length-append has.frame new, frame_has style place from to has.frame line has.reported)
+pub shorter : (style : Style) (place : ℕ) (from to : Side) (old new line name : List ℕ) → HasLine style place from old new line to name → length new < length old
+shorter style place from to old new line name has = omega (arith, ap length has.whole, length-append has.frame new, frame_has style place from to has.frame line has.reported)

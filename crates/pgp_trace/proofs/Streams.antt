@@ -10,14 +10,15 @@ use Rattle.pgp_message.specs.BackendMessage.{Message}
 use Rattle.pgp_message.specs.Stream.{Frame, frame_bytes, IsFrame}
 use Rattle.pgp_message.proofs.Runs.{front_is_one, each_push, pushed}
 use Rattle.pgp_line.specs.declared.style.Style.{Style}
-use Rattle.pgp_line.specs.Line.{Length, Name, Tag, followed, opening}
+use Rattle.pgp_line.specs.Line.{Length, Name, Part, Tag, followed, opening}
 use Rattle.pgp_trace.specs.Unread.{ShowsCopyBoth, ShowsResult, ShowsUnread, CallResult, CopyBoth, Rejected}
 use Rattle.pgp_trace.specs.Sides.{Side, Server, AreAnswers, answered, phase_behind}
 use Rattle.pgp_trace.specs.declared.side.Phase.TheVariants.{Beginning, Messages}
 use Rattle.pgp_trace.proofs.Beginnings.{HasCome, StillAnswers, NowEncrypted, NowMessages, has_come, none_some, one_front, rejoin}
-use Rattle.pgp_trace.proofs.Sides.{server_line}
-use Rattle.pgp_trace.specs.Listing.{GoesOn, IsLineOf, IsServerLine, Lines, NoLines, OneLine, front, place_behind}
-use Rattle.pgp_trace.specs.Secrets.{AlikeBeginnings, AlikeResults, AlikeFrames, AlikeStreams, NoFrames, OneAlike, quiet}
+use Rattle.pgp_trace.proofs.Sides.{Told, server_line}
+use Rattle.pgp_trace.specs.Listing.{GoesOn, IsLineOf, Lines, NoLines, OneLine, front, place_behind, server_name, unread_name}
+use Rattle.pgp_trace.specs.View.{View, shown}
+use Rattle.pgp_trace.specs.Secrets.{AlikeBeginnings, AlikeResults, AlikeFrames, AlikeStreams, NoFrames, OneAlike, quiet, quietly}
 use Rattle.pgp_trace.specs.Shown.{Shows}
 use Rattle.pgp_trace.proofs.Hiding.{hidden, same_call}
 
@@ -44,11 +45,12 @@ left_frames : (a b : List ℕ) → AlikeStreams a b → AreFrames a
 left_frames [] [] NoFrames = record { frames = []; whole = refl; each = tt }
 left_frames _ _ (OneAlike {a = a} {b = b} f g before ff gg alike) = more_frames a f (left_frames a b before) ff
 
-listed_frames : (style : Style) (start : ℕ) (bytes lines : List ℕ) (to : Side) → Lines style start (Server Messages) bytes lines to → AreFrames bytes
-listed_frames style start [] [] _ NoLines = record { frames = []; whole = refl; each = tt }
-listed_frames style start _ _ to (OneLine {bytes = bytes} {lines = lines} {here = here} frame line before has) =
-    let is : IsServerLine style (place_behind (start + length bytes)) frame line = server_line style start (place_behind (start + length bytes)) bytes lines frame line here to before has in
-    subst (λ l. AreFrames (bytes ++ l)) (sym is.whole) (more_frames bytes is.first (listed_frames style start bytes lines here before) is.fits)
+listed_frames : (view : View) (start : ℕ) (bytes lines : List ℕ) (to : Side) → Lines view start (Server Messages) bytes lines to → AreFrames bytes
+listed_frames view start [] [] _ NoLines = record { frames = []; whole = refl; each = tt }
+listed_frames view start _ _ to (OneLine {bytes = bytes} {lines = lines} {here = here} frame line before has) =
+    let has_line : Told view (place_behind (start + length bytes)) frame line = server_line view start (place_behind (start + length bytes)) bytes lines frame line here to before has in
+    let is = has_line.reported in
+    subst (λ l. AreFrames (bytes ++ l)) (sym is.whole) (more_frames bytes is.first (listed_frames view start bytes lines here before) is.fits)
 
 abbrev LastIsOne : List Frame → List Frame → Frame → Frame → Type 0
 LastIsOne fs gs f g = (flat_map frame_bytes fs ≡ flat_map frame_bytes gs) × (f ≡ g)
@@ -94,17 +96,34 @@ goes_on style tag body other (Err d) (Err e) old new same alike goes = subst (λ
 goes_on style tag body other (Ok m) (Err e) old new same alike goes = absurd alike
 goes_on style tag body other (Err d) (Ok n) old new same alike goes = absurd alike
 
-line_hidden : (style : Style) (place : ℕ) (f g : Frame) (line : List ℕ) → AlikeFrames f g → IsLineOf (quiet style) place f line → IsLineOf (quiet style) place g line
+abbrev part_name : Part → List ℕ
+part_name (Name alone name) = name
+part_name part = []
+
+names_alike : (t u : ℕ) (r s : Result Message Error) → t ≡ u → AlikeResults r s → server_name t r ≡ server_name u s
+names_alike t u (Ok m) (Ok n) e same = ap part_name (same_call m n same)
+names_alike t u (Err d) (Err h) e same = ap unread_name e
+names_alike t u (Ok m) (Err h) e same = absurd same
+names_alike t u (Err d) (Ok n) e same = absurd same
+
+record LineHidden (style : Style) (place : ℕ) (g : Frame) (line name : List ℕ) : Type 0 where
+  is : IsLineOf (quiet style) place g line
+  named : name ≡ server_name g.tag is.result
+
+line_hidden : (style : Style) (place : ℕ) (f g : Frame) (line : List ℕ) → AlikeFrames f g → (is : IsLineOf (quiet style) place f line) → LineHidden style place g line (server_name f.tag is.result)
 line_hidden style place f g line alike is =
     let (s, body, same) = alike.bodies is.result is.body in
     record {
-      result = s;
-      body = body;
-      text = is.text;
-      reported = subst (λ t. GoesOn (quiet style) t g.payload s (front (quiet style) place g) is.text) alike.tagged
-          (goes_on style f.tag f.payload g.payload is.result s (front (quiet style) place g) is.text alike.plain same
-          (subst (λ l. GoesOn (quiet style) f.tag f.payload is.result l is.text) (same_front (quiet style) place f g alike) is.reported));
-      ended = is.ended;
+      is = record {
+        result = s;
+        body = body;
+        text = is.text;
+        reported = subst (λ t. GoesOn (quiet style) t g.payload s (front (quiet style) place g) is.text) alike.tagged
+            (goes_on style f.tag f.payload g.payload is.result s (front (quiet style) place g) is.text alike.plain same
+            (subst (λ l. GoesOn (quiet style) f.tag f.payload is.result l is.text) (same_front (quiet style) place f g alike) is.reported));
+        ended = is.ended;
+      };
+      named = names_alike f.tag g.tag is.result s alike.tagged same;
     }
 
 same_length : (a b : List ℕ) → AlikeStreams a b → length a ≡ length b
@@ -142,23 +161,27 @@ nothing_alike [] [] NoFrames e = refl
 nothing_alike _ _ (OneAlike {a = a} {b = b} g h before gg hh alike) e = absurd (no_last a g (sym e))
 
 -- the lines of a server's frames, with the frame as bytes
-server_step : (style : Style) (start : ℕ) (bytes lines : List ℕ) (f : Frame) (line : List ℕ) → Lines style start (Server Messages) bytes lines (Server Messages) → IsFrame f
-    → IsLineOf style (place_behind (start + length bytes)) f line → Lines style start (Server Messages) (bytes ++ frame_bytes f) (lines ++ line) (Server Messages)
-server_step style start bytes lines f line before fits has = OneLine (frame_bytes f) line before (record { first = f; whole = refl; fits = fits; reported = has }, refl)
+server_step : (view : View) (start : ℕ) (bytes lines : List ℕ) (f : Frame) (line text : List ℕ) → Lines view start (Server Messages) bytes lines (Server Messages) → IsFrame f
+    → (has : IsLineOf view.style (place_behind (start + length bytes)) f line) → text ≡ shown view (server_name f.tag has.result) line → Lines view start (Server Messages) (bytes ++ frame_bytes f) (lines ++ text) (Server Messages)
+server_step view start bytes lines f line text before fits has e =
+    OneLine (frame_bytes f) text before (record { line = line; reported = (record { first = f; whole = refl; fits = fits; reported = has }, refl); is = e })
 
-hidden_lines : (style : Style) (start : ℕ) (a lines : List ℕ) (to : Side) → Lines (quiet style) start (Server Messages) a lines to → (b : List ℕ) → AlikeStreams a b → Lines (quiet style) start (Server Messages) b lines (Server Messages)
-hidden_lines style start [] [] _ NoLines b alike = subst (λ l. Lines (quiet style) start (Server Messages) l [] (Server Messages)) (sym (nothing_alike [] b alike refl)) NoLines
-hidden_lines style start _ _ to (OneLine {bytes = bytes} {lines = lines} {here = here} frame line before has) b alike =
-    let is : IsServerLine (quiet style) (place_behind (start + length bytes)) frame line = server_line (quiet style) start (place_behind (start + length bytes)) bytes lines frame line here to before has in
+hidden_lines : (view : View) (start : ℕ) (a lines : List ℕ) (to : Side) → Lines (quietly view) start (Server Messages) a lines to → (b : List ℕ) → AlikeStreams a b → Lines (quietly view) start (Server Messages) b lines (Server Messages)
+hidden_lines view start [] [] _ NoLines b alike = subst (λ l. Lines (quietly view) start (Server Messages) l [] (Server Messages)) (sym (nothing_alike [] b alike refl)) NoLines
+hidden_lines view start _ _ to (OneLine {bytes = bytes} {lines = lines} {here = here} frame text before has) b alike =
+    let told : Told (quietly view) (place_behind (start + length bytes)) frame text = server_line (quietly view) start (place_behind (start + length bytes)) bytes lines frame text here to before has in
+    let is = told.reported in
     let same : AlikeStreams (bytes ++ frame_bytes is.first) b = subst (λ l. AlikeStreams (bytes ++ l) b) is.whole alike in
-    let end = ends_alike (bytes ++ frame_bytes is.first) b same bytes is.first (listed_frames (quiet style) start bytes lines here before) is.fits refl in
+    let end = ends_alike (bytes ++ frame_bytes is.first) b same bytes is.first (listed_frames (quietly view) start bytes lines here before) is.fits refl in
     let place : place_behind (start + length bytes) ≡ place_behind (start + length end.before) = ap (λ n. place_behind (start + n)) (same_length bytes end.before end.alike) in
-    subst (λ l. Lines (quiet style) start (Server Messages) l (lines ++ line) (Server Messages)) (sym end.whole)
-    (server_step (quiet style) start end.before lines end.last line (hidden_lines style start bytes lines here before end.before end.alike) end.fits
-    (line_hidden style (place_behind (start + length end.before)) is.first end.last line end.same (subst (λ p. IsLineOf (quiet style) p is.first line) place is.reported)))
+    let hid : LineHidden view.style (place_behind (start + length end.before)) end.last told.line (server_name is.first.tag is.reported.result) =
+    subst (λ p. LineHidden view.style p end.last told.line (server_name is.first.tag is.reported.result)) place (line_hidden view.style (place_behind (start + length bytes)) is.first end.last told.line end.same is.reported) in
+    subst (λ l. Lines (quietly view) start (Server Messages) l (lines ++ text) (Server Messages)) (sym end.whole)
+    (server_step (quietly view) start end.before lines end.last told.line text (hidden_lines view start bytes lines here before end.before end.alike) end.fits hid.is
+    (told.is ∙ ap (λ n. shown (quietly view) n told.line) hid.named))
 
-pub streams_hidden : (style : Style) (start : ℕ) (a b lines : List ℕ) → AlikeStreams a b → Lines (quiet style) start (Server Messages) a lines (Server Messages) → Lines (quiet style) start (Server Messages) b lines (Server Messages)
-streams_hidden style start a b lines alike listed = hidden_lines style start a lines (Server Messages) listed b alike
+pub streams_hidden : (view : View) (start : ℕ) (a b lines : List ℕ) → AlikeStreams a b → Lines (quietly view) start (Server Messages) a lines (Server Messages) → Lines (quietly view) start (Server Messages) b lines (Server Messages)
+streams_hidden view start a b lines alike listed = hidden_lines view start a lines (Server Messages) listed b alike
 
 -- ---- from the first byte of a connection on
 
@@ -177,23 +200,23 @@ nothing_first [] [] all none = refl
 nothing_first [] (x ∷ xs) all none = absurd (none_some Beginning (phase_behind x) all.0 none)
 nothing_first (y ∷ ys) first all none = nothing_first ys first all.1 none
 
-come_alike : (style : Style) (start : ℕ) (a b lines : List ℕ) (to : Side) → AlikeBeginnings a b → Lines (quiet style) start (Server Beginning) a lines to → HasCome (quiet style) start a lines to → Lines (quiet style) start (Server Beginning) b lines to
-come_alike style start a b lines to alike listed (StillAnswers e plain) =
+come_alike : (view : View) (start : ℕ) (a b lines : List ℕ) (to : Side) → AlikeBeginnings a b → Lines (quietly view) start (Server Beginning) a lines to → HasCome (quietly view) start a lines to → Lines (quietly view) start (Server Beginning) b lines to
+come_alike view start a b lines to alike listed (StillAnswers e plain) =
     let empty = nothing_first alike.answers alike.first (subst AreAnswers alike.one plain) alike.none in
     let is : a ≡ b = alike.one ∙ ap (λ l. alike.answers ++ l) (empty ∙ sym (nothing_alike alike.first alike.other alike.alike empty)) ∙ sym alike.two in
-    subst (λ l. Lines (quiet style) start (Server Beginning) l lines to) is listed
-come_alike style start a b lines to alike listed (NowEncrypted e some) = absurd (some alike.answers alike.first alike.plain alike.none alike.one)
-come_alike style start a b lines to alike listed (NowMessages e begun) =
+    subst (λ l. Lines (quietly view) start (Server Beginning) l lines to) is listed
+come_alike view start a b lines to alike listed (NowEncrypted e some) = absurd (some alike.answers alike.first alike.plain alike.none alike.one)
+come_alike view start a b lines to alike listed (NowMessages e begun) =
     let one = one_front begun.answers alike.answers begun.more alike.first begun.plain alike.plain begun.none alike.none (sym begun.whole ∙ alike.one) in
     let same : AlikeStreams begun.more alike.other = subst (λ l. AlikeStreams l alike.other) (sym one.1) alike.alike in
     let none : answered alike.other ≡ None = sym (alike_first alike.first alike.other alike.alike) ∙ alike.none in
     let some : 0 < length alike.other = omega (arith, begun.some, same_length begun.more alike.other same) in
-    let backs = streams_hidden style (start + length begun.answers) begun.more alike.other begun.rest same begun.backs in
+    let backs = streams_hidden view (start + length begun.answers) begun.more alike.other begun.rest same begun.backs in
     let bytes : begun.answers ++ alike.other ≡ b = ap (λ l. l ++ alike.other) one.0 ∙ sym alike.two in
-    subst (λ l. Lines (quiet style) start (Server Beginning) l lines to) bytes
-    (subst (λ l. Lines (quiet style) start (Server Beginning) (begun.answers ++ alike.other) l to) (sym begun.text)
-    (subst (λ l. Lines (quiet style) start (Server Beginning) (begun.answers ++ alike.other) (begun.first ++ begun.rest) l) (sym e)
-    (rejoin (quiet style) start begun.answers begun.first alike.other begun.rest (Server Messages) begun.fronts backs none some)))
+    subst (λ l. Lines (quietly view) start (Server Beginning) l lines to) bytes
+    (subst (λ l. Lines (quietly view) start (Server Beginning) (begun.answers ++ alike.other) l to) (sym begun.text)
+    (subst (λ l. Lines (quietly view) start (Server Beginning) (begun.answers ++ alike.other) (begun.first ++ begun.rest) l) (sym e)
+    (rejoin (quietly view) start begun.answers begun.first alike.other begun.rest (Server Messages) begun.fronts backs none some)))
 
-pub beginnings_hidden : (style : Style) (start : ℕ) (a b lines : List ℕ) (to : Side) → AlikeBeginnings a b → Lines (quiet style) start (Server Beginning) a lines to → Lines (quiet style) start (Server Beginning) b lines to
-beginnings_hidden style start a b lines to alike listed = come_alike style start a b lines to alike listed (has_come (quiet style) start a lines to listed)
+pub beginnings_hidden : (view : View) (start : ℕ) (a b lines : List ℕ) (to : Side) → AlikeBeginnings a b → Lines (quietly view) start (Server Beginning) a lines to → Lines (quietly view) start (Server Beginning) b lines to
+beginnings_hidden view start a b lines to alike listed = come_alike view start a b lines to alike listed (has_come (quietly view) start a lines to listed)

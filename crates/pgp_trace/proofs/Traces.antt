@@ -6,9 +6,9 @@ use Rattle.std.proofs.KnownBytes.{Appends-nil, Appends-trans, Consumes-nil, Cons
 use Rattle.std.proofs.Math.Nat.{min-eq_left, min-le_right}
 use Rattle.std.proofs.lemmas.List.{append-nil, length-take}
 use Rattle.std.proofs.Math.Seq.{take-append_seam, drop-append_seam}
-use Rattle.pgp_line.specs.declared.style.Style.{Style}
+use Rattle.pgp_trace.specs.View.{View, shown}
 use Rattle.pgp_trace.specs.Hints.{hint_of}
-use Rattle.pgp_trace.specs.Listing.{LineOf, Lines, NoLines, OneLine, place_behind, last_line, IsReady, WasListed, WritesListing, IsCutShort}
+use Rattle.pgp_trace.specs.Listing.{Listed, Lines, NoLines, OneLine, place_behind, last_line, IsReady, WasListed, WritesListing, IsCutShort}
 use Rattle.pgp_program.specs.Run.{Streams}
 use Rattle.pgp_trace.specs.Sides.{Side, Ends}
 use Rattle.pgp_trace.specs.Steps.{HasLine, ListsAll, ListsSome, Held, Holds, ListsPiece}
@@ -31,53 +31,53 @@ same_place a b =
     let sum : length a + length b ≡ 0 + length (a ++ b) = omega (arith, length-append a b) in
     saturates (length a) (length b) greatest ∙ ap place_behind sum
 
-pub lines_join : (style : Style) (from mid : Side) (a lines : List ℕ) → Lines style 0 from a lines mid → (b more : List ℕ) (to : Side) → Lines style (place_behind (length a)) mid b more to → Lines style 0 from (a ++ b) (lines ++ more) to
-lines_join style from mid a lines first [] [] _ NoLines = subst (λ l. Lines style 0 from l (lines ++ []) mid) (sym (append-nil a)) (subst (λ l. Lines style 0 from a l mid) (sym (append-nil lines)) first)
-lines_join style from mid a lines first _ _ to (OneLine {bytes = b} {lines = more} {here = here} frame line before has) =
-    subst (λ l. Lines style 0 from l (lines ++ (more ++ line)) to) (append_assoc a b frame)
-    (subst (λ l. Lines style 0 from ((a ++ b) ++ frame) l to) (append_assoc lines more line)
-    (OneLine frame line (lines_join style from mid a lines first b more here before) (subst (λ p. LineOf style p here frame line to) (same_place a b) has)))
+pub lines_join : (view : View) (from mid : Side) (a lines : List ℕ) → Lines view 0 from a lines mid → (b more : List ℕ) (to : Side) → Lines view (place_behind (length a)) mid b more to → Lines view 0 from (a ++ b) (lines ++ more) to
+lines_join view from mid a lines first [] [] _ NoLines = subst (λ l. Lines view 0 from l (lines ++ []) mid) (sym (append-nil a)) (subst (λ l. Lines view 0 from a l mid) (sym (append-nil lines)) first)
+lines_join view from mid a lines first _ _ to (OneLine {bytes = b} {lines = more} {here = here} frame line before has) =
+    subst (λ l. Lines view 0 from l (lines ++ (more ++ line)) to) (append_assoc a b frame)
+    (subst (λ l. Lines view 0 from ((a ++ b) ++ frame) l to) (append_assoc lines more line)
+    (OneLine frame line (lines_join view from mid a lines first b more here before) (subst (λ p. Listed view p here frame line to) (same_place a b) has)))
 
 -- ---- a frame at a time
 
 -- the frames before the rest have these lines
-pub record ListsTo (style : Style) (start : ℕ) (from : Side) (bytes rest : List ℕ) (to : Side) (old new : List ℕ) : Type 0 where
+pub record ListsTo (view : View) (start : ℕ) (from : Side) (bytes rest : List ℕ) (to : Side) (old new : List ℕ) : Type 0 where
   pub front : List ℕ
   pub lines : List ℕ
   pub whole : bytes ≡ front ++ rest
-  pub listed : Lines style start from front lines to
+  pub listed : Lines view start from front lines to
   pub text : new ≡ old ++ lines
 
-pub nothing_yet : (style : Style) (start : ℕ) (from : Side) (bytes old : List ℕ) → ListsTo style start from bytes bytes from old old
-nothing_yet style start from bytes old = record { front = []; lines = []; whole = refl; listed = NoLines; text = sym (append-nil old) }
+pub nothing_yet : (view : View) (start : ℕ) (from : Side) (bytes old : List ℕ) → ListsTo view start from bytes bytes from old old
+nothing_yet view start from bytes old = record { front = []; lines = []; whole = refl; listed = NoLines; text = sym (append-nil old) }
 
 passed_is : (bytes front rest : List ℕ) → bytes ≡ front ++ rest → length bytes - length rest ≡ length front
 passed_is bytes front rest e = omega (arith, ap length e, length-append front rest)
 
 -- one more has its line, which stands after those
-pub one_listed : (style : Style) (start here : ℕ) (from mid to : Side) (bytes rest next line old now new : List ℕ) → ListsTo style start from bytes rest mid old now
-    → here ≡ min (start + (length bytes - length rest)) greatest → HasLine style here mid rest next line to → new ≡ now ++ line → ListsTo style start from bytes next to old new
-one_listed style start here from mid to bytes rest next line old now new so_far at has grown =
+pub one_listed : (view : View) (start here : ℕ) (from mid to : Side) (bytes rest next line name old now new : List ℕ) → ListsTo view start from bytes rest mid old now
+    → here ≡ min (start + (length bytes - length rest)) greatest → HasLine view.style here mid rest next line to name → new ≡ now ++ shown view name line → ListsTo view start from bytes next to old new
+one_listed view start here from mid to bytes rest next line name old now new so_far at has grown =
     let place : here ≡ place_behind (start + length so_far.front) = at ∙ ap (λ n. place_behind (start + n)) (passed_is bytes so_far.front rest so_far.whole) in
     record {
       front = so_far.front ++ has.frame;
-      lines = so_far.lines ++ line;
+      lines = so_far.lines ++ shown view name line;
       whole = so_far.whole ∙ ap (λ l. so_far.front ++ l) has.whole ∙ sym (append_assoc so_far.front has.frame next);
-      listed = OneLine has.frame line so_far.listed (subst (λ p. LineOf style p mid has.frame line to) place has.reported);
-      text = grown ∙ ap (λ l. l ++ line) so_far.text ∙ append_assoc old so_far.lines line;
+      listed = OneLine has.frame (shown view name line) so_far.listed (subst (λ p. Listed view p mid has.frame (shown view name line) to) place (record { line = line; reported = has.reported; is = ap (λ n. shown view n line) has.named }));
+      text = grown ∙ ap (λ l. l ++ shown view name line) so_far.text ∙ append_assoc old so_far.lines (shown view name line);
     }
 
 -- and no more, since none is whole
-pub all_listed : (style : Style) (start n : ℕ) (from to : Side) (bytes rest : List ℕ) (stopped : Bool) (old new : List ℕ) → ListsTo style start from bytes rest to old new
-    → n ≡ length bytes - length rest → Ends to stopped rest → ListsAll style start from bytes (take n bytes) (drop n bytes) stopped to old new
-all_listed style start n from to bytes rest stopped old new so_far passed ending =
+pub all_listed : (view : View) (start n : ℕ) (from to : Side) (bytes rest : List ℕ) (stopped : Bool) (old new : List ℕ) → ListsTo view start from bytes rest to old new
+    → n ≡ length bytes - length rest → Ends to stopped rest → ListsAll view start from bytes (take n bytes) (drop n bytes) stopped to old new
+all_listed view start n from to bytes rest stopped old new so_far passed ending =
     let count : n ≡ length so_far.front = passed ∙ passed_is bytes so_far.front rest so_far.whole in
     let is : take n bytes ≡ so_far.front = ap (λ k. take k bytes) count ∙ ap (take (length so_far.front)) so_far.whole ∙ take-append_seam so_far.front rest in
     let left : drop n bytes ≡ rest = ap (λ k. drop k bytes) count ∙ ap (drop (length so_far.front)) so_far.whole ∙ drop-append_seam so_far.front rest in
     record {
       lines = so_far.lines;
       whole = rw (is, left) so_far.whole;
-      listed = subst (λ l. Lines style start from l so_far.lines to) (sym is) so_far.listed;
+      listed = subst (λ l. Lines view start from l so_far.lines to) (sym is) so_far.listed;
       ending = subst (Ends to stopped) (sym left) ending;
       text = so_far.text;
     }
@@ -92,17 +92,17 @@ not_both true e f = absurd cc
 not_both false e f = absurd cc
 
 -- what a piece comes to, whatever wasn't listed
-abbrev pub Lists : Style → List ℕ → Held → Held → Option (List ℕ) → Option (List ℕ) → Type 0
-Lists style piece before after old new = (rest : List ℕ) → Holds before rest → ListsPiece style before.place before.side (rest ++ piece) after old new
+abbrev pub Lists : View → List ℕ → Held → Held → Option (List ℕ) → Option (List ℕ) → Type 0
+Lists view piece before after old new = (rest : List ℕ) → Holds before rest → ListsPiece view before.place before.side (rest ++ piece) after old new
 
-abbrev pub Stops : Style → List ℕ → Held → Option (List ℕ) → Option (List ℕ) → Type 0
-Stops style piece before old new = (rest : List ℕ) → Holds before rest → ListsSome style before.place before.side (rest ++ piece) old new
+abbrev pub Stops : View → List ℕ → Held → Option (List ℕ) → Option (List ℕ) → Type 0
+Stops view piece before old new = (rest : List ℕ) → Holds before rest → ListsSome view before.place before.side (rest ++ piece) old new
 
 -- of a stream that is stopped the bytes are counted
-piece_counted : (style : Style) (side : Side) (place left count : ℕ) (bytes piece : List ℕ) (halted : Bool) (old new : Option (List ℕ))
+piece_counted : (view : View) (side : Side) (place left count : ℕ) (bytes piece : List ℕ) (halted : Bool) (old new : Option (List ℕ))
     → halted ≡ true → count ≡ min (left + length piece) greatest → Keeps old new
-    → Lists style piece (record { side = side; bytes = bytes; place = place; stopped = halted; left = left }) (record { side = side; bytes = bytes; place = place; stopped = halted; left = count }) old new
-piece_counted style side place left count bytes piece halted old new stands counts kept rest holds = record {
+    → Lists view piece (record { side = side; bytes = bytes; place = place; stopped = halted; left = left }) (record { side = side; bytes = bytes; place = place; stopped = halted; left = count }) old new
+piece_counted view side place left count bytes piece halted old new stands counts kept rest holds = record {
   front = [];
   rest = rest ++ piece;
   lines = [];
@@ -119,12 +119,12 @@ piece_counted style side place left count bytes piece halted old new stands coun
 }
 
 -- the frames that are whole with it were listed
-piece_listed : (style : Style) (from to : Side) (place was n moved count : ℕ) (bytes piece items left text : List ℕ) (halted stopped : Bool) (old new : Option (List ℕ))
+piece_listed : (view : View) (from to : Side) (place was n moved count : ℕ) (bytes piece items left text : List ℕ) (halted stopped : Bool) (old new : Option (List ℕ))
     → halted ≡ false → items ≡ bytes ++ piece
-    → ListsAll style place from items (take n items) (drop n items) stopped to [] text → n ≤ length items → left ≡ drop n items
+    → ListsAll view place from items (take n items) (drop n items) stopped to [] text → n ≤ length items → left ≡ drop n items
     → moved ≡ min (place + n) greatest → count ≡ length left → count ≤ greatest → Appends old new text
-    → Lists style piece (record { side = from; bytes = bytes; place = place; stopped = halted; left = was }) (record { side = to; bytes = left; place = moved; stopped = stopped; left = count }) old new
-piece_listed style from to place was n moved count bytes piece items left text halted stopped old new goes grown all le cut moves counts small wrote rest holds =
+    → Lists view piece (record { side = from; bytes = bytes; place = place; stopped = halted; left = was }) (record { side = to; bytes = left; place = moved; stopped = stopped; left = count }) old new
+piece_listed view from to place was n moved count bytes piece items left text halted stopped old new goes grown all le cut moves counts small wrote rest holds =
     let same : rest ++ piece ≡ items = ap (λ l. l ++ piece) (sym (holds.bytes goes)) ∙ sym grown in
     let long : length (take n items) ≡ n = omega (arith, length-take n items, le) in
     record {
@@ -144,8 +144,8 @@ piece_listed style from to place was n moved count bytes piece items left text h
     }
 
 -- nothing was listed
-none_of_piece : (style : Style) (place : ℕ) (from : Side) (bytes : List ℕ) (old new : Option (List ℕ)) → Keeps old new → ListsSome style place from bytes old new
-none_of_piece style place from bytes old new kept = record {
+none_of_piece : (view : View) (place : ℕ) (from : Side) (bytes : List ℕ) (old new : Option (List ℕ)) → Keeps old new → ListsSome view place from bytes old new
+none_of_piece view place from bytes old new kept = record {
   to = from;
   front = [];
   rest = bytes;
@@ -156,12 +156,12 @@ none_of_piece style place from bytes old new kept = record {
 }
 
 -- a front of the lines was written
-front_of_piece : (style : Style) (from to : Side) (place was n : ℕ) (bytes piece items text : List ℕ) (halted stopped : Bool) (old new : Option (List ℕ))
+front_of_piece : (view : View) (from to : Side) (place was n : ℕ) (bytes piece items text : List ℕ) (halted stopped : Bool) (old new : Option (List ℕ))
     → halted ≡ false → items ≡ bytes ++ piece
-    → ListsAll style place from items (take n items) (drop n items) stopped to [] text → AppendsFront old new text
-    → Stops style piece (record { side = from; bytes = bytes; place = place; stopped = halted; left = was }) old new
-front_of_piece style from to place was n bytes piece items text halted stopped old new goes grown all taken rest holds =
-    subst (λ l. ListsSome style place from l old new) (grown ∙ ap (λ l. l ++ piece) (holds.bytes goes)) (record {
+    → ListsAll view place from items (take n items) (drop n items) stopped to [] text → AppendsFront old new text
+    → Stops view piece (record { side = from; bytes = bytes; place = place; stopped = halted; left = was }) old new
+front_of_piece view from to place was n bytes piece items text halted stopped old new goes grown all taken rest holds =
+    subst (λ l. ListsSome view place from l old new) (grown ∙ ap (λ l. l ++ piece) (holds.bytes goes)) (record {
       to = to;
       front = take n items;
       rest = drop n items;
@@ -173,47 +173,47 @@ front_of_piece style from to place was n bytes piece items text halted stopped o
 
 -- what a call returns of these
 module _ {T E : Type 0} where
-  pub ok_counted : (r : Result T E) (style : Style) (side : Side) (place left count : ℕ) (bytes piece : List ℕ) (halted : Bool) (old new : Option (List ℕ))
+  pub ok_counted : (r : Result T E) (view : View) (side : Side) (place left count : ℕ) (bytes piece : List ℕ) (halted : Bool) (old new : Option (List ℕ))
       → halted ≡ true → count ≡ min (left + length piece) greatest → Keeps old new
-      → OnOk r (Lists style piece (record { side = side; bytes = bytes; place = place; stopped = halted; left = left }) (record { side = side; bytes = bytes; place = place; stopped = halted; left = count }) old new)
-  ok_counted (Ok x) style side place left count bytes piece halted old new stands counts kept = piece_counted style side place left count bytes piece halted old new stands counts kept
-  ok_counted (Err e) style side place left count bytes piece halted old new stands counts kept = tt
+      → OnOk r (Lists view piece (record { side = side; bytes = bytes; place = place; stopped = halted; left = left }) (record { side = side; bytes = bytes; place = place; stopped = halted; left = count }) old new)
+  ok_counted (Ok x) view side place left count bytes piece halted old new stands counts kept = piece_counted view side place left count bytes piece halted old new stands counts kept
+  ok_counted (Err e) view side place left count bytes piece halted old new stands counts kept = tt
 
-  pub err_counted : (r : Result T E) (style : Style) (piece : List ℕ) (held : Held) (old new : Option (List ℕ)) → Keeps old new → OnErr r (Stops style piece held old new)
-  err_counted (Ok x) style piece held old new kept = tt
-  err_counted (Err e) style piece held old new kept = λ rest holds. none_of_piece style held.place held.side (rest ++ piece) old new kept
+  pub err_counted : (r : Result T E) (view : View) (piece : List ℕ) (held : Held) (old new : Option (List ℕ)) → Keeps old new → OnErr r (Stops view piece held old new)
+  err_counted (Ok x) view piece held old new kept = tt
+  err_counted (Err e) view piece held old new kept = λ rest holds. none_of_piece view held.place held.side (rest ++ piece) old new kept
 
-  pub ok_listed : (r : Result T E) (style : Style) (from to : Side) (place was n moved count : ℕ) (bytes piece items left text : List ℕ) (halted stopped : Bool) (old new : Option (List ℕ))
+  pub ok_listed : (r : Result T E) (view : View) (from to : Side) (place was n moved count : ℕ) (bytes piece items left text : List ℕ) (halted stopped : Bool) (old new : Option (List ℕ))
       → halted ≡ false → items ≡ bytes ++ piece
-      → ListsAll style place from items (take n items) (drop n items) stopped to [] text → n ≤ length items → left ≡ drop n items
+      → ListsAll view place from items (take n items) (drop n items) stopped to [] text → n ≤ length items → left ≡ drop n items
       → moved ≡ min (place + n) greatest → count ≡ length left → count ≤ greatest → OnOk r (Appends old new text)
-      → OnOk r (Lists style piece (record { side = from; bytes = bytes; place = place; stopped = halted; left = was }) (record { side = to; bytes = left; place = moved; stopped = stopped; left = count }) old new)
-  ok_listed (Ok x) style from to place was n moved count bytes piece items left text halted stopped old new goes grown all le cut moves counts small wrote =
-      piece_listed style from to place was n moved count bytes piece items left text halted stopped old new goes grown all le cut moves counts small wrote
-  ok_listed (Err e) style from to place was n moved count bytes piece items left text halted stopped old new goes grown all le cut moves counts small wrote = tt
+      → OnOk r (Lists view piece (record { side = from; bytes = bytes; place = place; stopped = halted; left = was }) (record { side = to; bytes = left; place = moved; stopped = stopped; left = count }) old new)
+  ok_listed (Ok x) view from to place was n moved count bytes piece items left text halted stopped old new goes grown all le cut moves counts small wrote =
+      piece_listed view from to place was n moved count bytes piece items left text halted stopped old new goes grown all le cut moves counts small wrote
+  ok_listed (Err e) view from to place was n moved count bytes piece items left text halted stopped old new goes grown all le cut moves counts small wrote = tt
 
-  pub err_listed : (r : Result T E) (style : Style) (from to : Side) (place was n : ℕ) (bytes piece items text : List ℕ) (halted stopped : Bool) (old new : Option (List ℕ))
+  pub err_listed : (r : Result T E) (view : View) (from to : Side) (place was n : ℕ) (bytes piece items text : List ℕ) (halted stopped : Bool) (old new : Option (List ℕ))
       → halted ≡ false → items ≡ bytes ++ piece
-      → ListsAll style place from items (take n items) (drop n items) stopped to [] text → OnErr r (AppendsFront old new text)
-      → OnErr r (Stops style piece (record { side = from; bytes = bytes; place = place; stopped = halted; left = was }) old new)
-  err_listed (Ok x) style from to place was n bytes piece items text halted stopped old new goes grown all taken = tt
-  err_listed (Err e) style from to place was n bytes piece items text halted stopped old new goes grown all taken = front_of_piece style from to place was n bytes piece items text halted stopped old new goes grown all taken
+      → ListsAll view place from items (take n items) (drop n items) stopped to [] text → OnErr r (AppendsFront old new text)
+      → OnErr r (Stops view piece (record { side = from; bytes = bytes; place = place; stopped = halted; left = was }) old new)
+  err_listed (Ok x) view from to place was n bytes piece items text halted stopped old new goes grown all taken = tt
+  err_listed (Err e) view from to place was n bytes piece items text halted stopped old new goes grown all taken = front_of_piece view from to place was n bytes piece items text halted stopped old new goes grown all taken
 
 -- ---- the whole stream
 
 -- what came so far was listed, and this is kept of the rest
-pub record Tracks (style : Style) (from : Side) (before after : Streams) (held : Held) : Type 0 where
+pub record Tracks (view : View) (from : Side) (before after : Streams) (held : Held) : Type 0 where
   pub front : List ℕ
   pub rest : List ℕ
   pub lines : List ℕ
   pub received : Consumes before.input after.input (front ++ rest)
-  pub listed : Lines style 0 from front lines held.side
+  pub listed : Lines view 0 from front lines held.side
   pub holds : Holds held rest
   pub place : held.place ≡ place_behind (length front)
   pub written : Appends before.output after.output lines
 
-pub tracks_start : (style : Style) (from : Side) (s : Streams) (bytes : List ℕ) → bytes ≡ [] → Tracks style from s s (record { side = from; bytes = bytes; place = 0; stopped = false; left = 0 })
-tracks_start style from s bytes e = record {
+pub tracks_start : (view : View) (from : Side) (s : Streams) (bytes : List ℕ) → bytes ≡ [] → Tracks view from s s (record { side = from; bytes = bytes; place = 0; stopped = false; left = 0 })
+tracks_start view from s bytes e = record {
   front = [];
   rest = [];
   lines = [];
@@ -224,9 +224,9 @@ tracks_start style from s bytes e = record {
   written = Appends-nil s.output;
 }
 
-pub tracks_none : (style : Style) (from : Side) (before : Streams) (now next output : Option (List ℕ)) (held : Held) → Tracks style from before (record { input = now; output = output }) held → Consumes now next []
-    → Tracks style from before (record { input = next; output = output }) held
-tracks_none style from before now next output held t none = record {
+pub tracks_none : (view : View) (from : Side) (before : Streams) (now next output : Option (List ℕ)) (held : Held) → Tracks view from before (record { input = now; output = output }) held → Consumes now next []
+    → Tracks view from before (record { input = next; output = output }) held
+tracks_none view from before now next output held t none = record {
   front = t.front;
   rest = t.rest;
   lines = t.lines;
@@ -238,8 +238,8 @@ tracks_none style from before now next output held t none = record {
 }
 
 -- nothing came
-pub tracks_same : (style : Style) (from : Side) (before after : Streams) (held : Held) (next : Option (List ℕ)) → Tracks style from before after held → Keeps after.input next → Tracks style from before (record { input = next; output = after.output }) held
-tracks_same style from before after held next t kept = record {
+pub tracks_same : (view : View) (from : Side) (before after : Streams) (held : Held) (next : Option (List ℕ)) → Tracks view from before after held → Keeps after.input next → Tracks view from before (record { input = next; output = after.output }) held
+tracks_same view from before after held next t kept = record {
   front = t.front;
   rest = t.rest;
   lines = t.lines;
@@ -250,60 +250,60 @@ tracks_same style from before after held next t kept = record {
   written = t.written;
 }
 
-received_more : (style : Style) (from : Side) (before after : Streams) (held : Held) (t : Tracks style from before after held) (next : Option (List ℕ)) (piece front rest : List ℕ) → Consumes after.input next piece → t.rest ++ piece ≡ front ++ rest
+received_more : (view : View) (from : Side) (before after : Streams) (held : Held) (t : Tracks view from before after held) (next : Option (List ℕ)) (piece front rest : List ℕ) → Consumes after.input next piece → t.rest ++ piece ≡ front ++ rest
     → Consumes before.input next ((t.front ++ front) ++ rest)
-received_more style from before after held t next piece front rest received whole =
+received_more view from before after held t next piece front rest received whole =
     let moved : (t.front ++ t.rest) ++ piece ≡ (t.front ++ front) ++ rest =
     append_assoc t.front t.rest piece ∙ ap (λ l. t.front ++ l) whole ∙ sym (append_assoc t.front front rest) in
     subst (Consumes before.input next) moved (Consumes-trans before.input after.input next (t.front ++ t.rest) piece t.received received)
 
 -- a piece came
-pub tracks_piece : (style : Style) (from : Side) (before after : Streams) (held new : Held) (next output : Option (List ℕ)) (piece : List ℕ) (t : Tracks style from before after held)
-    → Consumes after.input next piece → ListsPiece style held.place held.side (t.rest ++ piece) new after.output output → Tracks style from before (record { input = next; output = output }) new
-tracks_piece style from before after held new next output piece t received one = record {
+pub tracks_piece : (view : View) (from : Side) (before after : Streams) (held new : Held) (next output : Option (List ℕ)) (piece : List ℕ) (t : Tracks view from before after held)
+    → Consumes after.input next piece → ListsPiece view held.place held.side (t.rest ++ piece) new after.output output → Tracks view from before (record { input = next; output = output }) new
+tracks_piece view from before after held new next output piece t received one = record {
   front = t.front ++ one.front;
   rest = one.rest;
   lines = t.lines ++ one.lines;
-  received = received_more style from before after held t next piece one.front one.rest received one.whole;
-  listed = lines_join style from held.side t.front t.lines t.listed one.front one.lines new.side (subst (λ p. Lines style p held.side one.front one.lines new.side) t.place one.listed);
+  received = received_more view from before after held t next piece one.front one.rest received one.whole;
+  listed = lines_join view from held.side t.front t.lines t.listed one.front one.lines new.side (subst (λ p. Lines view p held.side one.front one.lines new.side) t.place one.listed);
   holds = one.holds;
   place = one.moved ∙ ap (λ p. place_behind (p + length one.front)) t.place ∙ same_place t.front one.front ∙ ap place_behind (plain_sum (length (t.front ++ one.front)));
   written = Appends-trans before.output after.output output t.lines one.lines t.written one.written;
 }
 
 -- and was listed in part
-pub cut_piece : (style : Style) (from : Side) (before after : Streams) (held : Held) (next output : Option (List ℕ)) (piece : List ℕ) (t : Tracks style from before after held)
-    → Consumes after.input next piece → ListsSome style held.place held.side (t.rest ++ piece) after.output output → IsCutShort style from before (record { input = next; output = output })
-cut_piece style from before after held next output piece t received some = record {
+pub cut_piece : (view : View) (from : Side) (before after : Streams) (held : Held) (next output : Option (List ℕ)) (piece : List ℕ) (t : Tracks view from before after held)
+    → Consumes after.input next piece → ListsSome view held.place held.side (t.rest ++ piece) after.output output → IsCutShort view from before (record { input = next; output = output })
+cut_piece view from before after held next output piece t received some = record {
   to = some.to;
   front = t.front ++ some.front;
   rest = some.rest;
   lines = t.lines ++ some.lines;
   text = t.lines ++ some.lines;
-  received = received_more style from before after held t next piece some.front some.rest received some.whole;
-  listed = lines_join style from held.side t.front t.lines t.listed some.front some.lines some.to (subst (λ p. Lines style p held.side some.front some.lines some.to) t.place some.listed);
+  received = received_more view from before after held t next piece some.front some.rest received some.whole;
+  listed = lines_join view from held.side t.front t.lines t.listed some.front some.lines some.to (subst (λ p. Lines view p held.side some.front some.lines some.to) t.place some.listed);
   due = inl refl;
   written = more_taken before.output after.output output t.lines some.lines t.written some.written;
 }
 
 -- reading failed
-pub was_listed : (style : Style) (from : Side) (before after : Streams) (held : Held) → Tracks style from before after held → WasListed style from before after
-was_listed style from before after held t = record {
+pub was_listed : (view : View) (from : Side) (before after : Streams) (held : Held) → Tracks view from before after held → WasListed view from before after
+was_listed view from before after held t = record {
   stopped = held.stopped;
   rest = t.rest;
   all = record { to = held.side; front = t.front; lines = t.lines; received = t.received; listed = t.listed; ending = t.holds.ending; written = t.written };
 }
 
 -- it may be read again
-pub ready : {R W : Type 0} (remaining : R → Option (List ℕ)) (contents : W → Option (List ℕ)) (Passed : W → Type 0) (style : Style) (from : Side) (reader now : R) (writer out : W) (held : Held) → Tracks style from (record { input = remaining reader; output = contents writer }) (record { input = remaining now; output = contents out }) held → Keeps (contents writer) (contents out) ⊎ Passed out → IsReady remaining contents Passed style from reader writer now
-ready remaining contents Passed style from reader now writer out held t p = record {
+pub ready : {R W : Type 0} (remaining : R → Option (List ℕ)) (contents : W → Option (List ℕ)) (Passed : W → Type 0) (view : View) (from : Side) (reader now : R) (writer out : W) (held : Held) → Tracks view from (record { input = remaining reader; output = contents writer }) (record { input = remaining now; output = contents out }) held → Keeps (contents writer) (contents out) ⊎ Passed out → IsReady remaining contents Passed view from reader writer now
+ready remaining contents Passed view from reader now writer out held t p = record {
   out = out;
-  listed = was_listed style from (record { input = remaining reader; output = contents writer }) (record { input = remaining now; output = contents out }) held t;
+  listed = was_listed view from (record { input = remaining reader; output = contents writer }) (record { input = remaining now; output = contents out }) held t;
   passed = p;
 }
 
-pub cut_here : (style : Style) (from : Side) (before after : Streams) (held : Held) → Tracks style from before after held → IsCutShort style from before after
-cut_here style from before after held t = record {
+pub cut_here : (view : View) (from : Side) (before after : Streams) (held : Held) → Tracks view from before after held → IsCutShort view from before after
+cut_here view from before after held t = record {
   to = held.side;
   front = t.front;
   rest = t.rest;
@@ -316,11 +316,11 @@ cut_here style from before after held t = record {
 }
 
 -- the end came
-pub all_written : (style : Style) (from : Side) (before after : Streams) (held : Held) (output : Option (List ℕ)) (said : List ℕ) → Tracks style from before after held → IsAtEnd after.input → Appends after.output output (last_line style held.stopped held.left)
-    → said ≡ hint_of held.side held.left → IfSome before.input (λ bytes. WritesListing style from bytes before.output output said)
-all_written style from before after held output said t end last why =
-    Consumes-whole before.input after.input (t.front ++ t.rest) (λ bytes. WritesListing style from bytes before.output output said) t.received end (record {
-      output = t.lines ++ last_line style held.stopped held.left;
+pub all_written : (view : View) (from : Side) (before after : Streams) (held : Held) (output : Option (List ℕ)) (said : List ℕ) → Tracks view from before after held → IsAtEnd after.input → Appends after.output output (last_line view held.stopped held.left)
+    → said ≡ hint_of held.side held.left → IfSome before.input (λ bytes. WritesListing view from bytes before.output output said)
+all_written view from before after held output said t end last why =
+    Consumes-whole before.input after.input (t.front ++ t.rest) (λ bytes. WritesListing view from bytes before.output output said) t.received end (record {
+      output = t.lines ++ last_line view held.stopped held.left;
       is = record {
         to = held.side;
         front = t.front;
@@ -330,30 +330,30 @@ all_written style from before after held output said t end last why =
         whole = refl;
         listed = t.listed;
         ending = t.holds.ending;
-        text = ap (λ n. t.lines ++ last_line style held.stopped n) t.holds.count;
+        text = ap (λ n. t.lines ++ last_line view held.stopped n) t.holds.count;
       };
       written = Appends-trans before.output after.output output t.lines _ t.written last;
       why = why ∙ ap (hint_of held.side) t.holds.count;
     })
 
 -- and the last line was written in part
-pub cut_last : (style : Style) (from : Side) (before after : Streams) (held : Held) (output : Option (List ℕ)) → Tracks style from before after held → IsAtEnd after.input → AppendsFront after.output output (last_line style held.stopped held.left)
-    → IsCutShort style from before (record { input = after.input; output = output })
-cut_last style from before after held output t end last = record {
+pub cut_last : (view : View) (from : Side) (before after : Streams) (held : Held) (output : Option (List ℕ)) → Tracks view from before after held → IsAtEnd after.input → AppendsFront after.output output (last_line view held.stopped held.left)
+    → IsCutShort view from before (record { input = after.input; output = output })
+cut_last view from before after held output t end last = record {
   to = held.side;
   front = t.front;
   rest = t.rest;
   lines = t.lines;
-  text = t.lines ++ last_line style held.stopped held.left;
+  text = t.lines ++ last_line view held.stopped held.left;
   received = t.received;
   listed = t.listed;
-  due = inr (record { stopped = held.stopped; end = end; ending = t.holds.ending; all = ap (λ n. t.lines ++ last_line style held.stopped n) t.holds.count });
+  due = inr (record { stopped = held.stopped; end = end; ending = t.holds.ending; all = ap (λ n. t.lines ++ last_line view held.stopped n) t.holds.count });
   written = more_taken before.output after.output output t.lines _ t.written last;
 }
 
 -- nothing was written
-pub cut_nothing : (style : Style) (from : Side) (s : Streams) → IsCutShort style from s s
-cut_nothing style from s = record {
+pub cut_nothing : (view : View) (from : Side) (s : Streams) → IsCutShort view from s s
+cut_nothing view from s = record {
   to = from;
   front = [];
   rest = [];
@@ -368,26 +368,26 @@ cut_nothing style from s = record {
 -- ---- what calls return of these
 
 module _ {T E : Type 0} where
-  pub end_written : (r : Result T E) (reported : T → List ℕ) (said : List ℕ) (style : Style) (from : Side) (before : Streams) (now next middle output : Option (List ℕ)) (held : Held) → Tracks style from before (record { input = now; output = middle }) held
-      → Consumes now next [] → IsAtEnd next → OnOk r (Appends middle output (last_line style held.stopped held.left)) → IfOk r (λ x. reported x ≡ said) → said ≡ hint_of held.side held.left
-      → IfOk r (λ x. IfSome before.input (λ bytes. WritesListing style from bytes before.output output (reported x)))
-  end_written (Ok x) reported said style from before now next middle output held t none end last same why =
-      all_written style from before (record { input = next; output = middle }) held output (reported x) (tracks_none style from before now next middle held t none) end last (same ∙ why)
-  end_written (Err e) reported said style from before now next middle output held t none end last same why = tt
+  pub end_written : (r : Result T E) (reported : T → List ℕ) (said : List ℕ) (view : View) (from : Side) (before : Streams) (now next middle output : Option (List ℕ)) (held : Held) → Tracks view from before (record { input = now; output = middle }) held
+      → Consumes now next [] → IsAtEnd next → OnOk r (Appends middle output (last_line view held.stopped held.left)) → IfOk r (λ x. reported x ≡ said) → said ≡ hint_of held.side held.left
+      → IfOk r (λ x. IfSome before.input (λ bytes. WritesListing view from bytes before.output output (reported x)))
+  end_written (Ok x) reported said view from before now next middle output held t none end last same why =
+      all_written view from before (record { input = next; output = middle }) held output (reported x) (tracks_none view from before now next middle held t none) end last (same ∙ why)
+  end_written (Err e) reported said view from before now next middle output held t none end last same why = tt
 
-  pub end_cut : (r : Result T E) (style : Style) (from : Side) (before : Streams) (now next middle output : Option (List ℕ)) (held : Held) → Tracks style from before (record { input = now; output = middle }) held
-      → Consumes now next [] → IsAtEnd next → OnErr r (AppendsFront middle output (last_line style held.stopped held.left)) → OnErr r (IsCutShort style from before (record { input = next; output = output }))
-  end_cut (Ok x) style from before now next middle output held t none end last = tt
-  end_cut (Err e) style from before now next middle output held t none end last = cut_last style from before (record { input = next; output = middle }) held output (tracks_none style from before now next middle held t none) end last
+  pub end_cut : (r : Result T E) (view : View) (from : Side) (before : Streams) (now next middle output : Option (List ℕ)) (held : Held) → Tracks view from before (record { input = now; output = middle }) held
+      → Consumes now next [] → IsAtEnd next → OnErr r (AppendsFront middle output (last_line view held.stopped held.left)) → OnErr r (IsCutShort view from before (record { input = next; output = output }))
+  end_cut (Ok x) view from before now next middle output held t none end last = tt
+  end_cut (Err e) view from before now next middle output held t none end last = cut_last view from before (record { input = next; output = middle }) held output (tracks_none view from before now next middle held t none) end last
 
-  pub piece_cut : (r : Result T E) (style : Style) (from : Side) (before : Streams) (now next middle output : Option (List ℕ)) (held : Held) (piece : List ℕ) (t : Tracks style from before (record { input = now; output = middle }) held)
-      → Consumes now next piece → Stops style piece held middle output → OnErr r (IsCutShort style from before (record { input = next; output = output }))
-  piece_cut (Ok x) style from before now next middle output held piece t received some = tt
-  piece_cut (Err e) style from before now next middle output held piece t received some = cut_piece style from before (record { input = now; output = middle }) held next output piece t received (some t.rest t.holds)
+  pub piece_cut : (r : Result T E) (view : View) (from : Side) (before : Streams) (now next middle output : Option (List ℕ)) (held : Held) (piece : List ℕ) (t : Tracks view from before (record { input = now; output = middle }) held)
+      → Consumes now next piece → Stops view piece held middle output → OnErr r (IsCutShort view from before (record { input = next; output = output }))
+  piece_cut (Ok x) view from before now next middle output held piece t received some = tt
+  piece_cut (Err e) view from before now next middle output held piece t received some = cut_piece view from before (record { input = now; output = middle }) held next output piece t received (some t.rest t.holds)
 
-  pub nothing_cut : (r : Result T E) (style : Style) (from : Side) (s : Streams) → OnErr r (IsCutShort style from s s)
-  nothing_cut (Ok x) style from s = tt
-  nothing_cut (Err e) style from s = cut_nothing style from s
+  pub nothing_cut : (r : Result T E) (view : View) (from : Side) (s : Streams) → OnErr r (IsCutShort view from s s)
+  nothing_cut (Ok x) view from s = tt
+  nothing_cut (Err e) view from s = cut_nothing view from s
 
 -- so many calls came, and one more
 pub called_more : {S : Type 0} (called : S → ℕ → Type 0) (old new : S) (n : ℕ) → called new 1 → ((k : ℕ) → called old k → called new (k + 1)) → ((n ≡ 0) ⊎ called old n) → (n + 1 ≡ 0) ⊎ called new (n + 1)

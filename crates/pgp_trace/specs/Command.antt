@@ -4,40 +4,40 @@ use Rattle.std.specs.Io.KnownBytes.{Keeps, Appends, IsAtEnd}
 use Rattle.pgp_frontend_read.specs.declared.message.PasswordKind.{PasswordKind}
 use Rattle.pgp_program.specs.declared.fault.Fault.{Fault}
 use Rattle.pgp_program.specs.declared.fault.Fault.TheVariants.{Memory, Read, Write}
-use Rattle.pgp_line.specs.declared.style.Style.{Style}
 use Rattle.pgp_trace.specs.Listing.{IsCutShort, ReadsWhenReady, WasListed, WritesListing}
 use Rattle.pgp_trace.specs.Options.{AreOptions}
 use Rattle.pgp_trace.specs.Sides as side
+use Rattle.pgp_trace.specs.View.{View}
 use Rattle.pgp_trace.specs.Sides.{first_phase}
 use Rattle.pgp_program.specs.Taken.{AppendsFront}
 use Rattle.pgp_program.specs.Run.{Streams, Caused, IsUnread}
 use Rattle.pgp_program.specs.Run as run
 use Rattle.pgp_program.specs.Words.{AreWords}
 
--- Lists a server's or a client's stream in a style, a client's with the kinds of its first messages of tag `p`, from the first byte of a connection on
+-- Lists a server's or a client's stream in a listing that looks so, a client's with the kinds of its first messages of tag `p`, from the first byte of a connection on
 -- or from a message in mid-session on; or says how the program is called, or
 -- which one it is.
 pub data Command : Type 0 where
-  Server : Style → (resume : Bool) → Command
-  Client : Style → List PasswordKind → (resume : Bool) → Command
+  Server : View → (resume : Bool) → Command
+  Client : View → List PasswordKind → (resume : Bool) → Command
   Help : Command
   Version : Command
 
--- The words ask for a listing of this name, in this style, with these kinds, and in mid-session or not.
-pub record AsksListing (name : List ℕ) (words : List (List ℕ)) (style : Style) (kinds : List PasswordKind) (resume : Bool) : Type 0 where
+-- The words ask for a listing of this name, which looks so, with these kinds, and in mid-session or not.
+pub record AsksListing (name : List ℕ) (words : List (List ℕ)) (view : View) (kinds : List PasswordKind) (resume : Bool) : Type 0 where
   pub options : List (List ℕ)
   pub whole : words ≡ name ∷ options
-  pub read : AreOptions options style kinds resume
+  pub read : AreOptions options view kinds resume
 
 -- the words ask for it
 abbrev pub Asks : List (List ℕ) → Command → Type 0
-Asks words (Server style resume) = AsksListing (codes "server") words style [] resume
-Asks words (Client style kinds resume) = AsksListing (codes "client") words style kinds resume
+Asks words (Server view resume) = AsksListing (codes "server") words view [] resume
+Asks words (Client view kinds resume) = AsksListing (codes "client") words view kinds resume
 Asks words Help = words ≡ codes "--help" ∷ []
 Asks words Version = words ≡ codes "--version" ∷ []
 
 abbrev pub usage : List ℕ
-usage = codes "usage: pgtrace server [--json] [--full] [--secrets] [--resume] | client [--json] [--full] [--secrets] [--resume] [--password-kind password|initial|response].. | --help | --version" ++ 10 ∷ []
+usage = codes "usage: pgtrace server [--json] [--full] [--secrets] [--resume] [--only NAME[,NAME]..] | client [--json] [--full] [--secrets] [--resume] [--only NAME[,NAME]..] [--password-kind password|initial|response].. | --help | --version" ++ 10 ∷ []
 
 abbrev pub version : List ℕ
 version = codes "pgtrace 0.1.0" ++ 10 ∷ []
@@ -49,25 +49,25 @@ complaint_of Read = codes "pgtrace: read failed" ++ 10 ∷ []
 complaint_of Write = codes "pgtrace: write failed" ++ 10 ∷ []
 
 -- all of the input was read, its listing was written, and this is to be said of what is left of it
-abbrev pub Lists : Style → side.Side → Streams → Streams → List ℕ → Type 0
-Lists style from before after said = IsAtEnd after.input × IfSome before.input (λ bytes. WritesListing style from bytes before.output after.output said)
+abbrev pub Lists : View → side.Side → Streams → Streams → List ℕ → Type 0
+Lists view from before after said = IsAtEnd after.input × IfSome before.input (λ bytes. WritesListing view from bytes before.output after.output said)
 
 -- What is done where no fault is met, and what is then to be said on standard error.
 abbrev pub Does : Command → Streams → Streams → List ℕ → Type 0
-Does (Server style resume) before after said = Lists style (side.Server (first_phase resume)) before after said
-Does (Client style kinds resume) before after said = Lists style (side.Client resume kinds) before after said
+Does (Server view resume) before after said = Lists view (side.Server (first_phase resume)) before after said
+Does (Client view kinds resume) before after said = Lists view (side.Client resume kinds) before after said
 Does Help before after said = Keeps before.input after.input × Appends before.output after.output usage × (said ≡ [])
 Does Version before after said = Keeps before.input after.input × Appends before.output after.output version × (said ≡ [])
 
 -- A front of the listing was written; and where a read failed, nothing of what came is held back: its lines were written and passed on.
-abbrev pub BreaksOff : Type 0 → Style → side.Side → Fault → Streams → Streams → Type 0
-BreaksOff passed style from Read before after = WasListed style from before after × (Keeps before.output after.output ⊎ passed)
-BreaksOff passed style from fault before after = IsCutShort style from before after
+abbrev pub BreaksOff : Type 0 → View → side.Side → Fault → Streams → Streams → Type 0
+BreaksOff passed view from Read before after = WasListed view from before after × (Keeps before.output after.output ⊎ passed)
+BreaksOff passed view from fault before after = IsCutShort view from before after
 
 -- What is done where one is: what is written is a front of what would be.
 abbrev pub Stops : Type 0 → Command → Fault → Streams → Streams → Type 0
-Stops passed (Server style resume) fault before after = BreaksOff passed style (side.Server (first_phase resume)) fault before after
-Stops passed (Client style kinds resume) fault before after = BreaksOff passed style (side.Client resume kinds) fault before after
+Stops passed (Server view resume) fault before after = BreaksOff passed view (side.Server (first_phase resume)) fault before after
+Stops passed (Client view kinds resume) fault before after = BreaksOff passed view (side.Client resume kinds) fault before after
 Stops passed Help fault before after = Keeps before.input after.input × AppendsFront before.output after.output usage
 Stops passed Version fault before after = Keeps before.input after.input × AppendsFront before.output after.output version
 
@@ -85,8 +85,8 @@ IsOther words = (command : Command) → ¬ Asks words command
 module _ {R W : Type 0} (remaining : R → Option (List ℕ)) (contents : W → Option (List ℕ)) (Passed : W → Type 0) (MayRead : R → Type 0) where
   -- where all lines of what came are written and passed on, the reader may be read for the command; what prints reads nothing
   abbrev pub ReadsFor : Command → R → W → Type 0
-  ReadsFor (Server style resume) reader writer = ReadsWhenReady remaining contents Passed MayRead style (side.Server (first_phase resume)) reader writer
-  ReadsFor (Client style kinds resume) reader writer = ReadsWhenReady remaining contents Passed MayRead style (side.Client resume kinds) reader writer
+  ReadsFor (Server view resume) reader writer = ReadsWhenReady remaining contents Passed MayRead view (side.Server (first_phase resume)) reader writer
+  ReadsFor (Client view kinds resume) reader writer = ReadsWhenReady remaining contents Passed MayRead view (side.Client resume kinds) reader writer
   ReadsFor command reader writer = ⊤
 
   -- so it may for the command that the words ask for

@@ -8,6 +8,7 @@ pub mod Command
 pub mod Sides
 pub mod Client
 pub mod Hints
+pub mod View
 pub mod Listing
 pub mod ClientSecrets
 pub mod Steps

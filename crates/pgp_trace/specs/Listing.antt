@@ -1,5 +1,6 @@
 -- The listing of a server's or a client's stream.
 use Rattle.std.specs.Prelude.{◌≡◌, ◌⊎◌, ℕ, ◌+◌, min, Bool, true, false, List, [], ◌∷◌, ◌++◌, length, get_or, Result, Ok, Err, Option, None, Some, ◌==◌, if◌then◌else◌, codes, decimal}
+use mathlib.Core.Logic.{inl, inr}
 use Rattle.std.specs.Io.KnownBytes.{Appends, Consumes, IsAtEnd, Keeps}
 use Rattle.pgp_base.specs.declared.error.Error.{Error}
 use Rattle.pgp_message.specs.BackendMessage.{Message, Body}
@@ -9,7 +10,7 @@ use Rattle.pgp_frontend_read.specs.Pieces.{step_of}
 use Rattle.pgp_frontend_read.specs.Step.{Step}
 use Rattle.pgp_frontend_read.specs.declared.error.ClientError.{ClientError}
 use Rattle.pgp_frontend_read.specs.declared.message.PasswordKind.{PasswordKind}
-use Rattle.pgp_trace.specs.Client.{client_line}
+use Rattle.pgp_trace.specs.Client.{client_line, client_name}
 use Rattle.pgp_trace.specs.Sides.{Side, Server, Client, AreAnswers, Ends, answered, expected, is_reported, kinds_behind, phase_behind}
 use Rattle.pgp_trace.specs.declared.side.Phase.{Phase}
 use Rattle.pgp_trace.specs.declared.side.Phase.TheVariants.{Beginning, Messages, Encrypted}
@@ -17,9 +18,11 @@ use Rattle.pgp_line.specs.declared.style.Form.{Form}
 use Rattle.pgp_line.specs.declared.style.Form.TheVariants.{Columns, Json}
 use Rattle.pgp_line.specs.declared.style.Style.{Style}
 use Rattle.pgp_line.specs.Line.{Length, Name, Tag, closing, followed, opening}
+use Rattle.pgp_trace.specs.Names.{name_of}
 use Rattle.pgp_trace.specs.Shown.{Shows, called}
 use Rattle.pgp_trace.specs.Unread.{ShowsUnread}
 use Rattle.pgp_trace.specs.Hints.{hint_of}
+use Rattle.pgp_trace.specs.View.{View, shown}
 use Rattle.pgp_program.specs.Run.{Streams}
 use Rattle.pgp_program.specs.Taken.{AppendsFront}
 use Rattle.pgp_program.specs.Words.{greatest}
@@ -102,16 +105,46 @@ LineOf style place (Server Messages) frame line to = IsServerLine style place fr
 LineOf style place (Server Encrypted) frame line to = ⊥
 LineOf style place (Client opened kinds) frame line to = IsNextLine style place opened kinds frame line to
 
+-- The name of a frame that isn't read: of the two that have their parts all the same, or that it is rejected.
+abbrev pub unread_name : (tag : ℕ) → List ℕ
+unread_name tag =
+    if tag == 86 then codes "FunctionCallResponse"  -- V
+    else if tag == 87 then codes "CopyBothResponse"  -- W
+    else codes "fault"
+
+-- the name of a frame, by what it is read as
+abbrev pub server_name : (tag : ℕ) → Result Message Error → List ℕ
+server_name tag (Ok m) = name_of m
+server_name tag (Err e) = unread_name tag
+
+abbrev pub client_frame_name : Bool → Result ClientMessage ClientError → List ℕ
+client_frame_name reported (Ok x) = client_name reported x
+client_frame_name reported (Err e) = codes "fault"
+
+-- the name that stands in a line
+abbrev pub name_in : (style : Style) (place : ℕ) (from : Side) (frame line : List ℕ) (to : Side) → LineOf style place from frame line to → List ℕ
+name_in style place (Server Beginning) frame line to (inl answer) = answer_name answer.reported.byte
+name_in style place (Server Beginning) frame line to (inr first) = server_name first.reported.first.tag first.reported.reported.result
+name_in style place (Server Messages) frame line to is = server_name is.0.first.tag is.0.reported.result
+name_in style place (Server Encrypted) frame line to is = []
+name_in style place (Client opened kinds) frame line to is = client_frame_name (is_reported kinds) is.reported.result
+
+-- What stands in the listing of a frame: its line, where its name is asked for.
+pub record Listed (view : View) (place : ℕ) (from : Side) (frame text : List ℕ) (to : Side) : Type 0 where
+  pub line : List ℕ
+  pub reported : LineOf view.style place from frame line to
+  pub is : text ≡ shown view (name_in view.style place from frame line to reported) line
+
 -- how many bytes stand before, as far as a number of the machine reports it
 abbrev pub place_behind : ℕ → ℕ
 place_behind n = min n greatest
 
--- These bytes, after so many others, are complete frames, with these lines: each frame has one, in
--- order.
-pub data Lines (style : Style) (start : ℕ) (from : Side) : List ℕ → List ℕ → Side → Type 0 where
-  NoLines : Lines style start from [] [] from
-  OneLine : {bytes lines : List ℕ} {here to : Side} (frame line : List ℕ) → Lines style start from bytes lines here
-      → LineOf style (place_behind (start + length bytes)) here frame line to → Lines style start from (bytes ++ frame) (lines ++ line) to
+-- These bytes, after so many others, are complete frames, and these lines stand in the listing: each frame has one, in
+-- order, of which those stand there that are asked for.
+pub data Lines (view : View) (start : ℕ) (from : Side) : List ℕ → List ℕ → Side → Type 0 where
+  NoLines : Lines view start from [] [] from
+  OneLine : {bytes lines : List ℕ} {here to : Side} (frame text : List ℕ) → Lines view start from bytes lines here
+      → Listed view (place_behind (start + length bytes)) here frame text to → Lines view start from (bytes ++ frame) (lines ++ text) to
 
 -- the last line, where so many bytes are left, as far as a number of the machine reports it
 abbrev pub last_by : Form → Bool → ℕ → List ℕ
@@ -120,46 +153,46 @@ last_by Columns true n = codes "stopped rest " ++ decimal n
 last_by Json false n = codes "{\"rest\":" ++ decimal n ++ codes ",\"stopped\":false}"
 last_by Json true n = codes "{\"rest\":" ++ decimal n ++ codes ",\"stopped\":true}"
 
-abbrev pub last_line : Style → Bool → ℕ → List ℕ
-last_line style stopped n = last_by style.form stopped n ++ 10 ∷ []
+abbrev pub last_line : View → Bool → ℕ → List ℕ
+last_line view stopped n = last_by view.style.form stopped n ++ 10 ∷ []
 
 -- All lines of what came so far were written: the bytes are frames, each of which has its line, and then a rest in which none is whole.
-pub record IsListed (style : Style) (from : Side) (stopped : Bool) (rest : List ℕ) (before after : Streams) : Type 0 where
+pub record IsListed (view : View) (from : Side) (stopped : Bool) (rest : List ℕ) (before after : Streams) : Type 0 where
   pub to : Side
   pub front : List ℕ
   pub lines : List ℕ
   pub received : Consumes before.input after.input (front ++ rest)
-  pub listed : Lines style 0 from front lines to
+  pub listed : Lines view 0 from front lines to
   pub ending : Ends to stopped rest
   pub written : Appends before.output after.output lines
 
 -- whatever stands after the frames
-pub record WasListed (style : Style) (from : Side) (before after : Streams) : Type 0 where
+pub record WasListed (view : View) (from : Side) (before after : Streams) : Type 0 where
   pub stopped : Bool
   pub rest : List ℕ
-  pub all : IsListed style from stopped rest before after
+  pub all : IsListed view from stopped rest before after
 
 -- All lines of what came from such a reader stand in the writer, and are passed on, so that it may be read again.
-pub record IsReady {R W : Type 0} (remaining : R → Option (List ℕ)) (contents : W → Option (List ℕ)) (Passed : W → Type 0) (style : Style) (from : Side) (reader : R) (writer : W) (now : R) : Type 0 where
+pub record IsReady {R W : Type 0} (remaining : R → Option (List ℕ)) (contents : W → Option (List ℕ)) (Passed : W → Type 0) (view : View) (from : Side) (reader : R) (writer : W) (now : R) : Type 0 where
   pub out : W
-  pub listed : WasListed style from (record { input = remaining reader; output = contents writer }) (record { input = remaining now; output = contents out })
+  pub listed : WasListed view from (record { input = remaining reader; output = contents writer }) (record { input = remaining now; output = contents out })
   pub passed : Keeps (contents writer) (contents out) ⊎ Passed out
 
 -- where they do, the reader may be read
-abbrev pub ReadsWhenReady : {R W : Type 0} → (R → Option (List ℕ)) → (W → Option (List ℕ)) → (W → Type 0) → (R → Type 0) → Style → Side → R → W → Type 0
-ReadsWhenReady {R} remaining contents Passed MayRead style from reader writer = (now : R) → IsReady remaining contents Passed style from reader writer now → MayRead now
+abbrev pub ReadsWhenReady : {R W : Type 0} → (R → Option (List ℕ)) → (W → Option (List ℕ)) → (W → Type 0) → (R → Type 0) → View → Side → R → W → Type 0
+ReadsWhenReady {R} remaining contents Passed MayRead view from reader writer = (now : R) → IsReady remaining contents Passed view from reader writer now → MayRead now
 
 -- The same of a stream whose end has come, and a last line that says how many bytes are left.
-pub record IsListing (style : Style) (from : Side) (bytes output : List ℕ) : Type 0 where
+pub record IsListing (view : View) (from : Side) (bytes output : List ℕ) : Type 0 where
   pub to : Side
   pub front : List ℕ
   pub rest : List ℕ
   pub lines : List ℕ
   pub stopped : Bool
   pub whole : bytes ≡ front ++ rest
-  pub listed : Lines style 0 from front lines to
+  pub listed : Lines view 0 from front lines to
   pub ending : Ends to stopped rest
-  pub text : output ≡ lines ++ last_line style stopped (place_behind (length rest))
+  pub text : output ≡ lines ++ last_line view stopped (place_behind (length rest))
 
 -- The bytes are answers of one byte, and then the stream as it is read elsewhere, with this end and this rest.
 pub record IsRunBehindAnswers (bytes : List ℕ) (stopped : Bool) (rest : List ℕ) : Type 0 where
@@ -172,27 +205,27 @@ pub record IsRunBehindAnswers (bytes : List ℕ) (stopped : Bool) (rest : List �
   pub run : BackendRun more results stopped rest
 
 -- that listing was written, and nothing else; and this is to be said of the bytes that are left
-pub record WritesListing (style : Style) (from : Side) (bytes : List ℕ) (old new : Option (List ℕ)) (said : List ℕ) : Type 0 where
+pub record WritesListing (view : View) (from : Side) (bytes : List ℕ) (old new : Option (List ℕ)) (said : List ℕ) : Type 0 where
   pub output : List ℕ
-  pub is : IsListing style from bytes output
+  pub is : IsListing view from bytes output
   pub written : Appends old new output
   pub why : said ≡ hint_of is.to (place_behind (length is.rest))
 
 -- the end of the input has come, and the last line is due
-pub record EndsWith (style : Style) (to : Side) (input : Option (List ℕ)) (rest lines text : List ℕ) : Type 0 where
+pub record EndsWith (view : View) (to : Side) (input : Option (List ℕ)) (rest lines text : List ℕ) : Type 0 where
   pub stopped : Bool
   pub end : IsAtEnd input
   pub ending : Ends to stopped rest
-  pub all : text ≡ lines ++ last_line style stopped (place_behind (length rest))
+  pub all : text ≡ lines ++ last_line view stopped (place_behind (length rest))
 
 -- A front of the lines of what came was written, and of the last one where it is due.
-pub record IsCutShort (style : Style) (from : Side) (before after : Streams) : Type 0 where
+pub record IsCutShort (view : View) (from : Side) (before after : Streams) : Type 0 where
   pub to : Side
   pub front : List ℕ
   pub rest : List ℕ
   pub lines : List ℕ
   pub text : List ℕ
   pub received : Consumes before.input after.input (front ++ rest)
-  pub listed : Lines style 0 from front lines to
-  pub due : (text ≡ lines) ⊎ EndsWith style to after.input rest lines text
+  pub listed : Lines view 0 from front lines to
+  pub due : (text ≡ lines) ⊎ EndsWith view to after.input rest lines text
   pub written : AppendsFront before.output after.output text

@@ -1,12 +1,12 @@
 -- The options of a listing, as words spell them.
-use Rattle.std.specs.Prelude.{◌≡◌, ◌≢◌, ℕ, Bool, true, false, List, [], ◌∷◌, ◌++◌, codes}
-use Rattle.std.specs.List.{flat_map, list_any}
+use Rattle.std.specs.Prelude.{◌≡◌, ◌≢◌, ℕ, Bool, true, false, List, [], ◌∷◌, ◌++◌, ◌==◌, codes}
+use Rattle.std.specs.List.{flat_map, list_any, slice_split}
 use Rattle.pgp_frontend_read.specs.declared.message.PasswordKind.{PasswordKind}
 use Rattle.pgp_frontend_read.specs.declared.message.PasswordKind.TheVariants.{Password, Initial, Response}
 use Rattle.pgp_trace.specs.declared.options.Choice.{Choice}
-use Rattle.pgp_trace.specs.declared.options.Choice.TheVariants.{AsJson, Full, Secrets, Resume, Kind}
+use Rattle.pgp_trace.specs.declared.options.Choice.TheVariants.{AsJson, Full, Secrets, Resume, Only, Kind}
 use Rattle.pgp_line.specs.Styles.{style_of}
-use Rattle.pgp_line.specs.declared.style.Style.{Style}
+use Rattle.pgp_trace.specs.View.{View}
 
 abbrev pub kind_word : PasswordKind → List ℕ
 kind_word Password = codes "password"
@@ -19,6 +19,7 @@ spelled AsJson = codes "--json" ∷ []
 spelled Full = codes "--full" ∷ []
 spelled Secrets = codes "--secrets" ∷ []
 spelled Resume = codes "--resume" ∷ []
+spelled (Only names) = codes "--only" ∷ names.now ∷ []
 spelled (Kind kind) = codes "--password-kind" ∷ kind_word kind ∷ []
 
 abbrev pub is_json : Choice → Bool
@@ -26,6 +27,7 @@ is_json AsJson = true
 is_json Full = false
 is_json Secrets = false
 is_json Resume = false
+is_json (Only names) = false
 is_json (Kind kind) = false
 
 abbrev pub is_full : Choice → Bool
@@ -33,6 +35,7 @@ is_full AsJson = false
 is_full Full = true
 is_full Secrets = false
 is_full Resume = false
+is_full (Only names) = false
 is_full (Kind kind) = false
 
 abbrev pub is_secrets : Choice → Bool
@@ -40,6 +43,7 @@ is_secrets AsJson = false
 is_secrets Full = false
 is_secrets Secrets = true
 is_secrets Resume = false
+is_secrets (Only names) = false
 is_secrets (Kind kind) = false
 
 abbrev pub is_resume : Choice → Bool
@@ -47,6 +51,7 @@ is_resume AsJson = false
 is_resume Full = false
 is_resume Secrets = false
 is_resume Resume = true
+is_resume (Only names) = false
 is_resume (Kind kind) = false
 
 abbrev pub kind_in : Choice → List PasswordKind
@@ -54,14 +59,31 @@ kind_in AsJson = []
 kind_in Full = []
 kind_in Secrets = []
 kind_in Resume = []
+kind_in (Only names) = []
 kind_in (Kind kind) = kind ∷ []
 
--- The words are options, one after another, in any order. They ask for this style, and name these kinds in order; and they say whether the stream is
--- taken in mid-session.
-pub record AreOptions (words : List (List ℕ)) (style : Style) (kinds : List PasswordKind) (resume : Bool) : Type 0 where
+abbrev pub is_comma : ℕ → Bool
+is_comma byte = byte == 44
+
+-- The names of messages that a word has between commas; and the word as it is, since there is a name with a comma in it.
+abbrev pub names_in : List ℕ → List (List ℕ)
+names_in word = word ∷ slice_split is_comma word
+
+abbrev pub only_in : Choice → List (List ℕ)
+only_in AsJson = []
+only_in Full = []
+only_in Secrets = []
+only_in Resume = []
+only_in (Only names) = names_in names.now
+only_in (Kind kind) = []
+
+-- The words are options, one after another, in any order. They ask for a listing that looks so, and name these kinds in order; and they say whether the
+-- stream is taken in mid-session.
+pub record AreOptions (words : List (List ℕ)) (view : View) (kinds : List PasswordKind) (resume : Bool) : Type 0 where
   pub choices : List Choice
   pub spelling : words ≡ flat_map spelled choices
-  pub shown : style ≡ style_of (list_any is_json choices) (list_any is_full choices) (list_any is_secrets choices)
+  pub style : view.style ≡ style_of (list_any is_json choices) (list_any is_full choices) (list_any is_secrets choices)
+  pub only : view.only ≡ flat_map only_in choices
   pub named : kinds ≡ flat_map kind_in choices
   pub resumed : resume ≡ list_any is_resume choices
 

@@ -5,6 +5,7 @@ use Rattle.pgp_base.specs.declared.error.Error.{Error}
 use Rattle.pgp_message.specs.Stream.{Frame, frame_bytes, IsFrame}
 use Rattle.pgp_line.specs.declared.style.Style.{Style}
 use Rattle.pgp_trace.specs.Sides.{AreAnswers, answered}
+use Rattle.pgp_trace.specs.View.{View}
 
 -- The salt of an MD5 answer, the texts of an exchange and the key of a cancel request may be others of the same length; all else is the same.
 abbrev pub Alike : Message → Message → Type 0
@@ -18,6 +19,10 @@ Alike m n = m ≡ n
 -- secrets aren't shown
 abbrev pub quiet : Style → Style
 quiet style = record { form = style.form; limit = style.limit; secrets = false }
+
+-- nor are they in a listing
+abbrev pub quietly : View → View
+quietly view = record { style = quiet view.style; only = view.only }
 
 -- messages that are alike, or the same error
 abbrev pub AlikeResults : Result Message Error → Result Message Error → Type 0

@@ -1,5 +1,5 @@
 -- Private: a frame and its line, one at a time, and what a piece of a stream adds to its listing.
-use Rattle.std.specs.Prelude.{◌≡◌, ◌≤◌, ℕ, ◌+◌, Bool, true, false, List, [], ◌∷◌, ◌++◌, drop, length, slice_index, Option, Result}
+use Rattle.std.specs.Prelude.{◌≡◌, ◌≤◌, ℕ, ◌+◌, Bool, true, false, List, [], ◌∷◌, ◌++◌, drop, length, map, slice_index, Option, Result}
 use Rattle.std.specs.Io.KnownBytes.{Appends}
 use Rattle.pgp_base.specs.declared.error.Error.{Error}
 use Rattle.pgp_message.specs.BackendMessage.{Message, Body}
@@ -9,11 +9,13 @@ use Rattle.pgp_trace.specs.declared.frame.Next.TheVariants.{Line, Waits, Stops}
 use Rattle.pgp_trace.specs.declared.side.Phase.{Phase}
 use Rattle.pgp_trace.specs.declared.side.Phase.TheVariants.{Beginning, Messages}
 use Rattle.pgp_trace.specs.declared.side.Side as code
+use Rattle.pgp_trace.specs.declared.view.View as seen
 use Rattle.pgp_trace.specs.declared.side.Side.TheVariants as variants
 use Rattle.pgp_line.specs.declared.style.Style.{Style}
 use Rattle.pgp_line.specs.Line.{Length, Tag, closing, followed, opening}
 use Rattle.pgp_trace.specs.Unread.{ShowsUnread}
-use Rattle.pgp_trace.specs.Listing.{LineOf, Lines, place_behind}
+use Rattle.pgp_trace.specs.Listing.{IsServerLine, LineOf, Lines, name_in, place_behind, server_name}
+use Rattle.pgp_trace.specs.View.{View}
 use Rattle.pgp_trace.specs.Sides.{Side, Server, Client, Ends}
 use Rattle.pgp_program.specs.Taken.{AppendsFront}
 use Rattle.pgp_program.specs.Words.{greatest}
@@ -23,9 +25,13 @@ abbrev pub side_of : code.Side → Side
 side_of (variants.Server phase) = Server phase
 side_of (variants.Client opened kinds) = Client opened kinds.now
 
+-- the code's views
+abbrev pub view_of : seen.View → View
+view_of view = record { style = view.style; only = map (λ name. name.now) view.only.now }
+
 -- how far a server's stream has come after its first message, if it came
 abbrev pub phase_of : Next → Phase
-phase_of Line = Messages
+phase_of (Line name) = Messages
 phase_of Waits = Beginning
 phase_of Stops = Beginning
 
@@ -47,11 +53,17 @@ pub record ReportsFault (style : Style) (place : ℕ) (frame : List ℕ) (e : Er
   pub shown : ShowsUnread style (slice_index frame 0) (drop 5 frame) e (followed style (opening style place) (Length (length frame) ∷ Tag (slice_index frame 0) ∷ [])) text
   pub ended : line ≡ text ++ closing style ++ 10 ∷ []
 
--- the bytes begin with a frame, which has this line, and then come the new ones
-pub record HasLine (style : Style) (place : ℕ) (from : Side) (old new line : List ℕ) (to : Side) : Type 0 where
+-- a server's frame, its line, and the name in it
+pub record IsNamedLine (style : Style) (place : ℕ) (frame line name : List ℕ) : Type 0 where
+  pub is : IsServerLine style place frame line
+  pub named : name ≡ server_name is.first.tag is.reported.result
+
+-- the bytes begin with a frame, which has this line with this name, and then come the new ones
+pub record HasLine (style : Style) (place : ℕ) (from : Side) (old new line : List ℕ) (to : Side) (name : List ℕ) : Type 0 where
   pub frame : List ℕ
   pub whole : old ≡ frame ++ new
   pub reported : LineOf style place from frame line to
+  pub named : name ≡ name_in style place from frame line to reported
 
 -- nothing was taken, and nothing stands first that could be
 pub record IsAtRest (from : Side) (stopped : Bool) (old new : List ℕ) (to : Side) : Type 0 where
@@ -62,26 +74,26 @@ pub record IsAtRest (from : Side) (stopped : Bool) (old new : List ℕ) (to : Si
 -- a frame was passed and has its line; or none is whole, and more is awaited, or the stream ends where nothing reports the next
 -- frame
 abbrev pub ListsNext : Style → ℕ → Side → List ℕ → List ℕ → List ℕ → Side → Next → Type 0
-ListsNext style place from old new line to Line = HasLine style place from old new line to
+ListsNext style place from old new line to (Line name) = HasLine style place from old new line to name.now
 ListsNext style place from old new line to Waits = IsAtRest from false old new to
 ListsNext style place from old new line to Stops = IsAtRest from true old new to
 
 -- The frames of the front have these lines after the old ones, from the place on, and no whole one is left.
-pub record ListsAll (style : Style) (start : ℕ) (from : Side) (bytes front rest : List ℕ) (stopped : Bool) (to : Side) (old new : List ℕ) : Type 0 where
+pub record ListsAll (view : View) (start : ℕ) (from : Side) (bytes front rest : List ℕ) (stopped : Bool) (to : Side) (old new : List ℕ) : Type 0 where
   pub lines : List ℕ
   pub whole : bytes ≡ front ++ rest
-  pub listed : Lines style start from front lines to
+  pub listed : Lines view start from front lines to
   pub ending : Ends to stopped rest
   pub text : new ≡ old ++ lines
 
 -- Some of them were listed, or of the last line a front alone.
-pub record ListsSome (style : Style) (start : ℕ) (from : Side) (bytes : List ℕ) (old new : Option (List ℕ)) : Type 0 where
+pub record ListsSome (view : View) (start : ℕ) (from : Side) (bytes : List ℕ) (old new : Option (List ℕ)) : Type 0 where
   pub to : Side
   pub front : List ℕ
   pub rest : List ℕ
   pub lines : List ℕ
   pub whole : bytes ≡ front ++ rest
-  pub listed : Lines style start from front lines to
+  pub listed : Lines view start from front lines to
   pub written : AppendsFront old new lines
 
 -- What is kept of a stream: its side, bytes that aren't listed, the place at which they stand, whether nothing says where a frame begins in them, and
@@ -101,12 +113,12 @@ pub record Holds (held : Held) (rest : List ℕ) : Type 0 where
   pub bytes : held.stopped ≡ false → held.bytes ≡ rest
 
 -- These bytes stood at the place. All frames at their front were listed, and this is kept of what is left.
-pub record ListsPiece (style : Style) (start : ℕ) (from : Side) (bytes : List ℕ) (after : Held) (old new : Option (List ℕ)) : Type 0 where
+pub record ListsPiece (view : View) (start : ℕ) (from : Side) (bytes : List ℕ) (after : Held) (old new : Option (List ℕ)) : Type 0 where
   pub front : List ℕ
   pub rest : List ℕ
   pub lines : List ℕ
   pub whole : bytes ≡ front ++ rest
-  pub listed : Lines style start from front lines after.side
+  pub listed : Lines view start from front lines after.side
   pub holds : Holds after rest
   pub moved : after.place ≡ place_behind (start + length front)
   pub written : Appends old new lines

@@ -34,7 +34,7 @@ pub fn first_line<'b, A: Memory>(
     };
     if let Some(phase) = phase_behind(*byte) {
         answer_line(style, place, *byte, line)?;
-        return Ok((Next::Line, phase, behind));
+        return Ok((Next::Line(answer_name(*byte)), phase, behind));
     }
     let (next, rest) = server_line(style, place, bytes, line)?;
     Ok((next, phase_of(next), rest))
@@ -56,7 +56,7 @@ fn phase_of(next: Next) -> Phase
     ensures { result ≡ phase_of next }
 {
     match next {
-        Next::Line => Phase::Messages,
+        Next::Line(_) => Phase::Messages,
         Next::Waits | Next::Stops => Phase::Beginning,
     }
 }

@@ -41,17 +41,11 @@ pub fn client_line<'a, 'b, A: Memory>(
         Ok(Some(message)) => {
             let behind = messages.rest();
             let frame = front_of(bytes, behind);
-            message_line(
-                style,
-                place,
-                opened,
-                is_reported(kinds),
-                frame,
-                message,
-                line,
-            )?;
+            let reported = is_reported(kinds);
+            let name = client_name(reported, &message);
+            message_line(style, place, opened, reported, frame, message, line)?;
             let left = kinds_behind(opened, frame, kinds);
-            Ok((Next::Line, messages.is_open(), left, behind))
+            Ok((Next::Line(name), messages.is_open(), left, behind))
         }
         Ok(None) => Ok((Next::Waits, opened, kinds, bytes)),
         Err(refusal) => {
@@ -62,7 +56,7 @@ pub fn client_line<'a, 'b, A: Memory>(
             let frame = front_of(bytes, behind);
             refusal_line(style, place, opened, frame, &refusal, line)?;
             let left = kinds_behind(opened, frame, kinds);
-            Ok((Next::Line, messages.is_open(), left, behind))
+            Ok((Next::Line("fault"), messages.is_open(), left, behind))
         }
     }
 }

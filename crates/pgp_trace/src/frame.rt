@@ -3,14 +3,14 @@
 ghost use Rattle.std.specs.Prelude.{◌≡◌, ◌≤◌, ◌<◌, ◌-◌, ◌∷◌, ◌++◌, [], length, take, slice_index, IfOk, OnErr, OnOk, Ok, string_bytes};
 ghost use Rattle.pgp_message.specs.Views.{view};
 ghost use Rattle.pgp_line.specs.Line.{Length, Tag, followed, opening};
-ghost use Rattle.pgp_trace.specs.Listing.{IsServerLine};
+ghost use Rattle.pgp_trace.specs.Listing.{unread_name};
 ghost use Rattle.pgp_trace.specs.Sides.{Server};
 ghost use Rattle.pgp_trace.specs.declared.side.Phase.TheVariants as phases;
-ghost use Rattle.pgp_trace.specs.Steps.{IsFrameOf, ListsNext, ReportsFault};
+ghost use Rattle.pgp_trace.specs.Steps.{IsFrameOf, IsNamedLine, ListsNext, ReportsFault};
 
 use crate::body::put_message;
 use crate::names::{name_of, says_nothing};
-use crate::unread::put_unread;
+use crate::unread::{put_unread, unread_name};
 use pgp_base::{Error, Memory};
 use pgp_line::line::{put_called, put_end, put_frame_length, put_frame_place, put_tag};
 use pgp_line::style::Style;
@@ -18,10 +18,10 @@ use pgp_message::{Message, Messages};
 use std::alloc::AllocError;
 
 /// What stood at the front of a stream.
-#[derive(Debug, Clone, Copy, PartialEq, Eq)]
+#[derive(Debug, Clone, Copy)]
 pub enum Next {
-    /// A frame, which was passed, and whose line was made.
-    Line,
+    /// A frame, which was passed, and whose line was made, with this name.
+    Line(&'static str),
     /// A partial frame, or nothing.
     Waits,
     /// What no frame begins with, and nothing says where the next one does.
@@ -49,16 +49,16 @@ pub fn server_line<'b, A: Memory>(
             let frame = front_of(bytes, behind);
             let reported = message_line(style, place, frame, &message, line);
             drop(message);
-            reported?;
-            Ok((Next::Line, behind))
+            let name = reported?;
+            Ok((Next::Line(name), behind))
         }
         Ok(None) => Ok((Next::Waits, bytes)),
         Err(Error::InvalidLength) => Ok((Next::Stops, bytes)),
         Err(refusal) => {
             let behind = messages.rest();
             let frame = front_of(bytes, behind);
-            fault_line(style, place, frame, &refusal, line)?;
-            Ok((Next::Line, behind))
+            let name = fault_line(style, place, frame, &refusal, line)?;
+            Ok((Next::Line(name), behind))
         }
     }
 }
@@ -71,41 +71,45 @@ pub fn front_of<'a>(bytes: &'a [u8], rest: &[u8]) -> &'a [u8]
     &bytes[..bytes.len() - rest.len()]
 }
 
-/// Makes the line of a message, whose frame these bytes are.
+/// Makes the line of a message, whose frame these bytes are. Returns its name.
 fn message_line<A: Memory>(
     style: Style,
     place: u64,
     frame: &[u8],
     message: &Message<&[u8]>,
     line: &mut String<A>,
-) -> Result<(), AllocError>
+) -> Result<&'static str, AllocError>
     requires { IsFrameOf frame.now (Ok (view message.now)) }
-    ensures line { OnOk result (IsServerLine style place frame.now (string_bytes line.new)) }
+    ensures line { IfOk result (λ name. IsNamedLine style place frame.now (string_bytes line.new) name.now) }
     ensures lacks { OnErr result A.Lacks }
 {
     begin(style, place, frame, line)?;
-    put_called(style, says_nothing(message), name_of(message), line)?;
+    let name = name_of(message);
+    put_called(style, says_nothing(message), name, line)?;
     let (_, body) = frame.split_at(5);
     put_message(style, message, body, line)?;
-    put_end(style, line)
+    put_end(style, line)?;
+    Ok(name)
 }
 
-/// Makes the line of a frame that isn't read.
+/// Makes the line of a frame that isn't read. Returns the name in it.
 fn fault_line<A: Memory>(
     style: Style,
     place: u64,
     frame: &[u8],
     refusal: &Error,
     line: &mut String<A>,
-) -> Result<(), AllocError>
+) -> Result<&'static str, AllocError>
     requires { 5 ≤ length frame.now }
+    ensures named { IfOk result (λ name. name.now ≡ unread_name (slice_index frame.now 0)) }
     ensures line { OnOk result (ReportsFault style place frame.now refusal.now (string_bytes line.new)) }
     ensures lacks { OnErr result A.Lacks }
 {
     begin(style, place, frame, line)?;
     let (_, body) = frame.split_at(5);
     put_unread(style, frame[0], body, refusal, line)?;
-    put_end(style, line)
+    put_end(style, line)?;
+    Ok(unread_name(frame[0]))
 }
 
 /// Begins a line: with the place of the frame, its length, and its tag.

@@ -9,22 +9,28 @@ ghost use Rattle.pgp_frontend_read.specs.declared.message.PasswordKind.{Password
 ghost use Rattle.pgp_trace.specs.Client.{client_line};
 ghost use Rattle.pgp_trace.specs.ClientSecrets.{AlikeClientStreams};
 ghost use Rattle.pgp_line.specs.declared.style.Style.{Style};
+ghost use Rattle.pgp_trace.specs.View.{View, plain, shown};
 ghost use Rattle.pgp_trace.specs.Listing.{IsListing, IsRunBehindAnswers, LineOf, Lines};
 ghost use Rattle.pgp_line.specs.Quoting.{IsPrinted};
-ghost use Rattle.pgp_trace.specs.Secrets.{Alike, AlikeBeginnings, AlikeStreams, quiet};
+ghost use Rattle.pgp_trace.specs.Secrets.{Alike, AlikeBeginnings, AlikeStreams, quiet, quietly};
 ghost use Rattle.pgp_trace.specs.Shown.{Shows};
 ghost use Rattle.pgp_trace.specs.Sides.{Client, Server, Side, answered};
 ghost use Rattle.pgp_trace.specs.declared.side.Phase.TheVariants.{Beginning, Encrypted, Messages};
 
 /// A stream has one listing.
 pub fn one_listing()
-    ensures { (style : Style) (from : Side) (bytes output other : List ℕ) → IsListing style from bytes output → IsListing style from bytes other → output ≡ other }
+    ensures { (view : View) (from : Side) (bytes output other : List ℕ) → IsListing view from bytes output → IsListing view from bytes other → output ≡ other }
 {}
 
 /// A line has characters alone that a terminal prints, and then its newline.
 pub fn lines_are_printable()
     ensures { (style : Style) (place : ℕ) (from to : Side) (frame line : List ℕ) → LineOf style place from frame line to →
         (text : List ℕ) × (line ≡ text ++ 10 ∷ []) × IsPrinted text }
+{}
+
+/// Where no name is asked for, what stands in a listing of a frame is its line.
+pub fn all_lines_are_listed()
+    ensures { (style : Style) (name line : List ℕ) → shown (plain style) name line ≡ line }
 {}
 
 /// A server's messages that differ in their secrets alone have the same lines, unless secrets are asked for.
@@ -35,27 +41,27 @@ pub fn secrets_are_hidden()
 /// A server's streams that differ in their secrets alone have the same lines, unless secrets are asked for: from the first byte of a connection on, and
 /// from any message on.
 pub fn streams_hide_their_secrets()
-    ensures beginning { (style : Style) (start : ℕ) (a b lines : List ℕ) (to : Side) → AlikeBeginnings a b →
-        Lines (quiet style) start (Server Beginning) a lines to → Lines (quiet style) start (Server Beginning) b lines to }
-    ensures messages { (style : Style) (start : ℕ) (a b lines : List ℕ) → AlikeStreams a b →
-        Lines (quiet style) start (Server Messages) a lines (Server Messages) → Lines (quiet style) start (Server Messages) b lines (Server Messages) }
+    ensures beginning { (view : View) (start : ℕ) (a b lines : List ℕ) (to : Side) → AlikeBeginnings a b →
+        Lines (quietly view) start (Server Beginning) a lines to → Lines (quietly view) start (Server Beginning) b lines to }
+    ensures messages { (view : View) (start : ℕ) (a b lines : List ℕ) → AlikeStreams a b →
+        Lines (quietly view) start (Server Messages) a lines (Server Messages) → Lines (quietly view) start (Server Messages) b lines (Server Messages) }
 {}
 
 /// A listing of what a server sent is that of the stream as it is read elsewhere: with these results of its frames, this rest, and this end. From the
 /// first byte of a connection on, answers of one byte come before; and where the last of them agreed to encrypt, no frame comes after.
 pub fn listings_are_runs()
-    ensures beginning { (style : Style) (bytes output : List ℕ) (l : IsListing style (Server Beginning) bytes output) →
+    ensures beginning { (view : View) (bytes output : List ℕ) (l : IsListing view (Server Beginning) bytes output) →
         (l.to ≡ Server Encrypted) ⊎ IsRunBehindAnswers bytes l.stopped l.rest }
-    ensures messages { (style : Style) (bytes output : List ℕ) (l : IsListing style (Server Messages) bytes output) →
+    ensures messages { (view : View) (bytes output : List ℕ) (l : IsListing view (Server Messages) bytes output) →
         (results : List (Result Message Error)) × BackendRun bytes results l.stopped l.rest }
 {}
 
 /// A server's stream at whose front no answer of one byte stands is listed as messages alone.
 pub fn no_answers()
-    ensures whole { (style : Style) (bytes output : List ℕ) → answered bytes ≡ None →
-        IsListing style (Server Beginning) bytes output → IsListing style (Server Messages) bytes output }
-    ensures other { (style : Style) (bytes output : List ℕ) → answered bytes ≡ None →
-        IsListing style (Server Messages) bytes output → IsListing style (Server Beginning) bytes output }
+    ensures whole { (view : View) (bytes output : List ℕ) → answered bytes ≡ None →
+        IsListing view (Server Beginning) bytes output → IsListing view (Server Messages) bytes output }
+    ensures other { (view : View) (bytes output : List ℕ) → answered bytes ≡ None →
+        IsListing view (Server Messages) bytes output → IsListing view (Server Beginning) bytes output }
 {}
 
 /// A client's messages that differ in their secrets alone have the same lines, unless secrets are asked for. Where it isn't reported which message of tag
@@ -75,6 +81,6 @@ pub fn client_secrets_are_hidden()
 
 /// A client's streams that differ in their secrets alone have the same lines, unless secrets are asked for.
 pub fn client_streams_hide_their_secrets()
-    ensures { (style : Style) (start : ℕ) (opened : Bool) (kinds : List PasswordKind) (a b lines : List ℕ) (to behind : Side) → AlikeClientStreams (Client opened kinds) a b behind →
-        Lines (quiet style) start (Client opened kinds) a lines to → Lines (quiet style) start (Client opened kinds) b lines to }
+    ensures { (view : View) (start : ℕ) (opened : Bool) (kinds : List PasswordKind) (a b lines : List ℕ) (to behind : Side) → AlikeClientStreams (Client opened kinds) a b behind →
+        Lines (quietly view) start (Client opened kinds) a lines to → Lines (quietly view) start (Client opened kinds) b lines to }
 {}

@@ -22,3 +22,4 @@ pub mod run;
 pub mod side;
 pub mod stream;
 pub mod unread;
+pub mod view;

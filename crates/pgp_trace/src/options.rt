@@ -1,32 +1,37 @@
 //! The options of a listing.
 
 ghost use Rattle.std.specs.Prelude.{◌≡◌, ◌++◌, ◌∷◌, ◌||◌, codes, drop, length, map, IfNone, IfOk, IfSome, OnErr, OnOk};
-ghost use Rattle.pgp_trace.specs.Options.{AreNoOptions, AreOptions, BeginsWithNone, NamesNoKind, is_full, is_json, is_resume, is_secrets, kind_in, kind_word, spelled};
+ghost use Rattle.pgp_trace.specs.Options.{AreNoOptions, AreOptions, BeginsWithNone, NamesNoKind, is_full, is_json, is_resume, is_secrets, kind_in, kind_word, names_in, only_in, spelled};
 ghost use Rattle.pgp_line.specs.Styles.{style_of};
+ghost use Rattle.pgp_trace.specs.Asked.{looks};
 
 use pgp_base::Memory;
 use pgp_frontend_read::PasswordKind;
 use std::alloc::AllocError;
 
 /// An option of a listing.
-#[derive(Debug, Clone, Copy, PartialEq, Eq)]
-pub enum Choice {
+#[derive(Debug, Clone, Copy)]
+pub enum Choice<'a> {
     AsJson,
     Full,
     Secrets,
     /// The stream is taken in mid-session.
     Resume,
+    /// Names of messages, between commas.
+    Only(&'a str),
     /// Which the next message of tag `p` is that none names yet.
     Kind(PasswordKind),
 }
 
 /// What the options of a listing come to.
 #[derive(Drop)]
-pub struct Options<A: Memory> {
+pub struct Options<'a, A: Memory> {
     pub json: bool,
     pub full: bool,
     pub secrets: bool,
     pub resume: bool,
+    /// The names of the messages that are listed.
+    pub only: Vec<&'a str, A>,
     /// Which the messages of tag `p` are, from the first on.
     pub kinds: Vec<PasswordKind, A>,
 }
@@ -35,9 +40,12 @@ pub struct Options<A: Memory> {
 ///
 /// # Errors
 ///
-/// There is no memory for the kinds.
-pub fn options_of<A: Memory>(alloc: A, words: &[&str]) -> Result<Option<Options<A>>, AllocError>
-    ensures known { IfOk result (λ r. IfSome r (λ options. AreOptions (map (λ word. word.now) words.now) (style_of options.json options.full options.secrets) options.kinds.items options.resume)) }
+/// There is no memory for the names and the kinds.
+pub fn options_of<'a, A: Memory>(
+    alloc: A,
+    words: &[&'a str],
+) -> Result<Option<Options<'a, A>>, AllocError>
+    ensures known { IfOk result (λ r. IfSome r (λ options. AreOptions (map (λ word. word.now) words.now) (looks (style_of options.json options.full options.secrets) options.only.items) options.kinds.items options.resume)) }
     ensures other { IfOk result (λ r. IfNone r (AreNoOptions (map (λ word. word.now) words.now))) }
     ensures lacks { OnErr result A.Lacks }
 {
@@ -46,6 +54,7 @@ pub fn options_of<A: Memory>(alloc: A, words: &[&str]) -> Result<Option<Options<
         full: false,
         secrets: false,
         resume: false,
+        only: Vec::new(alloc),
         kinds: Vec::new(alloc),
     };
     let mut at = 0;
@@ -60,12 +69,13 @@ pub fn options_of<A: Memory>(alloc: A, words: &[&str]) -> Result<Option<Options<
 }
 
 /// Adds an option.
-fn choose<A: Memory>(choice: Choice, options: &mut Options<A>) -> Result<(), AllocError>
-    ensures json { OnOk result (options.new.json ≡ (is_json choice || options.old.json)) }
-    ensures full { OnOk result (options.new.full ≡ (is_full choice || options.old.full)) }
-    ensures secrets { OnOk result (options.new.secrets ≡ (is_secrets choice || options.old.secrets)) }
-    ensures resume { OnOk result (options.new.resume ≡ (is_resume choice || options.old.resume)) }
-    ensures kinds { OnOk result (options.new.kinds.items ≡ options.old.kinds.items ++ kind_in choice) }
+fn choose<'a, A: Memory>(choice: Choice<'a>, options: &mut Options<'a, A>) -> Result<(), AllocError>
+    ensures json { OnOk result (options.new.json ≡ (is_json choice.entry || options.old.json)) }
+    ensures full { OnOk result (options.new.full ≡ (is_full choice.entry || options.old.full)) }
+    ensures secrets { OnOk result (options.new.secrets ≡ (is_secrets choice.entry || options.old.secrets)) }
+    ensures resume { OnOk result (options.new.resume ≡ (is_resume choice.entry || options.old.resume)) }
+    ensures only { OnOk result (map (λ name. name.now) options.new.only.items ≡ map (λ name. name.now) options.old.only.items ++ only_in choice.entry) }
+    ensures kinds { OnOk result (options.new.kinds.items ≡ options.old.kinds.items ++ kind_in choice.entry) }
     ensures lacks { OnErr result A.Lacks }
 {
     match choice {
@@ -85,6 +95,7 @@ fn choose<A: Memory>(choice: Choice, options: &mut Options<A>) -> Result<(), All
             options.resume = true;
             Ok(())
         }
+        Choice::Only(names) => add_names(names, &mut options.only),
         Choice::Kind(kind) => {
             A::push(&mut options.kinds, kind)?;
             Ok(())
@@ -92,18 +103,30 @@ fn choose<A: Memory>(choice: Choice, options: &mut Options<A>) -> Result<(), All
     }
 }
 
+/// Adds the names that a word has between commas, and the word as it is.
+fn add_names<'a, A: Memory>(word: &'a str, names: &mut Vec<&'a str, A>) -> Result<(), AllocError>
+    ensures names { OnOk result (map (λ name. name.now) names.new.items ≡ map (λ name. name.now) names.old.items ++ names_in word.now) }
+    ensures lacks { OnErr result A.Lacks }
+{
+    A::push(names, word)?;
+    for name in word.split(',') {
+        A::push(names, name)?;
+    }
+    Ok(())
+}
+
 /// How many words an option has.
-fn len(choice: Choice) -> usize
-    ensures { result ≡ length (spelled choice) }
+fn len(choice: Choice<'_>) -> usize
+    ensures { result ≡ length (spelled choice.entry) }
 {
     match choice {
         Choice::AsJson | Choice::Full | Choice::Secrets | Choice::Resume => 1,
-        Choice::Kind(_) => 2,
+        Choice::Only(_) | Choice::Kind(_) => 2,
     }
 }
 
 /// The option that stands first.
-fn first_choice(words: &[&str]) -> Option<Choice>
+fn first_choice<'a>(words: &[&'a str]) -> Option<Choice<'a>>
     ensures some { IfSome result (λ choice. map (λ word. word.now) words.now ≡ spelled choice ++ map (λ word. word.now) (drop (length (spelled choice)) words.now)) }
     ensures none { IfNone result (BeginsWithNone (map (λ word. word.now) words.now)) }
 {
@@ -113,13 +136,23 @@ fn first_choice(words: &[&str]) -> Option<Choice>
         "--full" => Some(Choice::Full),
         "--secrets" => Some(Choice::Secrets),
         "--resume" => Some(Choice::Resume),
+        "--only" => first_names(rest),
         "--password-kind" => first_kind(rest),
         _ => None,
     }
 }
 
+/// The names that stand first, after the word that asks for them.
+fn first_names<'a>(words: &[&'a str]) -> Option<Choice<'a>>
+    ensures some { IfSome result (λ choice. (length (spelled choice) ≡ 2) × (codes "--only" ∷ map (λ word. word.now) words.now ≡ spelled choice ++ map (λ word. word.now) (drop 1 words.now))) }
+    ensures none { IfNone result (BeginsWithNone (codes "--only" ∷ map (λ word. word.now) words.now)) }
+{
+    let (names, _) = words.split_first()?;
+    Some(Choice::Only(*names))
+}
+
 /// The kind that stands first, after the word that asks for it.
-fn first_kind(words: &[&str]) -> Option<Choice>
+fn first_kind<'a>(words: &[&str]) -> Option<Choice<'a>>
     ensures some { IfSome result (λ choice. (length (spelled choice) ≡ 2) × (codes "--password-kind" ∷ map (λ word. word.now) words.now ≡ spelled choice ++ map (λ word. word.now) (drop 1 words.now))) }
     ensures none { IfNone result (BeginsWithNone (codes "--password-kind" ∷ map (λ word. word.now) words.now)) }
 {

@@ -6,6 +6,7 @@ ghost use Rattle.pgp_program.specs.Interruptions.{GivesUp};
 ghost use Rattle.pgp_program.specs.Run.{Caused};
 ghost use Rattle.pgp_trace.specs.Command.{Asks, BreaksOff, Does, IsOther, Lists, Obeys, ObeysOwn, ReadsFor, ReadsForOwn, ReadsForWords, Runs, RunsOwn, Stops, usage, complaint_of, version};
 ghost use Rattle.pgp_trace.specs.Asked.{asked};
+ghost use Rattle.pgp_trace.specs.Steps.{view_of};
 ghost use Rattle.pgp_trace.specs.Listing.{ReadsWhenReady};
 ghost use Rattle.pgp_trace.specs.Sides as side;
 ghost use Rattle.pgp_trace.specs.Sides.{first_phase};
@@ -17,6 +18,7 @@ use crate::options::options_of;
 use crate::ports::Input;
 use crate::side::{Side, first_phase};
 use crate::stream::list;
+use crate::view::View;
 use pgp_base::Memory;
 use pgp_frontend_read::PasswordKind;
 use pgp_line::style::{Style, style_of};
@@ -28,7 +30,7 @@ use pgp_program::words::{lent, texts};
 use std::alloc::AllocError;
 
 const USAGE: &str =
-    "usage: pgtrace server [--json] [--full] [--secrets] [--resume] | client [--json] [--full] [--secrets] [--resume] [--password-kind password|initial|response].. | --help | --version\n";
+    "usage: pgtrace server [--json] [--full] [--secrets] [--resume] [--only NAME[,NAME]..] | client [--json] [--full] [--secrets] [--resume] [--only NAME[,NAME]..] [--password-kind password|initial|response].. | --help | --version\n";
 
 const VERSION: &str = "pgtrace 0.1.0\n";
 
@@ -42,16 +44,19 @@ fn refused() -> Outcome
 
 /// What the words ask for.
 #[derive(Drop)]
-enum Command<A: Memory> {
-    /// A server's listing, and whether it begins in mid-session.
-    Server(Style, bool),
-    /// A client's listing, which its messages of tag `p` are, and whether it begins in mid-session.
-    Client(Style, Vec<PasswordKind, A>, bool),
+enum Command<'a, A: Memory> {
+    /// A server's listing, of messages of these names, and whether it begins in mid-session.
+    Server(Style, Vec<&'a str, A>, bool),
+    /// A client's listing, of messages of these names, which its messages of tag `p` are, and whether it begins in mid-session.
+    Client(Style, Vec<&'a str, A>, Vec<PasswordKind, A>, bool),
     Help,
     Version,
 }
 
-fn command_of<A: Memory>(alloc: A, words: &[&str]) -> Result<Option<Command<A>>, AllocError>
+fn command_of<'a, A: Memory>(
+    alloc: A,
+    words: &[&'a str],
+) -> Result<Option<Command<'a, A>>, AllocError>
     ensures known { IfOk result (λ r. IfSome r (λ command. Asks (map (λ word. word.now) words.now) (asked command))) }
     ensures other { IfOk result (λ r. IfNone r (IsOther (map (λ word. word.now) words.now))) }
     ensures lacks { OnErr result A.Lacks }
@@ -72,7 +77,10 @@ fn command_of<A: Memory>(alloc: A, words: &[&str]) -> Result<Option<Command<A>>,
 }
 
 /// What the words after `server` ask for.
-fn server_of<A: Memory>(alloc: A, words: &[&str]) -> Result<Option<Command<A>>, AllocError>
+fn server_of<'a, A: Memory>(
+    alloc: A,
+    words: &[&'a str],
+) -> Result<Option<Command<'a, A>>, AllocError>
     ensures known { IfOk result (λ r. IfSome r (λ command. Asks (codes "server" ∷ map (λ word. word.now) words.now) (asked command))) }
     ensures other { IfOk result (λ r. IfNone r (IsOther (codes "server" ∷ map (λ word. word.now) words.now))) }
     ensures lacks { OnErr result A.Lacks }
@@ -84,11 +92,14 @@ fn server_of<A: Memory>(alloc: A, words: &[&str]) -> Result<Option<Command<A>>, 
         return Ok(None);
     }
     let style = style_of(options.json, options.full, options.secrets);
-    Ok(Some(Command::Server(style, options.resume)))
+    Ok(Some(Command::Server(style, options.only, options.resume)))
 }
 
 /// What the words after `client` ask for.
-fn client_of<A: Memory>(alloc: A, words: &[&str]) -> Result<Option<Command<A>>, AllocError>
+fn client_of<'a, A: Memory>(
+    alloc: A,
+    words: &[&'a str],
+) -> Result<Option<Command<'a, A>>, AllocError>
     ensures known { IfOk result (λ r. IfSome r (λ command. Asks (codes "client" ∷ map (λ word. word.now) words.now) (asked command))) }
     ensures other { IfOk result (λ r. IfNone r (IsOther (codes "client" ∷ map (λ word. word.now) words.now))) }
     ensures lacks { OnErr result A.Lacks }
@@ -97,46 +108,46 @@ fn client_of<A: Memory>(alloc: A, words: &[&str]) -> Result<Option<Command<A>>, 
         return Ok(None);
     };
     let style = style_of(options.json, options.full, options.secrets);
-    Ok(Some(Command::Client(style, options.kinds, options.resume)))
+    Ok(Some(Command::Client(style, options.only, options.kinds, options.resume)))
 }
 
 /// Lists what a server sent. Returns what is to be said of what is left of it.
 fn list_server<A: Memory, R: Input, W: Output>(
     alloc: A,
-    style: Style,
+    view: View<'_>,
     resume: bool,
     input: &mut R,
     output: &mut W,
 ) -> Result<&'static str, Fault>
-    requires live { ReadsWhenReady R.remaining W.contents W.Passed R.MayRead style (side.Server (first_phase resume)) input.old output.old }
+    requires live { ReadsWhenReady R.remaining W.contents W.Passed R.MayRead (view_of view) (side.Server (first_phase resume)) input.old output.old }
     ensures passed { OnOk result (W.Passed output.new) }
-    ensures done { IfOk result (λ said. Lists style (side.Server (first_phase resume))
+    ensures done { IfOk result (λ said. Lists (view_of view.entry) (side.Server (first_phase resume))
         (record { input = R.remaining input.old; output = W.contents output.old })
         (record { input = R.remaining input.new; output = W.contents output.new }) said.now) }
-    ensures stops { IfErr result (λ fault. BreaksOff (W.Passed output.new) style (side.Server (first_phase resume)) fault
+    ensures stops { IfErr result (λ fault. BreaksOff (W.Passed output.new) (view_of view.entry) (side.Server (first_phase resume)) fault
         (record { input = R.remaining input.old; output = W.contents output.old })
         (record { input = R.remaining input.new; output = W.contents output.new })) }
     ensures cause { IfErr result (Caused A.Lacks (GivesUp R.Fails R.Called) (GivesUp W.Fails W.Interrupted)) }
 {
     let side = Side::Server(first_phase(resume));
-    list(alloc, style, side, input, output)
+    list(alloc, view, side, input, output)
 }
 
 /// Lists what a client sent, whose first messages of tag `p` are of these kinds. Returns what is to be said of what is left of it.
 fn list_client<A: Memory, R: Input, W: Output>(
     alloc: A,
-    style: Style,
+    view: View<'_>,
     kinds: &[PasswordKind],
     resume: bool,
     input: &mut R,
     output: &mut W,
 ) -> Result<&'static str, Fault>
-    requires live { ReadsWhenReady R.remaining W.contents W.Passed R.MayRead style (side.Client resume kinds.now) input.old output.old }
+    requires live { ReadsWhenReady R.remaining W.contents W.Passed R.MayRead (view_of view) (side.Client resume kinds.now) input.old output.old }
     ensures passed { OnOk result (W.Passed output.new) }
-    ensures done { IfOk result (λ said. Lists style (side.Client resume kinds.now)
+    ensures done { IfOk result (λ said. Lists (view_of view.entry) (side.Client resume kinds.now)
         (record { input = R.remaining input.old; output = W.contents output.old })
         (record { input = R.remaining input.new; output = W.contents output.new }) said.now) }
-    ensures stops { IfErr result (λ fault. BreaksOff (W.Passed output.new) style (side.Client resume kinds.now) fault
+    ensures stops { IfErr result (λ fault. BreaksOff (W.Passed output.new) (view_of view.entry) (side.Client resume kinds.now) fault
         (record { input = R.remaining input.old; output = W.contents output.old })
         (record { input = R.remaining input.new; output = W.contents output.new })) }
     ensures cause { IfErr result (Caused A.Lacks (GivesUp R.Fails R.Called) (GivesUp W.Fails W.Interrupted)) }
@@ -145,7 +156,7 @@ fn list_client<A: Memory, R: Input, W: Output>(
         opened: resume,
         kinds,
     };
-    list(alloc, style, side, input, output)
+    list(alloc, view, side, input, output)
 }
 
 /// Prints a text. Nothing is to be said then.
@@ -164,24 +175,34 @@ fn print<W: Output>(text: &str, output: &mut W) -> Result<&'static str, Fault>
 /// Does what the command asks for. Returns what is then to be said on standard error.
 fn perform<A: Memory, R: Input, W: Output>(
     alloc: A,
-    command: Command<A>,
+    command: Command<'_, A>,
     input: &mut R,
     output: &mut W,
 ) -> Result<&'static str, Fault>
     requires live { ReadsFor R.remaining W.contents W.Passed R.MayRead (asked command) input.old output.old }
     ensures passed { OnOk result (W.Passed output.new) }
-    ensures done { IfOk result (λ said. Does (asked command)
+    ensures done { IfOk result (λ said. Does (asked command.entry)
         (record { input = R.remaining input.old; output = W.contents output.old })
         (record { input = R.remaining input.new; output = W.contents output.new }) said.now) }
-    ensures stops { IfErr result (λ fault. Stops (W.Passed output.new) (asked command) fault
+    ensures stops { IfErr result (λ fault. Stops (W.Passed output.new) (asked command.entry) fault
         (record { input = R.remaining input.old; output = W.contents output.old })
         (record { input = R.remaining input.new; output = W.contents output.new })) }
     ensures cause { IfErr result (Caused A.Lacks (GivesUp R.Fails R.Called) (GivesUp W.Fails W.Interrupted)) }
 {
     match command {
-        Command::Server(style, resume) => list_server(alloc, style, resume, input, output),
-        Command::Client(style, kinds, resume) => {
-            list_client(alloc, style, kinds.as_slice(), resume, input, output)
+        Command::Server(style, only, resume) => {
+            let view = View {
+                style,
+                only: only.as_slice(),
+            };
+            list_server(alloc, view, resume, input, output)
+        }
+        Command::Client(style, only, kinds, resume) => {
+            let view = View {
+                style,
+                only: only.as_slice(),
+            };
+            list_client(alloc, view, kinds.as_slice(), resume, input, output)
         }
         Command::Help => print(USAGE, output),
         Command::Version => print(VERSION, output),

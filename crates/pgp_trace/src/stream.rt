@@ -5,7 +5,7 @@ ghost use Rattle.std.specs.Io.KnownBytes.{Appends, IsAtEnd, Keeps};
 ghost use Rattle.pgp_program.specs.Interruptions.{GivesUp};
 ghost use Rattle.pgp_program.specs.Run.{Caused};
 ghost use Rattle.pgp_trace.specs.Listing.{IsCutShort, ReadsWhenReady, WasListed, WritesListing, last_by, last_line};
-ghost use Rattle.pgp_trace.specs.Steps.{Holds, ListsAll, ListsPiece, ListsSome, side_of};
+ghost use Rattle.pgp_trace.specs.Steps.{Holds, ListsAll, ListsPiece, ListsSome, side_of, view_of};
 ghost use Rattle.pgp_program.specs.Taken.{AppendsFront};
 ghost use Rattle.pgp_line.specs.declared.style.Form.TheVariants.{Columns, Json};
 
@@ -14,9 +14,9 @@ use crate::hint::hint_of;
 use crate::next::next_line;
 use crate::ports::Input;
 use crate::side::Side;
+use crate::view::{View, add_shown};
 use bytes::{Buf, BytesMut};
 use pgp_base::Memory;
-use pgp_line::line::add_line;
 use pgp_line::style::{Form, Style};
 use pgp_program::fault::Fault;
 use pgp_program::ports::Output;
@@ -53,47 +53,47 @@ struct Held<'a, A: Memory> {
 /// Returns `Memory` if an allocation fails, `Read` if reading fails, and `Write` if writing or a flush fails.
 pub fn list<A: Memory, R: Input, W: Output>(
     alloc: A,
-    style: Style,
+    view: View<'_>,
     side: Side<'_>,
     input: &mut R,
     output: &mut W,
 ) -> Result<&'static str, Fault>
-    requires live { ReadsWhenReady R.remaining W.contents W.Passed R.MayRead style (side_of side) input.old output.old }
+    requires live { ReadsWhenReady R.remaining W.contents W.Passed R.MayRead (view_of view) (side_of side) input.old output.old }
     ensures read { OnOk result (IsAtEnd (R.remaining input.new)) }
-    ensures listed { IfOk result (λ said. IfSome (R.remaining input.old) (λ bytes. WritesListing style (side_of side.entry) bytes (W.contents output.old) (W.contents output.new) said.now)) }
-    ensures live { IfErr result (λ fault. fault ≡ Fault.Read → WasListed style (side_of side.entry)
+    ensures listed { IfOk result (λ said. IfSome (R.remaining input.old) (λ bytes. WritesListing (view_of view.entry) (side_of side.entry) bytes (W.contents output.old) (W.contents output.new) said.now)) }
+    ensures live { IfErr result (λ fault. fault ≡ Fault.Read → WasListed (view_of view.entry) (side_of side.entry)
         (record { input = R.remaining input.old; output = W.contents output.old })
         (record { input = R.remaining input.new; output = W.contents output.new })) }
     ensures passed { IfErr result (λ fault. fault ≡ Fault.Read → Keeps (W.contents output.old) (W.contents output.new) ⊎ W.Passed output.new) }
     ensures done { OnOk result (W.Passed output.new) }
-    ensures cut { OnErr result (IsCutShort style (side_of side.entry)
+    ensures cut { OnErr result (IsCutShort (view_of view.entry) (side_of side.entry)
         (record { input = R.remaining input.old; output = W.contents output.old })
         (record { input = R.remaining input.new; output = W.contents output.new })) }
     ensures cause { IfErr result (Caused A.Lacks (GivesUp R.Fails R.Called) (GivesUp W.Fails W.Interrupted)) }
 {
     let mut piece = A::list_filled(alloc, 0, PIECE)?;
-    list_stream(alloc, style, side, input, piece.as_mut_slice(), output)
+    list_stream(alloc, view, side, input, piece.as_mut_slice(), output)
 }
 
 /// Lists the bytes, a piece at a time. Returns what is to be said of those that are left.
 fn list_stream<A: Memory, R: Input, W: Output>(
     alloc: A,
-    style: Style,
+    view: View<'_>,
     side: Side<'_>,
     input: &mut R,
     piece: &mut [u8],
     output: &mut W,
 ) -> Result<&'static str, Fault>
     requires some { 0 < length piece.old }
-    requires live { ReadsWhenReady R.remaining W.contents W.Passed R.MayRead style (side_of side) input.old output.old }
+    requires live { ReadsWhenReady R.remaining W.contents W.Passed R.MayRead (view_of view) (side_of side) input.old output.old }
     ensures read { OnOk result (IsAtEnd (R.remaining input.new)) }
-    ensures listed { IfOk result (λ said. IfSome (R.remaining input.old) (λ bytes. WritesListing style (side_of side.entry) bytes (W.contents output.old) (W.contents output.new) said.now)) }
-    ensures live { IfErr result (λ fault. fault ≡ Fault.Read → WasListed style (side_of side.entry)
+    ensures listed { IfOk result (λ said. IfSome (R.remaining input.old) (λ bytes. WritesListing (view_of view.entry) (side_of side.entry) bytes (W.contents output.old) (W.contents output.new) said.now)) }
+    ensures live { IfErr result (λ fault. fault ≡ Fault.Read → WasListed (view_of view.entry) (side_of side.entry)
         (record { input = R.remaining input.old; output = W.contents output.old })
         (record { input = R.remaining input.new; output = W.contents output.new })) }
     ensures passed { IfErr result (λ fault. fault ≡ Fault.Read → Keeps (W.contents output.old) (W.contents output.new) ⊎ W.Passed output.new) }
     ensures done { OnOk result (W.Passed output.new) }
-    ensures cut { OnErr result (IsCutShort style (side_of side.entry)
+    ensures cut { OnErr result (IsCutShort (view_of view.entry) (side_of side.entry)
         (record { input = R.remaining input.old; output = W.contents output.old })
         (record { input = R.remaining input.new; output = W.contents output.new })) }
     ensures cause { IfErr result (Caused A.Lacks (GivesUp R.Fails R.Called) (GivesUp W.Fails W.Interrupted)) }
@@ -112,9 +112,9 @@ fn list_stream<A: Memory, R: Input, W: Output>(
         match input.read_some(piece) {
             Ok(0) => {
                 let said = hint_of(held.side, held.left);
-                return list_rest(style, held.stopped, held.left, said, &mut held.line, output);
+                return list_rest(view, held.stopped, held.left, said, &mut held.line, output);
             }
-            Ok(n) => list_piece(style, &piece[..n], &mut held, output)?,
+            Ok(n) => list_piece(view, &piece[..n], &mut held, output)?,
             Err(e) => match e.kind() {
                 ErrorKind::Interrupted => {}
                 ErrorKind::OutOfMemory => return Err(Fault::Memory),
@@ -127,18 +127,18 @@ fn list_stream<A: Memory, R: Input, W: Output>(
 
 /// Lists the frames that are whole with this piece, and has their lines passed on.
 fn list_piece<A: Memory, W: Output>(
-    style: Style,
+    view: View<'_>,
     piece: &[u8],
     held: &mut Held<'_, A>,
     output: &mut W,
 ) -> Result<(), Fault>
     ensures all { OnOk result ((rest : List ℕ) → Holds (record { side = side_of held.old.side; bytes = held.old.bytes.items; place = held.old.place; stopped = held.old.stopped; left = held.old.left }) rest →
-        ListsPiece style held.old.place (side_of held.old.side) (rest ++ piece.now)
+        ListsPiece (view_of view.entry) held.old.place (side_of held.old.side) (rest ++ piece.now)
         (record { side = side_of held.new.side; bytes = held.new.bytes.items; place = held.new.place; stopped = held.new.stopped; left = held.new.left })
         (W.contents output.old) (W.contents output.new)) }
     ensures passed { OnOk result (W.Passed output.new) }
     ensures some { OnErr result ((rest : List ℕ) → Holds (record { side = side_of held.old.side; bytes = held.old.bytes.items; place = held.old.place; stopped = held.old.stopped; left = held.old.left }) rest →
-        ListsSome style held.old.place (side_of held.old.side) (rest ++ piece.now) (W.contents output.old) (W.contents output.new)) }
+        ListsSome (view_of view.entry) held.old.place (side_of held.old.side) (rest ++ piece.now) (W.contents output.old) (W.contents output.new)) }
     ensures cause { IfErr result (Caused A.Lacks ⊥ (GivesUp W.Fails W.Interrupted)) }
 {
     if held.stopped {
@@ -148,7 +148,7 @@ fn list_piece<A: Memory, W: Output>(
     A::append(&mut held.bytes, piece)?;
     held.lines.clear();
     let (listed, stopped, side) = list_frames(
-        style,
+        view,
         held.place,
         held.side,
         held.bytes.as_slice(),
@@ -166,7 +166,7 @@ fn list_piece<A: Memory, W: Output>(
 /// Adds the lines of the complete frames at the front of the bytes, which stand at this place. Returns how many bytes they take, whether
 /// nothing says where the next one begins, and what is then known of the side.
 fn list_frames<'a, A: Memory>(
-    style: Style,
+    view: View<'_>,
     place: u64,
     side: Side<'a>,
     bytes: &[u8],
@@ -174,7 +174,7 @@ fn list_frames<'a, A: Memory>(
     lines: &mut String<A>,
 ) -> Result<(usize, bool, Side<'a>), AllocError>
     ensures within { IfOk result (λ answer. answer.0 ≤ length bytes.now) }
-    ensures all { IfOk result (λ answer. ListsAll style place (side_of side.entry) bytes.now (take answer.0 bytes.now) (drop answer.0 bytes.now) answer.1 (side_of answer.2)
+    ensures all { IfOk result (λ answer. ListsAll (view_of view.entry) place (side_of side.entry) bytes.now (take answer.0 bytes.now) (drop answer.0 bytes.now) answer.1 (side_of answer.2)
         (string_bytes lines.old) (string_bytes lines.new)) }
     ensures lacks { OnErr result A.Lacks }
 {
@@ -183,14 +183,14 @@ fn list_frames<'a, A: Memory>(
     'frames: loop {
         let passed = bytes.len() - rest.len();
         let (next, to, behind) = next_line(
-            style,
+            view.style,
             place.saturating_add(passed as u64),
             here,
             rest,
             line,
         )?;
         match next {
-            Next::Line => add_line(line.as_str(), lines)?,
+            Next::Line(name) => add_shown(view, name, line.as_str(), lines)?,
             Next::Waits => return Ok((passed, false, here)),
             Next::Stops => return Ok((passed, true, here)),
         }
@@ -222,7 +222,7 @@ fn put_lines<W: Output>(lines: &str, output: &mut W) -> Result<(), Fault>
 
 /// Writes the last line, of the bytes that are left. Returns what is to be said of them.
 fn list_rest<A: Memory, W: Output>(
-    style: Style,
+    view: View<'_>,
     stopped: bool,
     left: u64,
     said: &'static str,
@@ -230,13 +230,13 @@ fn list_rest<A: Memory, W: Output>(
     output: &mut W,
 ) -> Result<&'static str, Fault>
     ensures said { IfOk result (λ text. text.now ≡ said.now) }
-    ensures all { OnOk result (Appends (W.contents output.old) (W.contents output.new) (last_line style stopped left)) }
-    ensures some { OnErr result (AppendsFront (W.contents output.old) (W.contents output.new) (last_line style stopped left)) }
+    ensures all { OnOk result (Appends (W.contents output.old) (W.contents output.new) (last_line (view_of view.entry) stopped left)) }
+    ensures some { OnErr result (AppendsFront (W.contents output.old) (W.contents output.new) (last_line (view_of view.entry) stopped left)) }
     ensures passed { OnOk result (W.Passed output.new) }
     ensures cause { IfErr result (Caused A.Lacks ⊥ (GivesUp W.Fails W.Interrupted)) }
 {
     line.clear();
-    put_rest(style, stopped, left, line)?;
+    put_rest(view.style, stopped, left, line)?;
     put_last(line.as_bytes(), output)?;
     Ok(said)
 }
@@ -259,7 +259,7 @@ fn put_rest<A: Memory>(
     n: u64,
     line: &mut String<A>,
 ) -> Result<(), AllocError>
-    ensures line { OnOk result (string_bytes line.new ≡ string_bytes line.old ++ last_line style stopped n) }
+    ensures line { OnOk result (string_bytes line.new ≡ string_bytes line.old ++ last_by style.form stopped n ++ 10 ∷ []) }
     ensures lacks { OnErr result A.Lacks }
 {
     match style.form {

@@ -3,6 +3,7 @@
 ghost use Rattle.std.specs.Prelude.{◌≡◌, ◌∷◌, [], pos, false, length, None, OnErr, OnOk, codes, string_bytes};
 ghost use Rattle.std.specs.Option.{option_map};
 ghost use Rattle.pgp_line.specs.Line.{Count, Key, Name, Number, followed, key};
+ghost use Rattle.pgp_trace.specs.Listing.{unread_name};
 ghost use Rattle.pgp_trace.specs.PlainBody.{numbers_of};
 ghost use Rattle.pgp_trace.specs.Shown.{list_of, number_part};
 ghost use Rattle.pgp_trace.specs.Unread.{ShowsCopyBoth, ShowsResult, ShowsUnread, copy_parts, result_parts};
@@ -32,6 +33,17 @@ pub fn put_unread<A: Memory>(
         b'V' => put_call_result(style, body, line),
         b'W' => put_copy_both(style, body, line),
         _ => put_refused(style, refusal, line),
+    }
+}
+
+/// The name in the line of a frame of this tag.
+pub fn unread_name(tag: u8) -> &'static str
+    ensures { result.now ≡ unread_name tag }
+{
+    match tag {
+        b'V' => "FunctionCallResponse",
+        b'W' => "CopyBothResponse",
+        _ => "fault",
     }
 }
 

@@ -13,8 +13,9 @@ returns-in-Some-phase_behind-clause-listed g c =
     let phase = c.in-Some-phase_behind.phase in
     let bytes : c.args.bytes.now ≡ byte ∷ behind = search rules in
     let answers : phase_behind byte ≡ Some phase = sym c.phase_behind.ensures ∙ c.in-Some-phase_behind.is in
-    subst (λ (l : List ℕ). HasLine c.args.style c.args.place (Server Beginning) l behind (string_bytes c.answer_line.new.line) (Server phase)) (sym bytes)
-    (answer_lists c.args.style c.args.place byte behind (string_bytes c.answer_line.new.line) phase answers c.in_ok-answer_line.ensures.line)
+    subst (λ (l : List ℕ). HasLine c.args.style c.args.place (Server Beginning) l behind (string_bytes c.answer_line.new.line) (Server phase) c.answer_name.result.now) (sym bytes)
+    (subst (λ n. HasLine c.args.style c.args.place (Server Beginning) (byte ∷ behind) behind (string_bytes c.answer_line.new.line) (Server phase) n) (sym c.answer_name.ensures)
+    (answer_lists c.args.style c.args.place byte behind (string_bytes c.answer_line.new.line) phase answers c.in_ok-answer_line.ensures.line))
 
 pub returns-clause-listed : goal.returns-clause-listed
 returns-clause-listed g c =

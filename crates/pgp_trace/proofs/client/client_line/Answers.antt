@@ -1,8 +1,8 @@
 use Rattle.std.proofs.Common.{◌≡◌, ◌++◌, ◌∷◌, [], length, Some, Ok, Err, rules, refl}
-use Rattle.std.specs.Prelude.{string_bytes}
+use Rattle.std.specs.Prelude.{codes, string_bytes}
 use Rattle.pgp_frontend_read.specs.Step.{Refuses, Step}
 use Rattle.pgp_frontend_read.specs.Views.{kind_view, view}
-use Rattle.pgp_trace.specs.Client.{client_line}
+use Rattle.pgp_trace.specs.Client.{client_line, client_name}
 use Rattle.pgp_line.specs.Line.{closing}
 use Rattle.pgp_trace.specs.Listing.{client_front}
 use Rattle.pgp_trace.specs.Sides.{is_reported}
@@ -18,8 +18,9 @@ returns-in_ok-message_line-in-Ok-Some-clause-listed g c =
     let x = view c.in-Ok-Some.message in
     let step : Step (kind_view c.expected.result) c.resume-messages.result (Ok (Some x)) c.next.new.self = search rules in
     let has : line ≡ client_line c.args.style (is_reported c.args.kinds.now) (Ok x) (client_front c.args.style c.args.place c.args.opened frame) ++ closing c.args.style ++ 10 ∷ [] = search rules in
-    message_passed c.args.style c.args.place c.args.opened c.is_open.result c.args.kinds.now c.kinds_behind-left.result.now bytes frame rest line (kind_view c.expected.result) x c.resume-messages.result c.next.new.self
-    c.resume-messages.ensures c.rest-behind.ensures c.is_open.ensures c.expected.ensures step c.front_of-frame.ensures has c.kinds_behind-left.ensures
+    let named : c.client_name-name.result.now ≡ client_name (is_reported c.args.kinds.now) x = search rules in
+    message_passed c.args.style c.args.place c.args.opened c.is_open.result c.args.kinds.now c.kinds_behind-left.result.now bytes frame rest line c.client_name-name.result.now (kind_view c.expected.result) x c.resume-messages.result c.next.new.self
+    c.resume-messages.ensures c.rest-behind.ensures c.is_open.ensures c.expected.ensures step c.front_of-frame.ensures has c.kinds_behind-left.ensures named
 
 pub returns-in_ok-refusal_line-in-Err-clause-listed : goal.returns-in_ok-refusal_line-in-Err-clause-listed
 returns-in_ok-refusal_line-in-Err-clause-listed g c =
@@ -31,8 +32,8 @@ returns-in_ok-refusal_line-in-Err-clause-listed g c =
     let step : Refuses (kind_view c.expected.result) c.resume-messages.result e c.next.new.self = search rules in
     let differ : length rest ≡ length bytes → ⊥ = λ h. search rules in
     let has : line ≡ client_line c.args.style (is_reported c.args.kinds.now) (Err e) (client_front c.args.style c.args.place c.args.opened frame) ++ closing c.args.style ++ 10 ∷ [] = search rules in
-    refusal_passed c.args.style c.args.place c.args.opened c.is_open-in-Err.result c.args.kinds.now c.kinds_behind-left-in-Err.result.now bytes frame rest line (kind_view c.expected.result) e c.resume-messages.result c.next.new.self
-    c.resume-messages.ensures c.rest-behind-in-Err.ensures c.is_open-in-Err.ensures c.expected.ensures step differ c.front_of-frame-in-Err.ensures has c.kinds_behind-left-in-Err.ensures
+    refusal_passed c.args.style c.args.place c.args.opened c.is_open-in-Err.result c.args.kinds.now c.kinds_behind-left-in-Err.result.now bytes frame rest line (codes "fault") (kind_view c.expected.result) e c.resume-messages.result c.next.new.self
+    c.resume-messages.ensures c.rest-behind-in-Err.ensures c.is_open-in-Err.ensures c.expected.ensures step differ c.front_of-frame-in-Err.ensures has c.kinds_behind-left-in-Err.ensures refl
 
 pub returns-then-behind-bytes-clause-listed : goal.returns-then-behind-bytes-clause-listed
 returns-then-behind-bytes-clause-listed g c =

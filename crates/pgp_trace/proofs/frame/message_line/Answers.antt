@@ -3,7 +3,7 @@ use Rattle.std.specs.Prelude.{string_bytes}
 use Rattle.pgp_message.specs.Views.{view}
 use Rattle.pgp_line.specs.Line.{Name, followed}
 use Rattle.pgp_trace.specs.Shown.{says_nothing}
-use Rattle.pgp_trace.proofs.FrameLines.{frame_long, body_is, message_ended}
+use Rattle.pgp_trace.proofs.FrameLines.{frame_long, body_is, message_reported}
 use Rattle.pgp_trace.proofs.frame.message_line.Goals as goal
 
 pub split_at-requires : goal.split_at-requires
@@ -14,11 +14,12 @@ put_message-requires g c = c.split_at.ensures.back ∙ body_is c.args.frame.now 
 
 pub returns-clause-line : goal.returns-clause-line
 returns-clause-line g c =
-    message_ended c.put_end.result c.args.style c.args.place c.args.frame.now (view c.args.message.now) c.requires
-    (string_bytes c.begin.new.line) (string_bytes c.put_called.new.line) (string_bytes c.put_message.new.line) (string_bytes c.put_end.new.line)
+    message_reported c.args.style c.args.place c.args.frame.now (view c.args.message.now) c.requires
+    (string_bytes c.begin.new.line) (string_bytes c.put_called.new.line) (string_bytes c.put_message.new.line) (string_bytes c.put_end.new.line) c.name_of-name.result.now
     c.in_ok-begin.ensures.parts
     (c.in_ok-put_called.ensures.part
-    ∙ ap (λ b. followed c.args.style (string_bytes c.begin.new.line) (Name b c.name_of.result.now ∷ [])) c.says_nothing.ensures
-    ∙ ap (λ w. followed c.args.style (string_bytes c.begin.new.line) (Name (says_nothing (view c.args.message.now)) w ∷ [])) c.name_of.ensures)
+    ∙ ap (λ b. followed c.args.style (string_bytes c.begin.new.line) (Name b c.name_of-name.result.now ∷ [])) c.says_nothing.ensures
+    ∙ ap (λ w. followed c.args.style (string_bytes c.begin.new.line) (Name (says_nothing (view c.args.message.now)) w ∷ [])) c.name_of-name.ensures)
     c.in_ok-put_message.ensures.says
-    c.put_end.ensures.text
+    c.in_ok-put_end.ensures.text
+    c.name_of-name.ensures

@@ -30,8 +30,8 @@ fault_line-requires g c =
     let framed : IsFrameOf frame (Err e) = subst (λ l. IsFrameOf l (Err e)) (sym is) (taken_frame old new (Err e) t) in
     frame_long framed.first frame framed.whole
 
-pub returns-in_ok-fault_line-in-Err : goal.returns-in_ok-fault_line-in-Err
-returns-in_ok-fault_line-in-Err g c =
+pub returns-in_ok-name-in-Err : goal.returns-in_ok-name-in-Err
+returns-in_ok-name-in-Err g c =
     let old = c.args.bytes.now in
     let new = c.next.new.self in
     let e = c.in-Err.refusal in
@@ -42,6 +42,16 @@ returns-in_ok-fault_line-in-Err g c =
     c.front_of-frame-in-Err.ensures ∙ ap (λ (l : List ℕ). take (length old - length l) old) c.rest-behind-in-Err.ensures in
     let framed : IsFrameOf frame (Err e) = subst (λ l. IsFrameOf l (Err e)) (sym is) (taken_frame old new (Err e) t) in
     record {
-      listed = rw c.rest-behind-in-Err.ensures (line_here c.args.style c.args.place old new frame (string_bytes c.fault_line.new.line) (Err e) t is (fault_reported c.args.style c.args.place frame e framed (string_bytes c.fault_line.new.line) c.in_ok-fault_line-in-Err.ensures.line));
+      listed = rw c.rest-behind-in-Err.ensures (line_here c.args.style c.args.place old new frame (string_bytes c.fault_line.new.line) c.in_ok-name-in-Err.name.now (Err e) t is (fault_reported c.args.style c.args.place frame e framed (string_bytes c.fault_line.new.line) c.in_ok-name-in-Err.name.now c.in_ok-name-in-Err.ensures.line c.in_ok-name-in-Err.ensures.named));
       lacks = tt;
     }
+
+pub returns-in_ok-name-in-Ok-Some-clause-listed : goal.returns-in_ok-name-in-Ok-Some-clause-listed
+returns-in_ok-name-in-Ok-Some-clause-listed g c =
+    let old = c.args.bytes.now in
+    let new = c.next.new.self in
+    let step : TakesFrame c.new-messages.result (Ok (view c.in-Ok-Some.message)) new = search rules in
+    let t : TakesFrame old (Ok (view c.in-Ok-Some.message)) new = subst (λ (l : List ℕ). TakesFrame l (Ok (view c.in-Ok-Some.message)) new) c.new-messages.ensures step in
+    let is : c.front_of-frame.result.now ≡ take (length old - length new) old =
+    c.front_of-frame.ensures ∙ ap (λ (l : List ℕ). take (length old - length l) old) c.rest-behind.ensures in
+    rw c.rest-behind.ensures (line_here c.args.style c.args.place old new c.front_of-frame.result.now (string_bytes c.message_line-reported.new.line) c.in_ok-name-in-Ok-Some.name.now (Ok (view c.in-Ok-Some.message)) t is c.in_ok-name-in-Ok-Some.ensures.line)

@@ -1,13 +1,14 @@
 use Rattle.std.proofs.Common.{◌≡◌, ◌+◌, ◌-◌, ◌++◌, ◌∙◌, length, min, rules, ap}
 use Rattle.std.specs.Prelude.{string_bytes}
-use Rattle.pgp_trace.specs.Steps.{HasLine, side_of}
+use Rattle.pgp_trace.specs.Steps.{HasLine, side_of, view_of}
+use Rattle.pgp_trace.specs.View.{shown}
 use Rattle.pgp_program.specs.Words.{greatest}
 use Rattle.pgp_trace.proofs.Shorter.{shorter}
 use Rattle.pgp_trace.proofs.Traces.{nothing_yet, one_listed}
 use Rattle.pgp_trace.proofs.stream.list_frames.Goals as goal
 
 pub frames-init : goal.frames-init
-frames-init g c = nothing_yet c.args.style c.args.place (side_of c.args.side) c.args.bytes.now (string_bytes c.args.lines.now)
+frames-init g c = nothing_yet (view_of c.args.view) c.args.place (side_of c.args.side) c.args.bytes.now (string_bytes c.args.lines.now)
 
 pub frames-preserved : goal.frames-preserved
 frames-preserved g c =
@@ -19,9 +20,10 @@ frames-preserved g c =
     let to = side_of c.in_ok-next.to in
     let here = c.saturating_add.result in
     let at : here ≡ min (c.args.place + (length bytes - length rest)) greatest = c.saturating_add.ensures in
-    let has : HasLine c.args.style here mid rest next line to = search rules in
-    one_listed c.args.style c.args.place here (side_of c.args.side) mid to bytes rest next line (string_bytes c.args.lines.now) (string_bytes c.frames.lines) (string_bytes c.add_line.new.lines) c.frames.invariant at has
-    (c.in_ok-add_line-in-Line.ensures.added ∙ ap (λ l. string_bytes c.frames.lines ++ l) c.as_str.ensures.value)
+    let name = c.in-Line.name.now in
+    let has : HasLine c.args.view.style here mid rest next line to name = search rules in
+    one_listed (view_of c.args.view) c.args.place here (side_of c.args.side) mid to bytes rest next line name (string_bytes c.args.lines.now) (string_bytes c.frames.lines) (string_bytes c.add_shown.new.lines) c.frames.invariant at has
+    (c.in_ok-add_shown-in-Line.ensures.added ∙ ap (λ l. string_bytes c.frames.lines ++ shown (view_of c.args.view) name l) c.as_str.ensures.value)
 
 pub frames-smaller : goal.frames-smaller
 frames-smaller g c =
@@ -30,5 +32,6 @@ frames-smaller g c =
     let line = string_bytes c.next_line.new.line in
     let mid = side_of c.frames.here in
     let to = side_of c.in_ok-next.to in
-    let has : HasLine c.args.style c.saturating_add.result mid rest next line to = search rules in
-    shorter c.args.style c.saturating_add.result mid to rest next line has
+    let name = c.in-Line.name.now in
+    let has : HasLine c.args.view.style c.saturating_add.result mid rest next line to name = search rules in
+    shorter c.args.view.style c.saturating_add.result mid to rest next line name has

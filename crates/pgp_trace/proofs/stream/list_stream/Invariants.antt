@@ -1,13 +1,13 @@
 -- What came so far was listed, and passed on.
 use Rattle.std.proofs.Common.{◌≡◌, ◌⊎◌}
 use Rattle.std.specs.Io.KnownBytes.{Keeps}
-use Rattle.pgp_trace.specs.Steps.{side_of}
+use Rattle.pgp_trace.specs.Steps.{side_of, view_of}
 use Rattle.pgp_trace.proofs.Traces.{Tracks}
 use Rattle.pgp_trace.proofs.stream.list_stream.Given as goal
 
 abbrev pub invariant-pieces : goal.invariant-pieces
 invariant-pieces g l =
-    Tracks l.style (side_of l.fn.side) (record { input = g.R.Read.remaining l.fn.input; output = g.W.Write.contents l.fn.output })
+    Tracks (view_of l.view) (side_of l.fn.side) (record { input = g.R.Read.remaining l.fn.input; output = g.W.Write.contents l.fn.output })
     (record { input = g.R.Read.remaining l.input; output = g.W.Write.contents l.output })
     (record { side = side_of l.held.side; bytes = l.held.bytes.items; place = l.held.place; stopped = l.held.stopped; left = l.held.left })
     × (Keeps (g.W.Write.contents l.fn.output) (g.W.Write.contents l.output) ⊎ g.W.Output.Passed l.output)

@@ -1,0 +1,15 @@
+-- The names of the messages that are listed.
+use Rattle.std.proofs.Common.{◌≡◌, ℕ, Bool, List, [], ◌∷◌, length, map, refl, ap}
+use Rattle.std.specs.Prelude.{◌||◌}
+use Rattle.std.specs.Borrow.{Bor}
+use Rattle.std.specs.List.{list_any}
+use Rattle.std.specs.Str.{bytes_eq}
+use Rattle.pgp_trace.specs.View.{is_listed}
+
+any_mapped : (only : List (Bor (List ℕ))) (name : List ℕ) → list_any (λ other. bytes_eq other.now name) only ≡ list_any (λ other. bytes_eq other name) (map (λ other. other.now) only)
+any_mapped [] name = refl
+any_mapped (x ∷ xs) name = ap (λ b. bytes_eq x.now name || b) (any_mapped xs name)
+
+pub named : (only : List (Bor (List ℕ))) (name : List ℕ) → (length only ≡ 0 → ⊥) → list_any (λ other. bytes_eq other.now name) only ≡ is_listed (map (λ other. other.now) only) name
+named [] name some = absurd (some refl)
+named (x ∷ xs) name some = any_mapped (x ∷ xs) name
