@@ -10,7 +10,7 @@ use crate::kind::Kind;
 use crate::pending::{ends_copy, next_in};
 use crate::queue::{Full, Queue};
 use crate::request::{Asked, Request};
-use crate::stage::{Stage, begins, event_of, follows};
+use crate::stage::{Stage, begins, event_of, follows, goes_on};
 use pgp_base::Memory;
 use std::collections::VecDeque;
 use std::marker::Model;
@@ -123,7 +123,20 @@ impl<Q: Queue> Dialogue<Q> {
     ///
     /// - `Unexpected` if a message of this kind has no place there.
     /// - `Uncertain` if a copy to the server fails, and a Sync was asked before the end of its data.
+    // The hint carries the speed of rows and of a copy's data, which come by the thousand: its caller, who knows the kind, then has
+    // two comparisons in the place of a call.
+    #[inline(always)]
     pub fn take(&mut self, kind: Kind) -> Result<Event, Refusal>
+        ensures { Takes (taken (shown Q.items self.old) kind) result (shown Q.items self.new) }
+    {
+        if goes_on(self.stage, kind) {
+            return Ok(Event::Part(self.name));
+        }
+        self.take_other(kind)
+    }
+
+    /// The server's next message, of whatever kind.
+    fn take_other(&mut self, kind: Kind) -> Result<Event, Refusal>
         ensures { Takes (taken (shown Q.items self.old) kind) result (shown Q.items self.new) }
     {
         if kind.is_aside() {

@@ -108,7 +108,7 @@ frames_begin bytes n are some = begin are.frames are.whole are.each are.count
     begin (f ∷ frames) whole each count = record { first = f; rest = flat_map frame_bytes frames; whole = whole ∙ flat_map-cons frame_bytes f frames; fits = each.0 }
 
 -- after it are the others
-frames_left : (bytes new : List ℕ) (n : ℕ) (r : Result Message Error) → AreFrames bytes n → 0 < n → TakesFrame bytes r new → AreFrames new (n - 1)
+pub frames_left : (bytes new : List ℕ) (n : ℕ) (r : Result Message Error) → AreFrames bytes n → 0 < n → TakesFrame bytes r new → AreFrames new (n - 1)
 frames_left bytes new n r are some one = behind are.frames are.whole are.each are.count
   where
     behind : (frames : List Frame) → bytes ≡ flat_map frame_bytes frames → AllByRecursion IsFrame frames → n ≡ length frames → AreFrames new (n - 1)

@@ -14,6 +14,7 @@ mod name;
 mod parser;
 mod request;
 mod row_index;
+mod shared;
 mod storage;
 mod tag;
 mod walk;

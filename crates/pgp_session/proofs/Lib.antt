@@ -13,4 +13,5 @@ pub mod Served
 pub mod StartupNames
 pub mod LogIns
 pub mod Sessions
+pub mod Incomings
 pub mod Connections

@@ -276,4 +276,4 @@ Cancels lacks c old new (Err e) = ⊥
 -- ---- the code's record
 
 abbrev pub shown : {A : Type 0} → Kept A → Shown
-shown c = record { phase = c.phase; login = seen c.login; out = c.out.items; incoming = c.incoming.items; talk = talk_of (λ q. q.items) c.dialogue; server = record { state = c.server; settings = c.settings.entries.items }; names = c.names; limit = c.limit }
+shown c = record { phase = c.phase; login = seen c.login; out = c.out.items; incoming = c.incoming; talk = talk_of (λ q. q.items) c.dialogue; server = record { state = c.server; settings = c.settings.entries.items }; names = c.names; limit = c.limit }

@@ -11,3 +11,4 @@ pub mod ServerState
 pub mod Settings
 pub mod Connection
 pub mod Session
+pub mod Incoming

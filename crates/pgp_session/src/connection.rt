@@ -13,7 +13,8 @@ ghost use Rattle.pgp_session.specs.Settings.{value_of};
 ghost use Rattle.pgp_session.specs.Connection.{Answers, Cancels, Feeds, Hears, Nexts, Sends, Starts, Takes, Writes, begun, can_send, dropped, is_logged_in, nexted, shown};
 
 use crate::connection_error::ConnectionError;
-use crate::connection_parts::{encrypts, is_end, is_too_long, may_send, next_name, put_startup};
+use crate::connection_parts::{encrypts, is_end, may_send, next_name, put_startup};
+use crate::incoming::Incoming;
 use crate::login::{Login, Ways, put};
 use crate::scram_login::LoginPhase;
 use crate::server_state::{BackendKey, ServerState};
@@ -45,7 +46,7 @@ pub struct Connection<'a, A: Memory = Global> {
     pub(crate) phase: ConnectionPhase,
     login: Login<'a, A>,
     pub(crate) out: BytesMut<A>,
-    incoming: BytesMut<A>,
+    incoming: Incoming<A>,
     pub(crate) dialogue: Dialogue<VecDeque<Asked, A>>,
     pub(crate) server: ServerState,
     pub(crate) settings: Settings<A>,
@@ -66,7 +67,7 @@ impl<'a, A: Memory> Connection<'a, A> {
                 alloc,
             },
             out: BytesMut::new(alloc),
-            incoming: BytesMut::new(alloc),
+            incoming: Incoming::new(alloc),
             dialogue: Dialogue::new(alloc),
             server: ServerState::new(),
             settings: Settings::new(alloc),
@@ -239,7 +240,7 @@ impl<'a, A: Memory> Connection<'a, A> {
         if self.phase != ConnectionPhase::Started {
             return Err(ConnectionError::OutOfPhase);
         }
-        match A::append(&mut self.incoming, piece) {
+        match self.incoming.append(piece) {
             Ok(()) => Ok(()),
             Err(_) => Err(ConnectionError::OutOfMemory),
         }
@@ -264,11 +265,11 @@ impl<'a, A: Memory> Connection<'a, A> {
         if self.phase != ConnectionPhase::Started {
             return Err(ConnectionError::OutOfPhase);
         }
-        if is_too_long(self.incoming.as_slice(), self.limit) {
+        if self.incoming.is_too_long(self.limit) {
             self.phase = ConnectionPhase::Over;
             return Err(ConnectionError::TooLong);
         }
-        match Message::parse(&mut self.incoming) {
+        match self.incoming.parse() {
             Ok(None) => Ok(None),
             Ok(Some(message)) => self.hear(message),
             Err(Error::OutOfMemory) => Err(ConnectionError::OutOfMemory),
@@ -280,6 +281,7 @@ impl<'a, A: Memory> Connection<'a, A> {
     }
 
     /// What a message comes to.
+    #[inline(always)]
     fn hear(
         &mut self,
         message: Message<Bytes<A>>,
@@ -297,6 +299,7 @@ impl<'a, A: Memory> Connection<'a, A> {
     }
 
     /// To which request a message belongs, and what it comes to in the log-in.
+    #[inline(always)]
     fn take(&mut self, message: &Message<Bytes<A>>) -> Result<Event, ConnectionError<A>>
         ensures { Takes A.Lacks (view message.now) (shown self.old) (shown self.new) result }
     {

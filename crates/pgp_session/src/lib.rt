@@ -9,6 +9,7 @@ mod connection;
 mod connection_error;
 mod connection_parts;
 mod extended;
+mod incoming;
 pub mod laws;
 mod login;
 mod parsed;
