@@ -5,8 +5,9 @@ use Rattle.std.specs.Int.{w32, from_be_bytes}
 use Rattle.pgp_base.specs.Cause.{WantsMemory}
 use Rattle.pgp_base.specs.declared.error.Error.{Error}
 use Rattle.pgp_client.specs.Talk.{Talk}
-use Rattle.pgp_client.specs.Taking.{Takes}
+use Rattle.pgp_client.specs.Taking.{Takes, taken}
 use Rattle.pgp_client.specs.declared.event.Event.{Event}
+use Rattle.pgp_client.specs.declared.event.Event.TheVariants.{Part}
 use Rattle.pgp_client.specs.declared.event.Refusal.{Refusal}
 use Rattle.pgp_frontend.specs.ClientMessage.{ClientMessage}
 use Rattle.pgp_frontend.specs.Payload.{bytes_of, cause, IsInRange}
@@ -15,15 +16,15 @@ use Rattle.pgp_message.specs.Stream.{BeginsWithKept, IsPartial, Step, TakesFrame
 use Rattle.pgp_message.specs.Views.{parsed, view}
 use Rattle.pgp_message.specs.declared.message.Message.{Message}
 use Rattle.pgp_base.specs.declared.error.Error.TheVariants.{OutOfMemory}
-use Rattle.pgp_client.specs.Kinds.{request_of}
+use Rattle.pgp_client.specs.Kinds.{kind_of, request_of}
 use Rattle.pgp_client.specs.Taking.{is_copying}
 use Rattle.pgp_client.specs.declared.request.Request.{Request}
-use Rattle.pgp_session.specs.Connection.{Notes, SendsGiven, Shown, asked_of, is_logged_in, is_longer, may_send, moved, next_name, noted, said, with_login, with_out}
+use Rattle.pgp_session.specs.Connection.{Notes, SendsGiven, Shown, Took, asked_of, is_bulk, is_end, is_logged_in, is_part, is_longer, may_send, moved, next_name, noted, said, with_login, with_out}
 use Rattle.pgp_session.specs.declared.connection_error.ConnectionError.{ConnectionError}
 use Rattle.pgp_session.specs.declared.connection_error.ConnectionError.TheVariants.{OutOfMemory as OutOfMemoryThere}
-use Rattle.pgp_session.specs.Login.{Login, Puts}
+use Rattle.pgp_session.specs.Login.{Login, NothingAsked, Puts}
 use Rattle.pgp_session.specs.Settings.{Said, heard}
-use Rattle.pgp_message.specs.BackendMessage.{Message as Meant}
+use Rattle.pgp_message.specs.BackendMessage.{Message as Meant, CopyData, DataRow}
 
 pub short_longer : (limit : ℕ) (bytes : List ℕ) → length bytes < 5 → false ≡ is_longer limit bytes
 short_longer limit [] short = refl
@@ -101,3 +102,14 @@ given_by lacks Whole Refuses m r old new written (Err e) whole may none range re
 pub took_so : (m : Meant) (l : Login) (out : List ℕ) (t : Talk) (k : Said) (old : Shown) → k ≡ heard m old.server
     → record { phase = old.phase; login = l; out = out; incoming = old.incoming; talk = t; server = k; names = old.names; limit = old.limit } ≡ with_login l out (moved old.phase t m old)
 took_so m l out t k old e = ap (λ (s : Said). record { phase = old.phase; login = l; out = out; incoming = old.incoming; talk = t; server = s; names = old.names; limit = old.limit }) e
+
+part_goes_on : (e : Event) → is_part e ≡ true → is_end e ≡ false
+part_goes_on (Part n) is = refl
+part_goes_on e is = cc
+
+-- a row and data of a copy come to nothing else
+pub took_bulk : (m : Meant) (e : Event) (t : Talk) (old : Shown) → is_bulk m e ≡ true → taken old.talk (kind_of m) ≡ Ok (e, t)
+    → Took m old (record { phase = old.phase; login = old.login; out = old.out; incoming = old.incoming; talk = t; server = old.server; names = old.names; limit = old.limit }) e
+took_bulk (DataRow row) e t old bulk is = record { taken = is; kept = tt; goes_on = part_goes_on e bulk; logged = record { reply = None; logs = NothingAsked; adds = refl }; is = refl }
+took_bulk (CopyData bytes) e t old bulk is = record { taken = is; kept = tt; goes_on = part_goes_on e bulk; logged = record { reply = None; logs = NothingAsked; adds = refl }; is = refl }
+took_bulk m e t old bulk is = cc

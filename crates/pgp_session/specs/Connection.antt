@@ -8,11 +8,11 @@ use Rattle.pgp_client.specs.Taking.{asked, is_copying, taken}
 use Rattle.pgp_client.specs.Talk.{Talk, shown as talk_of}
 use Rattle.pgp_client.specs.Telling.{start}
 use Rattle.pgp_client.specs.declared.event.Event.{Event}
-use Rattle.pgp_client.specs.declared.event.Event.TheVariants.{Ended}
+use Rattle.pgp_client.specs.declared.event.Event.TheVariants.{Ended, Part}
 use Rattle.pgp_client.specs.declared.request.Request.{Request}
 use Rattle.pgp_frontend.specs.ClientMessage.{ClientMessage, Bind, CancelRequest, Close, CopyData, CopyDone, CopyFail, Describe, Execute, Flush, Parse, Query, Sync}
 use Rattle.pgp_frontend.specs.Payload.{bytes_of}
-use Rattle.pgp_message.specs.BackendMessage.{Message}
+use Rattle.pgp_message.specs.BackendMessage.{Message, CopyData as DataCame, DataRow}
 use Rattle.pgp_message.specs.Remembered.{header_of}
 use Rattle.pgp_client.specs.declared.event.Refusal.{Refusal}
 use Rattle.pgp_message.specs.Stream.{BeginsWithKept, IsPartial, Step, TakesFrame}
@@ -166,6 +166,16 @@ with_login l out c = record { phase = c.phase; login = l; out = out; incoming = 
 abbrev pub is_end : Event → Bool
 is_end Ended = true
 is_end e = false
+
+abbrev pub is_part : Event → Bool
+is_part (Part n) = true
+is_part e = false
+
+-- *private*: a row or data of a copy, which are a part of an answer and nothing else
+abbrev pub is_bulk : Message → Event → Bool
+is_bulk (DataRow row) e = is_part e
+is_bulk (DataCame bytes) e = is_part e
+is_bulk m e = false
 
 -- The message was attributed so, what it reports was kept, and the log-in took it: its reply was appended.
 pub record Took (m : Message) (old new : Shown) (e : Event) : Type 0 where

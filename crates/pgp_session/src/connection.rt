@@ -13,7 +13,7 @@ ghost use Rattle.pgp_session.specs.Settings.{value_of};
 ghost use Rattle.pgp_session.specs.Connection.{Answers, Cancels, Feeds, Hears, Nexts, Sends, Starts, Takes, Writes, begun, can_send, dropped, is_logged_in, nexted, shown};
 
 use crate::connection_error::ConnectionError;
-use crate::connection_parts::{encrypts, is_end, may_send, next_name, put_startup};
+use crate::connection_parts::{encrypts, is_bulk, is_end, may_send, next_name, put_startup};
 use crate::incoming::Incoming;
 use crate::login::{Login, Ways, put};
 use crate::scram_login::LoginPhase;
@@ -307,6 +307,9 @@ impl<'a, A: Memory> Connection<'a, A> {
             Ok(event) => event,
             Err(e) => return Err(ConnectionError::Misplaced(e)),
         };
+        if is_bulk(message, event) {
+            return Ok(event);
+        }
         match self.settings.keep(self.login.alloc, SETTINGS_MOST, message) {
             Ok(()) => {}
             Err(e) => return Err(ConnectionError::Unkept(e)),

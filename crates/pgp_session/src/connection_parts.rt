@@ -7,13 +7,15 @@ ghost use Rattle.pgp_frontend.specs.Given.{shown as shown_pair};
 ghost use Rattle.pgp_frontend.specs.Reading.{IsNamed};
 ghost use Rattle.pgp_frontend_read.specs.Views.{view as sent_view};
 ghost use Rattle.pgp_session.specs.Login.{Puts};
-ghost use Rattle.pgp_session.specs.Connection.{is_end, is_longer, letter, may_send, next_name};
+ghost use Rattle.pgp_message.specs.Views.{view};
+ghost use Rattle.pgp_session.specs.Connection.{is_bulk, is_end, is_part, is_longer, letter, may_send, next_name};
 
 use crate::client_stream::ClientStream;
-use bytes::BytesMut;
+use bytes::{Bytes, BytesMut};
 use pgp_base::{Error, Memory};
 use pgp_client::Event;
 use pgp_frontend_read::ClientMessage;
+use pgp_message::Message;
 
 /// Whether it ends the session.
 pub(crate) fn is_end(event: Event) -> bool
@@ -21,6 +23,28 @@ pub(crate) fn is_end(event: Event) -> bool
 {
     match event {
         Event::Ended => true,
+        _ => false,
+    }
+}
+
+/// Whether it is a part of an answer.
+#[inline(always)]
+fn is_part(event: Event) -> bool
+    ensures { result ≡ is_part event }
+{
+    match event {
+        Event::Part(_) => true,
+        _ => false,
+    }
+}
+
+/// Whether the message is a row or data of a copy, and a part of an answer: then it comes to nothing else.
+#[inline(always)]
+pub(crate) fn is_bulk<A: Memory>(message: &Message<Bytes<A>>, event: Event) -> bool
+    ensures { result ≡ is_bulk (view message.now) event }
+{
+    match message {
+        Message::DataRow(_) | Message::CopyData(_) => is_part(event),
         _ => false,
     }
 }

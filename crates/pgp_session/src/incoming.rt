@@ -9,11 +9,11 @@ ghost use Rattle.pgp_session.specs.Incoming.{AllFrames};
 use crate::connection_parts::is_too_long;
 use bytes::{Bytes, BytesMut};
 use pgp_base::{Error, Memory};
-use pgp_message::{FrameParser, Message};
+use pgp_message::{COPY_DATA_TAG, DATA_ROW_TAG, FrameParser, Message};
 use std::alloc::AllocError;
 use std::marker::Model;
 
-/// Bytes that came of a server: complete frames in shared bytes, of which each message takes its own, and then those after them.
+/// Bytes that came of a server: complete frames in shared bytes, off which each message takes its own, and then those after them.
 #[derive(Drop)]
 pub(crate) struct Incoming<A: Memory> {
     frames: Bytes<A>,
@@ -79,7 +79,7 @@ impl<A: Memory> Incoming<A> {
     }
 }
 
-/// Shares the complete frames of the bytes, and takes the message of the first.
+/// Shares the complete frames of the bytes, where that pays, and takes the message of the first.
 #[inline(never)]
 fn parse_next<A: Memory>(
     frames: &mut Bytes<A>,
@@ -95,11 +95,18 @@ fn parse_next<A: Memory>(
     Message::parse_shared(frames)
 }
 
-/// Takes the complete frames off the bytes, to be shared; none where there is no memory for their owners.
+/// Takes the complete frames off the bytes, to be shared, where a row or data of a copy stand first, which come by the thousand: to share
+/// costs memory that others may not need. None where there is no memory for it.
 fn share_frames<A: Memory>(rest: &mut BytesMut<A>) -> Bytes<A>
     ensures frames { AllFrames result }
     ensures rest { rest.old.items ≡ result ++ rest.new.items }
 {
+    let Some(tag) = rest.as_slice().first() else {
+        return Bytes::new();
+    };
+    if *tag != DATA_ROW_TAG && *tag != COPY_DATA_TAG {
+        return Bytes::new();
+    }
     let found = FrameParser::new().find_all(rest.as_slice());
     match A::freeze_to(rest, found.len) {
         Ok(frames) => frames,

@@ -5,10 +5,16 @@ use Rattle.pgp_client.specs.Taking.{taken}
 use Rattle.pgp_message.specs.Views.{view}
 use Rattle.pgp_session.specs.Login.{asking, seen}
 use Rattle.pgp_session.specs.Connection.{shown}
-use Rattle.pgp_session.proofs.Connections.{taken_ok, took_so}
+use Rattle.pgp_session.proofs.Connections.{taken_ok, took_bulk, took_so}
 use Rattle.pgp_session.proofs.LogIns.{logs_on}
 use Rattle.pgp_session.proofs.Reported.{heard_so}
 use Rattle.pgp_session.proofs.connection.Connection.take.Goals as goal
+
+pub returns-then-is_bulk : goal.returns-then-is_bulk
+returns-then-is_bulk g c =
+    let m = view c.args.message.now in
+    let talk = talk_of (λ q. q.items) c.take_message.new.self in
+    inl (took_bulk m c.in-Ok.event talk (shown c.args.self.now) (sym c.is_bulk.ensures ∙ c.if-is_bulk.true) (taken_ok (taken (talk_of (λ q. q.items) c.args.self.now.dialogue) (kind_of m)) c.in-Ok.event talk c.in-Ok.ensures))
 
 pub returns-in-Ok-hear : goal.returns-in-Ok-hear
 returns-in-Ok-hear g c =
