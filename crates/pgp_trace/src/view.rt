@@ -10,7 +10,7 @@ use pgp_line::style::Style;
 use std::alloc::AllocError;
 
 /// How a listing looks.
-#[derive(Debug, Clone, Copy)]
+#[derive(Clone, Copy)]
 pub struct View<'a> {
     /// How a line is written.
     pub style: Style,
