@@ -24,6 +24,7 @@ NAMES = [
     ('.cast_signed()', '.number()'),
     ('.div_ceil(', '.divided_up('),
     ('.split_first_chunk()', '.first_block()'),
+    ('.as_array()', '.whole_block()'),
     ('.checked_add_unsigned(', '.plus_unsigned('),
     ('.checked_sub_unsigned(', '.minus_unsigned('),
 ]
@@ -49,7 +50,7 @@ PLACES = [
 
 
 # Where a buffer's own method `as_slice` is called: crates.io's buffers have none.
-SLICED = {'pgp_message/parser', 'pgp_message/frames', 'pgp_session/connection'}
+SLICED = {'pgp_message/parser', 'pgp_message/frames', 'pgp_message/shared', 'pgp_session/connection', 'pgp_session/incoming'}
 
 
 def without_drop_bounds(text):

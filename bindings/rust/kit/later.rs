@@ -91,6 +91,18 @@ impl FirstBlock for [u8] {
     }
 }
 
+/// All bytes, where there are `N`.
+pub trait WholeBlock {
+    fn whole_block<const N: usize>(&self) -> Option<&[u8; N]>;
+}
+
+impl WholeBlock for [u8] {
+    #[inline(always)]
+    fn whole_block<const N: usize>(&self) -> Option<&[u8; N]> {
+        self.try_into().ok()
+    }
+}
+
 #[cfg(test)]
 mod tests {
     use super::*;
@@ -122,5 +134,7 @@ mod tests {
         assert_eq!(bytes.first_block::<4>(), Some((b"abcd", &b""[..])));
         assert_eq!(bytes.first_block::<3>(), Some((b"abc", &b"d"[..])));
         assert_eq!(bytes.first_block::<5>(), None);
+        assert_eq!(bytes.whole_block::<4>(), Some(b"abcd"));
+        assert_eq!(bytes.whole_block::<3>(), None);
     }
 }

@@ -15,7 +15,7 @@ use ::bytes::{Bytes, BytesMut};
 use unicode_normalization::UnicodeNormalization;
 
 pub mod prelude {
-    pub use super::later::{DividedUp as _, FirstBlock as _, Signed as _, Unsigned as _, WithUnsigned as _};
+    pub use super::later::{DividedUp as _, FirstBlock as _, Signed as _, Unsigned as _, WholeBlock as _, WithUnsigned as _};
     pub use super::{AllocError, AllocFailed, Global, PushReserved as _};
 }
 
