@@ -2,6 +2,7 @@
 #![tactic(auto)]
 
 pub mod characters;
+pub mod hex;
 pub mod laws;
 pub mod line;
 pub mod nesting;

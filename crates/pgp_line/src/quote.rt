@@ -4,11 +4,12 @@
 ghost use Rattle.std.specs.Prelude.{◌≡◌, ◌⊎◌, ◌≤◌, ◌<◌, ◌∷◌, ◌++◌, [], drop, length, take, true, IfOk, OnErr, OnOk, string_bytes, codes, decimal};
 ghost use Rattle.std.specs.List.{flat_map, list_all, prefix_len};
 ghost use Rattle.std.specs.Str.{IsUtf8};
-ghost use Rattle.pgp_line.specs.Quoting.{broken, digits, escaped, escaped_at, escaped_byte, escaped_char, hex_byte, hex_digit, hex_escape, is_text, json_digits, json_hex, json_text, json_value, long, quoted, unit, units, unprinted, up_to, value};
+ghost use Rattle.pgp_line.specs.Quoting.{broken, digits, escaped, escaped_at, escaped_byte, escaped_char, hex_byte, hex_escape, is_text, json_digits, json_hex, json_text, json_value, long, quoted, unit, units, unprinted, up_to, value};
 ghost use Rattle.pgp_line.specs.declared.style.Form.TheVariants.{Columns, Json};
 ghost use Rattle.pgp_line.specs.Plain.{escaped_text, is_plain};
 
 use crate::characters::{is_printable, is_visible};
+use crate::hex::{put_ascii, put_digits, put_escape, put_hex, put_hexes};
 use crate::style::Form;
 use pgp_base::Memory;
 use std::alloc::AllocError;
@@ -377,62 +378,4 @@ fn put_unit<A: Memory>(n: u32, line: &mut String<A>) -> Result<(), AllocError>
     A::push_str(line, "\\u")?;
     put_hex((n / 256) as u8, line)?;
     put_hex((n % 256) as u8, line)
-}
-
-/// Adds `\x` and the hex digits of each byte.
-fn put_digits<A: Memory>(bytes: &[u8], line: &mut String<A>) -> Result<(), AllocError>
-    ensures text { OnOk result (string_bytes line.new ≡ string_bytes line.old ++ digits bytes.now) }
-    ensures lacks { OnErr result A.Lacks }
-{
-    A::push_str(line, "\\x")?;
-    put_hexes(bytes, line)
-}
-
-/// Adds the hex digits of each byte.
-fn put_hexes<A: Memory>(bytes: &[u8], line: &mut String<A>) -> Result<(), AllocError>
-    ensures text { OnOk result (string_bytes line.new ≡ string_bytes line.old ++ flat_map hex_byte bytes.now) }
-    ensures lacks { OnErr result A.Lacks }
-{
-    for byte in bytes {
-        put_hex(*byte, line)?;
-    }
-    Ok(())
-}
-
-/// Adds the hex digits of a byte after a backslash and an `x`, or after what JSON has for it.
-fn put_escape<A: Memory>(form: Form, byte: u8, line: &mut String<A>) -> Result<(), AllocError>
-    ensures text { OnOk result (string_bytes line.new ≡ string_bytes line.old ++ hex_escape form byte) }
-    ensures lacks { OnErr result A.Lacks }
-{
-    match form {
-        Form::Columns => A::push_str(line, "\\x")?,
-        Form::Json => A::push_str(line, "\\u00")?,
-    }
-    put_hex(byte, line)
-}
-
-/// Adds the two hex digits of a byte.
-fn put_hex<A: Memory>(byte: u8, line: &mut String<A>) -> Result<(), AllocError>
-    ensures text { OnOk result (string_bytes line.new ≡ string_bytes line.old ++ hex_byte byte) }
-    ensures lacks { OnErr result A.Lacks }
-{
-    put_ascii(hex_digit(byte / 16), line)?;
-    put_ascii(hex_digit(byte % 16), line)
-}
-
-fn hex_digit(n: u8) -> u8
-    requires { n < 16 }
-    ensures digit { result ≡ hex_digit n }
-    ensures ascii { result < 128 }
-{
-    if n <= 9 { b'0' + n } else { b'W' + n }
-}
-
-/// Adds a character of ASCII.
-fn put_ascii<A: Memory>(byte: u8, line: &mut String<A>) -> Result<(), AllocError>
-    requires { byte < 128 }
-    ensures text { OnOk result (string_bytes line.new ≡ string_bytes line.old ++ byte ∷ []) }
-    ensures lacks { OnErr result A.Lacks }
-{
-    A::push_char(line, byte as char)
 }

@@ -4,7 +4,7 @@ use Rattle.std.specs.List.{flat_map}
 use Rattle.std.proofs.lemmas.List.{take_all}
 use Rattle.pgp_line.specs.Quoting.{hex_byte}
 use Rattle.pgp_line.proofs.Parts.{text_more}
-use Rattle.pgp_line.proofs.quote.put_hexes.Goals as goal
+use Rattle.pgp_line.proofs.hex.put_hexes.Goals as goal
 
 pub loop-byte-preserved : goal.loop-byte-preserved
 loop-byte-preserved g c = text_more hex_byte c.args.bytes.now (string_bytes c.args.line.now) (string_bytes c.loop-byte.line) _ c.loop-byte.byte-index 0 c.loop-byte-test.true c.loop-byte.invariant (search rules)
