@@ -5,12 +5,13 @@ ghost use Rattle.pgp_client.specs.Talk.{shown};
 ghost use Rattle.pgp_client.specs.Telling.{start};
 ghost use Rattle.pgp_client.specs.Taking.{Moves, Takes, asked, begun, behind_copy, completes, copied, fails, first_in, follows, goes, observed, observed_at, is_copying, is_idle, ready, starts_with_sync, taken};
 
+use crate::bulk::goes_on;
 use crate::event::{Event, Refusal};
 use crate::kind::Kind;
 use crate::pending::{ends_copy, next_in};
 use crate::queue::{Full, Queue};
 use crate::request::{Asked, Request};
-use crate::stage::{Stage, begins, event_of, follows, goes_on};
+use crate::stage::{Stage, begins, event_of, follows};
 use pgp_base::Memory;
 use std::collections::VecDeque;
 use std::marker::Model;
