@@ -19,10 +19,10 @@ use Rattle.pgp_base.specs.declared.error.Error.TheVariants.{OutOfMemory}
 use Rattle.pgp_client.specs.Kinds.{kind_of, request_of}
 use Rattle.pgp_client.specs.Taking.{is_copying}
 use Rattle.pgp_client.specs.declared.request.Request.{Request}
-use Rattle.pgp_session.specs.Connection.{Notes, SendsGiven, Shown, Took, asked_of, is_bulk, is_end, is_logged_in, is_part, is_longer, may_send, moved, next_name, noted, said, with_login, with_out}
+use Rattle.pgp_session.specs.Connection.{Notes, SendsGiven, Sent, Shown, Took, asked_of, is_bulk, is_end, is_logged_in, is_part, is_longer, may_send, moved, next_name, noted, said, with_login, with_out}
 use Rattle.pgp_session.specs.declared.connection_error.ConnectionError.{ConnectionError}
 use Rattle.pgp_session.specs.declared.connection_error.ConnectionError.TheVariants.{OutOfMemory as OutOfMemoryThere}
-use Rattle.pgp_session.specs.Login.{Login, NothingAsked, Puts}
+use Rattle.pgp_session.specs.Login.{Added, Login, NothingAsked, Puts}
 use Rattle.pgp_session.specs.Settings.{Said, heard}
 use Rattle.pgp_message.specs.BackendMessage.{Message as Meant, CopyData, DataRow}
 
@@ -97,6 +97,27 @@ given_by lacks Whole Refuses m r old new written (Ok name) whole may none range 
 given_by lacks Whole Refuses m r old new written (Err OutOfMemoryThere) whole may none range request logged bytes n =
     (logged, n.0, n.1 ∙ ap (λ (l : List ℕ). with_out (take (length old.out) l) old) bytes ∙ ap (λ (l : List ℕ). with_out l old) (take_front old.out (bytes_of m)))
 given_by lacks Whole Refuses m r old new written (Err e) whole may none range request logged bytes n = absurd n
+
+-- the same where a serializer wrote the message
+pub bound_by : (Whole : ClientMessage → Type 0) (m : ClientMessage) (r : Request) (old new : Shown) (written : List ℕ) (name : ℕ)
+    → Whole m → may_send (is_copying old.talk) m ≡ true → Added m old.out written → request_of m ≡ Some r → is_logged_in old ≡ true → name ≡ old.names
+    → new ≡ noted r (with_out written old) → (k : ClientMessage) × Whole k × Sent k old new name
+bound_by Whole m r old new written name whole may put request logged named is_noted =
+    let is : new ≡ said m old = is_noted ∙ ap (λ (l : List ℕ). noted r (with_out l old)) put.bytes ∙ said_by m r old request in (
+      m,
+      whole,
+      record {
+        may = both_true (is_logged_in old) (may_send (is_copying old.talk) m) logged may;
+        added = record { none = put.none; in_range = put.in_range; bytes = ap (λ (c : Shown). c.out) is };
+        named = named;
+        is = is;
+      },
+    )
+
+-- the message was taken back
+pub taken_back : (m : ClientMessage) (old new : Shown) (written : List ℕ) (place : ℕ) → place ≡ length old.out → Added m old.out written → new ≡ with_out (take place written) old → new ≡ old
+taken_back m old new written place at put is =
+    is ∙ ap (λ (n : ℕ). with_out (take n written) old) at ∙ ap (λ (l : List ℕ). with_out (take (length old.out) l) old) put.bytes ∙ ap (λ (l : List ℕ). with_out l old) (take_front old.out (bytes_of m))
 
 -- what is known of the server's session after a message
 pub took_so : (m : Meant) (l : Login) (out : List ℕ) (t : Talk) (k : Said) (old : Shown) → k ≡ heard m old.server

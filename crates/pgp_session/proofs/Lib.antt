@@ -14,4 +14,5 @@ pub mod StartupNames
 pub mod LogIns
 pub mod Sessions
 pub mod Incomings
+pub mod Binds
 pub mod Connections

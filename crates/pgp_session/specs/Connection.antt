@@ -121,6 +121,10 @@ with_out out c = record { phase = c.phase; login = c.login; out = out; incoming 
 abbrev pub noted : Request → Shown → Shown
 noted r c = record { phase = c.phase; login = c.login; out = c.out; incoming = c.incoming; talk = asked c.talk (record { request = r; name = c.names }); server = c.server; names = next_name c.names; limit = c.limit }
 
+abbrev pub Noted : Type 0 → ℕ → Request → Shown → Shown → Option ℕ → Type 0
+Noted lacks place r old new (Some name) = (name ≡ old.names) × (new ≡ noted r old)
+Noted lacks place r old new None = lacks × (new ≡ with_out (take place old.out) old)
+
 abbrev pub Notes : {A : Type 0} → Type 0 → ℕ → Request → Shown → Shown → Result ℕ (ConnectionError A) → Type 0
 Notes lacks place r old new (Ok name) = (name ≡ old.names) × (new ≡ noted r old)
 Notes lacks place r old new (Err OutOfMemory) = lacks × (new ≡ with_out (take place old.out) old)

@@ -10,5 +10,6 @@ pub mod Login
 pub mod ServerState
 pub mod Settings
 pub mod Connection
+pub mod ConnectionBind
 pub mod Session
 pub mod Incoming

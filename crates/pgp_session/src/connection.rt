@@ -44,7 +44,7 @@ pub enum ConnectionPhase {
 #[derive(Drop)]
 pub struct Connection<'a, A: Memory = Global> {
     pub(crate) phase: ConnectionPhase,
-    login: Login<'a, A>,
+    pub(crate) login: Login<'a, A>,
     pub(crate) out: BytesMut<A>,
     incoming: Incoming<A>,
     pub(crate) dialogue: Dialogue<VecDeque<Asked, A>>,

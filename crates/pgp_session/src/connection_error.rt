@@ -1,7 +1,7 @@
 //! Why a call of a connection was rejected.
 
 use pgp_auth::authentication::sasl::ScramError;
-use pgp_base::Error;
+use pgp_base::{BindError, Error};
 use pgp_client::Refusal;
 use std::alloc::{Allocator, Global};
 
@@ -33,4 +33,15 @@ pub enum ConnectionError<A: Allocator = Global> {
     Scram(ScramError<A>),
     /// The answer to the request for encryption isn't the byte `S` or `N` alone.
     BadAnswer,
+}
+
+/// Why a Bind wasn't sent, whose values a serializer writes that fails by `E`.
+#[derive(Debug, Drop)]
+pub enum BindSendError<E> {
+    /// The log-in isn't done, or the connection is over.
+    OutOfPhase,
+    /// The message couldn't be written, or the serializer failed.
+    Unwritten(BindError<E>),
+    /// An allocation failed. The call may be made again.
+    OutOfMemory,
 }

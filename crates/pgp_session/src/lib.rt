@@ -12,6 +12,7 @@ mod extended;
 mod incoming;
 pub mod laws;
 mod login;
+mod out_buffer;
 mod parsed;
 pub mod pooler;
 pub mod proxy;
@@ -29,8 +30,9 @@ mod whole_stream;
 
 pub use client_stream::ClientStream;
 pub use connection::{Connection, ConnectionPhase};
-pub use connection_error::ConnectionError;
+pub use connection_error::{BindSendError, ConnectionError};
 pub use login::Ways;
+pub use out_buffer::OutBuffer;
 pub use parsed::Parsed;
 pub use server_state::{BackendKey, ServerState};
 pub use stream_parser::StreamParser;

@@ -12,7 +12,7 @@ use std::process::Abort;
 use std::test::Fail;
 
 /// The messages of a server that asks for no password, and the events of the request 0.
-const ADMITTED: [(&[u8], Event); 4] = [
+pub(crate) const ADMITTED: [(&[u8], Event); 4] = [
     (b"R\0\0\0\x08\0\0\0\0", Event::Part(0)),
     (b"S\0\0\0\x0bTimeZ\0\0", Event::Aside),
     (b"K\0\0\0\x0c\0\0\0\x01\0\0\0\x02", Event::Part(0)),
@@ -61,7 +61,7 @@ fn exchange(rt: &HostRuntime) -> Result<ScramSha256, Fail> {
     Ok(ScramSha256::with_nonce(rt.alloc(), b"foobar", binding, nonce, &NoPrep)?)
 }
 
-fn trusting(rt: &HostRuntime) -> Connection<'static> {
+pub(crate) fn trusting(rt: &HostRuntime) -> Connection<'static> {
     let ways = Ways {
         scram: None,
         md5: None,
@@ -95,7 +95,7 @@ fn stops(connection: &mut Connection<'_>) -> bool {
 }
 
 /// Each message comes in two pieces, and is attributed so.
-fn hears(rt: &impl Abort, connection: &mut Connection<'_>, rows: &[(&[u8], Event)]) {
+pub(crate) fn hears(rt: &impl Abort, connection: &mut Connection<'_>, rows: &[(&[u8], Event)]) {
     for (place, (bytes, event)) in rows.iter().enumerate() {
         let (front, rest) = bytes.split_at(bytes.len().min(3));
         holds(rt, connection.feed(front).is_ok());

@@ -2,6 +2,8 @@
 #![tactic(auto)]
 
 #[cfg(test)]
+mod binding;
+#[cfg(test)]
 mod both_ends;
 #[cfg(test)]
 mod checks;

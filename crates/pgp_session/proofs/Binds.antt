@@ -1,0 +1,17 @@
+-- A Bind that was written in a buffer that had the bytes to send.
+use Rattle.std.proofs.Common.{◌≡◌, ℕ, List, ◌++◌, None, ap, ◌∙◌}
+use Rattle.pgp_base.specs.Held.{Held, ◌⊕◌, Leaves, lengthened}
+use Rattle.pgp_frontend.specs.ClientMessage.{ClientMessage}
+use Rattle.pgp_frontend.specs.Payload.{IsInRange, bytes_of, cause}
+use Rattle.pgp_session.specs.ConnectionBind.{Has}
+use Rattle.pgp_session.specs.Login.{Added}
+
+longer : {K : Type 0} (a b : Held K) (z : List ℕ) → b ≡ a ⊕ z → b.bytes ≡ a.bytes ++ z
+unfolding lengthened
+longer a b z e = ap (λ (h : Held _). h.bytes) e
+
+pub put_by : {K : Type 0} (m : ClientMessage) (items grown : List ℕ) (old new : Held K) → Has items old → grown ≡ new.bytes → cause m ≡ None → IsInRange m → new ≡ old ⊕ bytes_of m → Added m items grown
+put_by m items grown old new has is none range appended = record { none = none; in_range = range; bytes = is ∙ longer old new (bytes_of m) appended ∙ ap (λ b. b ++ bytes_of m) has.bytes }
+
+pub left_by : {K : Type 0} (items grown : List ℕ) (old new : Held K) → Has items old → grown ≡ new.bytes → Leaves old new → grown ≡ items
+left_by items grown old new has is left = is ∙ left.bytes ∙ has.bytes

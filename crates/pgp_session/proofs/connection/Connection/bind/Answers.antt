@@ -1,0 +1,37 @@
+use Rattle.std.proofs.Common.{rules, ap, refl}
+use Rattle.std.specs.Prelude.{List, ℕ}
+use Rattle.pgp_client.specs.Kinds.{request_of}
+use Rattle.pgp_client.specs.Taking.{is_copying}
+use Rattle.pgp_client.specs.declared.request.Request.TheVariants.{Bind}
+use Rattle.pgp_session.specs.Connection.{may_send, shown, with_out}
+use Rattle.pgp_session.proofs.Connections.{bound_by, taken_back}
+use Rattle.pgp_session.proofs.connection.Connection.bind.Goals as goal
+
+pub returns-then-not-is_logged_in : goal.returns-then-not-is_logged_in
+returns-then-not-is_logged_in g c = (c.args.serializer, (search rules, refl))
+
+pub returns-in-Some : goal.returns-in-Some
+returns-in-Some g c =
+    let old = shown c.args.self.now in
+    let e = c.in-Ok.ensures.1 in
+    let is = e.1.2.2.2.2 in (
+      c.in-Ok.ensures.0,
+      bound_by _ e.0 Bind old (shown c.noted.new.self) c.put_bind.new.out.items c.in-Some.name e.1 (ap (may_send (is_copying old.talk)) is) e.2 (ap request_of is) (search rules) c.in-Some.ensures.0 c.in-Some.ensures.1,
+    )
+
+pub returns-in-None : goal.returns-in-None
+returns-in-None g c =
+    let e = c.in-Ok.ensures.1 in (
+      c.in-Ok.ensures.0,
+      (
+        search rules,
+        c.in-None.ensures.0,
+        taken_back e.0 (shown c.args.self.now) (shown c.noted.new.self) c.put_bind.new.out.items c.len-start.result c.len-start.ensures.value e.2 c.in-None.ensures.1,
+      ),
+    )
+
+pub returns-in-Err : goal.returns-in-Err
+returns-in-Err g c = (
+  c.in-Err.ensures.0,
+  (search rules, c.in-Err.ensures.1.0, ap (λ (l : List ℕ). with_out l (shown c.args.self.now)) c.in-Err.ensures.1.1),
+)

@@ -1,0 +1,79 @@
+//! The Bind of a client's connection, whose values a serializer writes. Expected bytes are from the message formats of the PostgreSQL manual.
+#![tactic(auto, using(pgp_base::proofs::Parts::held_steps))]
+
+ghost use Rattle.pgp_base.specs.Calls.{KeepsValue};
+ghost use Rattle.pgp_base.specs.Held.{items_held};
+
+use crate::checks::{holds, same_at};
+use crate::connections::{ADMITTED, hears, trusting};
+use bytes::BytesMut;
+use pgp_base::{BindError, IsNull};
+use pgp_client::Event;
+use pgp_session::{BindSendError, Connection};
+use pgp_types::int4_to_sql;
+
+/// Values of a statement's parameters.
+#[derive(Clone, Copy)]
+enum Element {
+    Number(i32),
+    Null,
+    Failing,
+}
+
+/// 5 and a null in binary, for the statement `s`, with the result in binary.
+const BOUND: &[u8] =
+    b"B\0\0\0\x1d\0s\0\0\x01\0\x01\0\x02\0\0\0\x04\0\0\0\x05\xff\xff\xff\xff\0\x01\0\x01";
+
+const ANSWERED: [(&[u8], Event); 2] = [
+    (b"2\0\0\0\x04", Event::Last(1)),
+    (b"Z\0\0\0\x05I", Event::Last(2)),
+];
+
+fn put_element(element: Element, buf: &mut BytesMut) -> Result<IsNull, u8>
+    ensures { KeepsValue result (items_held buf.entry.now.items) (items_held buf.exit.now.items) }
+{
+    match element {
+        Element::Null => Ok(IsNull::Yes),
+        Element::Failing => Err(2),
+        Element::Number(n) => match int4_to_sql(n, buf) {
+            Ok(()) => Ok(IsNull::No),
+            Err(_) => Err(1),
+        },
+    }
+}
+
+/// The name of the request; the error of the serializer, 8 where the connection isn't logged in, or 9.
+fn bind(connection: &mut Connection<'_>, elements: &[Element]) -> Result<u64, u8> {
+    match connection.bind(
+        "",
+        "s",
+        Some(1i16),
+        elements,
+        |element: &Element, buf: &mut BytesMut| put_element(*element, buf),
+        Some(1i16),
+    ) {
+        Ok(name) => Ok(name),
+        Err(BindSendError::OutOfPhase) => Err(8),
+        Err(BindSendError::Unwritten(BindError::Conversion(e))) => Err(e),
+        Err(_) => Err(9),
+    }
+}
+
+#[test]
+fn a_bind_is_sent_whole_or_not_at_all(rt: HostRuntime) {
+    let mut connection = trusting(&rt);
+    same_at(&rt, 0, bind(&mut connection, &[]), Err(8));
+    holds(&rt, connection.start(&[("user", "u")]).is_ok());
+    hears(&rt, &mut connection, &ADMITTED);
+    let count = connection.to_send().len();
+    connection.sent(count);
+    let values = [Element::Number(5), Element::Null];
+    same_at(&rt, 1, bind(&mut connection, &values), Ok(1));
+    same_at(&rt, 2, connection.to_send(), BOUND);
+    let failing = [Element::Number(5), Element::Failing];
+    same_at(&rt, 3, bind(&mut connection, &failing), Err(2));
+    same_at(&rt, 4, connection.to_send(), BOUND);
+    same_at(&rt, 5, connection.sync().ok(), Some(2));
+    hears(&rt, &mut connection, &ANSWERED);
+    holds(&rt, connection.is_idle());
+}
