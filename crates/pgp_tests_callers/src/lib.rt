@@ -19,6 +19,8 @@ mod sides;
 #[cfg(test)]
 mod trace;
 #[cfg(test)]
+mod trace_colors;
+#[cfg(test)]
 mod trace_objects;
 #[cfg(test)]
 mod trace_session;

@@ -44,6 +44,7 @@ const SHORT: View<'static> = View {
         secrets: false,
     },
     only: &[],
+    colored: false,
 };
 
 const BEGINNING: Side<'static> = Side::Server(Phase::Beginning);
@@ -201,6 +202,7 @@ fn a_closed_pipe_ends_quietly(rt: HostRuntime) {
         let mut errors = Vec::new(rt.alloc());
         let status = run(
             rt.alloc(),
+            false,
             &["server"],
             &mut pipe.source(&mut input),
             &mut pipe.sink(&mut output),

@@ -19,7 +19,7 @@ pub struct Outcome<'a> {
     pub reported: &'a str,
 }
 
-/// The program on these words and this input comes to this.
+/// The program on these words and this input comes to this, where no terminal shows it.
 pub fn comes_to<R: Read>(
     rt: &impl Abort,
     alloc: Global,
@@ -27,9 +27,21 @@ pub fn comes_to<R: Read>(
     input: &mut R,
     wanted: &Outcome<'_>,
 ) {
+    comes_on(rt, alloc, false, words, input, wanted);
+}
+
+/// The program on these words and this input comes to this, where a terminal shows it or not.
+pub fn comes_on<R: Read>(
+    rt: &impl Abort,
+    alloc: Global,
+    terminal: bool,
+    words: &[&str],
+    input: &mut R,
+    wanted: &Outcome<'_>,
+) {
     let mut output = Vec::new(alloc);
     let mut errors = Vec::new(alloc);
-    let status = run(alloc, words, input, &mut output, &mut errors);
+    let status = run(alloc, terminal, words, input, &mut output, &mut errors);
     same(rt, status, wanted.status);
     holds(rt, output.as_slice() == wanted.written.as_bytes());
     holds(rt, errors.as_slice() == wanted.reported.as_bytes());
@@ -39,7 +51,7 @@ const OPEN: &str =
     "         0        1 N SSLResponse or GSSENCResponse\n         1        9 R AuthenticationOk\n        10        9 S ParameterStatus      name \"n\" value \"\\x0a\"\n        19        6 Z ReadyForQuery        idle\n        25       13 K BackendKeyData       process 1 key \"abcd\"\nrest 2\n";
 
 const USAGE: &str =
-    "usage: pgtrace server [--json] [--full] [--secrets] [--resume] [--only NAME[,NAME]..] | client [--json] [--full] [--secrets] [--resume] [--only NAME[,NAME]..] [--password-kind password|initial|response].. | --help | --version\n";
+    "usage: pgtrace server [--json] [--full] [--secrets] [--resume] [--only NAME[,NAME]..] [--color auto|always|never] | client [--json] [--full] [--secrets] [--resume] [--only NAME[,NAME]..] [--color auto|always|never] [--password-kind password|initial|response].. | --help | --version\n";
 
 #[test]
 fn words_decide_what_runs(rt: HostRuntime) {

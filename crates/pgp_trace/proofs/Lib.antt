@@ -22,3 +22,4 @@ pub mod OneListing
 pub mod OptionLemmas
 pub mod CommandLemmas
 pub mod Named
+pub mod Painted

@@ -23,21 +23,21 @@ pub data Command : Type 0 where
   Help : Command
   Version : Command
 
--- The words ask for a listing of this name, which looks so, with these kinds, and in mid-session or not.
-pub record AsksListing (name : List ℕ) (words : List (List ℕ)) (view : View) (kinds : List PasswordKind) (resume : Bool) : Type 0 where
+-- The words ask for a listing of this name, which looks so where a terminal shows it or not, with these kinds, and in mid-session or not.
+pub record AsksListing (terminal : Bool) (name : List ℕ) (words : List (List ℕ)) (view : View) (kinds : List PasswordKind) (resume : Bool) : Type 0 where
   pub options : List (List ℕ)
   pub whole : words ≡ name ∷ options
-  pub read : AreOptions options view kinds resume
+  pub read : AreOptions terminal options view kinds resume
 
--- the words ask for it
-abbrev pub Asks : List (List ℕ) → Command → Type 0
-Asks words (Server view resume) = AsksListing (codes "server") words view [] resume
-Asks words (Client view kinds resume) = AsksListing (codes "client") words view kinds resume
-Asks words Help = words ≡ codes "--help" ∷ []
-Asks words Version = words ≡ codes "--version" ∷ []
+-- the words ask for it, where a terminal shows what is written or not
+abbrev pub Asks : (terminal : Bool) → List (List ℕ) → Command → Type 0
+Asks terminal words (Server view resume) = AsksListing terminal (codes "server") words view [] resume
+Asks terminal words (Client view kinds resume) = AsksListing terminal (codes "client") words view kinds resume
+Asks terminal words Help = words ≡ codes "--help" ∷ []
+Asks terminal words Version = words ≡ codes "--version" ∷ []
 
 abbrev pub usage : List ℕ
-usage = codes "usage: pgtrace server [--json] [--full] [--secrets] [--resume] [--only NAME[,NAME]..] | client [--json] [--full] [--secrets] [--resume] [--only NAME[,NAME]..] [--password-kind password|initial|response].. | --help | --version" ++ 10 ∷ []
+usage = codes "usage: pgtrace server [--json] [--full] [--secrets] [--resume] [--only NAME[,NAME]..] [--color auto|always|never] | client [--json] [--full] [--secrets] [--resume] [--only NAME[,NAME]..] [--color auto|always|never] [--password-kind password|initial|response].. | --help | --version" ++ 10 ∷ []
 
 abbrev pub version : List ℕ
 version = codes "pgtrace 0.1.0" ++ 10 ∷ []
@@ -78,8 +78,8 @@ pub record Succeeds (passed : Type 0) (command : Command) (before after : Stream
   pub fine : status ≡ 0
 
 -- the words ask for nothing that there is
-abbrev pub IsOther : List (List ℕ) → Type 0
-IsOther words = (command : Command) → ¬ Asks words command
+abbrev pub IsOther : (terminal : Bool) → List (List ℕ) → Type 0
+IsOther terminal words = (command : Command) → ¬ Asks terminal words command
 
 -- Of such a reader and writer:
 module _ {R W : Type 0} (remaining : R → Option (List ℕ)) (contents : W → Option (List ℕ)) (Passed : W → Type 0) (MayRead : R → Type 0) where
@@ -90,15 +90,15 @@ module _ {R W : Type 0} (remaining : R → Option (List ℕ)) (contents : W → 
   ReadsFor command reader writer = ⊤
 
   -- so it may for the command that the words ask for
-  abbrev pub ReadsForWords : List (List ℕ) → R → W → Type 0
-  ReadsForWords words reader writer = (command : Command) → Asks words command → ReadsFor command reader writer
+  abbrev pub ReadsForWords : (terminal : Bool) → List (List ℕ) → R → W → Type 0
+  ReadsForWords terminal words reader writer = (command : Command) → Asks terminal words command → ReadsFor command reader writer
 
   -- and that the words of the process ask for, where words stand so and none stands at such places
-  abbrev pub ReadsForOwn : (ℕ → List ℕ → Type 0) → (ℕ → Type 0) → R → W → Type 0
-  ReadsForOwn Stands Ends reader writer = (words : List (List ℕ)) → AreWords Stands Ends words → ReadsForWords words reader writer
+  abbrev pub ReadsForOwn : (terminal : Bool) → (ℕ → List ℕ → Type 0) → (ℕ → Type 0) → R → W → Type 0
+  ReadsForOwn terminal Stands Ends reader writer = (words : List (List ℕ)) → AreWords Stands Ends words → ReadsForWords terminal words reader writer
 
--- Where memory is refused and reads and writes fail so, and what was written is passed on so.
-module _ (lacks read_failed write_failed passed : Type 0) where
+-- Where a terminal shows what is written or not, memory is refused and reads and writes fail so, and what was written is passed on so.
+module _ (terminal : Bool) (lacks read_failed write_failed passed : Type 0) where
   -- a fault was met, and is reported
   pub record IsFaulty (command : Command) (before after : Streams) (status : ℕ) (complaint : List ℕ) : Type 0 where
     pub fault : Fault
@@ -110,13 +110,13 @@ module _ (lacks read_failed write_failed passed : Type 0) where
   -- What the words ask for is done.
   pub record IsDone (words : List (List ℕ)) (before after : Streams) (status : ℕ) (complaint : List ℕ) : Type 0 where
     pub command : Command
-    pub asks : Asks words command
+    pub asks : Asks terminal words command
     pub does : Succeeds passed command before after status complaint ⊎ IsFaulty command before after status complaint
 
   -- Or they ask for nothing; or there is no memory to read them.
   abbrev pub Obeys : List (List ℕ) → Streams → Streams → ℕ → List ℕ → Type 0
   Obeys words before after status complaint = IsDone words before after status complaint
-      ⊎ (IsOther words × IsUnread usage 2 before after status complaint)
+      ⊎ (IsOther terminal words × IsUnread usage 2 before after status complaint)
       ⊎ (lacks × IsUnread (complaint_of Memory) 1 before after status complaint)
 
   -- A run on words, and on the words of the process.

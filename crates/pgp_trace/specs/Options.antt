@@ -4,7 +4,9 @@ use Rattle.std.specs.List.{flat_map, list_any, slice_split}
 use Rattle.pgp_frontend_read.specs.declared.message.PasswordKind.{PasswordKind}
 use Rattle.pgp_frontend_read.specs.declared.message.PasswordKind.TheVariants.{Password, Initial, Response}
 use Rattle.pgp_trace.specs.declared.options.Choice.{Choice}
-use Rattle.pgp_trace.specs.declared.options.Choice.TheVariants.{AsJson, Full, Secrets, Resume, Only, Kind}
+use Rattle.pgp_trace.specs.declared.options.Choice.TheVariants.{AsJson, Full, Secrets, Resume, Only, Color, Kind}
+use Rattle.pgp_trace.specs.declared.options.When.{When}
+use Rattle.pgp_trace.specs.declared.options.When.TheVariants.{Auto, Always, Never}
 use Rattle.pgp_line.specs.Styles.{style_of}
 use Rattle.pgp_trace.specs.View.{View}
 
@@ -13,6 +15,11 @@ kind_word Password = codes "password"
 kind_word Initial = codes "initial"
 kind_word Response = codes "response"
 
+abbrev pub when_word : When → List ℕ
+when_word Auto = codes "auto"
+when_word Always = codes "always"
+when_word Never = codes "never"
+
 -- the words of one
 abbrev pub spelled : Choice → List (List ℕ)
 spelled AsJson = codes "--json" ∷ []
@@ -20,6 +27,7 @@ spelled Full = codes "--full" ∷ []
 spelled Secrets = codes "--secrets" ∷ []
 spelled Resume = codes "--resume" ∷ []
 spelled (Only names) = codes "--only" ∷ names.now ∷ []
+spelled (Color when) = codes "--color" ∷ when_word when ∷ []
 spelled (Kind kind) = codes "--password-kind" ∷ kind_word kind ∷ []
 
 abbrev pub is_json : Choice → Bool
@@ -28,6 +36,7 @@ is_json Full = false
 is_json Secrets = false
 is_json Resume = false
 is_json (Only names) = false
+is_json (Color when) = false
 is_json (Kind kind) = false
 
 abbrev pub is_full : Choice → Bool
@@ -36,6 +45,7 @@ is_full Full = true
 is_full Secrets = false
 is_full Resume = false
 is_full (Only names) = false
+is_full (Color when) = false
 is_full (Kind kind) = false
 
 abbrev pub is_secrets : Choice → Bool
@@ -44,6 +54,7 @@ is_secrets Full = false
 is_secrets Secrets = true
 is_secrets Resume = false
 is_secrets (Only names) = false
+is_secrets (Color when) = false
 is_secrets (Kind kind) = false
 
 abbrev pub is_resume : Choice → Bool
@@ -52,6 +63,7 @@ is_resume Full = false
 is_resume Secrets = false
 is_resume Resume = true
 is_resume (Only names) = false
+is_resume (Color when) = false
 is_resume (Kind kind) = false
 
 abbrev pub kind_in : Choice → List PasswordKind
@@ -60,6 +72,7 @@ kind_in Full = []
 kind_in Secrets = []
 kind_in Resume = []
 kind_in (Only names) = []
+kind_in (Color when) = []
 kind_in (Kind kind) = kind ∷ []
 
 abbrev pub is_comma : ℕ → Bool
@@ -75,15 +88,37 @@ only_in Full = []
 only_in Secrets = []
 only_in Resume = []
 only_in (Only names) = names_in names.now
+only_in (Color when) = []
 only_in (Kind kind) = []
 
--- The words are options, one after another, in any order. They ask for a listing that looks so, and name these kinds in order; and they say whether the
--- stream is taken in mid-session.
-pub record AreOptions (words : List (List ℕ)) (view : View) (kinds : List PasswordKind) (resume : Bool) : Type 0 where
+-- whether a listing has colours that a terminal shows or not
+abbrev pub is_colored : (terminal : Bool) → When → Bool
+is_colored terminal Auto = terminal
+is_colored terminal Always = true
+is_colored terminal Never = false
+
+abbrev pub colors_in : (terminal : Bool) → Choice → List Bool
+colors_in terminal AsJson = []
+colors_in terminal Full = []
+colors_in terminal Secrets = []
+colors_in terminal Resume = []
+colors_in terminal (Only names) = []
+colors_in terminal (Color when) = is_colored terminal when ∷ []
+colors_in terminal (Kind kind) = []
+
+-- the last of them, or the first where no other follows
+abbrev pub last_of : Bool → List Bool → Bool
+last_of first [] = first
+last_of first (next ∷ more) = last_of next more
+
+-- The words are options, one after another, in any order. They ask for a listing that looks so where a terminal shows it or not, and name these kinds in
+-- order; and they say whether the stream is taken in mid-session. Of those that say when a listing has colours the last counts.
+pub record AreOptions (terminal : Bool) (words : List (List ℕ)) (view : View) (kinds : List PasswordKind) (resume : Bool) : Type 0 where
   pub choices : List Choice
   pub spelling : words ≡ flat_map spelled choices
   pub style : view.style ≡ style_of (list_any is_json choices) (list_any is_full choices) (list_any is_secrets choices)
   pub only : view.only ≡ flat_map only_in choices
+  pub colored : view.colored ≡ last_of terminal (flat_map (colors_in terminal) choices)
   pub named : kinds ≡ flat_map kind_in choices
   pub resumed : resume ≡ list_any is_resume choices
 
@@ -94,6 +129,10 @@ AreNoOptions words = (choices : List Choice) → words ≢ flat_map spelled choi
 -- no option stands first
 abbrev pub BeginsWithNone : List (List ℕ) → Type 0
 BeginsWithNone words = (choice : Choice) (more : List (List ℕ)) → words ≢ spelled choice ++ more
+
+-- the word doesn't say when
+abbrev pub SaysNoWhen : List ℕ → Type 0
+SaysNoWhen word = (when : When) → word ≢ when_word when
 
 -- the word names no kind
 abbrev pub NamesNoKind : List ℕ → Type 0

@@ -22,7 +22,7 @@ quiet style = record { form = style.form; limit = style.limit; secrets = false }
 
 -- nor are they in a listing
 abbrev pub quietly : View → View
-quietly view = record { style = quiet view.style; only = view.only }
+quietly view = record { style = quiet view.style; only = view.only; colored = view.colored }
 
 -- messages that are alike, or the same error
 abbrev pub AlikeResults : Result Message Error → Result Message Error → Type 0

@@ -27,7 +27,7 @@ side_of (variants.Client opened kinds) = Client opened kinds.now
 
 -- the code's views
 abbrev pub view_of : seen.View → View
-view_of view = record { style = view.style; only = map (λ name. name.now) view.only.now }
+view_of view = record { style = view.style; only = map (λ name. name.now) view.only.now; colored = view.colored }
 
 -- how far a server's stream has come after its first message, if it came
 abbrev pub phase_of : Next → Phase

@@ -8,8 +8,9 @@ ghost use Rattle.pgp_message.specs.Stream.{BackendRun};
 ghost use Rattle.pgp_frontend_read.specs.declared.message.PasswordKind.{PasswordKind};
 ghost use Rattle.pgp_trace.specs.Client.{client_line};
 ghost use Rattle.pgp_trace.specs.ClientSecrets.{AlikeClientStreams};
+ghost use Rattle.pgp_line.specs.declared.style.Form.TheVariants.{Json};
 ghost use Rattle.pgp_line.specs.declared.style.Style.{Style};
-ghost use Rattle.pgp_trace.specs.View.{View, plain, shown};
+ghost use Rattle.pgp_trace.specs.View.{View, color_of, painted, plain, shown, uncolored};
 ghost use Rattle.pgp_trace.specs.Listing.{IsListing, IsRunBehindAnswers, LineOf, Lines};
 ghost use Rattle.pgp_line.specs.Quoting.{IsPrinted};
 ghost use Rattle.pgp_trace.specs.Secrets.{Alike, AlikeBeginnings, AlikeStreams, quiet, quietly};
@@ -31,6 +32,12 @@ pub fn lines_are_printable()
 /// Where no name is asked for, what stands in a listing of a frame is its line.
 pub fn all_lines_are_listed()
     ensures { (style : Style) (name line : List ℕ) → shown (plain style) name line ≡ line }
+{}
+
+/// A line in a colour is the line between two escape sequences, the second before its newline. Objects have no colour.
+pub fn colors_stand_around_lines()
+    ensures around { (color text : List ℕ) → painted (Some color) (text ++ 10 ∷ []) ≡ color ++ text ++ uncolored ++ 10 ∷ [] }
+    ensures objects { (view : View) (name : List ℕ) → view.style.form ≡ Json → color_of view name ≡ None }
 {}
 
 /// A server's messages that differ in their secrets alone have the same lines, unless secrets are asked for.

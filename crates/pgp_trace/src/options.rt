@@ -1,13 +1,22 @@
 //! The options of a listing.
 
 ghost use Rattle.std.specs.Prelude.{◌≡◌, ◌++◌, ◌∷◌, ◌||◌, codes, drop, length, map, IfNone, IfOk, IfSome, OnErr, OnOk};
-ghost use Rattle.pgp_trace.specs.Options.{AreNoOptions, AreOptions, BeginsWithNone, NamesNoKind, is_full, is_json, is_resume, is_secrets, kind_in, kind_word, names_in, only_in, spelled};
+ghost use Rattle.pgp_trace.specs.Options.{AreNoOptions, AreOptions, BeginsWithNone, NamesNoKind, SaysNoWhen, colors_in, is_colored, is_full, is_json, is_resume, is_secrets, kind_in, kind_word, last_of, names_in, only_in, spelled, when_word};
 ghost use Rattle.pgp_line.specs.Styles.{style_of};
 ghost use Rattle.pgp_trace.specs.Asked.{looks};
 
 use pgp_base::Memory;
 use pgp_frontend_read::PasswordKind;
 use std::alloc::AllocError;
+
+/// When a listing has colours.
+#[derive(Debug, Clone, Copy)]
+pub enum When {
+    /// Where a terminal shows it.
+    Auto,
+    Always,
+    Never,
+}
 
 /// An option of a listing.
 #[derive(Debug, Clone, Copy)]
@@ -19,6 +28,7 @@ pub enum Choice<'a> {
     Resume,
     /// Names of messages, between commas.
     Only(&'a str),
+    Color(When),
     /// Which the next message of tag `p` is that none names yet.
     Kind(PasswordKind),
 }
@@ -32,20 +42,23 @@ pub struct Options<'a, A: Memory> {
     pub resume: bool,
     /// The names of the messages that are listed.
     pub only: Vec<&'a str, A>,
+    /// Whether lines have colours.
+    pub colored: bool,
     /// Which the messages of tag `p` are, from the first on.
     pub kinds: Vec<PasswordKind, A>,
 }
 
-/// Reads the options of a listing, or returns nothing where the words are no such.
+/// Reads the options of a listing, which a terminal shows or not, or returns nothing where the words are no such.
 ///
 /// # Errors
 ///
 /// There is no memory for the names and the kinds.
 pub fn options_of<'a, A: Memory>(
     alloc: A,
+    terminal: bool,
     words: &[&'a str],
 ) -> Result<Option<Options<'a, A>>, AllocError>
-    ensures known { IfOk result (λ r. IfSome r (λ options. AreOptions (map (λ word. word.now) words.now) (looks (style_of options.json options.full options.secrets) options.only.items) options.kinds.items options.resume)) }
+    ensures known { IfOk result (λ r. IfSome r (λ options. AreOptions terminal (map (λ word. word.now) words.now) (looks (style_of options.json options.full options.secrets) options.only.items options.colored) options.kinds.items options.resume)) }
     ensures other { IfOk result (λ r. IfNone r (AreNoOptions (map (λ word. word.now) words.now))) }
     ensures lacks { OnErr result A.Lacks }
 {
@@ -55,6 +68,7 @@ pub fn options_of<'a, A: Memory>(
         secrets: false,
         resume: false,
         only: Vec::new(alloc),
+        colored: terminal,
         kinds: Vec::new(alloc),
     };
     let mut at = 0;
@@ -62,19 +76,24 @@ pub fn options_of<'a, A: Memory>(
         let Some(choice) = first_choice(&words[at..]) else {
             return Ok(None);
         };
-        choose(choice, &mut options)?;
+        choose(terminal, choice, &mut options)?;
         at += len(choice);
     }
     Ok(Some(options))
 }
 
 /// Adds an option.
-fn choose<'a, A: Memory>(choice: Choice<'a>, options: &mut Options<'a, A>) -> Result<(), AllocError>
+fn choose<'a, A: Memory>(
+    terminal: bool,
+    choice: Choice<'a>,
+    options: &mut Options<'a, A>,
+) -> Result<(), AllocError>
     ensures json { OnOk result (options.new.json ≡ (is_json choice.entry || options.old.json)) }
     ensures full { OnOk result (options.new.full ≡ (is_full choice.entry || options.old.full)) }
     ensures secrets { OnOk result (options.new.secrets ≡ (is_secrets choice.entry || options.old.secrets)) }
     ensures resume { OnOk result (options.new.resume ≡ (is_resume choice.entry || options.old.resume)) }
     ensures only { OnOk result (map (λ name. name.now) options.new.only.items ≡ map (λ name. name.now) options.old.only.items ++ only_in choice.entry) }
+    ensures colored { OnOk result (options.new.colored ≡ last_of options.old.colored (colors_in terminal choice.entry)) }
     ensures kinds { OnOk result (options.new.kinds.items ≡ options.old.kinds.items ++ kind_in choice.entry) }
     ensures lacks { OnErr result A.Lacks }
 {
@@ -96,10 +115,25 @@ fn choose<'a, A: Memory>(choice: Choice<'a>, options: &mut Options<'a, A>) -> Re
             Ok(())
         }
         Choice::Only(names) => add_names(names, &mut options.only),
+        Choice::Color(when) => {
+            options.colored = is_colored(terminal, when);
+            Ok(())
+        }
         Choice::Kind(kind) => {
             A::push(&mut options.kinds, kind)?;
             Ok(())
         }
+    }
+}
+
+/// Whether a listing has colours that a terminal shows or not.
+fn is_colored(terminal: bool, when: When) -> bool
+    ensures { result ≡ is_colored terminal when }
+{
+    match when {
+        When::Auto => terminal,
+        When::Always => true,
+        When::Never => false,
     }
 }
 
@@ -121,7 +155,7 @@ fn len(choice: Choice<'_>) -> usize
 {
     match choice {
         Choice::AsJson | Choice::Full | Choice::Secrets | Choice::Resume => 1,
-        Choice::Only(_) | Choice::Kind(_) => 2,
+        Choice::Only(_) | Choice::Color(_) | Choice::Kind(_) => 2,
     }
 }
 
@@ -137,6 +171,7 @@ fn first_choice<'a>(words: &[&'a str]) -> Option<Choice<'a>>
         "--secrets" => Some(Choice::Secrets),
         "--resume" => Some(Choice::Resume),
         "--only" => first_names(rest),
+        "--color" => first_when(rest),
         "--password-kind" => first_kind(rest),
         _ => None,
     }
@@ -149,6 +184,29 @@ fn first_names<'a>(words: &[&'a str]) -> Option<Choice<'a>>
 {
     let (names, _) = words.split_first()?;
     Some(Choice::Only(*names))
+}
+
+/// The word that stands first, after the one of colours.
+fn first_when<'a>(words: &[&str]) -> Option<Choice<'a>>
+    ensures some { IfSome result (λ choice. (length (spelled choice) ≡ 2) × (codes "--color" ∷ map (λ word. word.now) words.now ≡ spelled choice ++ map (λ word. word.now) (drop 1 words.now))) }
+    ensures none { IfNone result (BeginsWithNone (codes "--color" ∷ map (λ word. word.now) words.now)) }
+{
+    let (word, _) = words.split_first()?;
+    let when = when_of(word)?;
+    Some(Choice::Color(when))
+}
+
+/// When a listing has colours, by a word.
+fn when_of(word: &str) -> Option<When>
+    ensures some { IfSome result (λ when. word.now ≡ when_word when) }
+    ensures none { IfNone result (SaysNoWhen word.now) }
+{
+    match word {
+        "auto" => Some(When::Auto),
+        "always" => Some(When::Always),
+        "never" => Some(When::Never),
+        _ => None,
+    }
 }
 
 /// The kind that stands first, after the word that asks for it.

@@ -30,7 +30,7 @@ use pgp_program::words::{lent, texts};
 use std::alloc::AllocError;
 
 const USAGE: &str =
-    "usage: pgtrace server [--json] [--full] [--secrets] [--resume] [--only NAME[,NAME]..] | client [--json] [--full] [--secrets] [--resume] [--only NAME[,NAME]..] [--password-kind password|initial|response].. | --help | --version\n";
+    "usage: pgtrace server [--json] [--full] [--secrets] [--resume] [--only NAME[,NAME]..] [--color auto|always|never] | client [--json] [--full] [--secrets] [--resume] [--only NAME[,NAME]..] [--color auto|always|never] [--password-kind password|initial|response].. | --help | --version\n";
 
 const VERSION: &str = "pgtrace 0.1.0\n";
 
@@ -45,20 +45,33 @@ fn refused() -> Outcome
 /// What the words ask for.
 #[derive(Drop)]
 enum Command<'a, A: Memory> {
-    /// A server's listing, of messages of these names, and whether it begins in mid-session.
-    Server(Style, Vec<&'a str, A>, bool),
-    /// A client's listing, of messages of these names, which its messages of tag `p` are, and whether it begins in mid-session.
-    Client(Style, Vec<&'a str, A>, Vec<PasswordKind, A>, bool),
+    /// A server's listing, of messages of these names, in colours or not, and whether it begins in mid-session.
+    Server {
+        style: Style,
+        only: Vec<&'a str, A>,
+        colored: bool,
+        resume: bool,
+    },
+    /// A client's, and which its messages of tag `p` are.
+    Client {
+        style: Style,
+        only: Vec<&'a str, A>,
+        colored: bool,
+        kinds: Vec<PasswordKind, A>,
+        resume: bool,
+    },
     Help,
     Version,
 }
 
+/// What the words ask for, where a terminal shows what is written or not.
 fn command_of<'a, A: Memory>(
     alloc: A,
+    terminal: bool,
     words: &[&'a str],
 ) -> Result<Option<Command<'a, A>>, AllocError>
-    ensures known { IfOk result (λ r. IfSome r (λ command. Asks (map (λ word. word.now) words.now) (asked command))) }
-    ensures other { IfOk result (λ r. IfNone r (IsOther (map (λ word. word.now) words.now))) }
+    ensures known { IfOk result (λ r. IfSome r (λ command. Asks terminal (map (λ word. word.now) words.now) (asked command))) }
+    ensures other { IfOk result (λ r. IfNone r (IsOther terminal (map (λ word. word.now) words.now))) }
     ensures lacks { OnErr result A.Lacks }
 {
     match words {
@@ -70,8 +83,8 @@ fn command_of<'a, A: Memory>(
         return Ok(None);
     };
     match *first {
-        "server" => server_of(alloc, options),
-        "client" => client_of(alloc, options),
+        "server" => server_of(alloc, terminal, options),
+        "client" => client_of(alloc, terminal, options),
         _ => Ok(None),
     }
 }
@@ -79,36 +92,49 @@ fn command_of<'a, A: Memory>(
 /// What the words after `server` ask for.
 fn server_of<'a, A: Memory>(
     alloc: A,
+    terminal: bool,
     words: &[&'a str],
 ) -> Result<Option<Command<'a, A>>, AllocError>
-    ensures known { IfOk result (λ r. IfSome r (λ command. Asks (codes "server" ∷ map (λ word. word.now) words.now) (asked command))) }
-    ensures other { IfOk result (λ r. IfNone r (IsOther (codes "server" ∷ map (λ word. word.now) words.now))) }
+    ensures known { IfOk result (λ r. IfSome r (λ command. Asks terminal (codes "server" ∷ map (λ word. word.now) words.now) (asked command))) }
+    ensures other { IfOk result (λ r. IfNone r (IsOther terminal (codes "server" ∷ map (λ word. word.now) words.now))) }
     ensures lacks { OnErr result A.Lacks }
 {
-    let Some(options) = options_of(alloc, words)? else {
+    let Some(options) = options_of(alloc, terminal, words)? else {
         return Ok(None);
     };
     if !options.kinds.is_empty() {
         return Ok(None);
     }
     let style = style_of(options.json, options.full, options.secrets);
-    Ok(Some(Command::Server(style, options.only, options.resume)))
+    Ok(Some(Command::Server {
+        style,
+        only: options.only,
+        colored: options.colored,
+        resume: options.resume,
+    }))
 }
 
 /// What the words after `client` ask for.
 fn client_of<'a, A: Memory>(
     alloc: A,
+    terminal: bool,
     words: &[&'a str],
 ) -> Result<Option<Command<'a, A>>, AllocError>
-    ensures known { IfOk result (λ r. IfSome r (λ command. Asks (codes "client" ∷ map (λ word. word.now) words.now) (asked command))) }
-    ensures other { IfOk result (λ r. IfNone r (IsOther (codes "client" ∷ map (λ word. word.now) words.now))) }
+    ensures known { IfOk result (λ r. IfSome r (λ command. Asks terminal (codes "client" ∷ map (λ word. word.now) words.now) (asked command))) }
+    ensures other { IfOk result (λ r. IfNone r (IsOther terminal (codes "client" ∷ map (λ word. word.now) words.now))) }
     ensures lacks { OnErr result A.Lacks }
 {
-    let Some(options) = options_of(alloc, words)? else {
+    let Some(options) = options_of(alloc, terminal, words)? else {
         return Ok(None);
     };
     let style = style_of(options.json, options.full, options.secrets);
-    Ok(Some(Command::Client(style, options.only, options.kinds, options.resume)))
+    Ok(Some(Command::Client {
+        style,
+        only: options.only,
+        colored: options.colored,
+        kinds: options.kinds,
+        resume: options.resume,
+    }))
 }
 
 /// Lists what a server sent. Returns what is to be said of what is left of it.
@@ -190,17 +216,30 @@ fn perform<A: Memory, R: Input, W: Output>(
     ensures cause { IfErr result (Caused A.Lacks (GivesUp R.Fails R.Called) (GivesUp W.Fails W.Interrupted)) }
 {
     match command {
-        Command::Server(style, only, resume) => {
+        Command::Server {
+            style,
+            only,
+            colored,
+            resume,
+        } => {
             let view = View {
                 style,
                 only: only.as_slice(),
+                colored,
             };
             list_server(alloc, view, resume, input, output)
         }
-        Command::Client(style, only, kinds, resume) => {
+        Command::Client {
+            style,
+            only,
+            colored,
+            kinds,
+            resume,
+        } => {
             let view = View {
                 style,
                 only: only.as_slice(),
+                colored,
             };
             list_client(alloc, view, kinds.as_slice(), resume, input, output)
         }
@@ -209,20 +248,21 @@ fn perform<A: Memory, R: Input, W: Output>(
     }
 }
 
-/// Does what the words ask for.
+/// Does what the words ask for, where a terminal shows what is written or not.
 pub fn obey<A: Memory, R: Input, W: Output>(
     alloc: A,
+    terminal: bool,
     words: &[&str],
     input: &mut R,
     output: &mut W,
 ) -> Outcome
-    requires live { ReadsForWords R.remaining W.contents W.Passed R.MayRead (map (λ word. word.now) words.now) input.old output.old }
-    ensures { Obeys A.Lacks (GivesUp R.Fails R.Called) (GivesUp W.Fails W.Interrupted) (W.Passed output.new) (map (λ word. word.now) words.now)
+    requires live { ReadsForWords R.remaining W.contents W.Passed R.MayRead terminal (map (λ word. word.now) words.now) input.old output.old }
+    ensures { Obeys terminal A.Lacks (GivesUp R.Fails R.Called) (GivesUp W.Fails W.Interrupted) (W.Passed output.new) (map (λ word. word.now) words.now)
         (record { input = R.remaining input.old; output = W.contents output.old })
         (record { input = R.remaining input.new; output = W.contents output.new })
         result.status result.complaint.now }
 {
-    let command = match command_of(alloc, words) {
+    let command = match command_of(alloc, terminal, words) {
         Ok(Some(command)) => command,
         Ok(None) => return refused(),
         Err(_) => return Outcome::stopped(complaint(Fault::Memory)),
@@ -236,35 +276,37 @@ pub fn obey<A: Memory, R: Input, W: Output>(
     }
 }
 
-/// Does what the words ask for, says on `errors` what is to be said there, and returns the status.
+/// Does what the words ask for, where a terminal shows what is written or not, says on `errors` what is to be said there, and returns the status.
 ///
 /// Where `errors` fails, a front of that is said.
 pub fn run<A: Memory, R: Input, W: Output, E: Output>(
     alloc: A,
+    terminal: bool,
     words: &[&str],
     input: &mut R,
     output: &mut W,
     errors: &mut E,
 ) -> u8
-    requires live { ReadsForWords R.remaining W.contents W.Passed R.MayRead (map (λ word. word.now) words.now) input.old output.old }
-    ensures { Runs A.Lacks (GivesUp R.Fails R.Called) (GivesUp W.Fails W.Interrupted) (W.Passed output.new) (GivesUp E.Fails E.Interrupted) (E.Passed errors.new) (map (λ word. word.now) words.now)
+    requires live { ReadsForWords R.remaining W.contents W.Passed R.MayRead terminal (map (λ word. word.now) words.now) input.old output.old }
+    ensures { Runs terminal A.Lacks (GivesUp R.Fails R.Called) (GivesUp W.Fails W.Interrupted) (W.Passed output.new) (GivesUp E.Fails E.Interrupted) (E.Passed errors.new) (map (λ word. word.now) words.now)
         (record { input = R.remaining input.old; output = W.contents output.old })
         (record { input = R.remaining input.new; output = W.contents output.new })
         (E.contents errors.old) (E.contents errors.new) result }
 {
-    tell(obey(alloc, words, input, output), errors)
+    tell(obey(alloc, terminal, words, input, output), errors)
 }
 
 /// Does what the program's own words ask for, where there is memory for them. A word that isn't UTF-8
 /// asks for nothing that there is.
 fn try_own<A: Memory, V: Words, R: Input, W: Output>(
     alloc: A,
+    terminal: bool,
     env: &V,
     input: &mut R,
     output: &mut W,
 ) -> Result<Outcome, Fault>
-    requires live { ReadsForOwn R.remaining W.contents W.Passed R.MayRead (V.Stands env.now) (V.Ends env.now) input.old output.old }
-    ensures obeyed { IfOk result (λ outcome. ObeysOwn A.Lacks (GivesUp R.Fails R.Called) (GivesUp W.Fails W.Interrupted) (W.Passed output.new) (V.Stands env.now) (V.Ends env.now) (V.Longer env.now)
+    requires live { ReadsForOwn R.remaining W.contents W.Passed R.MayRead terminal (V.Stands env.now) (V.Ends env.now) input.old output.old }
+    ensures obeyed { IfOk result (λ outcome. ObeysOwn terminal A.Lacks (GivesUp R.Fails R.Called) (GivesUp W.Fails W.Interrupted) (W.Passed output.new) (V.Stands env.now) (V.Ends env.now) (V.Longer env.now)
         (record { input = R.remaining input.old; output = W.contents output.old })
         (record { input = R.remaining input.new; output = W.contents output.new })
         outcome.status outcome.complaint.now) }
@@ -276,41 +318,43 @@ fn try_own<A: Memory, V: Words, R: Input, W: Output>(
         return Ok(refused());
     };
     let words = lent(alloc, texts.as_slice())?;
-    Ok(obey(alloc, words.as_slice(), input, output))
+    Ok(obey(alloc, terminal, words.as_slice(), input, output))
 }
 
 /// Does what the program's own words ask for.
 fn obey_own<A: Memory, V: Words, R: Input, W: Output>(
     alloc: A,
+    terminal: bool,
     env: &V,
     input: &mut R,
     output: &mut W,
 ) -> Outcome
-    requires live { ReadsForOwn R.remaining W.contents W.Passed R.MayRead (V.Stands env.now) (V.Ends env.now) input.old output.old }
-    ensures { ObeysOwn A.Lacks (GivesUp R.Fails R.Called) (GivesUp W.Fails W.Interrupted) (W.Passed output.new) (V.Stands env.now) (V.Ends env.now) (V.Longer env.now)
+    requires live { ReadsForOwn R.remaining W.contents W.Passed R.MayRead terminal (V.Stands env.now) (V.Ends env.now) input.old output.old }
+    ensures { ObeysOwn terminal A.Lacks (GivesUp R.Fails R.Called) (GivesUp W.Fails W.Interrupted) (W.Passed output.new) (V.Stands env.now) (V.Ends env.now) (V.Longer env.now)
         (record { input = R.remaining input.old; output = W.contents output.old })
         (record { input = R.remaining input.new; output = W.contents output.new })
         result.status result.complaint.now }
 {
-    match try_own(alloc, env, input, output) {
+    match try_own(alloc, terminal, env, input, output) {
         Ok(outcome) => outcome,
         Err(fault) => Outcome::stopped(complaint(fault)),
     }
 }
 
-/// Runs on the words of the process, after its name.
+/// Runs on the words of the process, after its name, where a terminal shows what is written or not.
 pub fn run_own<A: Memory, V: Words, R: Input, W: Output, E: Output>(
     alloc: A,
+    terminal: bool,
     env: &V,
     input: &mut R,
     output: &mut W,
     errors: &mut E,
 ) -> u8
-    requires live { ReadsForOwn R.remaining W.contents W.Passed R.MayRead (V.Stands env.now) (V.Ends env.now) input.old output.old }
-    ensures { RunsOwn A.Lacks (GivesUp R.Fails R.Called) (GivesUp W.Fails W.Interrupted) (W.Passed output.new) (V.Stands env.now) (V.Ends env.now) (V.Longer env.now) (GivesUp E.Fails E.Interrupted) (E.Passed errors.new)
+    requires live { ReadsForOwn R.remaining W.contents W.Passed R.MayRead terminal (V.Stands env.now) (V.Ends env.now) input.old output.old }
+    ensures { RunsOwn terminal A.Lacks (GivesUp R.Fails R.Called) (GivesUp W.Fails W.Interrupted) (W.Passed output.new) (V.Stands env.now) (V.Ends env.now) (V.Longer env.now) (GivesUp E.Fails E.Interrupted) (E.Passed errors.new)
         (record { input = R.remaining input.old; output = W.contents output.old })
         (record { input = R.remaining input.new; output = W.contents output.new })
         (E.contents errors.old) (E.contents errors.new) result }
 {
-    tell(obey_own(alloc, env, input, output), errors)
+    tell(obey_own(alloc, terminal, env, input, output), errors)
 }

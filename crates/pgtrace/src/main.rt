@@ -3,13 +3,14 @@
 
 use pgp_trace::pipe::Pipe;
 use pgp_trace::run::run_own;
-use std::io;
+use std::io::{self, IsTerminal};
 use std::process::ExitCode;
 
 fn main(rt: HostRuntime) -> ExitCode {
     let pipe = Pipe::new();
     ExitCode::from(run_own(
         rt.alloc(),
+        rt.stdout().is_terminal(),
         &rt,
         &mut pipe.source(&mut rt.reader()),
         &mut pipe.sink(&mut io::writer(&rt)),
