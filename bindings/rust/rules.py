@@ -63,8 +63,9 @@ def global_allocator(text):
     for name in set(re.findall(r"fn \w+<(?:'\w+, )?([TR]): (?:Memory|Allocator \+ Copy)", text)):
         start = r"(fn \w+<(?:'\w+, )?)%s: (Memory|Allocator \+ Copy)((?:[^{;])*)" % name
         text = re.sub(start, lambda m: m[1] + 'A: ' + m[2] + re.sub(r'\b%s\b' % name, 'A', m[3]), text)
+    text = re.sub(r'^ *A: Memory,\n', '', text, flags=re.M)
     text = PARAMETER.sub(lambda m: ', ' if m[0].startswith(',') and m[0].endswith(', ') else '', text)
-    text = re.sub(r'^ *A: Memory,\n', '', re.sub(r'<\n? *>', '', text), flags=re.M)
+    text = re.sub(r'<\n? *>', '', text)
     text = re.sub(r'<A, ', '<', re.sub(r'(?:::)?<A>', '', text.replace(', A>', '>'))).replace('::<Global>', '')
     text = re.sub(r': A\b(?=[,)])', ': Global', re.sub(r'\bA::', 'Global::', text))
     text = re.sub(r'\*[\w.]+\.allocator\(\)', 'Global', text)
