@@ -31,6 +31,8 @@ mod uses;
 #[cfg(test)]
 mod uses_arrays;
 #[cfg(test)]
+mod uses_statements;
+#[cfg(test)]
 mod wire;
 #[cfg(test)]
 mod wire_ample;

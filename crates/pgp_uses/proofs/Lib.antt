@@ -10,3 +10,4 @@ mod Connected
 mod Room
 pub mod BothEnds
 pub mod ConnectedEnds
+mod SharedNames

@@ -11,3 +11,4 @@ pub mod Streams
 pub mod Values
 pub mod Client
 pub mod BothEnds
+pub mod Statements

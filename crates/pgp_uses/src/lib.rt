@@ -12,6 +12,7 @@ pub mod recorder;
 pub mod rows;
 pub mod server;
 pub mod session;
+pub mod statements;
 pub mod streams;
 pub mod values;
 pub mod writing;
