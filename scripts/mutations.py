@@ -1,7 +1,10 @@
-"""Lists mutated streams by pgtrace: bytes flipped, cut, doubled or moved, and lengths replaced. For live_trace; by itself `python3 scripts/mutations.py [STREAMS [SEED]]`.
+"""Lists mutated streams and recordings by pgtrace: bytes flipped, cut, doubled or moved, and lengths replaced. For live_trace; by itself `python3 scripts/mutations.py [STREAMS [SEED]]`.
 
 Each stream is listed as text and as JSON. The status has to be 0; the messages to follow one another to the rest, which ends the stream, so that each byte is listed once;
 no character to be one that steers a terminal; each object to be read by Python's json, and both listings to have the same places, lengths and names.
+
+A recording has such a stream of each side, cut into chunks that alternate at random. Each message has to stand in the listing once, under its side's arrow, in its place, and with the time of the chunk with
+which it was complete; and each object to say the same. Where bytes of the recording itself are changed, the status has to be 0 or 1.
 """
 import concurrent.futures
 import json
@@ -18,6 +21,9 @@ PROGRAM = os.environ.get("PGTRACE") or TOP / "crates" / "pgtrace" / "out" / "pgt
 KINDS = [word for kind in ("password", "initial", "initial", "response") for word in ("--password-kind", kind)]
 LINE = re.compile(r" *(\d+) +(\d+) (\S+| ) (.*)")
 REST = re.compile(r"(stopped )?rest (\d+)")
+MARKED = re.compile(r"([ 0-9.]{12,}) ([<>]) (.*)")
+SENDERS = {">": "client", "<": "server"}
+MAGIC = b"pgtrace recording 1\n"
 STEERING = ("Cc", "Cf", "Co", "Cs", "Zl", "Zp")
 LENGTHS = (0, 1, 3, 4, 5, 8, 64, 65, 255, 256, 0x7FFF, 0xFFFF, 0x10000, 0x7FFFFFFF, 0x80000000, 0xFFFFFFFF)
 
@@ -65,15 +71,15 @@ def mutated(frames, chance):
     return bytes(stream)
 
 
-def run(words, stream):
+def run(words, stream, statuses=(0,)):
     done = subprocess.run([PROGRAM, *words], input=stream, stdout=subprocess.PIPE, stderr=subprocess.PIPE, check=False)
-    if done.returncode != 0:
+    if done.returncode not in statuses:
         raise ValueError(f"status {done.returncode}: {done.stderr!r}")
     text = done.stdout.decode("utf-8")
     strangers = {hex(ord(c)) for c in text if c != "\n" and unicodedata.category(c) in STEERING}
-    if strangers or not text.endswith("\n"):
+    if strangers or text and not text.endswith("\n"):
         raise ValueError(f"characters that steer a terminal: {strangers}")
-    return text[:-1].split("\n")
+    return text.split("\n")[:-1]
 
 
 def places(messages, rest, length):
@@ -102,12 +108,90 @@ def same_listing(words, stream):
     return len(lines)
 
 
+def chunks_of(sides, chance):
+    """Chunks of both sides' streams: times, arrows and bytes."""
+    left, when, chunks = dict(sides), chance.randrange(1, 2 * 10**15), []
+    while any(left.values()):
+        arrow = chance.choice([it for it in left if left[it]])
+        cut = chance.choice((1, 2, 3, 5, 8, 13, 100, 1000))
+        chunks.append((when, arrow, left[arrow][:cut]))
+        left[arrow] = left[arrow][cut:]
+        when += chance.choice((0, 1, 999, 1_000_000, 61_234_567))
+    return chunks
+
+
+def recording(chunks):
+    return MAGIC + b"".join(arrow.encode() + when.to_bytes(8, "big") + len(piece).to_bytes(4, "big") + piece for when, arrow, piece in chunks)
+
+
+def completed(chunks, arrow, end):
+    """When the byte before this place of a side came."""
+    at = 0
+    for when, side, piece in chunks:
+        at += len(piece) if side == arrow else 0
+        if side == arrow and at >= end:
+            return when
+    raise ValueError(f"a message ends at {end}, behind the bytes of its side")
+
+
+def same_recording(words, chunks):
+    """Lists a recording in both forms; returns how many messages it has."""
+    lines = run([*words], recording(chunks))
+    objects = [json.loads(line) for line in run([*words, "--json"], recording(chunks))]
+    start, messages, rests = chunks[0][0], [], dict.fromkeys("><", 0)
+    for line in lines:
+        time, arrow, text = MARKED.fullmatch(line).groups()
+        if time.strip():
+            place, length, _, said = LINE.fullmatch(text).groups()
+            messages.append((arrow, int(place), int(length), said))
+            when = completed(chunks, arrow, int(place) + int(length))
+            if time != f"{(when - start) // 1_000_000}.{(when - start) % 1_000_000:06}".rjust(12):
+                raise ValueError(f"the time {time} of {text!r}")
+        else:
+            rests[arrow] = int(REST.fullmatch(text)[2])
+    for arrow in "><":
+        places([it[1:3] for it in messages if it[0] == arrow], rests[arrow], sum(len(piece) for _, side, piece in chunks if side == arrow))
+    told = [it for it in objects if "offset" in it]
+    if len(told) != len(messages):
+        raise ValueError("the listings have different numbers of messages")
+    for (arrow, place, length, said), one in zip(messages, told):
+        if (SENDERS[arrow], place, length) != (one["from"], one["offset"], one["length"]) or not said.startswith(one.get("name", "fault")):
+            raise ValueError(f"{said!r} and {one!r} differ")
+    return len(messages)
+
+
 def tried(job):
     words, stream = job
     try:
-        return same_listing(words, stream)
+        if words[0] != "session":
+            return same_listing(words, stream)
+        if not isinstance(stream, bytes):
+            return same_recording(words, stream)
+        run(words, stream, (0, 1))
+        return 0
     except (ValueError, AttributeError, KeyError) as e:
-        return f"{' '.join(words)} of {stream.hex()}: {e}"
+        return f"{' '.join(words)} of {(stream if isinstance(stream, bytes) else recording(stream)).hex()}: {e}"
+
+
+def answers_of(jobs):
+    with concurrent.futures.ThreadPoolExecutor() as pool:
+        answers = list(pool.map(tried, jobs))
+    faults = [answer for answer in answers if isinstance(answer, str)]
+    if faults:
+        fail(f"{len(faults)} of {len(jobs)} mutated streams: {faults[0]}")
+    return sum(answers)
+
+
+def recordings(count, seed):
+    """Lists so many recordings, a fourth of which has other bytes than those of chunks; returns how many messages the others had."""
+    chance = random.Random(seed)
+    (_, server), (_, client) = stored()
+    jobs = []
+    for number in range(count):
+        words = ["session", *(option for option in ("--full", "--secrets") if chance.randrange(4) == 0)]
+        chunks = chunks_of({">": mutated(client, chance), "<": mutated(server, chance)}, chance) or [(1, ">", b"\0")]
+        jobs.append((words, mutated([recording(chunks)], chance) if number % 4 == 3 else chunks))
+    return answers_of(jobs)
 
 
 def mutations(count, seed):
@@ -119,14 +203,10 @@ def mutations(count, seed):
         side, frames = sides[number % 2]
         words = [side, *(option for option in ("--full", "--secrets", "--resume") if chance.randrange(4) == 0), *(KINDS if side == "client" else [])]
         jobs.append((words, mutated(frames, chance)))
-    with concurrent.futures.ThreadPoolExecutor() as pool:
-        answers = list(pool.map(tried, jobs))
-    faults = [answer for answer in answers if isinstance(answer, str)]
-    if faults:
-        fail(f"{len(faults)} of {count} mutated streams: {faults[0]}")
-    return sum(answers)
+    return answers_of(jobs)
 
 
 if __name__ == "__main__":
     streams, start = (int(word) for word in (sys.argv[1:] + ["10000", "1"][len(sys.argv) - 1 :])[:2])
     print(f"{streams} mutated streams of seed {start}, {mutations(streams, start)} messages: each listed once, as text and as JSON")
+    print(f"{streams} recordings of such streams, {recordings(streams, start)} messages: each listed once, under its side, at its time")
