@@ -1,6 +1,6 @@
 //! Rows of a server, each attributed to the request that asked for it.
 
-use crate::streams::{weight, weight_in_place};
+use crate::streams::weight_in_place;
 use pgp_base::{Error, FallibleIterator};
 use pgp_message::Messages;
 use postgres_protocol::dialogue::{Dialogue, Event, Kind, Request};
@@ -43,7 +43,7 @@ pub(crate) fn read_taken(alloc: Global, bytes: &[u8]) -> Result<u64, Error> {
     Ok(sum)
 }
 
-/// Feeds the rows to a connection in pieces, takes each message with its request, and sums up what they weigh.
+/// Feeds the rows to a connection in pieces, takes each message in place with its request, and sums up what they weigh.
 ///
 /// # Errors
 ///
@@ -86,14 +86,23 @@ fn taken(connection: &mut Connection<'_>, piece: &[u8]) -> Result<u64, Error> {
     let mut sum = 0u64;
     // a byte completes one message at most
     for _byte in 0..piece.len() {
-        match connection.next() {
-            Ok(Some((_, message))) => {
-                sum = sum.wrapping_add(weight(&message));
-                drop(message);
-            }
+        match connection.advance() {
+            Ok(Some(_)) => sum = sum.wrapping_add(weight_there(connection)),
             Ok(None) => return Ok(sum),
             Err(_) => return Err(Error::UnexpectedEof),
         }
     }
     Ok(sum)
+}
+
+#[inline(always)]
+fn weight_there(connection: &Connection<'_>) -> u64 {
+    match connection.message() {
+        Some(message) => {
+            let weight = weight_in_place(&message);
+            drop(message);
+            weight
+        }
+        None => 0,
+    }
 }

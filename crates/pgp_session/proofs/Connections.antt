@@ -1,6 +1,6 @@
 -- What the calls of a connection come to.
-use Rattle.std.proofs.Common.{◌≡◌, ℕ, ◌<◌, ◌≤◌, List, [], ◌∷◌, ◌++◌, length, get_or, Option, Some, None, Result, Ok, Err, refl, sym, ap, subst, ◌∙◌, arith, inl, Bool, true, false}
-use Rattle.std.specs.Prelude.{OnOk, IfErr, take, ◌&&◌}
+use Rattle.std.proofs.Common.{◌≡◌, ℕ, ◌-◌, ◌<◌, ◌≤◌, List, [], ◌∷◌, ◌++◌, length, get_or, Option, Some, None, Result, Ok, Err, refl, sym, ap, subst, ◌∙◌, arith, inl, Bool, true, false}
+use Rattle.std.specs.Prelude.{OnOk, IfErr, drop, take, ◌&&◌, ◌≢◌}
 use Rattle.std.specs.Int.{w32, from_be_bytes}
 use Rattle.pgp_base.specs.Cause.{WantsMemory}
 use Rattle.pgp_base.specs.declared.error.Error.{Error}
@@ -12,16 +12,19 @@ use Rattle.pgp_client.specs.declared.event.Refusal.{Refusal}
 use Rattle.pgp_frontend.specs.ClientMessage.{ClientMessage}
 use Rattle.pgp_frontend.specs.Payload.{bytes_of, cause, IsInRange}
 use Rattle.pgp_message.specs.Remembered.{header_of}
-use Rattle.pgp_message.specs.Stream.{BeginsWithKept, IsPartial, Step, TakesFrame}
+use Rattle.pgp_message.specs.Stream.{BeginsWithKept, IsLengthFault, IsPartial, Step, TakesFrame}
 use Rattle.pgp_message.specs.Views.{parsed, view}
 use Rattle.pgp_message.specs.declared.message.Message.{Message}
-use Rattle.pgp_base.specs.declared.error.Error.TheVariants.{OutOfMemory}
+use Rattle.pgp_base.specs.declared.error.Error.TheVariants.{InvalidLength, OutOfMemory}
 use Rattle.pgp_client.specs.Kinds.{kind_of, request_of}
 use Rattle.pgp_client.specs.Taking.{is_copying}
 use Rattle.pgp_client.specs.declared.request.Request.{Request}
-use Rattle.pgp_session.specs.Connection.{Notes, SendsGiven, Sent, Shown, Took, asked_of, is_bulk, is_end, is_logged_in, is_part, is_longer, may_send, moved, next_name, noted, said, with_login, with_out}
+use Rattle.pgp_session.specs.Connection.{Advances, Comes, Hears, IsNone, Nexts, Notes, SendsGiven, Sent, Shown, Took, asked_of, is_bulk, is_end, in_phase, is_logged_in, is_part, is_longer, may_send, moved, next_name, noted, said, with_incoming, with_login, with_out}
 use Rattle.pgp_session.specs.declared.connection_error.ConnectionError.{ConnectionError}
-use Rattle.pgp_session.specs.declared.connection_error.ConnectionError.TheVariants.{OutOfMemory as OutOfMemoryThere}
+use Rattle.pgp_session.specs.declared.connection_error.ConnectionError.TheVariants.{Malformed, OutOfMemory as OutOfMemoryThere}
+use Rattle.pgp_session.specs.declared.connection.ConnectionPhase.TheVariants.{Over, Started}
+use Rattle.pgp_session.specs.Incoming.{Reads}
+use Rattle.pgp_session.proofs.Incomings.{frame_there, rest_there}
 use Rattle.pgp_session.specs.Login.{Added, Login, NothingAsked, Puts}
 use Rattle.pgp_session.specs.Settings.{Said, heard}
 use Rattle.pgp_message.specs.BackendMessage.{Message as Meant, CopyData, DataRow}
@@ -134,3 +137,43 @@ pub took_bulk : (m : Meant) (e : Event) (t : Talk) (old : Shown) → is_bulk m e
 took_bulk (DataRow row) e t old bulk is = record { taken = is; kept = tt; goes_on = part_goes_on e bulk; logged = record { reply = None; logs = NothingAsked; adds = refl }; is = refl }
 took_bulk (CopyData bytes) e t old bulk is = record { taken = is; kept = tt; goes_on = part_goes_on e bulk; logged = record { reply = None; logs = NothingAsked; adds = refl }; is = refl }
 took_bulk m e t old bulk is = cc
+
+-- the bytes that came are the same
+pub so_far : {A : Type 0} (lacks : Type 0) (old new : Shown) (rest : List ℕ) (r : Result (Option (Event × Meant)) (ConnectionError A)) → rest ≡ old.incoming → Nexts lacks (with_incoming rest old) new r → Nexts lacks old new r
+so_far lacks old new rest r same n = subst (λ (l : List ℕ). Nexts lacks (with_incoming l old) new r) same n
+
+-- ---- a message in place
+
+none_before : (all : List ℕ) → length all - length all ≡ 0
+none_before all = omega arith
+
+module _ (old : Shown) (all rest behind : List ℕ) (left : ℕ) (same : all ≡ old.incoming) (n : left ≡ length rest) (b : behind ≡ drop (length all - left) all) where
+  behind_it : (r : Result Meant Error) → TakesFrame all r rest → TakesFrame old.incoming r behind
+  behind_it r t =
+      let is : behind ≡ rest = b ∙ ap (λ k. drop (length all - k) all) n ∙ rest_there all rest r t in
+      subst (λ l. TakesFrame l r behind) same (subst (λ l. TakesFrame all r l) (sym is) t)
+
+  not_taken : (lacks : Type 0) (e : Error) → Step ⊥ all (Err e) rest → Step lacks old.incoming (Err e) behind × (e ≢ OutOfMemory)
+  not_taken lacks InvalidLength s =
+      let is : behind ≡ all = b ∙ ap (λ k. drop (length all - k) all) (n ∙ ap length s.1) ∙ ap (λ k. drop k all) (none_before all) in
+      ((subst IsLengthFault same s.0, is ∙ same), λ p. cc)
+  not_taken lacks OutOfMemory s = absurd s.1
+  not_taken lacks e s = (behind_it (Err e) s, λ p. cc)
+
+module _ {A : Type 0} (lacks : Type 0) (old new : Shown) (all rest frame behind : List ℕ) (left : ℕ) (same : all ≡ old.incoming) (n : left ≡ length rest) (b : behind ≡ drop (length all - left) all) where
+  -- the message was taken, and its frame is the current one
+  pub advanced : (m : Meant) (e : Event) → old.phase ≡ Started → is_longer old.limit old.incoming ≡ false → TakesFrame all (Ok m) rest → frame ≡ take (length all - left) all
+      → Hears {A = A} lacks m (with_incoming behind old) new (Ok (Some (e, m))) → Advances {A = A} lacks old new frame (Ok (Some e))
+  advanced m e phase short t f h =
+      let whole : Reads frame (Some m) = subst (λ l. Reads l (Some m)) (sym (f ∙ ap (λ k. take (length all - k) all) n)) (frame_there all rest m t) in
+      (m, whole, Comes m behind phase short (behind_it old all rest behind left same n b (Ok m) t) h)
+
+  -- the connection stopped at it
+  pub stopped_at : (m : Meant) (e : ConnectionError A) → old.phase ≡ Started → is_longer old.limit old.incoming ≡ false → TakesFrame all (Ok m) rest → frame ≡ []
+      → Hears {A = A} lacks m (with_incoming behind old) new (Err e) → Advances {A = A} lacks old new frame (Err e)
+  stopped_at m e phase short t f h = (f, Comes m behind phase short (behind_it old all rest behind left same n b (Ok m) t) h)
+
+  -- what came is no message
+  pub malformed_at : (e : Error) → old.phase ≡ Started → Step ⊥ all (Err e) rest → frame ≡ [] → new ≡ in_phase Over (with_incoming behind old)
+      → Advances {A = A} lacks old new frame (Err (Malformed e))
+  malformed_at e phase s f is = let t = not_taken old all rest behind left same n b lacks e s in (f, IsNone e behind phase t.0 t.1 is)

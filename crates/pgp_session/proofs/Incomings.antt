@@ -1,59 +1,89 @@
--- Complete frames, and the bytes after them.
-use Rattle.std.proofs.Common.{◌≡◌, ℕ, ◌-◌, ◌<◌, ◌≤◌, List, ◌++◌, length, Option, Some, None, Result, Ok, Err, sym, ap, subst, ◌∙◌, append_assoc, false}
+-- The frame of a message that is taken in place.
+use Rattle.std.proofs.Common.{◌≡◌, ℕ, ◌-◌, ◌≤◌, List, [], ◌∷◌, ◌++◌, length, take, drop, Option, Some, None, Result, Ok, Err, refl, sym, ap, subst, ◌∙◌, arith, true, false}
+use Rattle.std.specs.Prelude.{option_map}
+use Rattle.std.proofs.lemmas.List.{append-nil, length-append}
 use Rattle.pgp_base.specs.declared.error.Error.{Error}
 use Rattle.pgp_base.specs.declared.error.Error.TheVariants as errors
 use Rattle.pgp_message.specs.BackendMessage.{Message}
-use Rattle.pgp_message.specs.Stream.{BeginsWithKept, IsPartial, Step, TakesFrame, frame_bytes}
-use Rattle.pgp_message.proofs.FindLemmas.{begins_long, frames_begin, frames_left, frames_some}
-use Rattle.pgp_message.proofs.Fronts.{fault_stays}
-use Rattle.pgp_message.proofs.Runs.{no_ending}
-use Rattle.pgp_session.specs.Connection.{is_longer, longer}
-use Rattle.pgp_session.specs.Incoming.{AllFrames}
-use Rattle.pgp_session.proofs.Pieces.{header_of_more}
+use Rattle.pgp_message.specs.Reading.{body_of}
+use Rattle.pgp_message.specs.Stream.{Frame, IsLengthFault, IsPartial, Step, TakesFrame, frame_bytes}
+use Rattle.pgp_message.specs.Views.{parsed, view}
+use Rattle.pgp_message.specs.declared.message as code
+use Rattle.pgp_message.proofs.Bodies.{one_body}
+use Rattle.pgp_message.proofs.Runs.{front_is_one, length-frame, no_ending}
+use Rattle.pgp_session.specs.Incoming.{HasFrame, Reads}
 
-frame_before : (old new more : List ℕ) (r : Result Message Error) → TakesFrame old r new → TakesFrame (old ++ more) r (new ++ more)
-frame_before old new more r t = record {
-  first = t.first;
-  whole = ap (λ l. l ++ more) t.whole ∙ append_assoc (frame_bytes t.first) new more;
-  fits = t.fits;
-  body = t.body;
-}
+take_front : (xs ys : List ℕ) → take (length xs) (xs ++ ys) ≡ xs
+take_front [] ys = refl
+take_front (x ∷ xs) ys = ap (λ l. x ∷ l) (take_front xs ys)
 
-kept_before : (old more : List ℕ) → BeginsWithKept old → BeginsWithKept (old ++ more)
-kept_before old more b = record {
-  first = b.first;
-  rest = b.rest ++ more;
-  whole = ap (λ l. l ++ more) b.whole ∙ append_assoc (frame_bytes b.first) b.rest more;
-  fits = b.fits;
-  keeps = b.keeps;
-}
+drop_front : (xs ys : List ℕ) → drop (length xs) (xs ++ ys) ≡ ys
+drop_front [] ys = refl
+drop_front (x ∷ xs) ys = drop_front xs ys
 
--- a step along the frames is one along all of the bytes
-pub step_before : (lacks : Type 0) (old new more : List ℕ) (r : Result (Option Message) Error) → AllFrames old → 0 < length old → Step lacks old r new → Step lacks (old ++ more) r (new ++ more)
-step_before lacks old new more (Ok None) all some s =
-    let b = frames_begin old all.0 all.1 (frames_some old all.0 all.1 some) in
-    absurd (no_ending b.first b.rest false b.fits (subst IsPartial b.whole s.0))
-step_before lacks old new more (Ok (Some m)) all some s = frame_before old new more (Ok m) s
-step_before lacks old new more (Err errors.InvalidLength) all some s = (fault_stays old more s.0, ap (λ l. l ++ more) s.1)
-step_before lacks old new more (Err errors.OutOfMemory) all some s = (kept_before old more s.0, s.1, ap (λ l. l ++ more) s.2)
-step_before lacks old new more (Err e) all some s = frame_before old new more (Err e) s
+before : (xs ys : List ℕ) → length (xs ++ ys) - length ys ≡ length xs
+before xs ys = omega (arith, length-append xs ys)
 
-left_same : (old new : List ℕ) → AllFrames old → new ≡ old → AllFrames new
-left_same old new all same = subst AllFrames (sym same) all
+said_by : Result Message Error → Option Message
+said_by (Ok m) = Some m
+said_by (Err e) = None
 
-left_one : (old new : List ℕ) (r : Result Message Error) → AllFrames old → 0 < length old → TakesFrame old r new → AllFrames new
-left_one old new r all some t = (all.0 - 1, frames_left old new all.0 r all.1 (frames_some old all.0 all.1 some) t)
+is_no_error : (m : Message) (e : Error) → Ok m ≡ Err e → ⊥
+is_no_error m e same = cc
 
--- the frames that are left
-pub step_leaves : (lacks : Type 0) (old new : List ℕ) (r : Result (Option Message) Error) → AllFrames old → 0 < length old → Step lacks old r new → AllFrames new
-step_leaves lacks old new (Ok None) all some s = left_same old new all s.1
-step_leaves lacks old new (Ok (Some m)) all some s = left_one old new (Ok m) all some s
-step_leaves lacks old new (Err errors.InvalidLength) all some s = left_same old new all s.1
-step_leaves lacks old new (Err errors.OutOfMemory) all some s = left_same old new all s.2
-step_leaves lacks old new (Err e) all some s = left_one old new (Err e) all some s
+-- what stands before so many bytes at the end, and these
+pub front_taken : (all xs ys : List ℕ) → all ≡ xs ++ ys → take (length all - length ys) all ≡ xs
+front_taken all xs ys e = subst (λ l. take (length l - length ys) l ≡ xs) (sym e) (ap (λ n. take n (xs ++ ys)) (before xs ys) ∙ take_front xs ys)
 
--- the header of the first frame is that of all of the bytes
-pub longer_before : (limit : ℕ) (frames rest : List ℕ) → AllFrames frames → 0 < length frames → is_longer limit frames ≡ is_longer limit (frames ++ rest)
-longer_before limit frames rest all some =
-    let long : 5 ≤ length frames = begins_long frames (frames_begin frames all.0 all.1 (frames_some frames all.0 all.1 some)) in
-    ap (longer limit) (sym (header_of_more frames rest long))
+pub front_left : (all xs ys : List ℕ) → all ≡ xs ++ ys → drop (length all - length ys) all ≡ ys
+front_left all xs ys e = subst (λ l. drop (length l - length ys) l ≡ ys) (sym e) (ap (λ n. drop n (xs ++ ys)) (before xs ys) ∙ drop_front xs ys)
+
+-- the frame that is taken, and what is left behind it
+pub frame_there : (all rest : List ℕ) (m : Message) → TakesFrame all (Ok m) rest → Reads (take (length all - length rest) all) (Some m)
+frame_there all rest m t = record { first = t.first; whole = front_taken all (frame_bytes t.first) rest t.whole ∙ sym (append-nil (frame_bytes t.first)); fits = t.fits; body = t.body }
+
+pub rest_there : (all rest : List ℕ) (r : Result Message Error) → TakesFrame all r rest → drop (length all - length rest) all ≡ rest
+rest_there all rest r t = front_left all (frame_bytes t.first) rest t.whole
+
+pub rest_within : (all rest : List ℕ) (r : Result Message Error) → TakesFrame all r rest → length rest ≤ length all
+rest_within all rest r t = omega (arith, ap length t.whole, length-append (frame_bytes t.first) rest)
+
+-- ---- a frame that is read again
+
+-- one message, and nothing behind it
+one : (frame rest : List ℕ) (r : Result Message Error) (m : Message) → TakesFrame frame (Ok m) [] → TakesFrame frame r rest → (Ok m ≡ r) × ([] ≡ rest)
+one frame rest r m f t =
+    let same = front_is_one f.first t.first [] rest f.fits t.fits (sym f.whole ∙ t.whole) in
+    let read = sym (one_body f.first.tag f.first.payload (Ok m) f.fits.payload f.body) ∙ ap (λ (g : Frame). body_of g.tag g.payload) same.0 ∙ one_body t.first.tag t.first.payload r t.fits.payload t.body in
+    (read, same.1)
+
+none : (rest : List ℕ) (r : Result Message Error) → TakesFrame [] r rest → ⊥
+none rest r t = omega (arith, ap length t.whole, length-frame t.first rest)
+
+pub one_message : (frame : List ℕ) (a b : Option Message) → Reads frame a → Reads frame b → a ≡ b
+unfolding said_by
+one_message frame None None p q = refl
+one_message frame None (Some m) p q = absurd (none [] (Ok m) (subst (λ l. TakesFrame l (Ok m) []) p q))
+one_message frame (Some m) None p q = absurd (none [] (Ok m) (subst (λ l. TakesFrame l (Ok m) []) q p))
+one_message frame (Some m) (Some n) p q = ap said_by (one frame [] (Ok n) m p q).0
+
+taken_again : (frame rest : List ℕ) (m : Message) → HasFrame frame → TakesFrame frame (Ok m) rest → Reads frame (Some m)
+taken_again frame rest m (None, empty) t = absurd (none rest (Ok m) (subst (λ l. TakesFrame l (Ok m) rest) empty t))
+taken_again frame rest m (Some k, f) t = subst (λ l. TakesFrame frame (Ok m) l) (sym (one frame rest (Ok m) k f t).1) t
+
+-- where no message is read there are no bytes
+nothing : (frame : List ℕ) → HasFrame frame → ((m : Message) → TakesFrame frame (Ok m) [] → ⊥) → Reads frame None
+nothing frame (None, empty) not = empty
+nothing frame (Some m, f) not = absurd (not m f)
+
+pub read_again : {A : Type 0} (frame rest : List ℕ) (o : Option (code.Message.Message A)) → HasFrame frame → Step ⊥ frame (parsed (Ok o)) rest → Reads frame (option_map view o)
+read_again frame rest None has s = nothing frame has (λ m f. no_ending f.first [] false f.fits (subst IsPartial f.whole s.0))
+read_again frame rest (Some m) has s = taken_again frame rest (view m) has s
+
+other : (frame rest : List ℕ) (e : Error) → TakesFrame frame (Err e) rest → HasFrame frame → Reads frame None
+other frame rest e t has = nothing frame has (λ m f. is_no_error m e (one frame rest (Err e) m f t).0)
+
+pub not_read : (frame rest : List ℕ) (e : Error) → HasFrame frame → Step ⊥ frame (Err e) rest → Reads frame None
+not_read frame rest errors.InvalidLength has s = nothing frame has (λ m f. no_ending f.first [] true f.fits (subst IsLengthFault f.whole s.0))
+not_read frame rest errors.OutOfMemory has s = absurd s.1
+not_read frame rest e has s = other frame rest e s has

@@ -1,5 +1,5 @@
 -- What is known of a session that a pooler may lend.
-use Rattle.std.proofs.Common.{◌≡◌, ◌⊎◌, ℕ, Bool, List, [], ◌∷◌, ◌++◌, Option, None, Some, Ok, refl, sym, ap, ◌∙◌, false, true}
+use Rattle.std.proofs.Common.{◌≡◌, ◌⊎◌, ℕ, Bool, List, [], ◌∷◌, ◌++◌, Option, None, Ok, refl, sym, ap, ◌∙◌, false, true}
 use Rattle.pgp_client.specs.Kinds.{kind_of}
 use Rattle.pgp_client.specs.Taking.{is_idle, taken}
 use Rattle.pgp_client.specs.Talk.{Talk}

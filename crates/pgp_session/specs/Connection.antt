@@ -22,6 +22,8 @@ use Rattle.pgp_session.specs.Login.{Added, LoggedOn, Login, Unsent, Ways, asking
 use Rattle.pgp_session.specs.Login as login
 use Rattle.pgp_session.specs.Settings.{HasRoom, IsUnkept, Said, heard, most, nothing_said, setting_in}
 use Rattle.pgp_session.specs.declared.connection.Connection.{Connection as Kept}
+use Rattle.pgp_session.specs.Incoming.{Reads}
+use Rattle.pgp_session.specs.declared.connection_state.ConnectionState.{ConnectionState}
 use Rattle.pgp_session.specs.declared.connection.ConnectionPhase.{ConnectionPhase}
 use Rattle.pgp_session.specs.declared.connection.ConnectionPhase.TheVariants.{Opening, Encrypting, Started, Over}
 use Rattle.pgp_session.specs.declared.connection_error.ConnectionError.{ConnectionError}
@@ -227,6 +229,17 @@ module _ {A : Type 0} (lacks : Type 0) where
     Comes : (m : Message) (rest : List ℕ) {result : Result (Option (Event × Message)) (ConnectionError A)} → old.phase ≡ Started → is_longer old.limit old.incoming ≡ false
         → TakesFrame old.incoming (Ok m) rest → Hears m (with_incoming rest old) new result → Nexts old new result
 
+-- *private*: the answer for a message
+abbrev pub answered : {A : Type 0} → Message → Result Event (ConnectionError A) → Result (Option (Event × Message)) (ConnectionError A)
+answered m (Ok e) = Ok (Some (e, m))
+answered m (Err e) = Err e
+
+-- The same of a call that leaves the message to be read in place: this is its frame then, and at any other answer there is none.
+abbrev pub Advances : {A : Type 0} → Type 0 → Shown → Shown → List ℕ → Result (Option Event) (ConnectionError A) → Type 0
+Advances {A} lacks old new frame (Ok (Some e)) = (m : Message) × Reads frame (Some m) × Nexts {A = A} lacks old new (Ok (Some (e, m)))
+Advances {A} lacks old new frame (Ok None) = Reads frame None × Nexts {A = A} lacks old new (Ok None)
+Advances {A} lacks old new frame (Err e) = Reads frame None × Nexts {A = A} lacks old new (Err e)
+
 -- the call's answer, with the message as what it says
 abbrev pub nexted : {A : Type 0} {E : Type 0} → Result (Option (Event × code.Message.Message A)) E → Result (Option (Event × Message)) E
 nexted (Ok None) = Ok None
@@ -289,5 +302,13 @@ Cancels lacks c old new (Err e) = ⊥
 
 -- ---- the code's record
 
+-- *private*: what the messages of the server change, with all else as it is there
+abbrev pub in_state : {A : Type 0} → ConnectionState A → Shown → Shown
+in_state s c = record { phase = s.phase; login = seen s.login; out = s.out.items; incoming = c.incoming; talk = talk_of (λ q. q.items) s.dialogue; server = record { state = s.server; settings = s.settings.entries.items }; names = c.names; limit = c.limit }
+
 abbrev pub shown : {A : Type 0} → Kept A → Shown
-shown c = record { phase = c.phase; login = seen c.login; out = c.out.items; incoming = c.incoming; talk = talk_of (λ q. q.items) c.dialogue; server = record { state = c.server; settings = c.settings.entries.items }; names = c.names; limit = c.limit }
+shown c = record { phase = c.state.phase; login = seen c.state.login; out = c.state.out.items; incoming = c.incoming.rest; talk = talk_of (λ q. q.items) c.state.dialogue; server = record { state = c.state.server; settings = c.state.settings.entries.items }; names = c.names; limit = c.limit }
+
+-- the frame of the message that is read in place, or nothing
+abbrev pub current : {A : Type 0} → Kept A → List ℕ
+current c = c.incoming.current

@@ -1,7 +1,7 @@
 //! A client's connection, without input or output: what is to be sent, what came, the log-in, and to which request each of the server's
 //! messages belongs.
 
-ghost use Rattle.std.specs.Prelude.{◌≡◌, ◌≤◌, length, map, option_map};
+ghost use Rattle.std.specs.Prelude.{◌≡◌, ◌≤◌, length, map, option_map, None};
 ghost use Rattle.pgp_frontend.specs.ClientMessage.{SslRequest, Startup, Terminate};
 ghost use Rattle.pgp_frontend.specs.Given.{shown as shown_pair};
 ghost use Rattle.pgp_frontend.specs.Reading.{IsNamed};
@@ -10,22 +10,22 @@ ghost use Rattle.pgp_message.specs.Views.{view};
 ghost use Rattle.pgp_session.specs.Login.{given};
 ghost use Rattle.pgp_client.specs.Taking.{is_idle};
 ghost use Rattle.pgp_session.specs.Settings.{value_of};
-ghost use Rattle.pgp_session.specs.Connection.{Answers, Cancels, Feeds, Hears, Nexts, Sends, Starts, Takes, Writes, begun, can_send, dropped, is_logged_in, nexted, shown};
+ghost use Rattle.pgp_session.specs.Incoming.{Reads};
+ghost use Rattle.pgp_session.specs.Connection.{Advances, Answers, Cancels, Feeds, Nexts, Sends, Starts, Writes, begun, can_send, current, dropped, is_logged_in, nexted, shown};
 
 use crate::connection_error::ConnectionError;
-use crate::connection_parts::{encrypts, is_bulk, is_end, may_send, next_name, put_startup};
+use crate::connection_parts::{encrypts, may_send, next_name, put_startup};
+use crate::connection_state::ConnectionState;
 use crate::incoming::Incoming;
-use crate::login::{Login, Ways, put};
+use crate::login::{Ways, put};
 use crate::scram_login::LoginPhase;
-use crate::server_state::{BackendKey, ServerState};
-use crate::settings::{SETTINGS_MOST, Settings};
+use crate::server_state::BackendKey;
 use bytes::{Buf, Bytes, BytesMut};
 use pgp_base::{Error, Memory};
-use pgp_client::{Asked, Dialogue, Event, Request};
+use pgp_client::{Event, Request};
 use pgp_frontend_read::ClientMessage;
-use pgp_message::Message;
+use pgp_message::{Message, Messages};
 use std::alloc::Global;
-use std::collections::VecDeque;
 
 /// How far a connection is.
 #[derive(Debug, Clone, Copy, PartialEq, Eq)]
@@ -43,13 +43,8 @@ pub enum ConnectionPhase {
 /// A client's connection.
 #[derive(Drop)]
 pub struct Connection<'a, A: Memory = Global> {
-    pub(crate) phase: ConnectionPhase,
-    pub(crate) login: Login<'a, A>,
-    pub(crate) out: BytesMut<A>,
+    pub(crate) state: ConnectionState<'a, A>,
     incoming: Incoming<A>,
-    pub(crate) dialogue: Dialogue<VecDeque<Asked, A>>,
-    pub(crate) server: ServerState,
-    pub(crate) settings: Settings<A>,
     pub(crate) names: u64,
     limit: u32,
 }
@@ -60,17 +55,8 @@ impl<'a, A: Memory> Connection<'a, A> {
         ensures { shown result ≡ begun (given ways.entry) limit }
     {
         Connection {
-            phase: ConnectionPhase::Opening,
-            login: Login {
-                phase: LoginPhase::AwaitsOffer,
-                ways,
-                alloc,
-            },
-            out: BytesMut::new(alloc),
+            state: ConnectionState::new(alloc, ways),
             incoming: Incoming::new(alloc),
-            dialogue: Dialogue::new(alloc),
-            server: ServerState::new(),
-            settings: Settings::new(alloc),
             names: 0,
             limit,
         }
@@ -85,13 +71,13 @@ impl<'a, A: Memory> Connection<'a, A> {
     pub fn request_encryption(&mut self) -> Result<(), ConnectionError<A>>
         ensures { Writes A.Lacks ConnectionPhase.Opening ConnectionPhase.Encrypting SslRequest (shown self.old) (shown self.new) result }
     {
-        if self.phase != ConnectionPhase::Opening {
+        if self.state.phase != ConnectionPhase::Opening {
             return Err(ConnectionError::OutOfPhase);
         }
-        if let Err(e) = put(&ClientMessage::SslRequest, &mut self.out) {
+        if let Err(e) = put(&ClientMessage::SslRequest, &mut self.state.out) {
             return Err(ConnectionError::Unwritten(e));
         }
-        self.phase = ConnectionPhase::Encrypting;
+        self.state.phase = ConnectionPhase::Encrypting;
         Ok(())
     }
 
@@ -105,17 +91,17 @@ impl<'a, A: Memory> Connection<'a, A> {
     pub fn encryption_answered(&mut self, piece: &[u8]) -> Result<Option<bool>, ConnectionError<A>>
         ensures { Answers piece.now (shown self.old) (shown self.new) result }
     {
-        if self.phase != ConnectionPhase::Encrypting {
+        if self.state.phase != ConnectionPhase::Encrypting {
             return Err(ConnectionError::OutOfPhase);
         }
         if piece.is_empty() {
             return Ok(None);
         }
         let Some(encrypts) = encrypts(piece) else {
-            self.phase = ConnectionPhase::Over;
+            self.state.phase = ConnectionPhase::Over;
             return Err(ConnectionError::BadAnswer);
         };
-        self.phase = ConnectionPhase::Opening;
+        self.state.phase = ConnectionPhase::Opening;
         Ok(Some(encrypts))
     }
 
@@ -131,20 +117,20 @@ impl<'a, A: Memory> Connection<'a, A> {
         requires { IsNamed (Startup 0 (map shown_pair parameters.now)) }
         ensures { Starts A.Lacks (Startup 0 (map shown_pair parameters.now)) (shown self.old) (shown self.new) result }
     {
-        if self.phase != ConnectionPhase::Opening {
+        if self.state.phase != ConnectionPhase::Opening {
             return Err(ConnectionError::OutOfPhase);
         }
-        let start = self.out.len();
-        if let Err(e) = put_startup(self.login.alloc, parameters, &mut self.out) {
+        let start = self.state.out.len();
+        if let Err(e) = put_startup(self.state.login.alloc, parameters, &mut self.state.out) {
             return Err(ConnectionError::Unwritten(e));
         }
         let name = self.names;
-        if self.dialogue.ask(Request::Startup, name).is_err() {
-            self.out.truncate(start);
+        if self.state.dialogue.ask(Request::Startup, name).is_err() {
+            self.state.out.truncate(start);
             return Err(ConnectionError::OutOfMemory);
         }
         self.names = next_name(name);
-        self.phase = ConnectionPhase::Started;
+        self.state.phase = ConnectionPhase::Started;
         Ok(name)
     }
 
@@ -156,13 +142,13 @@ impl<'a, A: Memory> Connection<'a, A> {
     pub fn terminate(&mut self) -> Result<(), ConnectionError<A>>
         ensures { Writes A.Lacks ConnectionPhase.Started ConnectionPhase.Over Terminate (shown self.old) (shown self.new) result }
     {
-        if self.phase != ConnectionPhase::Started {
+        if self.state.phase != ConnectionPhase::Started {
             return Err(ConnectionError::OutOfPhase);
         }
-        if let Err(e) = put(&ClientMessage::Terminate, &mut self.out) {
+        if let Err(e) = put(&ClientMessage::Terminate, &mut self.state.out) {
             return Err(ConnectionError::Unwritten(e));
         }
-        self.phase = ConnectionPhase::Over;
+        self.state.phase = ConnectionPhase::Over;
         Ok(())
     }
 
@@ -170,8 +156,8 @@ impl<'a, A: Memory> Connection<'a, A> {
     pub fn is_logged_in(&self) -> bool
         ensures { result ≡ is_logged_in (shown self.now) }
     {
-        match self.phase {
-            ConnectionPhase::Started => self.login.phase == LoginPhase::Done,
+        match self.state.phase {
+            ConnectionPhase::Started => self.state.login.phase == LoginPhase::Done,
             _ => false,
         }
     }
@@ -180,7 +166,7 @@ impl<'a, A: Memory> Connection<'a, A> {
     pub fn to_send(&self) -> &[u8]
         ensures { result.now ≡ (shown self.now).out }
     {
-        self.out.as_slice()
+        self.state.out.as_slice()
     }
 
     /// Takes note that the first bytes to send, so many, were sent.
@@ -188,7 +174,7 @@ impl<'a, A: Memory> Connection<'a, A> {
         requires { count ≤ length (shown self.old).out }
         ensures { shown self.new ≡ dropped count (shown self.old) }
     {
-        self.out.advance(count);
+        self.state.out.advance(count);
     }
 
     /// Sends a message, and returns the name by which the events of its answer tell it.
@@ -207,14 +193,14 @@ impl<'a, A: Memory> Connection<'a, A> {
         if !self.can_send(message) {
             return Err(ConnectionError::OutOfPhase);
         }
-        let start = self.out.len();
-        if let Err(e) = put(message, &mut self.out) {
+        let start = self.state.out.len();
+        if let Err(e) = put(message, &mut self.state.out) {
             return Err(ConnectionError::Unwritten(e));
         }
         let name = self.names;
         if let Some(request) = Request::of(message) {
-            if self.dialogue.ask(request, name).is_err() {
-                self.out.truncate(start);
+            if self.state.dialogue.ask(request, name).is_err() {
+                self.state.out.truncate(start);
                 return Err(ConnectionError::OutOfMemory);
             }
         }
@@ -226,10 +212,10 @@ impl<'a, A: Memory> Connection<'a, A> {
     fn can_send(&self, message: &ClientMessage<'_>) -> bool
         ensures { result ≡ can_send (shown self.now) (sent_view message.now) }
     {
-        self.is_logged_in() && may_send(message, self.dialogue.is_copying())
+        self.is_logged_in() && may_send(message, self.state.dialogue.is_copying())
     }
 
-    /// Takes bytes that the server sent. `next` gives the messages among them.
+    /// Takes bytes that the server sent. `advance` and `next` give the messages among them.
     ///
     /// # Errors
     ///
@@ -237,7 +223,7 @@ impl<'a, A: Memory> Connection<'a, A> {
     pub fn feed(&mut self, piece: &[u8]) -> Result<(), ConnectionError<A>>
         ensures { Feeds A.Lacks piece.now (shown self.old) (shown self.new) result }
     {
-        if self.phase != ConnectionPhase::Started {
+        if self.state.phase != ConnectionPhase::Started {
             return Err(ConnectionError::OutOfPhase);
         }
         match self.incoming.append(piece) {
@@ -246,8 +232,64 @@ impl<'a, A: Memory> Connection<'a, A> {
         }
     }
 
-    /// Takes the server's next message, and says to which request it belongs; `None` where no message is complete. In the log-in the reply is
-    /// added to what is to be sent.
+    /// Takes the server's next message, and says to which request it belongs; `None` where no message is complete. `message` has the message
+    /// then, in place, for which no memory is asked. In the log-in the reply is added to what is to be sent.
+    ///
+    /// # Errors
+    ///
+    /// Those of `next`.
+    // The hints here and below carry the speed of rows: else each goes through memory at each return.
+    #[inline(always)]
+    pub fn advance(&mut self) -> Result<Option<Event>, ConnectionError<A>>
+        ensures { Advances A.Lacks (shown self.old) (shown self.new) (current self.new) result }
+    {
+        self.incoming.pass();
+        if self.state.phase != ConnectionPhase::Started {
+            return Err(ConnectionError::OutOfPhase);
+        }
+        if self.incoming.is_too_long(self.limit) {
+            self.state.phase = ConnectionPhase::Over;
+            return Err(ConnectionError::TooLong);
+        }
+        let mut messages = Messages::new(self.incoming.rest());
+        match messages.next() {
+            Ok(None) => Ok(None),
+            Ok(Some(message)) => {
+                let heard = self.state.hear(&message);
+                drop(message);
+                let left = messages.rest().len();
+                match heard {
+                    Ok(event) => {
+                        self.incoming.take(left);
+                        Ok(Some(event))
+                    }
+                    Err(e) => {
+                        self.incoming.leave(left);
+                        Err(e)
+                    }
+                }
+            }
+            Err(e) => {
+                let left = messages.rest().len();
+                self.incoming.leave(left);
+                self.state.phase = ConnectionPhase::Over;
+                Err(ConnectionError::Malformed(e))
+            }
+        }
+    }
+
+    /// The message that the last call of `advance` took, in place; `None` where it took none, and once `next` was called or `feed` took bytes.
+    #[inline(always)]
+    pub fn message(&self) -> Option<Message<&[u8]>>
+        ensures { Reads (current self.now) (option_map view result) }
+    {
+        match Messages::new(self.incoming.current()).next() {
+            Ok(message) => message,
+            Err(_) => None,
+        }
+    }
+
+    /// Takes the server's next message, as `advance` does, and hands it out: it shares the bytes that it keeps.
     ///
     /// # Errors
     ///
@@ -260,68 +302,31 @@ impl<'a, A: Memory> Connection<'a, A> {
     /// - `Unkept` if the message reports a setting that can't be kept.
     /// - `Undue`, `NotAdmitted`, `NotOffered`, `Scram` and `Unwritten` in the log-in.
     pub fn next(&mut self) -> Result<Option<(Event, Message<Bytes<A>>)>, ConnectionError<A>>
-        ensures { Nexts A.Lacks (shown self.old) (shown self.new) (nexted result) }
+        ensures next { Nexts A.Lacks (shown self.old) (shown self.new) (nexted result) }
+        ensures none { Reads (current self.new) None }
     {
-        if self.phase != ConnectionPhase::Started {
+        self.incoming.pass();
+        if self.state.phase != ConnectionPhase::Started {
             return Err(ConnectionError::OutOfPhase);
         }
         if self.incoming.is_too_long(self.limit) {
-            self.phase = ConnectionPhase::Over;
+            self.state.phase = ConnectionPhase::Over;
             return Err(ConnectionError::TooLong);
         }
         match self.incoming.parse() {
             Ok(None) => Ok(None),
-            Ok(Some(message)) => self.hear(message),
+            Ok(Some(message)) => match self.state.hear(&message) {
+                Ok(event) => Ok(Some((event, message))),
+                Err(e) => {
+                    drop(message);
+                    Err(e)
+                }
+            },
             Err(Error::OutOfMemory) => Err(ConnectionError::OutOfMemory),
             Err(e) => {
-                self.phase = ConnectionPhase::Over;
+                self.state.phase = ConnectionPhase::Over;
                 Err(ConnectionError::Malformed(e))
             }
-        }
-    }
-
-    /// What a message comes to.
-    #[inline(always)]
-    fn hear(
-        &mut self,
-        message: Message<Bytes<A>>,
-    ) -> Result<Option<(Event, Message<Bytes<A>>)>, ConnectionError<A>>
-        ensures { Hears A.Lacks (view message) (shown self.old) (shown self.new) (nexted result) }
-    {
-        match self.take(&message) {
-            Ok(event) => Ok(Some((event, message))),
-            Err(e) => {
-                drop(message);
-                self.phase = ConnectionPhase::Over;
-                Err(e)
-            }
-        }
-    }
-
-    /// To which request a message belongs, and what it comes to in the log-in.
-    #[inline(always)]
-    fn take(&mut self, message: &Message<Bytes<A>>) -> Result<Event, ConnectionError<A>>
-        ensures { Takes A.Lacks (view message.now) (shown self.old) (shown self.new) result }
-    {
-        let event = match self.dialogue.take_message(message) {
-            Ok(event) => event,
-            Err(e) => return Err(ConnectionError::Misplaced(e)),
-        };
-        if is_bulk(message, event) {
-            return Ok(event);
-        }
-        match self.settings.keep(self.login.alloc, SETTINGS_MOST, message) {
-            Ok(()) => {}
-            Err(e) => return Err(ConnectionError::Unkept(e)),
-        }
-        self.server.note(message);
-        if is_end(event) {
-            self.phase = ConnectionPhase::Over;
-            return Ok(event);
-        }
-        match self.login.hear(message, &mut self.out) {
-            Ok(()) => Ok(event),
-            Err(e) => Err(e),
         }
     }
 
@@ -329,21 +334,21 @@ impl<'a, A: Memory> Connection<'a, A> {
     pub fn is_idle(&self) -> bool
         ensures { result ≡ is_idle (shown self.now).talk }
     {
-        self.dialogue.is_idle()
+        self.state.dialogue.is_idle()
     }
 
     /// The status of the last ReadyForQuery: `I` (no transaction), `T` (in a transaction) or `E` (in a failed one); `None` before the first.
     pub fn status(&self) -> Option<u8>
         ensures { result ≡ (shown self.now).server.state.status }
     {
-        self.server.status
+        self.state.server.status
     }
 
     /// The key by which another connection cancels this session's query; `None` where the server sent none.
     pub fn backend_key(&self) -> Option<BackendKey>
         ensures { result ≡ (shown self.now).server.state.key }
     {
-        self.server.key
+        self.state.server.key
     }
 
     /// The value that the server last reported under this name, as `TimeZone` or `server_version`; `None` where it reported none. Names are
@@ -351,7 +356,7 @@ impl<'a, A: Memory> Connection<'a, A> {
     pub fn setting(&self, name: &[u8]) -> Option<&[u8]>
         ensures { option_map (λ value. value.now) result ≡ value_of name.now (shown self.now).server.settings }
     {
-        self.settings.get(name)
+        self.state.settings.get(name)
     }
 
     /// Appends the request to cancel this session's query, which is sent as the only message of another connection.
@@ -362,7 +367,7 @@ impl<'a, A: Memory> Connection<'a, A> {
     pub fn cancel_request(&self, out: &mut BytesMut<A>) -> Result<(), ConnectionError<A>>
         ensures { Cancels A.Lacks (shown self.now) out.old.items out.new.items result }
     {
-        let Some(key) = self.server.key else {
+        let Some(key) = self.state.server.key else {
             return Err(ConnectionError::OutOfPhase);
         };
         let request = ClientMessage::CancelRequest {

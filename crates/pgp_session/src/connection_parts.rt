@@ -11,11 +11,11 @@ ghost use Rattle.pgp_message.specs.Views.{view};
 ghost use Rattle.pgp_session.specs.Connection.{is_bulk, is_end, is_part, is_longer, letter, may_send, next_name};
 
 use crate::client_stream::ClientStream;
-use bytes::{Bytes, BytesMut};
+use bytes::BytesMut;
 use pgp_base::{Error, Memory};
 use pgp_client::Event;
 use pgp_frontend_read::ClientMessage;
-use pgp_message::Message;
+use pgp_message::{Message, Storage};
 
 /// Whether it ends the session.
 pub(crate) fn is_end(event: Event) -> bool
@@ -40,7 +40,7 @@ fn is_part(event: Event) -> bool
 
 /// Whether the message is a row or data of a copy, and a part of an answer: then it comes to nothing else.
 #[inline(always)]
-pub(crate) fn is_bulk<A: Memory>(message: &Message<Bytes<A>>, event: Event) -> bool
+pub(crate) fn is_bulk<S: Storage>(message: &Message<S>, event: Event) -> bool
     ensures { result ≡ is_bulk (view message.now) event }
 {
     match message {

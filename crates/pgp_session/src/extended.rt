@@ -42,8 +42,8 @@ impl<'a, A: Memory> Connection<'a, A> {
         if !self.is_logged_in() {
             return Err(ConnectionError::OutOfPhase);
         }
-        let start = self.out.len();
-        match frontend::parse(name, query, param_types, &mut self.out) {
+        let start = self.state.out.len();
+        match frontend::parse(name, query, param_types, &mut self.state.out) {
             Ok(()) => self.asked(start, Request::Parse),
             Err(e) => Err(ConnectionError::Unwritten(e)),
         }
@@ -100,16 +100,16 @@ impl<'a, A: Memory> Connection<'a, A> {
         if !self.is_logged_in() {
             return Err(BindSendError::OutOfPhase);
         }
-        let start = self.out.len();
+        let start = self.state.out.len();
         match put_bind(
-            self.login.alloc,
+            self.state.login.alloc,
             portal,
             statement,
             formats,
             values,
             serializer,
             result_formats,
-            &mut self.out,
+            &mut self.state.out,
         ) {
             Ok(()) => match self.noted(start, Request::Bind) {
                 Some(name) => Ok(name),
@@ -134,8 +134,8 @@ impl<'a, A: Memory> Connection<'a, A> {
         ensures { Noted A.Lacks start request (shown self.old) (shown self.new) result }
     {
         let name = self.names;
-        if self.dialogue.ask(request, name).is_err() {
-            self.out.truncate(start);
+        if self.state.dialogue.ask(request, name).is_err() {
+            self.state.out.truncate(start);
             return None;
         }
         self.names = next_name(name);

@@ -7,6 +7,7 @@ ghost use Rattle.pgp_frontend.specs.Reading.{IsNamed};
 ghost use Rattle.pgp_message.specs.BackendMessage.{Message as Observed};
 ghost use Rattle.pgp_message.specs.Stream.{TakesFrame};
 ghost use Rattle.pgp_session.specs.Connection.{HasStarted, Sent, Shown, Took, Wrote, begun, dropped, fed, in_phase, with_incoming};
+ghost use Rattle.pgp_session.specs.Incoming.{Reads};
 ghost use Rattle.pgp_session.specs.Login.{Ways as Admitting};
 ghost use Rattle.pgp_session.specs.Session.{Follows, History, Known, and_fed, and_observed, and_sent, and_wrote, nothing};
 ghost use Rattle.pgp_session.specs.declared.connection.ConnectionPhase.TheVariants.{Opening, Encrypting, Started, Over};
@@ -40,3 +41,8 @@ pub fn sessions_follow()
 {
     pgp_client::laws::only_answers_are_taken();
 }
+
+/// A message that is read in place is the one that `advance` took: of one frame there is one message.
+pub fn one_message_in_place()
+    ensures { (frame : List ℕ) (first second : Option Observed) → Reads frame first → Reads frame second → first ≡ second }
+{}

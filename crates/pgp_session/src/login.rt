@@ -9,8 +9,8 @@ ghost use Rattle.pgp_session.specs.ScramLogin.{initial};
 ghost use Rattle.pgp_session.specs.Login.{AnswersFirst, AsksCleartext, AsksMd5, AsksSasl, Hears, Puts, RepliesFirst, Begins, VerifiesFinal, Welcomes, asking, given, is_due, seen, reported};
 
 use crate::connection_error::ConnectionError;
-use crate::scram_login::{LoginPhase, offers};
-use bytes::{Bytes, BytesMut};
+use crate::scram_login::{LoginPhase, SaslStorage, offers};
+use bytes::BytesMut;
 use pgp_auth::authentication::md5_hash;
 use pgp_auth::authentication::sasl::{SCRAM_SHA_256, ScramError, ScramSha256};
 use pgp_base::{Error, Memory};
@@ -41,9 +41,9 @@ pub(crate) struct Login<'a, A: Memory> {
 
 impl<'a, A: Memory> Login<'a, A> {
     /// Takes a message of the server, and appends the reply if there is one. On error nothing is appended, and the log-in has failed.
-    pub(crate) fn hear(
+    pub(crate) fn hear<S: SaslStorage>(
         &mut self,
-        message: &Message<Bytes<A>>,
+        message: &Message<S>,
         out: &mut BytesMut<A>,
     ) -> Result<(), ConnectionError<A>>
         ensures observed { Hears A.Lacks (asking (view message.now)) (seen self.old) (seen self.new) out.old.items out.new.items result }
@@ -96,9 +96,9 @@ impl<'a, A: Memory> Login<'a, A> {
     }
 
     /// The server's mechanisms came: the exchange's first text is sent.
-    fn begin(
+    fn begin<S: SaslStorage>(
         &mut self,
-        body: &AuthenticationSaslBody<Bytes<A>>,
+        body: &AuthenticationSaslBody<S>,
         out: &mut BytesMut<A>,
     ) -> Result<(), ConnectionError<A>>
         ensures observed { AsksSasl A.Lacks (given self.old.ways).scram body.now (seen self.old) (seen self.new) out.old.items out.new.items result }
@@ -166,12 +166,12 @@ impl<'a, A: Memory> Login<'a, A> {
 
 /// What a message asks of a client that logs in.
 #[derive(Drop)]
-enum Asking<'m, A: Memory> {
+enum Asking<'m, S: SaslStorage> {
     /// It is none of the log-in's.
     Nothing,
     Cleartext,
     Md5([u8; 4]),
-    Sasl(&'m AuthenticationSaslBody<Bytes<A>>),
+    Sasl(&'m AuthenticationSaslBody<S>),
     First(&'m [u8]),
     Final(&'m [u8]),
     Welcome,
@@ -180,7 +180,7 @@ enum Asking<'m, A: Memory> {
 }
 
 /// What the message asks.
-fn asked_by<'m, A: Memory>(message: &'m Message<Bytes<A>>) -> Asking<'m, A>
+fn asked_by<'m, S: SaslStorage>(message: &'m Message<S>) -> Asking<'m, S>
     ensures { reported result ≡ asking (view message.now) }
 {
     match message {
@@ -188,8 +188,8 @@ fn asked_by<'m, A: Memory>(message: &'m Message<Bytes<A>>) -> Asking<'m, A>
         Message::AuthenticationCleartextPassword => Asking::Cleartext,
         Message::AuthenticationMd5Password(body) => Asking::Md5(body.salt()),
         Message::AuthenticationSasl(body) => Asking::Sasl(body),
-        Message::AuthenticationSaslContinue(body) => Asking::First(body.data()),
-        Message::AuthenticationSaslFinal(body) => Asking::Final(body.data()),
+        Message::AuthenticationSaslContinue(body) => Asking::First(S::challenge(body)),
+        Message::AuthenticationSaslFinal(body) => Asking::Final(S::outcome(body)),
         Message::AuthenticationKerberosV5
         | Message::AuthenticationScmCredential
         | Message::AuthenticationGss
@@ -200,7 +200,7 @@ fn asked_by<'m, A: Memory>(message: &'m Message<Bytes<A>>) -> Asking<'m, A>
 }
 
 /// Whether it is due in the phase.
-fn is_due<A: Memory>(phase: LoginPhase, asked: &Asking<'_, A>) -> bool
+fn is_due<S: SaslStorage>(phase: LoginPhase, asked: &Asking<'_, S>) -> bool
     ensures { result ≡ is_due phase (reported asked.now) }
 {
     match asked {

@@ -4,9 +4,8 @@ ghost use Rattle.std.specs.Prelude.{◌≡◌};
 ghost use Rattle.pgp_message.specs.Views.{view};
 ghost use Rattle.pgp_session.specs.ServerState.{key, keyed, newer, noted, status, unsaid};
 
-use bytes::Bytes;
+use crate::session_storage::SessionStorage;
 use pgp_message::{BackendKeyDataBody, Message};
-use std::alloc::Allocator;
 
 /// The key by which another connection cancels this session's query.
 #[derive(Debug, Clone, Copy, PartialEq, Eq)]
@@ -38,7 +37,7 @@ impl ServerState {
     }
 
     /// Takes note of a message.
-    pub(crate) fn note<A: Allocator>(&mut self, message: &Message<Bytes<A>>)
+    pub(crate) fn note<S: SessionStorage>(&mut self, message: &Message<S>)
         ensures { self.new ≡ noted (view message.now) self.old }
     {
         match message {
@@ -59,10 +58,10 @@ impl ServerState {
 }
 
 /// The key that a message has.
-fn key_of<A: Allocator>(body: &BackendKeyDataBody<Bytes<A>>) -> Option<BackendKey>
+fn key_of<S: SessionStorage>(body: &BackendKeyDataBody<S>) -> Option<BackendKey>
     ensures { result ≡ keyed body.now.process_id body.now.secret_key }
 {
-    match body.secret_key_bytes() {
+    match S::secret_key(body) {
         [a, b, c, d] => Some(BackendKey {
             process_id: body.process_id(),
             secret_key: [*a, *b, *c, *d],

@@ -7,7 +7,7 @@ ghost use Rattle.pgp_base.specs.Cause.{WantsMemory};
 ghost use Rattle.pgp_message.specs.Views.{view};
 ghost use Rattle.pgp_session.specs.Settings.{IsPlace, Keeps, StandsAt, room_beside, setting_in, size, value_of};
 
-use bytes::Bytes;
+use crate::session_storage::SessionStorage;
 use pgp_base::{Error, Memory};
 use pgp_message::Message;
 use std::alloc::Allocator;
@@ -101,17 +101,17 @@ impl<A: Memory> Settings<A> {
     /// # Errors
     ///
     /// On error nothing changes. `TooLarge` past the limit; `OutOfMemory`.
-    pub(crate) fn keep(
+    pub(crate) fn keep<S: SessionStorage>(
         &mut self,
         alloc: A,
         limit: usize,
-        message: &Message<Bytes<A>>,
+        message: &Message<S>,
     ) -> Result<(), Error>
         ensures { Keeps A.Lacks limit (setting_in (view message.now)) self.old.entries.items self.new.entries.items result }
     {
         match message {
             Message::ParameterStatus(body) => {
-                self.put(alloc, limit, body.name_bytes(), body.value_bytes())
+                self.put(alloc, limit, S::name(body), S::value(body))
             }
             _ => Ok(()),
         }

@@ -2,8 +2,8 @@
 
 use crate::checks::{holds, same};
 use crate::connections::{
-    LOGGED, LOGIN, ROUNDS, are_next, event_again, fed_again, is_repeated, open, outcome_of, start,
-    turn_of, unopened,
+    LOGGED, LOGIN, ROUNDS, are_next, event_again, event_in_place, fed_again, is_repeated, open,
+    outcome_of, start, turn_of, unopened,
 };
 use crate::turns::{DONE, Tried, Turn, WRONG, refused};
 use bytes::BytesMut;
@@ -142,6 +142,51 @@ impl Tried for Fed {
 #[test]
 fn bytes_with_each_allocation_refused(rt: HostRuntime) {
     holds(&rt, refused(&rt, rt.alloc(), &Fed, Ok(DONE)) > 3);
+}
+
+/// A log-in without a password and notices, which came before, taken in place.
+struct InPlace;
+
+impl InPlace {
+    fn end<A: Allocator + Copy>(&self, connection: &mut Connection<'_, A>) -> Result<usize, Error> {
+        for event in &LOGGED {
+            if event_in_place(connection)? != Some(*event) {
+                return Ok(WRONG);
+            }
+        }
+        for _ in 0..ROUNDS {
+            if event_in_place(connection)? != Some(Event::Aside) {
+                return Ok(WRONG);
+            }
+        }
+        match event_in_place(connection)? {
+            None => Ok(DONE),
+            Some(_) => Ok(WRONG),
+        }
+    }
+}
+
+impl Tried for InPlace {
+    fn outcome<A: Allocator + Copy>(&self, alloc: A, turn: Turn<'_>) -> Result<usize, Error> {
+        let mut connection = unopened(alloc);
+        let mut again = 0u64;
+        if !start(&mut connection) || !fed_again(&mut connection, LOGIN, &mut again) {
+            return Ok(WRONG);
+        }
+        for _ in 0..ROUNDS {
+            if !fed_again(&mut connection, NOTICE, &mut again) {
+                return Ok(WRONG);
+            }
+        }
+        turn.begin();
+        self.end(&mut connection)
+    }
+}
+
+/// Messages that are read in place ask for no memory.
+#[test]
+fn messages_in_place_with_each_allocation_refused(rt: HostRuntime) {
+    same(&rt, refused(&rt, rt.alloc(), &InPlace, Ok(DONE)), 0);
 }
 
 /// The end of a session, and a request to cancel its query, after so many Flush.

@@ -46,6 +46,21 @@ pub(crate) fn next_event<A: Allocator + Copy>(
     }
 }
 
+/// The event of the next message, which is read in place and has to be there then.
+pub(crate) fn event_in_place<A: Allocator + Copy>(
+    connection: &mut Connection<'_, A>,
+) -> Result<Option<Event>, Error> {
+    let event = outcome_of(connection.advance())?;
+    match connection.message() {
+        Some(message) => {
+            drop(message);
+            Ok(event)
+        }
+        None if event.is_none() => Ok(None),
+        None => Err(Error::InvalidLength),
+    }
+}
+
 /// The event of the next message, which is asked for once more where memory is refused; that is counted. `None` where none came.
 pub(crate) fn event_again<A: Allocator + Copy>(
     connection: &mut Connection<'_, A>,

@@ -20,7 +20,7 @@ pub(crate) const ADMITTED: [(&[u8], Event); 4] = [
 ];
 
 /// The answers to a Query of one row, to one that fails, and to a Parse that fails with a Bind and a Sync after it: the requests 1 to 5.
-const ANSWERED: [(&[u8], Event); 9] = [
+pub(crate) const ANSWERED: [(&[u8], Event); 9] = [
     (
         b"T\0\0\0\x1a\0\x01a\0\0\0\0\0\0\0\0\0\0\x17\0\x04\xff\xff\xff\xff\0\0",
         Event::Part(1),
@@ -36,23 +36,24 @@ const ANSWERED: [(&[u8], Event); 9] = [
 ];
 
 /// The server's messages of the exchange that the tests of the Rust crate have: a client without a user's name, as PostgreSQL's are.
-const OFFER: &[u8] = b"R\0\0\0\x2a\0\0\0\x0aSCRAM-SHA-256-PLUS\0SCRAM-SHA-256\0\0";
+pub(crate) const OFFER: &[u8] = b"R\0\0\0\x2a\0\0\0\x0aSCRAM-SHA-256-PLUS\0SCRAM-SHA-256\0\0";
 
-const FIRST: &[u8] =
+pub(crate) const FIRST: &[u8] =
     b"R\0\0\0\x54\0\0\0\x0br=9IZ2O01zb9IgiIZ1WJ/zgpJBjx/oIRLs02gGSHcw1KEty3eY,s=fs3IXBy7U7+IvVjZ,i=4096";
 
-const FINAL: &[u8] = b"R\0\0\0\x36\0\0\0\x0cv=U+ppxD5XUKtradnv8e2MkeupiA8FU87Sg8CXzXHDAzw=";
+pub(crate) const FINAL: &[u8] =
+    b"R\0\0\0\x36\0\0\0\x0cv=U+ppxD5XUKtradnv8e2MkeupiA8FU87Sg8CXzXHDAzw=";
 
-const WELCOME: &[u8] = b"R\0\0\0\x08\0\0\0\0";
+pub(crate) const WELCOME: &[u8] = b"R\0\0\0\x08\0\0\0\0";
 
-const READY: &[u8] = b"Z\0\0\0\x05I";
+pub(crate) const READY: &[u8] = b"Z\0\0\0\x05I";
 
 const CLEARTEXT: &[u8] = b"R\0\0\0\x08\0\0\0\x03";
 
 const MD5: &[u8] = b"R\0\0\0\x0c\0\0\0\x05salt";
 
 /// The exchange of these messages, for the password `foobar`.
-fn exchange(rt: &HostRuntime) -> Result<ScramSha256, Fail> {
+pub(crate) fn exchange(rt: &HostRuntime) -> Result<ScramSha256, Fail> {
     let nonce = String::from_str(rt.alloc(), "9IZ2O01zb9IgiIZ1WJ/zgpJB")?;
     if !is_nonce(&nonce) {
         return Err(Error::NotUtf8.into());
@@ -72,7 +73,7 @@ pub(crate) fn trusting(rt: &HostRuntime) -> Connection<'static> {
 }
 
 /// The event of the next message; `None` where there is none, or an error.
-fn next_event(connection: &mut Connection<'_>) -> Option<Event> {
+pub(crate) fn next_event(connection: &mut Connection<'_>) -> Option<Event> {
     match connection.next() {
         Ok(Some((event, message))) => {
             drop(message);

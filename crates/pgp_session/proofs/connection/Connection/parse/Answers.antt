@@ -13,5 +13,5 @@ returns-in-Ok g c =
     let e = c.in-Ok.ensures in
     let old = shown c.args.self.now in
     given_by g.A.Memory.Lacks _ _ e.message Parse old (shown c.asked.new.self) c.parse.new.buf.items c.asked.result e.whole (ap (may_send (is_copying old.talk)) e.whole.2) e.none e.in_range (ap request_of e.whole.2) (search rules)
-    (lengthened_by c.args.self.now.out.items c.parse.new.buf.items (bytes_of e.message) e.appended)
+    (lengthened_by c.args.self.now.state.out.items c.parse.new.buf.items (bytes_of e.message) e.appended)
     (subst (λ n. Notes g.A.Memory.Lacks n Parse (with_out c.parse.new.buf.items old) (shown c.asked.new.self) c.asked.result) c.len-start.ensures.value c.asked.ensures)

@@ -1,35 +1,36 @@
-use Rattle.std.proofs.Common.{refl, sym, inl, inr, ◌∙◌}
+use Rattle.std.proofs.Common.{sym, inl, inr, ◌∙◌}
 use Rattle.pgp_client.specs.Kinds.{kind_of}
 use Rattle.pgp_client.specs.Talk.{shown as talk_of}
 use Rattle.pgp_client.specs.Taking.{taken}
 use Rattle.pgp_message.specs.Views.{view}
 use Rattle.pgp_session.specs.Login.{asking, seen}
-use Rattle.pgp_session.specs.Connection.{shown}
+use Rattle.pgp_session.specs.Connection.{in_state}
 use Rattle.pgp_session.proofs.Connections.{taken_ok, took_bulk, took_so}
 use Rattle.pgp_session.proofs.LogIns.{logs_on}
 use Rattle.pgp_session.proofs.Reported.{heard_so}
-use Rattle.pgp_session.proofs.connection.Connection.take.Goals as goal
+use Rattle.pgp_session.proofs.connection_state.ConnectionState.take.Goals as goal
 
 pub returns-then-is_bulk : goal.returns-then-is_bulk
-returns-then-is_bulk g c =
+returns-then-is_bulk g c = λ s.
     let m = view c.args.message.now in
     let talk = talk_of (λ q. q.items) c.take_message.new.self in
-    inl (took_bulk m c.in-Ok.event talk (shown c.args.self.now) (sym c.is_bulk.ensures ∙ c.if-is_bulk.true) (taken_ok (taken (talk_of (λ q. q.items) c.args.self.now.dialogue) (kind_of m)) c.in-Ok.event talk c.in-Ok.ensures))
+    inl (took_bulk m c.in-Ok.event talk (in_state c.args.self.now s) (sym c.is_bulk.ensures ∙ c.if-is_bulk.true) (taken_ok (taken (talk_of (λ q. q.items) c.args.self.now.dialogue) (kind_of m)) c.in-Ok.event talk c.in-Ok.ensures))
 
 pub returns-in-Ok-hear : goal.returns-in-Ok-hear
-returns-in-Ok-hear g c =
+returns-in-Ok-hear g c = λ s.
     let m = view c.args.message.now in
+    let old = in_state c.args.self.now s in
     inl (record {
-      taken = taken_ok (taken (talk_of (λ q. q.items) c.args.self.now.dialogue) (kind_of m)) c.in-Ok.event (talk_of (λ q. q.items) c.take_message.new.self) c.in-Ok.ensures;
+      taken = taken_ok (taken old.talk (kind_of m)) c.in-Ok.event (talk_of (λ q. q.items) c.take_message.new.self) c.in-Ok.ensures;
       kept = c.in-Ok-keep.ensures.0;
       goes_on = sym c.is_end.ensures ∙ c.if-is_end.false;
       logged = logs_on _ g.A.Memory.Lacks (seen c.args.self.now.login) (seen c.hear.new.self) c.args.self.now.out.items c.hear.new.out.items (asking m) c.in-Ok-hear.ensures.observed;
-      is = took_so m (seen c.hear.new.self) c.hear.new.out.items (talk_of (λ q. q.items) c.take_message.new.self) (record { state = c.note.new.self; settings = c.keep.new.self.entries.items }) (shown c.args.self.now)
-          (heard_so m c.note.new.self c.keep.new.self.entries.items (shown c.args.self.now).server c.note.ensures c.in-Ok-keep.ensures.1);
+      is = took_so m (seen c.hear.new.self) c.hear.new.out.items (talk_of (λ q. q.items) c.take_message.new.self) (record { state = c.note.new.self; settings = c.keep.new.self.entries.items }) old
+          (heard_so m c.note.new.self c.keep.new.self.entries.items old.server c.note.ensures c.in-Ok-keep.ensures.1);
     })
 
 pub returns-in-Err-hear : goal.returns-in-Err-hear
-returns-in-Err-hear g c =
+returns-in-Err-hear g c = λ s.
     let m = view c.args.message.now in
     let talk = talk_of (λ q. q.items) c.take_message.new.self in
     let is = taken_ok (taken (talk_of (λ q. q.items) c.args.self.now.dialogue) (kind_of m)) c.in-Ok.event talk c.in-Ok.ensures in
