@@ -174,6 +174,6 @@ module _ {A : Type 0} (lacks : Type 0) (old new : Shown) (all rest frame behind 
   stopped_at m e phase short t f h = (f, Comes m behind phase short (behind_it old all rest behind left same n b (Ok m) t) h)
 
   -- what came is no message
-  pub malformed_at : (e : Error) → old.phase ≡ Started → Step ⊥ all (Err e) rest → frame ≡ [] → new ≡ in_phase Over (with_incoming behind old)
+  pub malformed_at : (e : Error) → old.phase ≡ Started → is_longer old.limit old.incoming ≡ false → Step ⊥ all (Err e) rest → frame ≡ [] → new ≡ in_phase Over (with_incoming behind old)
       → Advances {A = A} lacks old new frame (Err (Malformed e))
-  malformed_at e phase s f is = let t = not_taken old all rest behind left same n b lacks e s in (f, IsNone e behind phase t.0 t.1 is)
+  malformed_at e phase short s f is = let t = not_taken old all rest behind left same n b lacks e s in (f, IsNone e behind phase short t.0 t.1 is)

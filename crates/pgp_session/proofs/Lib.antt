@@ -16,3 +16,4 @@ pub mod Sessions
 pub mod Incomings
 pub mod Binds
 pub mod Connections
+pub mod Bounds

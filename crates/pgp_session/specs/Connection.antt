@@ -220,12 +220,12 @@ module _ {A : Type 0} (lacks : Type 0) where
     -- none is awaited
     OutOfTurn : old.phase ≢ Started → new ≡ old → Nexts old new (Err OutOfPhase)
     IsLonger : old.phase ≡ Started → is_longer old.limit old.incoming ≡ true → new ≡ in_phase Over old → Nexts old new (Err TooLong)
-    -- bytes are missing
-    IsCut : old.phase ≡ Started → IsPartial old.incoming → new ≡ old → Nexts old new (Ok None)
-    WantsMemory : old.phase ≡ Started → BeginsWithKept old.incoming → lacks → new ≡ old → Nexts old new (Err OutOfMemory)
+    -- bytes are missing, of a message within the limit
+    IsCut : old.phase ≡ Started → is_longer old.limit old.incoming ≡ false → IsPartial old.incoming → new ≡ old → Nexts old new (Ok None)
+    WantsMemory : old.phase ≡ Started → is_longer old.limit old.incoming ≡ false → BeginsWithKept old.incoming → lacks → new ≡ old → Nexts old new (Err OutOfMemory)
     -- what came is no message
-    IsNone : (e : Error) (rest : List ℕ) → old.phase ≡ Started → Step lacks old.incoming (Err e) rest → e ≢ NoMemory → new ≡ in_phase Over (with_incoming rest old)
-        → Nexts old new (Err (Malformed e))
+    IsNone : (e : Error) (rest : List ℕ) → old.phase ≡ Started → is_longer old.limit old.incoming ≡ false → Step lacks old.incoming (Err e) rest → e ≢ NoMemory
+        → new ≡ in_phase Over (with_incoming rest old) → Nexts old new (Err (Malformed e))
     Comes : (m : Message) (rest : List ℕ) {result : Result (Option (Event × Message)) (ConnectionError A)} → old.phase ≡ Started → is_longer old.limit old.incoming ≡ false
         → TakesFrame old.incoming (Ok m) rest → Hears m (with_incoming rest old) new result → Nexts old new result
 

@@ -1,12 +1,12 @@
 //! What holds of a connection after any calls.
 
-ghost use Rattle.std.specs.Prelude.{◌≡◌, ℕ, List, Ok, Option};
+ghost use Rattle.std.specs.Prelude.{◌≡◌, ◌⊎◌, ◌≤◌, ℕ, List, Ok, Option, false, length};
 ghost use Rattle.pgp_client.specs.declared.event.Event.{Event as Reported};
 ghost use Rattle.pgp_frontend.specs.ClientMessage.{ClientMessage as Written, SslRequest, Startup, Terminate};
 ghost use Rattle.pgp_frontend.specs.Reading.{IsNamed};
 ghost use Rattle.pgp_message.specs.BackendMessage.{Message as Observed};
-ghost use Rattle.pgp_message.specs.Stream.{TakesFrame};
-ghost use Rattle.pgp_session.specs.Connection.{HasStarted, Sent, Shown, Took, Wrote, begun, dropped, fed, in_phase, with_incoming};
+ghost use Rattle.pgp_message.specs.Stream.{IsPartial, TakesFrame};
+ghost use Rattle.pgp_session.specs.Connection.{HasStarted, Sent, Shown, Took, Wrote, begun, dropped, fed, in_phase, is_longer, with_incoming};
 ghost use Rattle.pgp_session.specs.Incoming.{Reads};
 ghost use Rattle.pgp_session.specs.Login.{Ways as Admitting};
 ghost use Rattle.pgp_session.specs.Session.{Follows, History, Known, and_fed, and_observed, and_sent, and_wrote, nothing};
@@ -46,3 +46,10 @@ pub fn sessions_follow()
 pub fn one_message_in_place()
     ensures { (frame : List ℕ) (first second : Option Observed) → Reads frame first → Reads frame second → first ≡ second }
 {}
+
+/// Where `next` and `advance` return `None`, what a connection keeps of the bytes that came is no longer than a message may be, nor than a part of a header.
+pub fn what_is_kept_is_bounded()
+    ensures { (limit : ℕ) (bytes : List ℕ) → is_longer limit bytes ≡ false → IsPartial bytes → (length bytes ≤ 4) ⊎ (length bytes ≤ limit) }
+{
+    pgp_message::laws::one_header();
+}

@@ -13,7 +13,7 @@ use Rattle.pgp_session.specs.Connection.{Comes, IsCut, Nexts, Shown, nexted, Too
 use Rattle.pgp_session.specs.declared.connection_error.ConnectionError.{ConnectionError}
 
 pub none_comes : {A : Type 0} (lacks : Type 0) (old new : Shown) → Nexts {A = A} lacks old new (Ok None) → IsPartial old.incoming × (new ≡ old)
-none_comes lacks old new (IsCut phase partial same) = (partial, same)
+none_comes lacks old new (IsCut phase limit partial same) = (partial, same)
 none_comes lacks old new (Comes m rest phase limit frame h) = absurd h
 
 -- a message was taken, and reported so

@@ -26,7 +26,7 @@ pub returns-in-Ok-None : goal.returns-in-Ok-None
 returns-in-Ok-None g c =
     let s = step_none ⊥ c.new-messages.result c.next.new.self c.in-Ok-None.field-0 c.in-Ok-None.field-0-is c.in-Ok-None.ensures.step in
     let cut = subst IsPartial (c.new-messages.ensures ∙ c.rest.ensures) s.0 in
-    (c.pass.ensures.current, so_far g.A.Memory.Lacks (shown c.args.self.now) _ c.pass.new.self.rest _ c.pass.ensures.rest (IsCut (search rules) cut refl))
+    (c.pass.ensures.current, so_far g.A.Memory.Lacks (shown c.args.self.now) _ c.pass.new.self.rest _ c.pass.ensures.rest (IsCut (search rules) (search rules) cut refl))
 
 pub returns-in-Ok : goal.returns-in-Ok
 returns-in-Ok g c =
@@ -48,4 +48,4 @@ pub returns-in-Err : goal.returns-in-Err
 returns-in-Err g c =
     let rest = c.next.new.self in
     let step = subst (λ l. Step ⊥ l (Err c.in-Err.e) rest) (c.new-messages.ensures ∙ c.rest.ensures) c.in-Err.ensures.step in
-    malformed_at g.A.Memory.Lacks (shown c.args.self.now) _ c.pass.new.self.rest rest c.leave-in-Err.new.self.current c.leave-in-Err.new.self.rest (length c.rest-left-in-Err.result.now) c.pass.ensures.rest (ap length c.rest-left-in-Err.ensures) c.leave-in-Err.ensures.rest c.in-Err.e (search rules) step c.leave-in-Err.ensures.current refl
+    malformed_at g.A.Memory.Lacks (shown c.args.self.now) _ c.pass.new.self.rest rest c.leave-in-Err.new.self.current c.leave-in-Err.new.self.rest (length c.rest-left-in-Err.result.now) c.pass.ensures.rest (ap length c.rest-left-in-Err.ensures) c.leave-in-Err.ensures.rest c.in-Err.e (search rules) (search rules) step c.leave-in-Err.ensures.current refl

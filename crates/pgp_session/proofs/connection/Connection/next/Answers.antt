@@ -14,7 +14,7 @@ pub returns-in-Ok-None-clause-next : goal.returns-in-Ok-None-clause-next
 returns-in-Ok-None-clause-next g c =
     let all = c.pass.new.self.rest in
     let s = step_none g.A.Memory.Lacks all c.parse.new.self.rest c.in-Ok-None.field-0 c.in-Ok-None.field-0-is c.in-Ok-None.ensures.step in
-    so_far g.A.Memory.Lacks (shown c.args.self.now) _ all _ c.pass.ensures.rest (IsCut (search rules) s.0 (ap (λ (l : List ℕ). with_incoming l (shown c.args.self.now)) s.1))
+    so_far g.A.Memory.Lacks (shown c.args.self.now) _ all _ c.pass.ensures.rest (IsCut (search rules) (search rules) s.0 (ap (λ (l : List ℕ). with_incoming l (shown c.args.self.now)) s.1))
 
 pub returns-in-Ok-clause-next : goal.returns-in-Ok-clause-next
 returns-in-Ok-clause-next g c =
@@ -34,7 +34,7 @@ pub returns-in-Err-OutOfMemory-clause-next : goal.returns-in-Err-OutOfMemory-cla
 returns-in-Err-OutOfMemory-clause-next g c =
     let all = c.pass.new.self.rest in
     let s = step_memory g.A.Memory.Lacks all c.parse.new.self.rest c.in-Err-OutOfMemory.field-0 c.in-Err-OutOfMemory.field-0-is c.in-Err-OutOfMemory.ensures.step in
-    so_far g.A.Memory.Lacks (shown c.args.self.now) _ all _ c.pass.ensures.rest (WantsMemory (search rules) s.0 s.1 (ap (λ (l : List ℕ). with_incoming l (shown c.args.self.now)) s.2))
+    so_far g.A.Memory.Lacks (shown c.args.self.now) _ all _ c.pass.ensures.rest (WantsMemory (search rules) (search rules) s.0 s.1 (ap (λ (l : List ℕ). with_incoming l (shown c.args.self.now)) s.2))
 
 pub returns-in-Err-clause-next : goal.returns-in-Err-clause-next
-returns-in-Err-clause-next g c = so_far g.A.Memory.Lacks (shown c.args.self.now) _ c.pass.new.self.rest _ c.pass.ensures.rest (IsNone c.in-Err.e c.parse.new.self.rest (search rules) c.in-Err.ensures.step (search rules) refl)
+returns-in-Err-clause-next g c = so_far g.A.Memory.Lacks (shown c.args.self.now) _ c.pass.new.self.rest _ c.pass.ensures.rest (IsNone c.in-Err.e c.parse.new.self.rest (search rules) (search rules) c.in-Err.ensures.step (search rules) refl)
