@@ -57,23 +57,22 @@ fn hears_in_place(rt: &impl Abort, connection: &mut Connection<'_>, rows: &[(&[u
     }
 }
 
-/// A connection that is logged in, and has asked what `ANSWERED` answers.
-fn asked(rt: &HostRuntime) -> Connection<'static> {
-    let mut connection = trusting(rt);
+/// Logs in, and asks what `ANSWERED` answers.
+fn ask(rt: &impl Abort, connection: &mut Connection<'_>) {
     holds(rt, connection.start(&[("user", "u")]).is_ok());
-    hears_in_place(rt, &mut connection, &ADMITTED);
+    hears_in_place(rt, connection, &ADMITTED);
     holds(rt, connection.is_logged_in());
     holds(rt, connection.query("SELECT 1").is_ok());
     holds(rt, connection.query("x").is_ok());
     holds(rt, connection.execute("", 0).is_ok());
     holds(rt, connection.close(b'S', "").is_ok());
     holds(rt, connection.sync().is_ok());
-    connection
 }
 
 #[test]
 fn messages_in_place_belong_to_their_requests(rt: HostRuntime) {
-    let mut connection = asked(&rt);
+    let mut connection = trusting(&rt);
+    ask(&rt, &mut connection);
     hears_in_place(&rt, &mut connection, &ANSWERED);
     holds(&rt, connection.is_idle());
 }
@@ -82,7 +81,8 @@ fn messages_in_place_belong_to_their_requests(rt: HostRuntime) {
 #[test]
 fn both_calls_take_turns(rt: HostRuntime) {
     for first in 0..2 {
-        let mut connection = asked(&rt);
+        let mut connection = trusting(&rt);
+        ask(&rt, &mut connection);
         for (bytes, _) in &ANSWERED {
             holds(&rt, connection.feed(bytes).is_ok());
         }
@@ -102,7 +102,8 @@ fn both_calls_take_turns(rt: HostRuntime) {
 /// Two rows of one column come in one piece with a part of the message after them.
 #[test]
 fn a_row_is_read_in_place(rt: HostRuntime) {
-    let mut connection = asked(&rt);
+    let mut connection = trusting(&rt);
+    ask(&rt, &mut connection);
     holds(&rt, connection.feed(ANSWERED[0].0).is_ok());
     same_at(
         &rt,
