@@ -279,7 +279,7 @@ impl<'a, A: Memory> Connection<'a, A> {
     }
 
     /// The message that the last call of `advance` took, in place; `None` where it took none, and after `next`. It is to be read before another
-    /// call changes the connection: `feed` passes it, and of none but these two says a contract what is there then.
+    /// call changes the connection: `feed` passes it, and no other contract speaks of it.
     #[inline(always)]
     pub fn message(&self) -> Option<Message<&[u8]>>
         ensures { Reads (current self.now) (option_map view result) }
