@@ -1,5 +1,5 @@
 -- What the calls of a connection come to.
-use Rattle.std.proofs.Common.{◌≡◌, ℕ, ◌-◌, ◌<◌, ◌≤◌, List, [], ◌∷◌, ◌++◌, length, get_or, Option, Some, None, Result, Ok, Err, refl, sym, ap, subst, ◌∙◌, arith, inl, Bool, true, false}
+use Rattle.std.proofs.Common.{◌≡◌, ℕ, ◌-◌, ◌<◌, ◌≤◌, List, [], ◌∷◌, ◌++◌, length, get_or, Option, Some, None, Result, Ok, Err, refl, sym, ap, subst, ◌∙◌, arith, inl, inr, Bool, true, false}
 use Rattle.std.specs.Prelude.{OnOk, IfErr, drop, take, ◌&&◌, ◌≢◌}
 use Rattle.std.specs.Int.{w32, from_be_bytes}
 use Rattle.pgp_base.specs.Cause.{WantsMemory}
@@ -19,13 +19,16 @@ use Rattle.pgp_base.specs.declared.error.Error.TheVariants.{InvalidLength, OutOf
 use Rattle.pgp_client.specs.Kinds.{kind_of, request_of}
 use Rattle.pgp_client.specs.Taking.{is_copying}
 use Rattle.pgp_client.specs.declared.request.Request.{Request}
-use Rattle.pgp_session.specs.Connection.{Advances, Comes, Hears, IsNone, Nexts, Notes, SendsGiven, Sent, Shown, Took, asked_of, is_bulk, is_end, in_phase, is_logged_in, is_part, is_longer, may_send, moved, next_name, noted, said, with_incoming, with_login, with_out}
+use Rattle.pgp_session.specs.Connection.{Advances, Comes, Hears, IsNone, Nexts, Notes, SendsGiven, Sent, Shown, Stops, Took, asked_of, is_bulk, is_end, in_phase, is_logged_in, is_part, is_longer, may_send, moved, next_name, noted, said, with_incoming, with_login, with_out}
 use Rattle.pgp_session.specs.declared.connection_error.ConnectionError.{ConnectionError}
 use Rattle.pgp_session.specs.declared.connection_error.ConnectionError.TheVariants.{Malformed, OutOfMemory as OutOfMemoryThere}
 use Rattle.pgp_session.specs.declared.connection.ConnectionPhase.TheVariants.{Over, Started}
 use Rattle.pgp_session.specs.Incoming.{Reads}
 use Rattle.pgp_session.proofs.Incomings.{frame_there, rest_there}
-use Rattle.pgp_session.specs.Login.{Added, Login, NothingAsked, Puts}
+use Rattle.pgp_auth.specs.ScramClient.{Client}
+use Rattle.pgp_session.specs.Login.{Added, AnswersFirst, Asking, AsksCleartext, AsksMd5, AsksSasl, Cleartext, Final, First, HearsDue, Login, Md5, Nothing, NothingAsked, Other, Puts, Sasl, VerifiesFinal, Welcome, WelcomesAt, asking, is_due}
+use Rattle.pgp_session.specs.declared.scram_login.LoginPhase.{LoginPhase}
+use Rattle.pgp_session.specs.declared.scram_login.LoginPhase.TheVariants.{AwaitsOffer}
 use Rattle.pgp_session.specs.Settings.{Said, heard}
 use Rattle.pgp_message.specs.BackendMessage.{Message as Meant, CopyData, DataRow}
 
@@ -160,6 +163,52 @@ module _ (old : Shown) (all rest behind : List ℕ) (left : ℕ) (same : all ≡
   not_taken lacks OutOfMemory s = absurd s.1
   not_taken lacks e s = (behind_it (Err e) s, λ p. cc)
 
+-- a log-in lacks memory for its replies alone
+module _ (A : Type 0) (lacks : Type 0) where
+  no_cleartext : (way : Option (List ℕ)) (old new : Login) (out grown : List ℕ) → AsksCleartext {A = A} lacks way old new out grown (Err OutOfMemoryThere) → ⊥
+  no_cleartext None old new out grown h = cc
+  no_cleartext (Some password) old new out grown h = absurd h
+
+  no_md5 : (way : Option (List ℕ × List ℕ)) (salt : List ℕ) (old new : Login) (out grown : List ℕ) → AsksMd5 {A = A} lacks way salt old new out grown (Err OutOfMemoryThere) → ⊥
+  no_md5 None salt old new out grown h = cc
+  no_md5 (Some who) salt old new out grown h = absurd h
+
+  no_sasl : (way : Option Client) (mechanisms : List ℕ) (old new : Login) (out grown : List ℕ) → AsksSasl {A = A} lacks way mechanisms old new out grown (Err OutOfMemoryThere) → ⊥
+  no_sasl None mechanisms old new out grown h = cc
+  no_sasl (Some x) mechanisms old new out grown (inl h) = let e = h.0 in cc
+  no_sasl (Some x) mechanisms old new out grown (inr h) = absurd h.1
+
+  no_first : (way : Option Client) (text : List ℕ) (old new : Login) (out grown : List ℕ) → AnswersFirst {A = A} lacks way text old new out grown (Err OutOfMemoryThere) → ⊥
+  no_first None text old new out grown h = cc
+  no_first (Some x) text old new out grown h = absurd h.1
+
+  no_final : (way : Option Client) (text : List ℕ) (old new : Login) → VerifiesFinal {A = A} lacks way text old new (Err OutOfMemoryThere) → ⊥
+  no_final None text old new h = cc
+  no_final (Some x) text old new h = absurd h
+
+  no_welcome : (phase : LoginPhase) (way : Bool) (old new : Login) → WelcomesAt {A = A} phase way old new (Err OutOfMemoryThere) → ⊥
+  no_welcome AwaitsOffer false old new h = cc
+  no_welcome phase way old new h = let e = h.0 in cc
+
+  no_login : (due : Bool) (asked : Asking) (old new : Login) (out grown : List ℕ) → HearsDue {A = A} lacks due asked old new out grown (Err OutOfMemoryThere) → ⊥
+  no_login false asked old new out grown h = cc
+  no_login true Nothing old new out grown h = let e = h.0 in cc
+  no_login true Cleartext old new out grown h = no_cleartext old.ways.cleartext old new out grown h
+  no_login true (Md5 salt) old new out grown h = no_md5 old.ways.md5 salt old new out grown h
+  no_login true (Sasl mechanisms) old new out grown h = no_sasl old.ways.scram mechanisms old new out grown h
+  no_login true (First text) old new out grown h = no_first old.ways.scram text old new out grown h
+  no_login true (Final text) old new out grown h = no_final old.ways.scram text old new h.0
+  no_login true Welcome old new out grown h = no_welcome old.phase old.ways.none old new h.0
+  no_login true Other old new out grown h = cc
+
+  no_stop : (m : Meant) (old : Shown) → Stops {A = A} lacks m old OutOfMemoryThere → ⊥
+  no_stop m old (inl h) = let e = h.2 in cc
+  no_stop m old (inr (inl h)) = let e = h.4 in cc
+  no_stop m old (inr (inr h)) = no_login (is_due old.login.phase (asking m)) (asking m) old.login h.4.0 old.out h.4.1 h.4.2
+
+  stops_else : (m : Meant) (old : Shown) (e : ConnectionError A) → Stops {A = A} lacks m old e → e ≢ OutOfMemoryThere
+  stops_else m old e h same = no_stop m old (subst (λ x. Stops {A = A} lacks m old x) same h)
+
 module _ {A : Type 0} (lacks : Type 0) (old new : Shown) (all rest frame behind : List ℕ) (left : ℕ) (same : all ≡ old.incoming) (n : left ≡ length rest) (b : behind ≡ drop (length all - left) all) where
   -- the message was taken, and its frame is the current one
   pub advanced : (m : Meant) (e : Event) → old.phase ≡ Started → is_longer old.limit old.incoming ≡ false → TakesFrame all (Ok m) rest → frame ≡ take (length all - left) all
@@ -171,9 +220,9 @@ module _ {A : Type 0} (lacks : Type 0) (old new : Shown) (all rest frame behind 
   -- the connection stopped at it
   pub stopped_at : (m : Meant) (e : ConnectionError A) → old.phase ≡ Started → is_longer old.limit old.incoming ≡ false → TakesFrame all (Ok m) rest → frame ≡ []
       → Hears {A = A} lacks m (with_incoming behind old) new (Err e) → Advances {A = A} lacks old new frame (Err e)
-  stopped_at m e phase short t f h = (f, Comes m behind phase short (behind_it old all rest behind left same n b (Ok m) t) h)
+  stopped_at m e phase short t f h = (f, stops_else A lacks m (with_incoming behind old) e h.0, Comes m behind phase short (behind_it old all rest behind left same n b (Ok m) t) h)
 
   -- what came is no message
   pub malformed_at : (e : Error) → old.phase ≡ Started → is_longer old.limit old.incoming ≡ false → Step ⊥ all (Err e) rest → frame ≡ [] → new ≡ in_phase Over (with_incoming behind old)
       → Advances {A = A} lacks old new frame (Err (Malformed e))
-  malformed_at e phase short s f is = let t = not_taken old all rest behind left same n b lacks e s in (f, IsNone e behind phase short t.0 t.1 is)
+  malformed_at e phase short s f is = let t = not_taken old all rest behind left same n b lacks e s in (f, (λ p. cc), IsNone e behind phase short t.0 t.1 is)

@@ -233,11 +233,11 @@ impl<'a, A: Memory> Connection<'a, A> {
     }
 
     /// Takes the server's next message, and says to which request it belongs; `None` where no message is complete. `message` has the message
-    /// then, in place, for which no memory is asked. In the log-in the reply is added to what is to be sent.
+    /// then, in place: no memory is asked for it. In the log-in the reply is added to what is to be sent.
     ///
     /// # Errors
     ///
-    /// Those of `next`.
+    /// Those of `next`, but never `OutOfMemory`.
     // The hints here and below carry the speed of rows: else each goes through memory at each return.
     #[inline(always)]
     pub fn advance(&mut self) -> Result<Option<Event>, ConnectionError<A>>
@@ -278,7 +278,8 @@ impl<'a, A: Memory> Connection<'a, A> {
         }
     }
 
-    /// The message that the last call of `advance` took, in place; `None` where it took none, and once `next` was called or `feed` took bytes.
+    /// The message that the last call of `advance` took, in place; `None` where it took none, and after `next`. It is to be read before another
+    /// call changes the connection: `feed` passes it, and no other contract speaks of it.
     #[inline(always)]
     pub fn message(&self) -> Option<Message<&[u8]>>
         ensures { Reads (current self.now) (option_map view result) }

@@ -8,10 +8,10 @@ use Rattle.pgp_session.proofs.Incomings.{frame_there}
 use Rattle.pgp_session.proofs.connection.Connection.advance.Goals as goal
 
 pub returns-then-ne : goal.returns-then-ne
-returns-then-ne g c = (c.pass.ensures.current, so_far g.A.Memory.Lacks (shown c.args.self.now) _ c.pass.new.self.rest _ c.pass.ensures.rest (OutOfTurn (search rules) refl))
+returns-then-ne g c = (c.pass.ensures.current, (λ p. cc), so_far g.A.Memory.Lacks (shown c.args.self.now) _ c.pass.new.self.rest _ c.pass.ensures.rest (OutOfTurn (search rules) refl))
 
 pub returns-then-is_too_long : goal.returns-then-is_too_long
-returns-then-is_too_long g c = (c.pass.ensures.current, so_far g.A.Memory.Lacks (shown c.args.self.now) _ c.pass.new.self.rest _ c.pass.ensures.rest (IsLonger (search rules) (search rules) refl))
+returns-then-is_too_long g c = (c.pass.ensures.current, (λ p. cc), so_far g.A.Memory.Lacks (shown c.args.self.now) _ c.pass.new.self.rest _ c.pass.ensures.rest (IsLonger (search rules) (search rules) refl))
 
 pub take-requires-clause-frame : goal.take-requires-clause-frame
 take-requires-clause-frame g c =
