@@ -2,6 +2,7 @@ pub mod Parts
 pub mod Fronts
 pub mod Items
 pub mod PlainBodies
+pub mod Inners
 pub mod Numbers
 pub mod UnreadLines
 pub mod FrameLines

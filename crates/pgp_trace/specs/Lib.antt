@@ -2,6 +2,7 @@ pub mod Names
 pub mod Shown
 pub mod PlainBody
 pub mod Unread
+pub mod Replication
 pub mod Secrets
 pub mod Options
 pub mod Command

@@ -50,8 +50,8 @@ pub fn secrets_are_hidden()
 pub fn streams_hide_their_secrets()
     ensures beginning { (view : View) (start : ℕ) (a b lines : List ℕ) (to : Side) → AlikeBeginnings a b →
         Lines (quietly view) start (Server Beginning) a lines to → Lines (quietly view) start (Server Beginning) b lines to }
-    ensures messages { (view : View) (start : ℕ) (a b lines : List ℕ) → AlikeStreams a b →
-        Lines (quietly view) start (Server Messages) a lines (Server Messages) → Lines (quietly view) start (Server Messages) b lines (Server Messages) }
+    ensures messages { (view : View) (start : ℕ) (a b lines : List ℕ) (to : Side) → AlikeStreams a b →
+        Lines (quietly view) start (Server Messages) a lines to → Lines (quietly view) start (Server Messages) b lines to }
 {}
 
 /// A listing of what a server sent is that of the stream as it is read elsewhere: with these results of its frames, this rest, and this end. From the
@@ -88,6 +88,6 @@ pub fn client_secrets_are_hidden()
 
 /// A client's streams that differ in their secrets alone have the same lines, unless secrets are asked for.
 pub fn client_streams_hide_their_secrets()
-    ensures { (view : View) (start : ℕ) (opened : Bool) (kinds : List PasswordKind) (a b lines : List ℕ) (to behind : Side) → AlikeClientStreams (Client opened kinds) a b behind →
-        Lines (quietly view) start (Client opened kinds) a lines to → Lines (quietly view) start (Client opened kinds) b lines to }
+    ensures { (view : View) (start : ℕ) (opened : Bool) (kinds : List PasswordKind) (replicating : Bool) (a b lines : List ℕ) (to behind : Side) → AlikeClientStreams (Client opened kinds replicating) a b behind →
+        Lines (quietly view) start (Client opened kinds replicating) a lines to → Lines (quietly view) start (Client opened kinds replicating) b lines to }
 {}

@@ -10,6 +10,6 @@ pub returns-then-not-is_empty-clause-other : goal.returns-then-not-is_empty-clau
 returns-then-not-is_empty-clause-other g c =
     let words = map (λ word. word.now) c.args.words.now in
     let options = c.in-Some.options in
-    let are : AreOptions c.args.terminal words (looks (style_of options.json options.full options.secrets) options.only.items options.colored) options.kinds.items options.resume = search rules in
+    let are : AreOptions c.args.terminal words (looks (style_of options.json options.full options.secrets) options.only.items options.colored) options.kinds.items options.resume options.replicating = search rules in
     let some : length options.kinds.items ≡ 0 → ⊥ = λ h. search rules in
-    server_kinds c.args.terminal words (looks (style_of options.json options.full options.secrets) options.only.items options.colored) options.kinds.items options.resume are some
+    server_kinds c.args.terminal words (looks (style_of options.json options.full options.secrets) options.only.items options.colored) options.kinds.items options.resume options.replicating are some
