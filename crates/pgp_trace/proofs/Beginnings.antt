@@ -13,7 +13,7 @@ use Rattle.pgp_trace.specs.Steps.{HasLine, ListsNext, phase_of}
 use Rattle.pgp_trace.proofs.Ends.{answered_stays}
 use Rattle.pgp_trace.proofs.FrameLines.{frame_long}
 use Rattle.pgp_trace.proofs.Shorter.{frame_has}
-use Rattle.pgp_trace.proofs.Sides.{Told, listed, told}
+use Rattle.pgp_trace.proofs.Sides.{Told, behind_it, listed, told}
 
 -- ---- a step
 
@@ -154,8 +154,7 @@ first_comes view start bytes lines frame text row to before plain (inr is) e = m
 more_comes : (view : View) (start : ℕ) (replicating : Bool) (bytes lines frame line : List ℕ) (to : Side) → Begun view start bytes lines replicating → Listed view (place_behind (start + length bytes)) (server_at replicating) frame line to → HasCome view start (bytes ++ frame) (lines ++ line) to
 more_comes view start replicating bytes lines frame line to b is =
     let place : place_behind (start + length bytes) ≡ place_behind ((start + length b.answers) + length b.more) = ap place_behind (omega (arith, ap length b.whole, length-append b.answers b.more)) in
-    let t = told view (place_behind (start + length bytes)) replicating frame line to is in
-    NowMessages (replicates_behind replicating frame) t.behind (record {
+    NowMessages (replicates_behind replicating frame) (behind_it view (place_behind (start + length bytes)) replicating frame line to is) (record {
       answers = b.answers;
       more = b.more ++ frame;
       first = b.first;
@@ -166,7 +165,7 @@ more_comes view start replicating bytes lines frame line to b is =
       fronts = b.fronts;
       none = answered_stays b.more frame b.some b.none;
       some = omega (arith, b.some, length-append b.more frame);
-      backs = OneLine frame line b.backs (listed view (place_behind ((start + length b.answers) + length b.more)) replicating frame line (subst (λ p. Told view p replicating frame line) place t.told));
+      backs = OneLine frame line b.backs (listed view (place_behind ((start + length b.answers) + length b.more)) replicating frame line (subst (λ p. Told view p replicating frame line) place (told view (place_behind (start + length bytes)) replicating frame line to is)));
     })
 
 comes : (view : View) (start : ℕ) (bytes lines frame line : List ℕ) (here to : Side) → Lines view start (Server Beginning) bytes lines here → Listed view (place_behind (start + length bytes)) here frame line to → HasCome view start bytes lines here

@@ -120,7 +120,7 @@ line_hidden style place replicating f g line alike is =
         body = body;
         text = is.text;
         reported = subst (λ t. GoesOn (quiet style) replicating t g.payload s (front (quiet style) place g) is.text) alike.tagged
-            (goes_on style f.tag f.payload g.payload is.result s (front (quiet style) place g) is.text alike.plain same
+            (goes_on style replicating f.tag f.payload g.payload is.result s (front (quiet style) place g) is.text alike.plain same
             (subst (λ l. GoesOn (quiet style) replicating f.tag f.payload is.result l is.text) (same_front (quiet style) place f g alike) is.reported));
         ended = is.ended;
       };

@@ -133,10 +133,31 @@ fn put_feedback<A: Memory>(
 {
     put_named(style, "HotStandbyFeedback", line)?;
     put_clock(style, clock, line)?;
-    put_unsigned(style, "xmin", xmin, line)?;
-    put_unsigned(style, "epoch", epoch, line)?;
-    put_unsigned(style, "catalog_xmin", catalog_xmin, line)?;
-    put_unsigned(style, "catalog_epoch", catalog_epoch, line)
+    put_transaction(style, "xmin", xmin, "epoch", epoch, line)?;
+    put_transaction(
+        style,
+        "catalog_xmin",
+        catalog_xmin,
+        "catalog_epoch",
+        catalog_epoch,
+        line,
+    )
+}
+
+/// Adds a transaction and its epoch, with their names.
+fn put_transaction<A: Memory>(
+    style: Style,
+    name: &str,
+    xmin: u32,
+    second: &str,
+    epoch: u32,
+    line: &mut String<A>,
+) -> Result<(), AllocError>
+    ensures parts { OnOk result (string_bytes line.new ≡ followed style (string_bytes line.old) (key name.now ∷ Number (pos xmin) ∷ key second.now ∷ Number (pos epoch) ∷ [])) }
+    ensures lacks { OnErr result A.Lacks }
+{
+    put_unsigned(style, name, xmin, line)?;
+    put_unsigned(style, second, epoch, line)
 }
 
 /// Adds the name of a message.
