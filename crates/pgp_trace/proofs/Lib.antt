@@ -18,6 +18,7 @@ pub mod Runs
 pub mod Hiding
 pub mod ClientHiding
 pub mod Streams
+pub mod Plain
 pub mod ClientStreams
 pub mod OneListing
 pub mod OptionLemmas

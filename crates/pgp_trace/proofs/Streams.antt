@@ -29,12 +29,12 @@ unfolding uint32
 some_bytes f = omega arith
 
 -- bytes that are frames
-record AreFrames (bytes : List ℕ) : Type 0 where
-  frames : List Frame
-  whole : bytes ≡ flat_map frame_bytes frames
-  each : AllByRecursion IsFrame frames
+pub record AreFrames (bytes : List ℕ) : Type 0 where
+  pub frames : List Frame
+  pub whole : bytes ≡ flat_map frame_bytes frames
+  pub each : AllByRecursion IsFrame frames
 
-more_frames : (bytes : List ℕ) (f : Frame) → AreFrames bytes → IsFrame f → AreFrames (bytes ++ frame_bytes f)
+pub more_frames : (bytes : List ℕ) (f : Frame) → AreFrames bytes → IsFrame f → AreFrames (bytes ++ frame_bytes f)
 more_frames bytes f are fits = record {
   frames = are.frames ++ f ∷ [];
   whole = ap (λ l. l ++ frame_bytes f) are.whole ∙ sym (pushed are.frames f);
@@ -45,7 +45,7 @@ left_frames : (a b : List ℕ) → AlikeStreams a b → AreFrames a
 left_frames [] [] NoFrames = record { frames = []; whole = refl; each = tt }
 left_frames _ _ (OneAlike {a = a} {b = b} f g before ff gg alike) = more_frames a f (left_frames a b before) ff
 
-listed_frames : (view : View) (start : ℕ) (replicating : Bool) (bytes lines : List ℕ) (to : Side) → Lines view start (server_at replicating) bytes lines to → AreFrames bytes
+pub listed_frames : (view : View) (start : ℕ) (replicating : Bool) (bytes lines : List ℕ) (to : Side) → Lines view start (server_at replicating) bytes lines to → AreFrames bytes
 listed_frames view start replicating [] [] _ NoLines = record { frames = []; whole = refl; each = tt }
 listed_frames view start replicating _ _ to (OneLine {bytes = bytes} {lines = lines} {here = here} frame line before has) =
     let has_line = server_line view start (place_behind (start + length bytes)) replicating bytes lines frame line here to before has in
@@ -73,7 +73,7 @@ last_is_one (h ∷ fs) (k ∷ gs) f g a b ff gg e =
     let rest = last_is_one fs gs f g a.1 b.1 ff gg first.1 in
     (flat_map-cons frame_bytes h fs ∙ ap (λ x. frame_bytes x ++ flat_map frame_bytes fs) first.0 ∙ ap (λ l. frame_bytes k ++ l) rest.0 ∙ sym (flat_map-cons frame_bytes k gs), rest.1)
 
-one_last : (a b : List ℕ) (f g : Frame) → AreFrames a → AreFrames b → IsFrame f → IsFrame g → a ++ frame_bytes f ≡ b ++ frame_bytes g → (a ≡ b) × (f ≡ g)
+pub one_last : (a b : List ℕ) (f g : Frame) → AreFrames a → AreFrames b → IsFrame f → IsFrame g → a ++ frame_bytes f ≡ b ++ frame_bytes g → (a ≡ b) × (f ≡ g)
 one_last a b f g p q ff gg e =
     let one = last_is_one p.frames q.frames f g p.each q.each ff gg (ap (λ l. l ++ frame_bytes f) (sym p.whole) ∙ e ∙ ap (λ l. l ++ frame_bytes g) q.whole) in
     (p.whole ∙ one.0 ∙ sym q.whole, one.1)
@@ -132,7 +132,7 @@ same_length [] [] NoFrames = refl
 same_length _ _ (OneAlike {a = a} {b = b} f g before ff gg alike) =
     omega (arith, same_length a b before, length-append a (frame_bytes f), length-append b (frame_bytes g), alike.long)
 
-no_last : (bytes : List ℕ) (f : Frame) → [] ≡ bytes ++ frame_bytes f → ⊥
+pub no_last : (bytes : List ℕ) (f : Frame) → [] ≡ bytes ++ frame_bytes f → ⊥
 no_last bytes f e = absurd (omega (arith, ap length e, length-append bytes (frame_bytes f), some_bytes f))
 
 -- the stream that is like one whose last frame is known

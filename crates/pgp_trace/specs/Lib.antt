@@ -11,6 +11,7 @@ pub mod Client
 pub mod Hints
 pub mod View
 pub mod Listing
+pub mod Plain
 pub mod ClientSecrets
 pub mod Steps
 pub mod Asked

@@ -13,6 +13,8 @@ ghost use Rattle.pgp_line.specs.declared.style.Style.{Style};
 ghost use Rattle.pgp_trace.specs.View.{View, color_of, painted, plain, shown, uncolored};
 ghost use Rattle.pgp_trace.specs.Listing.{IsListing, IsRunBehindAnswers, LineOf, Lines};
 ghost use Rattle.pgp_line.specs.Quoting.{IsPrinted};
+ghost use Rattle.pgp_trace.specs.Plain.{HasNoCopyBoth, PlainLines};
+ghost use Rattle.pgp_trace.specs.Replication.{Inner, IsInner};
 ghost use Rattle.pgp_trace.specs.Secrets.{Alike, AlikeBeginnings, AlikeStreams, quiet, quietly};
 ghost use Rattle.pgp_trace.specs.Shown.{Shows};
 ghost use Rattle.pgp_trace.specs.Sides.{Client, Server, Side, answered};
@@ -69,6 +71,19 @@ pub fn no_answers()
         IsListing view (Server Beginning) bytes output → IsListing view (Server Messages) bytes output }
     ensures other { (view : View) (bytes output : List ℕ) → answered bytes ≡ None →
         IsListing view (Server Messages) bytes output → IsListing view (Server Beginning) bytes output }
+{}
+
+/// A server's stream of messages in which no CopyBothResponse stands is listed as messages alone: each has the line of what it says itself.
+pub fn no_replication()
+    ensures plain { (view : View) (start : ℕ) (bytes lines : List ℕ) (to : Side) → HasNoCopyBoth bytes →
+        Lines view start (Server Messages) bytes lines to → PlainLines view start bytes lines × (to ≡ Server Messages) }
+    ensures other { (view : View) (start : ℕ) (bytes lines : List ℕ) → HasNoCopyBoth bytes →
+        PlainLines view start bytes lines → Lines view start (Server Messages) bytes lines (Server Messages) }
+{}
+
+/// A CopyData has one message of replication inside, or none.
+pub fn one_inner_message()
+    ensures { (standby : Bool) (bytes : List ℕ) (m n : Inner) → IsInner standby bytes m → IsInner standby bytes n → m ≡ n }
 {}
 
 /// A client's messages that differ in their secrets alone have the same lines, unless secrets are asked for. Where it isn't reported which message of tag
