@@ -31,7 +31,7 @@ use Rattle.pgp_line.specs.Secret.{secret}
 use Rattle.pgp_frontend.specs.ClientMessage.{ClientMessage}
 use Rattle.pgp_frontend_read.specs.declared.error.ClientError.{ClientError}
 use Rattle.pgp_trace.specs.Client.{ClientSays, client_called, client_data, client_groups, client_line, grouped, refusal_parts}
-use Rattle.pgp_trace.specs.Listing.{EndsSo, GoesOn, IsLineOf, LineOf, answer_name, front, client_front, client_tag}
+use Rattle.pgp_trace.specs.Listing.{GoesOn, IsLineOf, LineOf, answer_name, front, client_front, client_tag}
 use Rattle.pgp_trace.specs.Sides.{Side, Server, Client, is_reported}
 use Rattle.pgp_trace.specs.declared.side.Phase.TheVariants.{Beginning, Messages, Replicating, Encrypted}
 
