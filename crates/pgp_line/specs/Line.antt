@@ -1,6 +1,6 @@
 -- A line: its parts, one after another.
-use Rattle.std.specs.Prelude.{ℕ, ◌-◌, ℤ, Bool, true, false, ◌==◌, ◌||◌, if◌then◌else◌, List, [], ◌∷◌, ◌++◌, length, replicate, slice_get, Option, Some, None, codes, decimal}
-use Rattle.std.specs.Fmt.{signed_decimal}
+use Rattle.std.specs.Prelude.{ℕ, ◌-◌, ◌/◌, ◌%◌, ◌^◌, ℤ, Bool, true, false, ◌==◌, ◌||◌, if◌then◌else◌, List, [], ◌∷◌, ◌++◌, length, replicate, slice_get, Option, Some, None, codes, decimal}
+use Rattle.std.specs.Fmt.{digits, signed_decimal}
 use Rattle.std.specs.List.{flat_map}
 use Rattle.pgp_line.specs.Quoting.{escaped_byte, json_value, quoted, value, up_to}
 use Rattle.pgp_line.specs.Types.{type_of}
@@ -37,6 +37,10 @@ abbrev pub json_name : Option (List ℕ) → List ℕ
 json_name None = codes "}"
 json_name (Some name) = codes ",\"name\":" ++ string name ++ codes "}"
 
+-- a place in the write-ahead log, as a server prints it: its upper and its lower 32 bits, in hex
+unfoldable pub lsn : ℕ → List ℕ
+lsn n = digits 16 true (n / 2 ^ 32) ++ 47 ∷ digits 16 true (n % 2 ^ 32)
+
 -- What a line can say. A JSON object says it by names, lists and objects, which a line of text goes without.
 pub data Part : Type 0 where
   -- how long a frame is
@@ -61,6 +65,8 @@ pub data Part : Type 0 where
   -- a word of ours
   Word : (word : List ℕ) → Part
   Number : (n : ℤ) → Part
+  -- a place in the write-ahead log
+  Lsn : (n : ℕ) → Part
   -- a type
   Oid : (oid : ℕ) → Part
   -- a text
@@ -84,6 +90,7 @@ shown limit (Key word name) = spelt word
 shown limit (Count n) = decimal n
 shown limit (Word word) = spelt word
 shown limit (Number n) = signed_decimal n
+shown limit (Lsn n) = lsn n
 shown limit (Oid oid) = decimal oid ++ type_name (type_of oid)
 shown limit (Text bytes) = up_to limit (quoted Columns) bytes
 shown limit (Value None) = codes "NULL"
@@ -106,6 +113,7 @@ json limit ObjectBegins = codes "{"
 json limit ObjectEnds = codes "}"
 json limit (Word word) = string word
 json limit (Number n) = signed_decimal n
+json limit (Lsn n) = 34 ∷ (lsn n ++ 34 ∷ [])
 json limit (Oid oid) = codes "{\"oid\":" ++ decimal oid ++ json_name (type_of oid)
 json limit (Text bytes) = json_value limit bytes
 json limit (Value None) = codes "null"

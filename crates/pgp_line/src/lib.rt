@@ -10,3 +10,4 @@ pub mod quote;
 pub mod secret;
 pub mod style;
 pub mod types;
+pub mod wide;

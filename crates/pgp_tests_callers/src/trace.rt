@@ -50,7 +50,7 @@ const SHORT: View<'static> = View {
 const BEGINNING: Side<'static> = Side::Server(Phase::Beginning);
 
 /// The bytes of this side, in pieces after the bytes whose bits are set, come to these lines.
-fn lists(rt: &impl Abort, alloc: Global, side: Side<'_>, bytes: &[u8], cuts: u16, lines: &str) {
+pub fn lists(rt: &impl Abort, alloc: Global, side: Side<'_>, bytes: &[u8], cuts: u16, lines: &str) {
     let mut input = PieceReader {
         rest: bytes,
         cuts,
@@ -170,6 +170,7 @@ fn a_clients_stream_is_listed_however_it_is_cut(rt: HostRuntime) {
     let side = Side::Client {
         opened: false,
         kinds: &[PasswordKind::Password],
+        replicating: false,
     };
     for cuts in 0..512u16 {
         lists(&rt, rt.alloc(), side, CLIENT, cuts << 4, CLIENT_ALL);
@@ -181,6 +182,7 @@ fn each_allocation_of_a_clients_listing_is_refused(rt: HostRuntime) {
     let side = Side::Client {
         opened: false,
         kinds: &[],
+        replicating: false,
     };
     refused_more(
         &rt,

@@ -210,3 +210,61 @@ pub const OBJECTS: &str = "\
     {\"offset\":358,\"length\":5,\"tag\":\"X\",\"name\":\"Terminate\"}\n\
     {\"rest\":2,\"stopped\":false}\n\
     ";
+
+/// A server's replication stream, after a message that is none.
+pub const REPLICATION: &[u8] = b"\
+    d\x00\x00\x00\x16k\x00\x00\x00\x16\xb3t\xd8H\x00\x00\x00*\xbfi\xac\x04\x00\
+    W\x00\x00\x00\x07\x00\x00\x00\
+    d\x00\x00\x00\"w\x00\x00\x00\x16\xb3t\xd8H\x00\x00\x00\x16\xb3t\xd9\x00\x00\x00\x00*\xbfi\xac\x04begin\
+    d\x00\x00\x00\x1dw\x00\x00\x00\x00\x00\x00\x00\x00\xff\xff\xff\xff\xff\xff\xff\xff\xff\xff\xff\xff\xff\xff\xff\xff\
+    d\x00\x00\x00\x1cw\x00\x00\x00\x00\x00\x00\x00\x00\x00\x00\x00\x00\x00\x00\x00\x00\x00\x00\x00\x00\x00\x00\x00\
+    d\x00\x00\x00\x16k\x00\x00\x00\x16\xb3t\xd9\x00\x00\x00\x00\x00\x00\x00\x00\x00\x01\
+    d\x00\x00\x00\x15k\x00\x00\x00\x16\xb3t\xd9\x00\x00\x00\x00\x00\x00\x00\x00\x00\
+    d\x00\x00\x00\x17k\x00\x00\x00\x16\xb3t\xd9\x00\x00\x00\x00\x00\x00\x00\x00\x00\x00\x00\
+    d\x00\x00\x00\nrlater\
+    d\x00\x00\x00\x04\
+    c\x00\x00\x00\x04\
+    d\x00\x00\x00\x16k\x00\x00\x00\x00\x00\x00\x00\x01\x00\x00\x00\x00\x00\x00\x00\x02\x00\
+    C\x00\x00\x00\x0bCOPY 0\x00\
+    ";
+
+/// Their objects.
+pub const REPLICATION_OBJECTS: &str = "\
+    {\"offset\":0,\"length\":23,\"tag\":\"d\",\"name\":\"CopyData\",\"data\":{\"hex\":\"6b00000016b374d8480000002abf69ac0400\"}}\n\
+    {\"offset\":23,\"length\":8,\"tag\":\"W\",\"name\":\"CopyBothResponse\",\"format\":0,\"column_formats\":[]}\n\
+    {\"offset\":31,\"length\":35,\"tag\":\"d\",\"name\":\"CopyData\",\"inner\":\"XLogData\",\"start\":\"16/B374D848\",\"end\":\"16/B374D900\",\"clock\":183600000004,\"data\":\"begin\"}\n\
+    {\"offset\":66,\"length\":30,\"tag\":\"d\",\"name\":\"CopyData\",\"inner\":\"XLogData\",\"start\":\"0/0\",\"end\":\"FFFFFFFF/FFFFFFFF\",\"clock\":-1,\"data\":\"\"}\n\
+    {\"offset\":96,\"length\":29,\"tag\":\"d\",\"name\":\"CopyData\",\"data\":{\"hex\":\"770000000000000000000000000000000000000000000000\"}}\n\
+    {\"offset\":125,\"length\":23,\"tag\":\"d\",\"name\":\"CopyData\",\"inner\":\"PrimaryKeepalive\",\"end\":\"16/B374D900\",\"clock\":0,\"reply\":1}\n\
+    {\"offset\":148,\"length\":22,\"tag\":\"d\",\"name\":\"CopyData\",\"data\":{\"hex\":\"6b00000016b374d9000000000000000000\"}}\n\
+    {\"offset\":170,\"length\":24,\"tag\":\"d\",\"name\":\"CopyData\",\"data\":{\"hex\":\"6b00000016b374d90000000000000000000000\"}}\n\
+    {\"offset\":194,\"length\":11,\"tag\":\"d\",\"name\":\"CopyData\",\"data\":\"rlater\"}\n\
+    {\"offset\":205,\"length\":5,\"tag\":\"d\",\"name\":\"CopyData\",\"data\":\"\"}\n\
+    {\"offset\":210,\"length\":5,\"tag\":\"c\",\"name\":\"CopyDone\"}\n\
+    {\"offset\":215,\"length\":23,\"tag\":\"d\",\"name\":\"CopyData\",\"data\":{\"hex\":\"6b0000000000000001000000000000000200\"}}\n\
+    {\"offset\":238,\"length\":12,\"tag\":\"C\",\"name\":\"CommandComplete\",\"command_tag\":\"COPY 0\"}\n\
+    {\"rest\":0,\"stopped\":false}\n\
+    ";
+
+/// A standby's replies.
+pub const REPLIES: &[u8] = b"\
+    d\x00\x00\x00&r\x00\x00\x00\x16\xb3t\xd8H\x00\x00\x00\x16\xb3t\xd9\x00\x00\x00\x00\x00\x00\x00\x00\x00\x00\x00\x00*\xbfi\xac\x04\x00\
+    d\x00\x00\x00%r\x00\x00\x00\x00\x00\x00\x00\x01\x00\x00\x00\x00\x00\x00\x00\x02\x00\x00\x00\x00\x00\x00\x00\x03\x00\x00\x00\x00\x00\x00\x00\x04\
+    d\x00\x00\x00'r\x00\x00\x00\x00\x00\x00\x00\x01\x00\x00\x00\x00\x00\x00\x00\x02\x00\x00\x00\x00\x00\x00\x00\x03\x00\x00\x00\x00\x00\x00\x00\x04\x00\x00\
+    d\x00\x00\x00\x1dh\xff\xff\xff\xff\xff\xff\xff\xff\x00\x00\x02\xe9\x00\x00\x00\x00\x7f\xff\xff\xff\x00\x00\x00\x01\
+    d\x00\x00\x00\x1dh\x00\x00\x00\x00\x00\x00\x00\x00\xff\xff\xff\xff\xff\xff\xff\xfe\x00\x00\x00\x00\x00\x00\x00\x00\
+    d\x00\x00\x00\x16k\x00\x00\x00\x00\x00\x00\x00\x01\x00\x00\x00\x00\x00\x00\x00\x02\x00\
+    c\x00\x00\x00\x04\
+    ";
+
+/// Their objects.
+pub const REPLIES_OBJECTS: &str = "\
+    {\"offset\":0,\"length\":39,\"tag\":\"d\",\"name\":\"CopyData\",\"inner\":\"StandbyStatusUpdate\",\"written\":\"16/B374D848\",\"flushed\":\"16/B374D900\",\"applied\":\"0/0\",\"clock\":183600000004,\"reply\":0}\n\
+    {\"offset\":39,\"length\":38,\"tag\":\"d\",\"name\":\"CopyData\",\"data\":{\"hex\":\"720000000000000001000000000000000200000000000000030000000000000004\"}}\n\
+    {\"offset\":77,\"length\":40,\"tag\":\"d\",\"name\":\"CopyData\",\"data\":{\"hex\":\"7200000000000000010000000000000002000000000000000300000000000000040000\"}}\n\
+    {\"offset\":117,\"length\":30,\"tag\":\"d\",\"name\":\"CopyData\",\"inner\":\"HotStandbyFeedback\",\"clock\":-1,\"xmin\":745,\"epoch\":0,\"catalog_xmin\":2147483647,\"catalog_epoch\":1}\n\
+    {\"offset\":147,\"length\":30,\"tag\":\"d\",\"name\":\"CopyData\",\"inner\":\"HotStandbyFeedback\",\"clock\":0,\"xmin\":4294967295,\"epoch\":4294967294,\"catalog_xmin\":0,\"catalog_epoch\":0}\n\
+    {\"offset\":177,\"length\":23,\"tag\":\"d\",\"name\":\"CopyData\",\"data\":{\"hex\":\"6b0000000000000001000000000000000200\"}}\n\
+    {\"offset\":200,\"length\":5,\"tag\":\"c\",\"name\":\"CopyDone\"}\n\
+    {\"rest\":0,\"stopped\":false}\n\
+    ";

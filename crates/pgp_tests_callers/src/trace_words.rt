@@ -51,11 +51,11 @@ const OPEN: &str =
     "         0        1 N SSLResponse or GSSENCResponse\n         1        9 R AuthenticationOk\n        10        9 S ParameterStatus      name \"n\" value \"\\x0a\"\n        19        6 Z ReadyForQuery        idle\n        25       13 K BackendKeyData       process 1 key \"abcd\"\nrest 2\n";
 
 const USAGE: &str =
-    "usage: pgtrace server [--json] [--full] [--secrets] [--resume] [--only NAME[,NAME]..] [--color auto|always|never] | client [--json] [--full] [--secrets] [--resume] [--only NAME[,NAME]..] [--color auto|always|never] [--password-kind password|initial|response].. | --help | --version\n";
+    "usage: pgtrace server [--json] [--full] [--secrets] [--resume] [--only NAME[,NAME]..] [--color auto|always|never] | client [--json] [--full] [--secrets] [--resume] [--only NAME[,NAME]..] [--color auto|always|never] [--password-kind password|initial|response].. [--replication] | --help | --version\n";
 
 #[test]
 fn words_decide_what_runs(rt: HostRuntime) {
-    let runs: [(&[&str], u8, &str, &str); 12] = [
+    let runs: [(&[&str], u8, &str, &str); 13] = [
         (&["server"], 0, ALL, ""),
         (&["--help"], 0, USAGE, ""),
         (&["--version"], 0, "pgtrace 0.1.0\n", ""),
@@ -65,6 +65,7 @@ fn words_decide_what_runs(rt: HostRuntime) {
         (&["server", "--full", "--secrets", "--full"], 0, OPEN, ""),
         (&["server", "--password-kind", "password"], 2, "", USAGE),
         (&["client", "--password-kind"], 2, "", USAGE),
+        (&["server", "--replication"], 2, "", USAGE),
         (&["Server"], 2, "", USAGE),
         (&["server", "--only"], 2, "", USAGE),
         (&["--only", "ReadyForQuery", "server"], 2, "", USAGE),
@@ -121,7 +122,7 @@ const JSON_KINDS: &[&str] = &[
 ];
 
 /// Runs the program on these words and bytes: it writes these lines, and nothing else.
-fn writes(rt: &impl Abort, alloc: Global, words: &[&str], bytes: &[u8], lines: &str) {
+pub fn writes(rt: &impl Abort, alloc: Global, words: &[&str], bytes: &[u8], lines: &str) {
     let wanted = Outcome {
         status: 0,
         written: lines,

@@ -5,15 +5,15 @@ use Rattle.pgp_line.specs.declared.style.Style.{Style}
 use Rattle.pgp_trace.specs.declared.frame.Next.{Next}
 use Rattle.pgp_trace.specs.declared.frame.Next.TheVariants.{Line, Waits, Stops}
 use Rattle.pgp_trace.specs.declared.side.Phase.{Phase}
-use Rattle.pgp_trace.specs.declared.side.Phase.TheVariants.{Beginning, Messages, Encrypted}
-use Rattle.pgp_trace.specs.Sides.{Side, Server, AreAnswers, Ends, answered, phase_behind}
+use Rattle.pgp_trace.specs.declared.side.Phase.TheVariants.{Beginning, Messages, Replicating, Encrypted}
+use Rattle.pgp_trace.specs.Sides.{Side, Server, AreAnswers, Ends, answered, phase_behind, replicates_behind, server_at}
 use Rattle.pgp_trace.specs.Listing.{IsAnswerLine, IsListing, LineOf, Listed, Lines, NoLines, OneLine, answer_line, answer_name, last_line, name_in, place_behind}
 use Rattle.pgp_trace.specs.View.{View, shown}
 use Rattle.pgp_trace.specs.Steps.{HasLine, ListsNext, phase_of}
 use Rattle.pgp_trace.proofs.Ends.{answered_stays}
 use Rattle.pgp_trace.proofs.FrameLines.{frame_long}
 use Rattle.pgp_trace.proofs.Shorter.{frame_has}
-use Rattle.pgp_trace.proofs.Sides.{Told, listed, server_line, stays_server, told}
+use Rattle.pgp_trace.proofs.Sides.{Told, behind_it, listed, told}
 
 -- ---- a step
 
@@ -26,16 +26,16 @@ none_there None never = refl
 none_there (Some x) never = absurd (never x refl)
 
 -- the first message, where no answer stands there
-pub first_lists : (style : Style) (place : ℕ) (byte : ℕ) (bytes rest line : List ℕ) (next : Next) → phase_behind byte ≡ None → ListsNext style place (Server Messages) (byte ∷ bytes) rest line (Server Messages) next
-    → ListsNext style place (Server Beginning) (byte ∷ bytes) rest line (Server (phase_of next)) next
-first_lists style place byte bytes rest line (Line name) none has = record {
+pub first_lists : (style : Style) (place : ℕ) (byte : ℕ) (bytes rest line : List ℕ) (replicating : Bool) (next : Next) → phase_behind byte ≡ None → ListsNext style place (Server Messages) (byte ∷ bytes) rest line (server_at replicating) next
+    → ListsNext style place (Server Beginning) (byte ∷ bytes) rest line (Server (phase_of next replicating)) next
+first_lists style place byte bytes rest line replicating (Line name) none has = record {
   frame = has.frame;
   whole = has.whole;
-  reported = inr (record { reported = has.reported.0; none = some_more has.frame byte bytes rest has.whole (frame_has style place (Server Messages) (Server Messages) has.frame line has.reported) none; behind = refl });
+  reported = inr (record { reported = has.reported.0; none = some_more has.frame byte bytes rest has.whole (frame_has style place (Server Messages) (server_at replicating) has.frame line has.reported) none; behind = has.reported.1 });
   named = has.named;
 }
-first_lists style place byte bytes rest line Waits none at = record { same = at.same; ending = (none, at.ending); side = refl }
-first_lists style place byte bytes rest line Stops none at = record { same = at.same; ending = (none, at.ending); side = refl }
+first_lists style place byte bytes rest line replicating Waits none at = record { same = at.same; ending = (none, at.ending); side = refl }
+first_lists style place byte bytes rest line replicating Stops none at = record { same = at.same; ending = (none, at.ending); side = refl }
 
 -- an answer
 pub answer_lists : (style : Style) (place byte : ℕ) (rest line : List ℕ) (phase : Phase) → phase_behind byte ≡ Some phase → line ≡ answer_line style place byte
@@ -56,25 +56,29 @@ none_some x None e f = absurd cc
 two_phases : (byte : ℕ) → phase_behind byte ≡ Some Beginning → phase_behind byte ≡ Some Encrypted → ⊥
 two_phases byte e f = let h : Some Beginning ≡ Some Encrypted = sym e ∙ f in absurd cc
 
-pick : {X : Type 0} (b : Bool) (x y z : X) → (if b then x else y) ≡ z → (x ≡ z) ⊎ (y ≡ z)
-pick true x y z e = inl e
-pick false x y z e = inr e
+-- what stands behind no answer
+abbrev is_behind : Option Phase → Bool
+is_behind None = true
+is_behind (Some Beginning) = true
+is_behind (Some Encrypted) = true
+is_behind (Some Messages) = false
+is_behind (Some Replicating) = false
 
-last_pick : (b : Bool) → (if b then Some Encrypted else None) ≡ Some Messages → ⊥
-last_pick true e = absurd cc
-last_pick false e = absurd cc
+picks : (a b c : Bool) → is_behind (if a then Some Beginning else if b then Some Encrypted else if c then Some Encrypted else None) ≡ true
+picks true b c = refl
+picks false true c = refl
+picks false false true = refl
+picks false false false = refl
 
-middle_pick : (b c : Bool) → (if b then Some Encrypted else if c then Some Encrypted else None) ≡ Some Messages → ⊥
-middle_pick true c e = absurd cc
-middle_pick false c e = last_pick c e
-
-never_pick : (a b c : Bool) → (if a then Some Beginning else if b then Some Encrypted else if c then Some Encrypted else None) ≡ Some Messages → ⊥
-never_pick true b c e = absurd cc
-never_pick false b c e = middle_pick b c e
+behind_is : (byte : ℕ) → is_behind (phase_behind byte) ≡ true
+behind_is byte = picks (byte == 78) (byte == 83) (byte == 71)
 
 -- no answer is a message
 never_messages : (byte : ℕ) → phase_behind byte ≡ Some Messages → ⊥
-never_messages byte e = never_pick (byte == 78) (byte == 83) (byte == 71) e
+never_messages byte e = let h : true ≡ false = sym (behind_is byte) ∙ ap is_behind e in absurd cc
+
+never_replicating : (byte : ℕ) → phase_behind byte ≡ Some Replicating → ⊥
+never_replicating byte e = let h : true ≡ false = sym (behind_is byte) ∙ ap is_behind e in absurd cc
 
 push_answer : (answers : List ℕ) (byte : ℕ) → AreAnswers answers → phase_behind byte ≡ Some Beginning → AreAnswers (answers ++ byte ∷ [])
 push_answer [] byte all one = (one, tt)
@@ -99,7 +103,7 @@ one_front (z ∷ zs) (w ∷ ws) x y p q m n e =
 -- ---- how far a stream has come
 
 -- answers with their lines, and then messages with theirs
-pub record Begun (view : View) (start : ℕ) (bytes lines : List ℕ) : Type 0 where
+pub record Begun (view : View) (start : ℕ) (bytes lines : List ℕ) (replicating : Bool) : Type 0 where
   pub answers : List ℕ
   pub more : List ℕ
   pub first : List ℕ
@@ -110,24 +114,25 @@ pub record Begun (view : View) (start : ℕ) (bytes lines : List ℕ) : Type 0 w
   pub fronts : Lines view start (Server Beginning) answers first (Server Beginning)
   pub none : answered more ≡ None
   pub some : 0 < length more
-  pub backs : Lines view (start + length answers) (Server Messages) more rest (Server Messages)
+  pub backs : Lines view (start + length answers) (Server Messages) more rest (server_at replicating)
 
 pub data HasCome (view : View) (start : ℕ) (bytes lines : List ℕ) (to : Side) : Type 0 where
   StillAnswers : to ≡ Server Beginning → AreAnswers bytes → HasCome view start bytes lines to
   NowEncrypted : to ≡ Server Encrypted → ((answers rest : List ℕ) → AreAnswers answers → answered rest ≡ None → bytes ≡ answers ++ rest → ⊥) → HasCome view start bytes lines to
-  NowMessages : to ≡ Server Messages → Begun view start bytes lines → HasCome view start bytes lines to
+  NowMessages : (replicating : Bool) → to ≡ server_at replicating → Begun view start bytes lines replicating → HasCome view start bytes lines to
 
 answer_comes : (phase : Phase) (view : View) (start place : ℕ) (bytes lines frame row line : List ℕ) (to : Side) → AreAnswers bytes → IsAnswerLine view.style place frame row phase → to ≡ Server phase → HasCome view start (bytes ++ frame) (lines ++ line) to
 answer_comes Beginning view start place bytes lines frame row line to plain is e = StillAnswers e (subst (λ l. AreAnswers (bytes ++ l)) (sym is.whole) (push_answer bytes is.byte plain is.answers))
 answer_comes Messages view start place bytes lines frame row line to plain is e = absurd (never_messages is.byte is.answers)
+answer_comes Replicating view start place bytes lines frame row line to plain is e = absurd (never_replicating is.byte is.answers)
 answer_comes Encrypted view start place bytes lines frame row line to plain is e =
     NowEncrypted e (λ answers rest others none f. never_plain bytes answers rest is.byte plain is.answers others (ap (λ l. bytes ++ l) (sym is.whole) ∙ f) none)
 
-message_comes : (view : View) (start : ℕ) (bytes lines frame line : List ℕ) (to : Side) → Lines view start (Server Beginning) bytes lines (Server Beginning) → AreAnswers bytes → (has : Told view (place_behind (start + length bytes)) frame line) → answered frame ≡ None → to ≡ Server Messages
+message_comes : (view : View) (start : ℕ) (bytes lines frame line : List ℕ) (to : Side) → Lines view start (Server Beginning) bytes lines (Server Beginning) → AreAnswers bytes → (has : Told view (place_behind (start + length bytes)) false frame line) → answered frame ≡ None → to ≡ server_at (replicates_behind false frame)
     → HasCome view start (bytes ++ frame) (lines ++ line) to
 message_comes view start bytes lines frame line to before plain has none behind =
     let here : place_behind (start + length bytes) ≡ place_behind ((start + length bytes) + 0) = ap place_behind (omega arith) in
-    NowMessages behind (record {
+    NowMessages (replicates_behind false frame) behind (record {
       answers = bytes;
       more = frame;
       first = lines;
@@ -138,7 +143,7 @@ message_comes view start bytes lines frame line to before plain has none behind 
       fronts = before;
       none = none;
       some = omega (arith, frame_long has.reported.first frame has.reported.whole);
-      backs = OneLine {bytes = []} {lines = []} {here = Server Messages} frame line NoLines (listed view (place_behind ((start + length bytes) + 0)) frame line (subst (λ p. Told view p frame line) here has));
+      backs = OneLine {bytes = []} {lines = []} {here = Server Messages} frame line NoLines (listed view (place_behind ((start + length bytes) + 0)) false frame line (subst (λ p. Told view p false frame line) here has));
     })
 
 first_comes : (view : View) (start : ℕ) (bytes lines frame text row : List ℕ) (to : Side) → Lines view start (Server Beginning) bytes lines (Server Beginning) → AreAnswers bytes
@@ -146,10 +151,10 @@ first_comes : (view : View) (start : ℕ) (bytes lines frame text row : List ℕ
 first_comes view start bytes lines frame text row to before plain (inl is) e = answer_comes is.phase view start (place_behind (start + length bytes)) bytes lines frame row text to plain is.reported is.behind
 first_comes view start bytes lines frame text row to before plain (inr is) e = message_comes view start bytes lines frame text to before plain (record { line = row; reported = is.reported; is = e }) is.none is.behind
 
-more_comes : (view : View) (start : ℕ) (bytes lines frame line : List ℕ) (to : Side) → Begun view start bytes lines → Listed view (place_behind (start + length bytes)) (Server Messages) frame line to → HasCome view start (bytes ++ frame) (lines ++ line) to
-more_comes view start bytes lines frame line to b is =
+more_comes : (view : View) (start : ℕ) (replicating : Bool) (bytes lines frame line : List ℕ) (to : Side) → Begun view start bytes lines replicating → Listed view (place_behind (start + length bytes)) (server_at replicating) frame line to → HasCome view start (bytes ++ frame) (lines ++ line) to
+more_comes view start replicating bytes lines frame line to b is =
     let place : place_behind (start + length bytes) ≡ place_behind ((start + length b.answers) + length b.more) = ap place_behind (omega (arith, ap length b.whole, length-append b.answers b.more)) in
-    NowMessages is.reported.1 (record {
+    NowMessages (replicates_behind replicating frame) (behind_it view (place_behind (start + length bytes)) replicating frame line to is) (record {
       answers = b.answers;
       more = b.more ++ frame;
       first = b.first;
@@ -160,7 +165,7 @@ more_comes view start bytes lines frame line to b is =
       fronts = b.fronts;
       none = answered_stays b.more frame b.some b.none;
       some = omega (arith, b.some, length-append b.more frame);
-      backs = OneLine frame line b.backs (listed view (place_behind ((start + length b.answers) + length b.more)) frame line (subst (λ p. Told view p frame line) place (told view (place_behind (start + length bytes)) frame line to is)));
+      backs = OneLine frame line b.backs (listed view (place_behind ((start + length b.answers) + length b.more)) replicating frame line (subst (λ p. Told view p replicating frame line) place (told view (place_behind (start + length bytes)) replicating frame line to is)));
     })
 
 comes : (view : View) (start : ℕ) (bytes lines frame line : List ℕ) (here to : Side) → Lines view start (Server Beginning) bytes lines here → Listed view (place_behind (start + length bytes)) here frame line to → HasCome view start bytes lines here
@@ -169,8 +174,8 @@ comes view start bytes lines frame line here to before has (StillAnswers e plain
     let here_is = subst (λ h. Listed view (place_behind (start + length bytes)) h frame line to) e has in
     first_comes view start bytes lines frame line here_is.line to (subst (λ h. Lines view start (Server Beginning) bytes lines h) e before) plain here_is.reported here_is.is
 comes view start bytes lines frame line here to before has (NowEncrypted e some) = absurd (subst (λ h. Listed view (place_behind (start + length bytes)) h frame line to) e has).reported
-comes view start bytes lines frame line here to before has (NowMessages e b) =
-    more_comes view start bytes lines frame line to b (subst (λ h. Listed view (place_behind (start + length bytes)) h frame line to) e has)
+comes view start bytes lines frame line here to before has (NowMessages replicating e b) =
+    more_comes view start replicating bytes lines frame line to b (subst (λ h. Listed view (place_behind (start + length bytes)) h frame line to) e has)
 
 pub has_come : (view : View) (start : ℕ) (bytes lines : List ℕ) (to : Side) → Lines view start (Server Beginning) bytes lines to → HasCome view start bytes lines to
 has_come view start [] [] _ NoLines = StillAnswers refl tt
@@ -183,43 +188,42 @@ none_front [] more e = refl
 none_front (x ∷ xs) more e = e
 
 -- the answers so far, and then messages
-record Rejoined (view : View) (start : ℕ) (answers first more rest : List ℕ) : Type 0 where
-  listed : Lines view start (Server Beginning) (answers ++ more) (first ++ rest) (Server Messages)
+record Rejoined (view : View) (start : ℕ) (answers first more rest : List ℕ) (to : Side) : Type 0 where
+  listed : Lines view start (Server Beginning) (answers ++ more) (first ++ rest) to
 
-abbrev nothing_or : View → ℕ → List ℕ → List ℕ → List ℕ → List ℕ → Type 0
-nothing_or view start answers first more rest = ((more ≡ []) × (rest ≡ [])) ⊎ Rejoined view start answers first more rest
+abbrev nothing_or : View → ℕ → List ℕ → List ℕ → List ℕ → List ℕ → Side → Type 0
+nothing_or view start answers first more rest to = ((more ≡ []) × (rest ≡ []) × (to ≡ Server Messages)) ⊎ Rejoined view start answers first more rest to
 
-one_more : (view : View) (start : ℕ) (answers first bytes lines frame line : List ℕ) → Lines view start (Server Beginning) answers first (Server Beginning) → answered (bytes ++ frame) ≡ None
-    → Told view (place_behind ((start + length answers) + length bytes)) frame line → nothing_or view start answers first bytes lines → Rejoined view start answers first (bytes ++ frame) (lines ++ line)
-one_more view start answers first bytes lines frame line fronts none is (inl (e, f)) =
+one_more : (view : View) (start : ℕ) (answers first bytes lines frame line : List ℕ) (here to : Side) → Lines view start (Server Beginning) answers first (Server Beginning) → answered (bytes ++ frame) ≡ None
+    → Listed view (place_behind ((start + length answers) + length bytes)) here frame line to → nothing_or view start answers first bytes lines here → Rejoined view start answers first (bytes ++ frame) (lines ++ line) to
+one_more view start answers first bytes lines frame line there to fronts none is (inl (e, f, g)) =
     let here : place_behind ((start + length answers) + length bytes) ≡ place_behind (start + length answers) = ap place_behind (omega (arith, ap length e)) in
     let at : answered frame ≡ None = ap (λ l. answered (l ++ frame)) (sym e) ∙ none in
-    let there = subst (λ p. Told view p frame line) here is in
+    let has = subst (λ s. Listed view (place_behind (start + length answers)) s frame line to) g (subst (λ p. Listed view p there frame line to) here is) in
     record {
-      listed = rw (e, f) (OneLine frame line fronts (record { line = there.line; reported = inr (record { reported = there.reported; none = at; behind = refl }); is = there.is }));
+      listed = rw (e, f) (OneLine frame line fronts (record { line = has.line; reported = inr (record { reported = has.reported.0; none = at; behind = has.reported.1 }); is = has.is }));
     }
-one_more view start answers first bytes lines frame line fronts none is (inr joined) =
+one_more view start answers first bytes lines frame line there to fronts none is (inr joined) =
     let here : place_behind ((start + length answers) + length bytes) ≡ place_behind (start + length (answers ++ bytes)) = ap place_behind (omega (arith, length-append answers bytes)) in
     record {
-      listed = subst (λ l. Lines view start (Server Beginning) l (first ++ (lines ++ line)) (Server Messages)) (append_assoc answers bytes frame)
-          (subst (λ l. Lines view start (Server Beginning) ((answers ++ bytes) ++ frame) l (Server Messages)) (append_assoc first lines line)
-          (OneLine frame line joined.listed (listed view (place_behind (start + length (answers ++ bytes))) frame line (subst (λ p. Told view p frame line) here is))));
+      listed = subst (λ l. Lines view start (Server Beginning) l (first ++ (lines ++ line)) to) (append_assoc answers bytes frame)
+          (subst (λ l. Lines view start (Server Beginning) ((answers ++ bytes) ++ frame) l to) (append_assoc first lines line)
+          (OneLine frame line joined.listed (subst (λ p. Listed view p there frame line to) here is)));
     }
 
 rejoins : (view : View) (start : ℕ) (answers first more rest : List ℕ) (to : Side) → Lines view start (Server Beginning) answers first (Server Beginning) → Lines view (start + length answers) (Server Messages) more rest to → answered more ≡ None
-    → nothing_or view start answers first more rest
-rejoins view start answers first [] [] _ fronts NoLines none = inl (refl, refl)
+    → nothing_or view start answers first more rest to
+rejoins view start answers first [] [] _ fronts NoLines none = inl (refl, refl, refl)
 rejoins view start answers first _ _ to fronts (OneLine {bytes = bytes} {lines = lines} {here = here} frame line before has) none =
-    inr (one_more view start answers first bytes lines frame line fronts none (server_line view (start + length answers) (place_behind ((start + length answers) + length bytes)) bytes lines frame line here to before has)
-    (rejoins view start answers first bytes lines here fronts before (none_front bytes frame none)))
+    inr (one_more view start answers first bytes lines frame line here to fronts none has (rejoins view start answers first bytes lines here fronts before (none_front bytes frame none)))
 
-rejoined : (view : View) (start : ℕ) (answers first more rest : List ℕ) → 0 < length more → nothing_or view start answers first more rest → Lines view start (Server Beginning) (answers ++ more) (first ++ rest) (Server Messages)
-rejoined view start answers first more rest some (inl e) = absurd (omega (arith, some, ap length e.0))
-rejoined view start answers first more rest some (inr joined) = joined.listed
+rejoined : (view : View) (start : ℕ) (answers first more rest : List ℕ) (to : Side) → 0 < length more → nothing_or view start answers first more rest to → Lines view start (Server Beginning) (answers ++ more) (first ++ rest) to
+rejoined view start answers first more rest to some (inl e) = absurd (omega (arith, some, ap length e.0))
+rejoined view start answers first more rest to some (inr joined) = joined.listed
 
 pub rejoin : (view : View) (start : ℕ) (answers first more rest : List ℕ) (to : Side) → Lines view start (Server Beginning) answers first (Server Beginning) → Lines view (start + length answers) (Server Messages) more rest to → answered more ≡ None → 0 < length more
-    → Lines view start (Server Beginning) (answers ++ more) (first ++ rest) (Server Messages)
-rejoin view start answers first more rest to fronts backs none some = rejoined view start answers first more rest some (rejoins view start answers first more rest to fronts backs none)
+    → Lines view start (Server Beginning) (answers ++ more) (first ++ rest) to
+rejoin view start answers first more rest to fronts backs none some = rejoined view start answers first more rest to some (rejoins view start answers first more rest to fronts backs none)
 
 -- ---- a stream without answers
 
@@ -248,7 +252,7 @@ as_messages view bytes output none l (StillAnswers e plain) =
       text = l.text ∙ ap (λ x. x ++ last_line view l.stopped (place_behind (length l.rest))) lines;
     }
 as_messages view bytes output none l (NowEncrypted e some) = absurd (some [] l.front tt (none_front l.front l.rest (ap answered (sym l.whole) ∙ none)) refl)
-as_messages view bytes output none l (NowMessages e b) =
+as_messages view bytes output none l (NowMessages replicating e b) =
     let front = none_front l.front l.rest (ap answered (sym l.whole) ∙ none) in
     let empty = no_answer b.answers b.more b.plain (ap answered (sym b.whole) ∙ front) in
     let lines = nothing_listed view 0 (Server Beginning) (Server Beginning) b.answers b.first b.fronts empty in
@@ -256,15 +260,15 @@ as_messages view bytes output none l (NowMessages e b) =
     let lines_are : b.rest ≡ l.lines = sym (b.text ∙ ap (λ x. x ++ b.rest) lines) in
     let start : 0 + length b.answers ≡ 0 = omega (arith, ap length empty) in
     record {
-      to = Server Messages;
+      to = server_at replicating;
       front = l.front;
       rest = l.rest;
       lines = l.lines;
       stopped = l.stopped;
       whole = l.whole;
-      listed = subst (λ n. Lines view n (Server Messages) l.front l.lines (Server Messages)) start
-          (subst (λ x. Lines view (0 + length b.answers) (Server Messages) x l.lines (Server Messages)) bytes_are
-          (subst (λ x. Lines view (0 + length b.answers) (Server Messages) b.more x (Server Messages)) lines_are b.backs));
+      listed = subst (λ n. Lines view n (Server Messages) l.front l.lines (server_at replicating)) start
+          (subst (λ x. Lines view (0 + length b.answers) (Server Messages) x l.lines (server_at replicating)) bytes_are
+          (subst (λ x. Lines view (0 + length b.answers) (Server Messages) b.more x (server_at replicating)) lines_are b.backs));
       ending = subst (λ s. Ends s l.stopped l.rest) e l.ending;
       text = l.text;
     }
@@ -272,9 +276,8 @@ as_messages view bytes output none l (NowMessages e b) =
 pub whole : (view : View) (bytes output : List ℕ) → answered bytes ≡ None → IsListing view (Server Beginning) bytes output → IsListing view (Server Messages) bytes output
 whole view bytes output none l = as_messages view bytes output none l (has_come view 0 l.front l.lines l.to l.listed)
 
-at_first : (view : View) (bytes output : List ℕ) → answered bytes ≡ None → (l : IsListing view (Server Messages) bytes output) → nothing_or view 0 [] [] l.front l.lines → IsListing view (Server Beginning) bytes output
-at_first view bytes output none l (inl (e, f)) =
-    let ends = subst (λ s. Ends s l.stopped l.rest) (stays_server view 0 l.front l.lines l.to l.listed) l.ending in
+at_first : (view : View) (bytes output : List ℕ) → answered bytes ≡ None → (l : IsListing view (Server Messages) bytes output) → nothing_or view 0 [] [] l.front l.lines l.to → IsListing view (Server Beginning) bytes output
+at_first view bytes output none l (inl (e, f, g)) =
     let is : bytes ≡ l.rest = l.whole ∙ ap (λ x. x ++ l.rest) e in
     record {
       to = Server Beginning;
@@ -284,18 +287,18 @@ at_first view bytes output none l (inl (e, f)) =
       stopped = l.stopped;
       whole = is;
       listed = NoLines;
-      ending = (ap answered (sym is) ∙ none, ends);
+      ending = (ap answered (sym is) ∙ none, subst (λ s. Ends s l.stopped l.rest) g l.ending);
       text = l.text ∙ ap (λ x. x ++ last_line view l.stopped (place_behind (length l.rest))) f;
     }
 at_first view bytes output none l (inr joined) = record {
-  to = Server Messages;
+  to = l.to;
   front = l.front;
   rest = l.rest;
   lines = l.lines;
   stopped = l.stopped;
   whole = l.whole;
   listed = joined.listed;
-  ending = subst (λ s. Ends s l.stopped l.rest) (stays_server view 0 l.front l.lines l.to l.listed) l.ending;
+  ending = l.ending;
   text = l.text;
 }
 

@@ -12,8 +12,8 @@ use Rattle.pgp_frontend_read.specs.declared.error.ClientError.{ClientError}
 use Rattle.pgp_frontend_read.specs.declared.message.PasswordKind as code
 use Rattle.pgp_line.specs.declared.style.Style.{Style}
 use Rattle.pgp_line.specs.Line.{closing}
-use Rattle.pgp_trace.specs.Listing.{client_frame_name, client_front}
 use Rattle.pgp_trace.specs.Client.{client_line}
+use Rattle.pgp_trace.specs.Listing.{EndsSo, client_frame_name, client_front}
 use Rattle.pgp_trace.specs.Sides.{Client, Ends, expected, is_reported, kinds_behind}
 use Rattle.pgp_trace.specs.Steps.{HasLine}
 use Rattle.pgp_trace.proofs.Parts.{front_taken}
@@ -84,10 +84,10 @@ any_kind kind other true bytes e none = absurd cc
 any_kind kind other false bytes e none = λ m more rest s. none m more rest (record { expected = s.expected; spelled = s.spelled; whole = s.whole })
 
 -- an error that passes nothing
-pub stopped_at : (kind : PasswordKind) (opened now : Bool) (kinds : List code.PasswordKind) (bytes rest : List ℕ) (e : ClientError) → length rest ≡ length bytes
-    → Refuses kind (record { bytes = bytes; opened = opened }) e (record { bytes = rest; opened = now }) → Ends (Client opened kinds) true bytes
+pub stopped_at : (kind : PasswordKind) (opened now : Bool) (kinds : List code.PasswordKind) (replicating : Bool) (bytes rest : List ℕ) (e : ClientError) → length rest ≡ length bytes
+    → Refuses kind (record { bytes = bytes; opened = opened }) e (record { bytes = rest; opened = now }) → Ends (Client opened kinds replicating) true bytes
 unfolding uint32
-stopped_at kind opened now kinds bytes rest e same r = elim r.left [
+stopped_at kind opened now kinds replicating bytes rest e same r = elim r.left [
   | inl at ↦ inl at.fault
   | inr other ↦ elim other [
     | inl skips ↦ absurd (omega (arith, same, ap length skips.whole, length-append (framed (Some skips.tag) skips.payload) rest))
@@ -155,12 +155,12 @@ pub taken_less : (kind : PasswordKind) (old new : Unread) (x : ClientMessage) �
 taken_less kind old new m step = omega (arith, framed_long (tag_of m) (payload m), ap length step.stands.whole, length-append (bytes_of m) new.bytes)
 
 -- so the line of it is the line of a frame
-pub passed_line : (style : Style) (place : ℕ) (opened now : Bool) (kinds behind : List code.PasswordKind) (bytes frame rest line name : List ℕ) (kind : PasswordKind) (r : Result ClientMessage ClientError)
+pub passed_line : (style : Style) (place : ℕ) (opened now : Bool) (kinds behind : List code.PasswordKind) (replicating : Bool) (bytes frame rest line name : List ℕ) (kind : PasswordKind) (r : Result ClientMessage ClientError)
     → kind ≡ expected kinds → length rest < length bytes
     → Step kind (record { bytes = bytes; opened = opened }) (step_of r) (record { bytes = rest; opened = now })
-    → frame ≡ take (length bytes - length rest) bytes → line ≡ client_line style (is_reported kinds) r (client_front style place opened frame) ++ closing style ++ 10 ∷ []
-    → behind ≡ kinds_behind opened frame kinds → name ≡ client_frame_name (is_reported kinds) r → HasLine style place (Client opened kinds) bytes rest line (Client now behind) name
-passed_line style place opened now kinds behind bytes frame rest line name kind r reported less step is has moved named =
+    → frame ≡ take (length bytes - length rest) bytes → EndsSo style (is_reported kinds) replicating r (client_front style place opened frame) line
+    → behind ≡ kinds_behind opened frame kinds → name ≡ client_frame_name (is_reported kinds) r → HasLine style place (Client opened kinds replicating) bytes rest line (Client now behind replicating) name
+passed_line style place opened now kinds behind replicating bytes frame rest line name kind r reported less step is has moved named =
     let whole : bytes ≡ frame ++ rest = splits kind (left bytes opened) (left rest now) r less step ∙ ap (λ l. l ++ rest) (sym is) in
     record {
       frame = frame;
@@ -172,49 +172,53 @@ passed_line style place opened now kinds behind bytes frame rest line name kind 
           step = subst (λ k. Step k (record { bytes = frame; opened = opened }) (step_of r) (record { bytes = []; opened = now })) reported (alone kind opened now bytes frame rest r whole less step);
           reported = has;
         };
-        behind = ap (Client now) moved;
+        behind = ap (λ k. Client now k replicating) moved;
       };
       named = named;
     }
 
-abbrev pub LineBehind : Style → ℕ → Bool → List code.PasswordKind → List ℕ → List ℕ → List ℕ → Bool → List code.PasswordKind → List ℕ → Type 0
-LineBehind style place opened kinds bytes rest line now behind name = HasLine style place (Client opened kinds) bytes rest line (Client now behind) name
+abbrev pub LineBehind : Style → ℕ → Bool → List code.PasswordKind → Bool → List ℕ → List ℕ → List ℕ → Bool → List code.PasswordKind → List ℕ → Type 0
+LineBehind style place opened kinds replicating bytes rest line now behind name = HasLine style place (Client opened kinds replicating) bytes rest line (Client now behind replicating) name
 
 same_unread : (new : Unread) (rest : List ℕ) (now : Bool) → rest ≡ new.bytes → now ≡ new.opened → new ≡ left rest now
 same_unread new rest now r o = ap (λ b. left b new.opened) (sym r) ∙ ap (left rest) (sym o)
 
-pub message_passed : (style : Style) (place : ℕ) (opened now : Bool) (kinds behind : List code.PasswordKind) (bytes frame rest line name : List ℕ) (kind : PasswordKind) (x : ClientMessage) (old new : Unread)
+pub message_passed : (style : Style) (place : ℕ) (opened now : Bool) (kinds behind : List code.PasswordKind) (replicating : Bool) (bytes frame rest line name : List ℕ) (kind : PasswordKind) (x : ClientMessage) (old new : Unread)
     → old ≡ record { bytes = bytes; opened = opened } → rest ≡ new.bytes → now ≡ new.opened → kind ≡ expected kinds → Step kind old (Ok (Some x)) new
-    → frame ≡ take (length bytes - length rest) bytes → line ≡ client_line style (is_reported kinds) (Ok x) (client_front style place opened frame) ++ closing style ++ 10 ∷ []
-    → behind ≡ kinds_behind opened frame kinds → name ≡ client_frame_name (is_reported kinds) (Ok x) → LineBehind style place opened kinds bytes rest line now behind name
-message_passed style place opened now kinds behind bytes frame rest line name kind x old new was r o reported step is has moved named =
+    → frame ≡ take (length bytes - length rest) bytes → EndsSo style (is_reported kinds) replicating (Ok x) (client_front style place opened frame) line
+    → behind ≡ kinds_behind opened frame kinds → name ≡ client_frame_name (is_reported kinds) (Ok x) → LineBehind style place opened kinds replicating bytes rest line now behind name
+message_passed style place opened now kinds behind replicating bytes frame rest line name kind x old new was r o reported step is has moved named =
     let here : Step kind (left bytes opened) (Ok (Some x)) (left rest now) =
     subst (λ (u : Unread). Step kind u (Ok (Some x)) (left rest now)) was (subst (λ (u : Unread). Step kind old (Ok (Some x)) u) (same_unread new rest now r o) step) in
-    passed_line style place opened now kinds behind bytes frame rest line name kind (Ok x) reported (taken_less kind (left bytes opened) (left rest now) x here) here is has moved named
+    passed_line style place opened now kinds behind replicating bytes frame rest line name kind (Ok x) reported (taken_less kind (left bytes opened) (left rest now) x here) here is has moved named
 
-pub refusal_passed : (style : Style) (place : ℕ) (opened now : Bool) (kinds behind : List code.PasswordKind) (bytes frame rest line name : List ℕ) (kind : PasswordKind) (e : ClientError) (old new : Unread)
+refusal_ends : (style : Style) (reported replicating : Bool) (e : ClientError) (front line : List ℕ) → line ≡ client_line style reported (Err e) front ++ closing style ++ 10 ∷ [] → EndsSo style reported replicating (Err e) front line
+refusal_ends style reported true e front line has = record { text = client_line style reported (Err e) front; says = refl; ended = has }
+refusal_ends style reported false e front line has = record { text = client_line style reported (Err e) front; says = refl; ended = has }
+
+pub refusal_passed : (style : Style) (place : ℕ) (opened now : Bool) (kinds behind : List code.PasswordKind) (replicating : Bool) (bytes frame rest line name : List ℕ) (kind : PasswordKind) (e : ClientError) (old new : Unread)
     → old ≡ record { bytes = bytes; opened = opened } → rest ≡ new.bytes → now ≡ new.opened → kind ≡ expected kinds → Refuses kind old e new
     → (length rest ≡ length bytes → ⊥)
     → frame ≡ take (length bytes - length rest) bytes → line ≡ client_line style (is_reported kinds) (Err e) (client_front style place opened frame) ++ closing style ++ 10 ∷ []
-    → behind ≡ kinds_behind opened frame kinds → name ≡ client_frame_name (is_reported kinds) (Err e) → LineBehind style place opened kinds bytes rest line now behind name
-refusal_passed style place opened now kinds behind bytes frame rest line name kind e old new was r o reported step differ is has moved named =
+    → behind ≡ kinds_behind opened frame kinds → name ≡ client_frame_name (is_reported kinds) (Err e) → LineBehind style place opened kinds replicating bytes rest line now behind name
+refusal_passed style place opened now kinds behind replicating bytes frame rest line name kind e old new was r o reported step differ is has moved named =
     let here : Refuses kind (left bytes opened) e (left rest now) =
     subst (λ (u : Unread). Refuses kind u e (left rest now)) was (subst (λ (u : Unread). Refuses kind old e u) (same_unread new rest now r o) step) in
     let le : length rest ≤ length bytes = no_longer kind opened now bytes rest (Err e) here in
     let less : length rest < length bytes = omega (arith, le, differ) in
-    passed_line style place opened now kinds behind bytes frame rest line name kind (Err e) reported less here is has moved named
+    passed_line style place opened now kinds behind replicating bytes frame rest line name kind (Err e) reported less here is (refusal_ends style (is_reported kinds) replicating e (client_front style place opened frame) line has) moved named
 
 -- where nothing was passed, no frame stands first
-ends_by : (opened : Bool) (kinds : List code.PasswordKind) (bytes rest : List ℕ) (kind : PasswordKind) (e : ClientError) (new : Unread) → rest ≡ new.bytes → length rest ≡ length bytes
-    → NoneStands kind opened bytes → StopsAtLength (left bytes opened) e new ⊎ (SkipsFrame kind (left bytes opened) e new ⊎ StopsAt (left bytes opened) e new) → Ends (Client opened kinds) true bytes
-ends_by opened kinds bytes rest kind e new r same none (inl s) = inl s.fault
-ends_by opened kinds bytes rest kind e new r same none (inr (inl k)) =
+ends_by : (opened : Bool) (kinds : List code.PasswordKind) (replicating : Bool) (bytes rest : List ℕ) (kind : PasswordKind) (e : ClientError) (new : Unread) → rest ≡ new.bytes → length rest ≡ length bytes
+    → NoneStands kind opened bytes → StopsAtLength (left bytes opened) e new ⊎ (SkipsFrame kind (left bytes opened) e new ⊎ StopsAt (left bytes opened) e new) → Ends (Client opened kinds replicating) true bytes
+ends_by opened kinds replicating bytes rest kind e new r same none (inl s) = inl s.fault
+ends_by opened kinds replicating bytes rest kind e new r same none (inr (inl k)) =
     absurd (omega (arith, framed_long (Some k.tag) k.payload, ap length k.whole, length-append (framed (Some k.tag) k.payload) new.bytes, ap length r, same))
-ends_by opened kinds bytes rest kind e new r same none (inr (inr t)) =
+ends_by opened kinds replicating bytes rest kind e new r same none (inr (inr t)) =
     inr (record { phase = t.phase; payload = t.payload; rest = t.rest; fits = t.fits; whole = t.whole; error = e; blames = t.blames; none = λ other. any_kind kind other opened bytes t.phase none })
 
-pub refusal_rests : (opened : Bool) (kinds : List code.PasswordKind) (bytes rest : List ℕ) (kind : PasswordKind) (e : ClientError) (old new : Unread)
-    → old ≡ record { bytes = bytes; opened = opened } → rest ≡ new.bytes → Refuses kind old e new → length rest ≡ length bytes → Ends (Client opened kinds) true bytes
-refusal_rests opened kinds bytes rest kind e old new was r step same =
+pub refusal_rests : (opened : Bool) (kinds : List code.PasswordKind) (replicating : Bool) (bytes rest : List ℕ) (kind : PasswordKind) (e : ClientError) (old new : Unread)
+    → old ≡ record { bytes = bytes; opened = opened } → rest ≡ new.bytes → Refuses kind old e new → length rest ≡ length bytes → Ends (Client opened kinds replicating) true bytes
+refusal_rests opened kinds replicating bytes rest kind e old new was r step same =
     let here : Refuses kind (left bytes opened) e new = subst (λ (u : Unread). Refuses kind u e new) was step in
-    ends_by opened kinds bytes rest kind e new r same here.none here.left
+    ends_by opened kinds replicating bytes rest kind e new r same here.none here.left

@@ -15,10 +15,10 @@ use Rattle.pgp_frontend_read.proofs.Pieces.{took}
 use Rattle.pgp_frontend_read.proofs.Fronts.{behind_length}
 use Rattle.pgp_frontend_read.proofs.Handing.{refused_behind}
 use Rattle.pgp_line.specs.declared.style.Style.{Style}
-use Rattle.pgp_trace.specs.Client.{client_line, client_name}
+use Rattle.pgp_trace.specs.Client.{ClientSays, client_copied, client_data, client_line, client_name}
 use Rattle.pgp_trace.specs.ClientSecrets.{AlikeMessages, AlikeAnswers, AlikeClientFrames, AlikeClientStreams, NoClientFrames, OneClientAlike, ReadsAs}
-use Rattle.pgp_line.specs.Line.{Length, Tag, closing, followed, opening}
-use Rattle.pgp_trace.specs.Listing.{IsNextLine, Listed, Lines, NoLines, OneLine, client_frame_name, client_front, client_tag, place_behind}
+use Rattle.pgp_line.specs.Line.{Length, Tag, followed, opening}
+use Rattle.pgp_trace.specs.Listing.{EndsSo, IsNextLine, Listed, Lines, NoLines, OneLine, client_frame_name, client_front, client_tag, place_behind}
 use Rattle.pgp_trace.specs.View.{View, shown}
 use Rattle.pgp_trace.specs.Secrets.{quiet, quietly}
 use Rattle.pgp_trace.specs.Sides.{Side, Server, Client, expected, is_password, is_reported, kinds_behind}
@@ -81,9 +81,9 @@ same_kinds : (opened : Bool) (kinds : List code.PasswordKind) (f g : List ℕ) �
 same_kinds opened kinds f g t n = ap (λ (p : Bool). if p then drop 1 kinds else kinds) (same_password opened f g t n)
 
 -- what stands in the listing of a client's frame
-record Told (view : View) (place : ℕ) (opened : Bool) (kinds : List code.PasswordKind) (frame text : List ℕ) (to : Side) : Type 0 where
+record Told (view : View) (place : ℕ) (opened : Bool) (kinds : List code.PasswordKind) (replicating : Bool) (frame text : List ℕ) (to : Side) : Type 0 where
   line : List ℕ
-  reported : IsNextLine view.style place opened kinds frame line to
+  reported : IsNextLine view.style place opened kinds replicating frame line to
   is : text ≡ shown view (client_frame_name (is_reported kinds) reported.reported.result) line
 
 password_name : (reported : Bool) (a : List ℕ) (y : ClientMessage) → AlikeMessages (PasswordMessage a) y → client_name reported (PasswordMessage a) ≡ client_name reported y
@@ -119,9 +119,53 @@ names_alike reported (Err d) (Err e) h = refl
 names_alike reported (Ok x) (Err e) h = absurd h
 names_alike reported (Err d) (Ok y) h = absurd h
 
-line_alike : (view : View) (place : ℕ) (opened : Bool) (kinds : List code.PasswordKind) (f g text : List ℕ) (to : Side) → AlikeClientFrames opened kinds f g
-    → Told (quietly view) place opened kinds f text to → Told (quietly view) place opened kinds g text to
-line_alike view place opened kinds f g text to alike told =
+same_message : (r s : ClientMessage) → r ≡ s → client_copied r ≡ client_copied s
+same_message r s e = ap client_copied e
+
+password_data : (a : List ℕ) (y : ClientMessage) → AlikeMessages (PasswordMessage a) y → client_copied (PasswordMessage a) ≡ client_copied y
+password_data a (PasswordMessage b) e = refl
+password_data a y e = same_message (PasswordMessage a) y e
+
+initial_data : (m a : List ℕ) (y : ClientMessage) → AlikeMessages (SaslInitialResponse m (Some a)) y → client_copied (SaslInitialResponse m (Some a)) ≡ client_copied y
+initial_data m a (SaslInitialResponse n (Some b)) e = refl
+initial_data m a y e = same_message (SaslInitialResponse m (Some a)) y e
+
+response_data : (a : List ℕ) (y : ClientMessage) → AlikeMessages (SaslResponse a) y → client_copied (SaslResponse a) ≡ client_copied y
+response_data a (SaslResponse b) e = refl
+response_data a y e = same_message (SaslResponse a) y e
+
+key_data : (process : _) (a : List ℕ) (y : ClientMessage) → AlikeMessages (CancelRequest process a) y → client_copied (CancelRequest process a) ≡ client_copied y
+key_data p a (CancelRequest q b) e = refl
+key_data p a y e = same_message (CancelRequest p a) y e
+
+message_data : (x y : ClientMessage) → AlikeMessages x y → client_copied x ≡ client_copied y
+message_data (PasswordMessage a) y e = password_data a y e
+message_data (SaslInitialResponse m (Some a)) y e = initial_data m a y e
+message_data (SaslResponse a) y e = response_data a y e
+message_data (CancelRequest p a) y e = key_data p a y e
+message_data x y e = same_message x y e
+
+data_alike : (replicating : Bool) (r s : Result ClientMessage ClientError) → AlikeAnswers r s → client_data replicating r ≡ client_data replicating s
+data_alike false r s h = refl
+data_alike true (Ok x) (Ok y) e = message_data x y e
+data_alike true (Err d) (Err e) h = refl
+data_alike true (Ok x) (Err e) h = absurd h
+data_alike true (Err d) (Ok y) h = absurd h
+
+says_alike : (inside : Option (List ℕ)) (style : Style) (reported : Bool) (r s : Result ClientMessage ClientError) (old new : List ℕ) → AlikeAnswers r s → ClientSays inside (quiet style) reported r old new → ClientSays inside (quiet style) reported s old new
+says_alike (Some bytes) style reported r s old new h says = says
+says_alike None style reported r s old new h says = says ∙ answers_alike style reported r s old h
+
+ends_alike_so : (style : Style) (reported replicating : Bool) (r s : Result ClientMessage ClientError) (front line : List ℕ) → AlikeAnswers r s → EndsSo (quiet style) reported replicating r front line → EndsSo (quiet style) reported replicating s front line
+ends_alike_so style reported replicating r s front line h ends = record {
+  text = ends.text;
+  says = subst (λ o. ClientSays o (quiet style) reported s front ends.text) (data_alike replicating r s h) (says_alike (client_data replicating r) style reported r s front ends.text h ends.says);
+  ended = ends.ended;
+}
+
+line_alike : (view : View) (place : ℕ) (opened : Bool) (kinds : List code.PasswordKind) (replicating : Bool) (f g text : List ℕ) (to : Side) → AlikeClientFrames opened kinds f g
+    → Told (quietly view) place opened kinds replicating f text to → Told (quietly view) place opened kinds replicating g text to
+line_alike view place opened kinds replicating f g text to alike told =
     let is = told.reported in
     let style = view.style in
     let (s, reads, same) = alike.read is.reported.result is.now is.reported.step in
@@ -132,10 +176,10 @@ line_alike view place opened kinds f g text to alike told =
         reported = record {
           result = s;
           step = reads;
-          reported = is.reported.reported ∙ ap (λ l. l ++ closing style ++ 10 ∷ []) (answers_alike style (is_reported kinds) is.reported.result s (client_front (quiet style) place opened f) same
-              ∙ ap (client_line (quiet style) (is_reported kinds) s) (same_front (quiet style) place opened f g alike.tagged alike.long));
+          reported = subst (λ l. EndsSo (quiet style) (is_reported kinds) replicating s l told.line) (same_front (quiet style) place opened f g alike.tagged alike.long)
+              (ends_alike_so style (is_reported kinds) replicating is.reported.result s (client_front (quiet style) place opened f) told.line same is.reported.reported);
         };
-        behind = is.behind ∙ ap (Client is.now) (same_kinds opened kinds f g alike.tagged alike.long);
+        behind = is.behind ∙ ap (λ k. Client is.now k replicating) (same_kinds opened kinds f g alike.tagged alike.long);
       };
       is = told.is ∙ ap (λ n. shown (quietly view) n told.line) (names_alike (is_reported kinds) is.reported.result s same);
     }
@@ -171,8 +215,8 @@ same_end f g r e = sym (front_taken f r (f ++ r) refl) ∙ front_taken g r (f ++
 -- frames, the first at first, and the side after them
 data Chain : Side → List (List ℕ) → Side → Type 0 where
   NoLink : {side : Side} → Chain side [] side
-  Link : {opened now : Bool} {kinds : List code.PasswordKind} {fs : List (List ℕ)} {to : Side} (f : List ℕ) (r : Result ClientMessage ClientError) → ReadsAs opened kinds f r now
-      → Chain (Client now (kinds_behind opened f kinds)) fs to → Chain (Client opened kinds) (f ∷ fs) to
+  Link : {opened now replicating : Bool} {kinds : List code.PasswordKind} {fs : List (List ℕ)} {to : Side} (f : List ℕ) (r : Result ClientMessage ClientError) → ReadsAs opened kinds f r now
+      → Chain (Client now (kinds_behind opened f kinds) replicating) fs to → Chain (Client opened kinds replicating) (f ∷ fs) to
 
 pub one_first : (opened now later : Bool) (kinds : List code.PasswordKind) (f g x y : List ℕ) (r s : Result ClientMessage ClientError) → ReadsAs opened kinds f r now → ReadsAs opened kinds g s later → f ++ x ≡ g ++ y
     → (f ≡ g) × (x ≡ y) × (now ≡ later)
@@ -188,19 +232,19 @@ none_empty f x some e = absurd (omega (arith, some, ap length e, length-append f
 -- bytes are one row of frames
 one_chain : (fs gs : List (List ℕ)) (side to too : Side) → Chain side fs to → Chain side gs too → concat fs ≡ concat gs → (fs ≡ gs) × (to ≡ too)
 one_chain [] [] _ _ _ NoLink NoLink e = (refl, refl)
-one_chain [] (_ ∷ gs) _ _ _ NoLink (Link {opened} {now} {kinds} g s reads rest) e = absurd (none_empty g (concat gs) (frame_some opened now kinds g s reads) e)
-one_chain (_ ∷ fs) [] _ _ _ (Link {opened} {now} {kinds} f r reads rest) NoLink e = absurd (none_empty f (concat fs) (frame_some opened now kinds f r reads) (sym e))
-one_chain (_ ∷ fs) (_ ∷ gs) _ to too (Link {opened} {now} {kinds} f r reads rest) (Link {now = later} g s others more) e =
+one_chain [] (_ ∷ gs) _ _ _ NoLink (Link {opened} {now} {replicating} {kinds} g s reads rest) e = absurd (none_empty g (concat gs) (frame_some opened now kinds g s reads) e)
+one_chain (_ ∷ fs) [] _ _ _ (Link {opened} {now} {replicating} {kinds} f r reads rest) NoLink e = absurd (none_empty f (concat fs) (frame_some opened now kinds f r reads) (sym e))
+one_chain (_ ∷ fs) (_ ∷ gs) _ to too (Link {opened} {now} {replicating} {kinds} f r reads rest) (Link {now = later} g s others more) e =
     let one = one_first opened now later kinds f g (concat fs) (concat gs) r s reads others e in
-    let side : Client later (kinds_behind opened g kinds) ≡ Client now (kinds_behind opened f kinds) =
-    ap (λ b. Client b (kinds_behind opened g kinds)) (sym one.2) ∙ ap (λ l. Client now (kinds_behind opened l kinds)) (sym one.0) in
-    let same = one_chain fs gs (Client now (kinds_behind opened f kinds)) to too rest (subst (λ (h : Side). Chain h gs too) side more) one.1 in
+    let side : Client later (kinds_behind opened g kinds) replicating ≡ Client now (kinds_behind opened f kinds) replicating =
+    ap (λ b. Client b (kinds_behind opened g kinds) replicating) (sym one.2) ∙ ap (λ l. Client now (kinds_behind opened l kinds) replicating) (sym one.0) in
+    let same = one_chain fs gs (Client now (kinds_behind opened f kinds) replicating) to too rest (subst (λ (h : Side). Chain h gs too) side more) one.1 in
     (ap (λ h. h ∷ fs) one.0 ∙ ap (λ l. g ∷ l) same.0, same.1)
 
-push : (fs : List (List ℕ)) (f : List ℕ) (r : Result ClientMessage ClientError) (side : Side) (opened now : Bool) (kinds : List code.PasswordKind) → Chain side fs (Client opened kinds) → ReadsAs opened kinds f r now
-    → Chain side (fs ++ f ∷ []) (Client now (kinds_behind opened f kinds))
-push [] f r _ opened now kinds NoLink reads = Link f r reads NoLink
-push (_ ∷ gs) f r _ opened now kinds (Link {opened = o} {now = n} {kinds = k} g s others rest) reads = Link g s others (push gs f r (Client n (kinds_behind o g k)) opened now kinds rest reads)
+push : (fs : List (List ℕ)) (f : List ℕ) (r : Result ClientMessage ClientError) (side : Side) (opened now replicating : Bool) (kinds : List code.PasswordKind) → Chain side fs (Client opened kinds replicating) → ReadsAs opened kinds f r now
+    → Chain side (fs ++ f ∷ []) (Client now (kinds_behind opened f kinds) replicating)
+push [] f r _ opened now replicating kinds NoLink reads = Link f r reads NoLink
+push (_ ∷ gs) f r _ opened now replicating kinds (Link {opened = o} {now = n} {replicating = p} {kinds = k} g s others rest) reads = Link g s others (push gs f r (Client n (kinds_behind o g k) p) opened now replicating kinds rest reads)
 
 concat_push : (fs : List (List ℕ)) (f : List ℕ) → concat (fs ++ f ∷ []) ≡ concat fs ++ f
 concat_push [] f = append-nil f
@@ -212,45 +256,46 @@ record AreChain (side to : Side) (bytes : List ℕ) : Type 0 where
   chain : Chain side frames to
   whole : bytes ≡ concat frames
 
-more_chain : {side : Side} {opened now : Bool} {kinds : List code.PasswordKind} (bytes f : List ℕ) (r : Result ClientMessage ClientError) → AreChain side (Client opened kinds) bytes → ReadsAs opened kinds f r now
-    → AreChain side (Client now (kinds_behind opened f kinds)) (bytes ++ f)
-more_chain {side} {opened} {now} {kinds} bytes f r are reads = record {
+more_chain : {side : Side} {opened now replicating : Bool} {kinds : List code.PasswordKind} (bytes f : List ℕ) (r : Result ClientMessage ClientError) → AreChain side (Client opened kinds replicating) bytes → ReadsAs opened kinds f r now
+    → AreChain side (Client now (kinds_behind opened f kinds) replicating) (bytes ++ f)
+more_chain {side} {opened} {now} {replicating} {kinds} bytes f r are reads = record {
   frames = are.frames ++ f ∷ [];
-  chain = push are.frames f r side opened now kinds are.chain reads;
+  chain = push are.frames f r side opened now replicating kinds are.chain reads;
   whole = ap (λ l. l ++ f) are.whole ∙ sym (concat_push are.frames f);
 }
 
 alike_chain : (from : Side) (a b : List ℕ) (to : Side) → AlikeClientStreams from a b to → AreChain from to a
 alike_chain from [] [] _ NoClientFrames = record { frames = []; chain = NoLink; whole = refl }
-alike_chain from _ _ _ (OneClientAlike {a = a} {b = b} {opened = opened} {kinds = kinds} r f g before reads alike) = more_chain a f r (alike_chain from a b (Client opened kinds) before) reads
+alike_chain from _ _ _ (OneClientAlike {a = a} {b = b} {opened = opened} {replicating = replicating} {kinds = kinds} r f g before reads alike) = more_chain a f r (alike_chain from a b (Client opened kinds replicating) before) reads
 
 -- ---- lines
 
 record ClientAt (side : Side) : Type 0 where
   opened : Bool
   kinds : List code.PasswordKind
-  is : side ≡ Client opened kinds
+  replicating : Bool
+  is : side ≡ Client opened kinds replicating
 
-next_line : (view : View) (place : ℕ) (here to : Side) (frame text : List ℕ) (c : ClientAt here) → Listed view place here frame text to → Told view place c.opened c.kinds frame text to
+next_line : (view : View) (place : ℕ) (here to : Side) (frame text : List ℕ) (c : ClientAt here) → Listed view place here frame text to → Told view place c.opened c.kinds c.replicating frame text to
 next_line view place here to frame text c has =
     let there = subst (λ h. Listed view place h frame text to) c.is has in
     record { line = there.line; reported = there.reported; is = there.is }
 
 -- after a client's lines come a client's
-stays_client : (view : View) (start : ℕ) (opened : Bool) (kinds : List code.PasswordKind) (bytes lines : List ℕ) (to : Side) → Lines view start (Client opened kinds) bytes lines to → ClientAt to
-stays_client view start opened kinds [] [] _ NoLines = record { opened = opened; kinds = kinds; is = refl }
-stays_client view start opened kinds _ _ to (OneLine {bytes = bytes} {lines = lines} {here = here} frame line before has) =
-    let c = stays_client view start opened kinds bytes lines here before in
+stays_client : (view : View) (start : ℕ) (opened : Bool) (kinds : List code.PasswordKind) (replicating : Bool) (bytes lines : List ℕ) (to : Side) → Lines view start (Client opened kinds replicating) bytes lines to → ClientAt to
+stays_client view start opened kinds replicating [] [] _ NoLines = record { opened = opened; kinds = kinds; replicating = replicating; is = refl }
+stays_client view start opened kinds replicating _ _ to (OneLine {bytes = bytes} {lines = lines} {here = here} frame line before has) =
+    let c = stays_client view start opened kinds replicating bytes lines here before in
     let next = next_line view (place_behind (start + length bytes)) here to frame line c has in
-    record { opened = next.reported.now; kinds = kinds_behind c.opened frame c.kinds; is = next.reported.behind }
+    record { opened = next.reported.now; kinds = kinds_behind c.opened frame c.kinds; replicating = c.replicating; is = next.reported.behind }
 
-listed_chain : (view : View) (start : ℕ) (opened : Bool) (kinds : List code.PasswordKind) (bytes lines : List ℕ) (to : Side) → Lines view start (Client opened kinds) bytes lines to → AreChain (Client opened kinds) to bytes
-listed_chain view start opened kinds [] [] _ NoLines = record { frames = []; chain = NoLink; whole = refl }
-listed_chain view start opened kinds _ _ to (OneLine {bytes = bytes} {lines = lines} {here = here} frame line before has) =
-    let c = stays_client view start opened kinds bytes lines here before in
+listed_chain : (view : View) (start : ℕ) (opened : Bool) (kinds : List code.PasswordKind) (replicating : Bool) (bytes lines : List ℕ) (to : Side) → Lines view start (Client opened kinds replicating) bytes lines to → AreChain (Client opened kinds replicating) to bytes
+listed_chain view start opened kinds replicating [] [] _ NoLines = record { frames = []; chain = NoLink; whole = refl }
+listed_chain view start opened kinds replicating _ _ to (OneLine {bytes = bytes} {lines = lines} {here = here} frame line before has) =
+    let c = stays_client view start opened kinds replicating bytes lines here before in
     let next = next_line view (place_behind (start + length bytes)) here to frame line c has in
-    let so_far = subst (λ h. AreChain (Client opened kinds) h bytes) c.is (listed_chain view start opened kinds bytes lines here before) in
-    subst (λ t. AreChain (Client opened kinds) t (bytes ++ frame)) (sym next.reported.behind) (more_chain bytes frame next.reported.reported.result so_far next.reported.reported.step)
+    let so_far = subst (λ h. AreChain (Client opened kinds replicating) h bytes) c.is (listed_chain view start opened kinds replicating bytes lines here before) in
+    subst (λ t. AreChain (Client opened kinds replicating) t (bytes ++ frame)) (sym next.reported.behind) (more_chain bytes frame next.reported.reported.result so_far next.reported.reported.step)
 
 last_same : (fs gs : List (List ℕ)) (f g : List ℕ) → fs ++ f ∷ [] ≡ gs ++ g ∷ [] → (fs ≡ gs) × (f ≡ g)
 last_same [] [] f g e = (refl, ap (λ l. get_or l 0 []) e)
@@ -262,7 +307,7 @@ last_same (h ∷ fs) (k ∷ gs) f g e =
 
 abbrev SideAlike : Side → List ℕ → List ℕ → Type 0
 SideAlike (Server phase) f g = ⊥
-SideAlike (Client opened kinds) f g = AlikeClientFrames opened kinds f g
+SideAlike (Client opened kinds replicating) f g = AlikeClientFrames opened kinds f g
 
 -- the stream that is like one whose last frame is known
 record EndsAlike (from here : Side) (bytes other f : List ℕ) : Type 0 where
@@ -272,27 +317,27 @@ record EndsAlike (from here : Side) (bytes other f : List ℕ) : Type 0 where
   alike : AlikeClientStreams from bytes before here
   same : SideAlike here f last
 
-ends_alike : (from to : Side) (opened now : Bool) (kinds : List code.PasswordKind) (all other : List ℕ) → AlikeClientStreams from all other to → (bytes f : List ℕ) (r : Result ClientMessage ClientError)
-    → AreChain from (Client opened kinds) bytes → ReadsAs opened kinds f r now → all ≡ bytes ++ f → EndsAlike from (Client opened kinds) bytes other f
-ends_alike from _ opened now kinds [] [] NoClientFrames bytes f r are reads e =
+ends_alike : (from to : Side) (opened now replicating : Bool) (kinds : List code.PasswordKind) (all other : List ℕ) → AlikeClientStreams from all other to → (bytes f : List ℕ) (r : Result ClientMessage ClientError)
+    → AreChain from (Client opened kinds replicating) bytes → ReadsAs opened kinds f r now → all ≡ bytes ++ f → EndsAlike from (Client opened kinds replicating) bytes other f
+ends_alike from _ opened now replicating kinds [] [] NoClientFrames bytes f r are reads e =
     absurd (omega (arith, ap length e, length-append bytes f, frame_some opened now kinds f r reads))
-ends_alike from _ opened now kinds _ _ (OneClientAlike {a = a} {b = b} {opened = o} {now = n} {kinds = k} s g h before others alike) bytes f r are reads e =
-    let front = alike_chain from a b (Client o k) before in
+ends_alike from _ opened now replicating kinds _ _ (OneClientAlike {a = a} {b = b} {opened = o} {now = n} {replicating = p} {kinds = k} s g h before others alike) bytes f r are reads e =
+    let front = alike_chain from a b (Client o k p) before in
     let meet = concat_push front.frames g ∙ ap (λ l. l ++ g) (sym front.whole) ∙ e ∙ ap (λ l. l ++ f) are.whole ∙ sym (concat_push are.frames f) in
-    let one = one_chain (front.frames ++ g ∷ []) (are.frames ++ f ∷ []) from (Client n (kinds_behind o g k)) (Client now (kinds_behind opened f kinds)) (push front.frames g s from o n k front.chain others) (push are.frames f r from opened now kinds are.chain reads) meet in
+    let one = one_chain (front.frames ++ g ∷ []) (are.frames ++ f ∷ []) from (Client n (kinds_behind o g k) p) (Client now (kinds_behind opened f kinds) replicating) (push front.frames g s from o n p k front.chain others) (push are.frames f r from opened now replicating kinds are.chain reads) meet in
     let same = last_same front.frames are.frames g f one.0 in
-    let side = (one_chain front.frames are.frames from (Client o k) (Client opened kinds) front.chain are.chain (ap concat same.0)).1 in
+    let side = (one_chain front.frames are.frames from (Client o k p) (Client opened kinds replicating) front.chain are.chain (ap concat same.0)).1 in
     record {
       before = b;
       last = h;
       whole = refl;
-      alike = subst (λ l. AlikeClientStreams from l b (Client opened kinds)) (front.whole ∙ ap concat same.0 ∙ sym are.whole) (subst (AlikeClientStreams from a b) side before);
+      alike = subst (λ l. AlikeClientStreams from l b (Client opened kinds replicating)) (front.whole ∙ ap concat same.0 ∙ sym are.whole) (subst (AlikeClientStreams from a b) side before);
       same = subst (λ l. AlikeClientFrames opened kinds l h) same.1 (subst (λ t. SideAlike t g h) side alike);
     }
 
 same_length : (from : Side) (a b : List ℕ) (to : Side) → AlikeClientStreams from a b to → length a ≡ length b
 same_length from [] [] _ NoClientFrames = refl
-same_length from _ _ _ (OneClientAlike {a = a} {b = b} {opened = opened} {kinds = kinds} r f g before reads alike) = omega (arith, same_length from a b (Client opened kinds) before, length-append a f, length-append b g, alike.long)
+same_length from _ _ _ (OneClientAlike {a = a} {b = b} {opened = opened} {replicating = replicating} {kinds = kinds} r f g before reads alike) = omega (arith, same_length from a b (Client opened kinds replicating) before, length-append a f, length-append b g, alike.long)
 
 nothing_alike : (all other : List ℕ) (from to : Side) → AlikeClientStreams from all other to → all ≡ [] → other ≡ []
 nothing_alike all other from to alike e = none_long other (sym (same_length from all other to alike) ∙ ap length e)
@@ -301,18 +346,18 @@ nothing_alike all other from to alike e = none_long other (sym (same_length from
     none_long [] z = refl
     none_long (x ∷ xs) z = absurd (omega (arith, z))
 
-pub client_streams_hidden : (view : View) (start : ℕ) (opened : Bool) (kinds : List code.PasswordKind) (a lines : List ℕ) (to too : Side) → Lines (quietly view) start (Client opened kinds) a lines to → (b : List ℕ)
-    → AlikeClientStreams (Client opened kinds) a b too → Lines (quietly view) start (Client opened kinds) b lines to
-client_streams_hidden view start opened kinds [] [] _ too NoLines b alike =
-    subst (λ l. Lines (quietly view) start (Client opened kinds) l [] (Client opened kinds)) (sym (nothing_alike [] b (Client opened kinds) too alike refl)) NoLines
-client_streams_hidden loud start opened kinds _ _ to too (OneLine {bytes = bytes} {lines = lines} {here = here} frame line before has) b alike =
+pub client_streams_hidden : (view : View) (start : ℕ) (opened : Bool) (kinds : List code.PasswordKind) (replicating : Bool) (a lines : List ℕ) (to too : Side) → Lines (quietly view) start (Client opened kinds replicating) a lines to → (b : List ℕ)
+    → AlikeClientStreams (Client opened kinds replicating) a b too → Lines (quietly view) start (Client opened kinds replicating) b lines to
+client_streams_hidden view start opened kinds replicating [] [] _ too NoLines b alike =
+    subst (λ l. Lines (quietly view) start (Client opened kinds replicating) l [] (Client opened kinds replicating)) (sym (nothing_alike [] b (Client opened kinds replicating) too alike refl)) NoLines
+client_streams_hidden loud start opened kinds replicating _ _ to too (OneLine {bytes = bytes} {lines = lines} {here = here} frame line before has) b alike =
     let view = quietly loud in
-    let c = stays_client view start opened kinds bytes lines here before in
+    let c = stays_client view start opened kinds replicating bytes lines here before in
     let next = next_line view (place_behind (start + length bytes)) here to frame line c has in
-    let so_far = subst (λ h. AreChain (Client opened kinds) h bytes) c.is (listed_chain view start opened kinds bytes lines here before) in
-    let end = ends_alike (Client opened kinds) too c.opened next.reported.now c.kinds (bytes ++ frame) b alike bytes frame next.reported.reported.result so_far next.reported.reported.step refl in
-    let rest = client_streams_hidden loud start opened kinds bytes lines here (Client c.opened c.kinds) before end.before end.alike in
-    let place : place_behind (start + length bytes) ≡ place_behind (start + length end.before) = ap (λ n. place_behind (start + n)) (same_length (Client opened kinds) bytes end.before (Client c.opened c.kinds) end.alike) in
-    let line_of = line_alike loud (place_behind (start + length end.before)) c.opened c.kinds frame end.last line to end.same (subst (λ p. Told view p c.opened c.kinds frame line to) place next) in
-    subst (λ l. Lines view start (Client opened kinds) l (lines ++ line) to) (sym end.whole)
+    let so_far = subst (λ h. AreChain (Client opened kinds replicating) h bytes) c.is (listed_chain view start opened kinds replicating bytes lines here before) in
+    let end = ends_alike (Client opened kinds replicating) too c.opened next.reported.now c.replicating c.kinds (bytes ++ frame) b alike bytes frame next.reported.reported.result so_far next.reported.reported.step refl in
+    let rest = client_streams_hidden loud start opened kinds replicating bytes lines here (Client c.opened c.kinds c.replicating) before end.before end.alike in
+    let place : place_behind (start + length bytes) ≡ place_behind (start + length end.before) = ap (λ n. place_behind (start + n)) (same_length (Client opened kinds replicating) bytes end.before (Client c.opened c.kinds c.replicating) end.alike) in
+    let line_of = line_alike loud (place_behind (start + length end.before)) c.opened c.kinds c.replicating frame end.last line to end.same (subst (λ p. Told view p c.opened c.kinds c.replicating frame line to) place next) in
+    subst (λ l. Lines view start (Client opened kinds replicating) l (lines ++ line) to) (sym end.whole)
     (OneLine end.last line rest (subst (λ h. Listed view (place_behind (start + length end.before)) h end.last line to) (sym c.is) (record { line = line_of.line; reported = line_of.reported; is = line_of.is })))

@@ -6,7 +6,7 @@ use Rattle.pgp_message.specs.Stream.{IsLengthFault}
 use Rattle.pgp_frontend_read.specs.Step as client
 use Rattle.pgp_frontend_read.proofs.Refusals.{more_behind}
 use Rattle.pgp_trace.specs.Sides.{Side, Server, Client, Ends, IsRefusedPacket, answered}
-use Rattle.pgp_trace.specs.declared.side.Phase.TheVariants.{Beginning, Messages, Encrypted}
+use Rattle.pgp_trace.specs.declared.side.Phase.TheVariants.{Beginning, Messages, Replicating, Encrypted}
 
 fault_stays : (rest piece : List ℕ) → IsLengthFault rest → IsLengthFault (rest ++ piece)
 fault_stays rest piece f = record {
@@ -48,14 +48,16 @@ packet_stays opened rest piece r = record {
 pub stays_ended : (side : Side) (rest piece : List ℕ) → Ends side true rest → Ends side true (rest ++ piece)
 stays_ended (Server Beginning) rest piece f = (answered_stays rest piece (fault_some rest f.1) f.0, fault_stays rest piece f.1)
 stays_ended (Server Messages) rest piece f = fault_stays rest piece f
+stays_ended (Server Replicating) rest piece f = fault_stays rest piece f
 stays_ended (Server Encrypted) rest piece some = omega (arith, some, length-append rest piece)
-stays_ended (Client opened kinds) rest piece (inl f) = inl (length_stays opened rest piece f)
-stays_ended (Client opened kinds) rest piece (inr r) = inr (packet_stays opened rest piece r)
+stays_ended (Client opened kinds replicating) rest piece (inl f) = inl (length_stays opened rest piece f)
+stays_ended (Client opened kinds replicating) rest piece (inr r) = inr (packet_stays opened rest piece r)
 
 -- and where nothing came, more is awaited
 pub nothing_ends : (side : Side) → Ends side false []
 nothing_ends (Server Beginning) = (refl, inl (omega arith))
 nothing_ends (Server Messages) = inl (omega arith)
+nothing_ends (Server Replicating) = inl (omega arith)
 nothing_ends (Server Encrypted) = refl
-nothing_ends (Client true kinds) = inl (omega arith)
-nothing_ends (Client false kinds) = inl (omega arith)
+nothing_ends (Client true kinds replicating) = inl (omega arith)
+nothing_ends (Client false kinds replicating) = inl (omega arith)

@@ -1,5 +1,5 @@
 -- The line of one frame.
-use Rattle.std.proofs.Common.{◌≡◌, ℕ, ◌-◌, ◌≤◌, List, [], ◌∷◌, ◌++◌, length, take, drop, Result, Ok, Err, refl, sym, ap, subst, ◌∙◌, arith, length-append}
+use Rattle.std.proofs.Common.{◌≡◌, ℕ, Bool, true, false, ◌-◌, ◌≤◌, List, [], ◌∷◌, ◌++◌, length, take, drop, Result, Ok, Err, refl, sym, ap, subst, ◌∙◌, arith, length-append}
 use Rattle.std.specs.Prelude.{slice_index}
 use Rattle.std.proofs.lemmas.List.{append-nil}
 use Rattle.pgp_base.specs.Wire.{uint32}
@@ -8,12 +8,11 @@ use Rattle.pgp_message.specs.BackendMessage.{Message, payload_of}
 use Rattle.pgp_message.specs.Stream.{Frame, frame_bytes, TakesFrame}
 use Rattle.pgp_line.specs.declared.style.Style.{Style}
 use Rattle.pgp_line.specs.Line.{Length, Tag, closing, followed, opening}
-use Rattle.pgp_trace.specs.Shown.{Shows, called}
+use Rattle.pgp_trace.specs.Shown.{Says, called, inner_data}
 use Rattle.pgp_trace.specs.Unread.{ShowsUnread}
 use Rattle.pgp_trace.specs.Listing.{front, unread_name}
 use Rattle.pgp_trace.specs.Names.{name_of}
-use Rattle.pgp_trace.specs.Sides.{Server}
-use Rattle.pgp_trace.specs.declared.side.Phase.TheVariants.{Messages}
+use Rattle.pgp_trace.specs.Sides.{replicates_behind, server_at}
 use Rattle.pgp_trace.specs.Steps.{IsFrameOf, IsNamedLine, HasLine, ReportsFault}
 use Rattle.pgp_trace.proofs.Parts.{front_taken}
 
@@ -36,9 +35,9 @@ payload_behind f = refl
 pub body_is : (bytes : List ℕ) (m : Message) → IsFrameOf bytes (Ok m) → drop 5 bytes ≡ payload_of m
 body_is bytes m is = ap (drop 5) is.whole ∙ payload_behind is.first ∙ is.body.parts ∙ append-nil (payload_of m)
 
-pub message_reported : (style : Style) (place : ℕ) (bytes : List ℕ) (m : Message) (is : IsFrameOf bytes (Ok m)) (begins called_so said line name : List ℕ)
-    → begins ≡ begun style place bytes → called_so ≡ followed style begins (called m ∷ []) → Shows style m called_so said → line ≡ said ++ closing style ++ 10 ∷ [] → name ≡ name_of m → IsNamedLine style place bytes line name
-message_reported style place bytes m is begins called_so said line name b n shows e named =
+pub message_reported : (style : Style) (place : ℕ) (replicating : Bool) (bytes : List ℕ) (m : Message) (is : IsFrameOf bytes (Ok m)) (begins called_so said line name : List ℕ)
+    → begins ≡ begun style place bytes → called_so ≡ followed style begins (called m ∷ []) → Says (inner_data replicating m) style m called_so said → line ≡ said ++ closing style ++ 10 ∷ [] → name ≡ name_of m → IsNamedLine style place replicating bytes line name
+message_reported style place replicating bytes m is begins called_so said line name b n shows e named =
     let head = b ∙ begun_is style place is.first bytes is.whole in
     record {
       is = record {
@@ -49,7 +48,7 @@ message_reported style place bytes m is begins called_so said line name b n show
           result = Ok m;
           body = is.body;
           text = said;
-          reported = subst (λ l. Shows style m l said) (n ∙ ap (λ l. followed style l (called m ∷ [])) head) shows;
+          reported = subst (λ l. Says (inner_data replicating m) style m l said) (n ∙ ap (λ l. followed style l (called m ∷ [])) head) shows;
           ended = e;
         };
       };
@@ -64,8 +63,8 @@ fault_ended style place bytes body e begins said line b d shows end = record {
   ended = end;
 }
 
-pub fault_reported : (style : Style) (place : ℕ) (bytes : List ℕ) (r : Error) (is : IsFrameOf bytes (Err r)) (line name : List ℕ) → ReportsFault style place bytes r line → name ≡ unread_name (slice_index bytes 0) → IsNamedLine style place bytes line name
-fault_reported style place bytes r is line name reports named =
+pub fault_reported : (style : Style) (place : ℕ) (replicating : Bool) (bytes : List ℕ) (r : Error) (is : IsFrameOf bytes (Err r)) (line name : List ℕ) → ReportsFault style place bytes r line → name ≡ unread_name (slice_index bytes 0) → IsNamedLine style place replicating bytes line name
+fault_reported style place replicating bytes r is line name reports named =
     let f = is.first in
     let tag : slice_index bytes 0 ≡ f.tag = ap (λ l. slice_index l 0) is.whole in
     let body : drop 5 bytes ≡ f.payload = ap (drop 5) is.whole ∙ payload_behind f in
@@ -100,11 +99,17 @@ pub no_longer : (old new : List ℕ) (r : Result Message Error) → TakesFrame o
 no_longer old new r t = omega (arith, ap length t.whole, length-append (frame_bytes t.first) new)
 
 -- and what has its line there has it here
-pub line_here : (style : Style) (place : ℕ) (old new bytes line name : List ℕ) (r : Result Message Error) → TakesFrame old r new → bytes ≡ take (length old - length new) old → IsNamedLine style place bytes line name
-    → HasLine style place (Server Messages) old new line (Server Messages) name
-line_here style place old new bytes line name r t e has = record {
+pub line_here : (style : Style) (place : ℕ) (replicating now : Bool) (old new bytes line name : List ℕ) (r : Result Message Error) → TakesFrame old r new → bytes ≡ take (length old - length new) old → now ≡ replicates_behind replicating bytes
+    → IsNamedLine style place replicating bytes line name → HasLine style place (server_at replicating) old new line (server_at now) name
+line_here style place true now old new bytes line name r t e n has = record {
   frame = bytes;
   whole = t.whole ∙ ap (λ l. l ++ new) (sym (front_taken (frame_bytes t.first) new old t.whole) ∙ sym e);
-  reported = (has.is, refl);
+  reported = (has.is, ap server_at n);
+  named = has.named;
+}
+line_here style place false now old new bytes line name r t e n has = record {
+  frame = bytes;
+  whole = t.whole ∙ ap (λ l. l ++ new) (sym (front_taken (frame_bytes t.first) new old t.whole) ∙ sym e);
+  reported = (has.is, ap server_at n);
   named = has.named;
 }

@@ -1,12 +1,12 @@
 -- Messages that differ in their secrets alone say the same.
-use Rattle.std.proofs.Common.{◌≡◌, ℕ, List, [], ◌∷◌, length, refl, ap, subst, ◌∙◌}
+use Rattle.std.proofs.Common.{◌≡◌, ℕ, Bool, true, false, List, [], ◌∷◌, length, Option, Some, None, refl, ap, subst, ◌∙◌}
 use Rattle.std.specs.Prelude.{codes}
 use Rattle.pgp_message.specs.BackendMessage.{AuthenticationMd5Password, AuthenticationGssContinue, AuthenticationSaslContinue, AuthenticationSaslFinal, Message, BackendKeyData, Authentication}
 use Rattle.pgp_message.specs.Parts.{KeyData}
 use Rattle.pgp_line.specs.Line.{Key, Number, Hidden, followed, key as named}
 use Rattle.pgp_line.specs.declared.style.Style.{Style}
 use Rattle.pgp_trace.specs.Secrets.{Alike, quiet}
-use Rattle.pgp_trace.specs.Shown.{Shows, called}
+use Rattle.pgp_trace.specs.Shown.{Says, Shows, called, inner_data}
 
 same : (style : Style) (m n : Message) (old new : List ℕ) → m ≡ n → Shows (quiet style) m old new → Shows (quiet style) n old new
 same style m n old new e s = subst (λ k. Shows (quiet style) k old new) e s
@@ -72,3 +72,40 @@ same_call (Authentication (AuthenticationSaslContinue x)) n e = more_name x n e
 same_call (Authentication (AuthenticationSaslFinal x)) n e = final_name x n e
 same_call (BackendKeyData x) n e = key_name x n e
 same_call m n e = name_by m n e
+
+-- and the same data in them
+data_by : (r : Bool) (m n : Message) → m ≡ n → inner_data r m ≡ inner_data r n
+data_by r m n e = ap (inner_data r) e
+
+salt_data : (x : List ℕ) (n : Message) → Alike (Authentication (AuthenticationMd5Password x)) n → inner_data true (Authentication (AuthenticationMd5Password x)) ≡ inner_data true n
+salt_data x (Authentication (AuthenticationMd5Password y)) e = refl
+salt_data x n e = data_by true (Authentication (AuthenticationMd5Password x)) n e
+
+gss_data : (x : List ℕ) (n : Message) → Alike (Authentication (AuthenticationGssContinue x)) n → inner_data true (Authentication (AuthenticationGssContinue x)) ≡ inner_data true n
+gss_data x (Authentication (AuthenticationGssContinue y)) e = refl
+gss_data x n e = data_by true (Authentication (AuthenticationGssContinue x)) n e
+
+more_data : (x : List ℕ) (n : Message) → Alike (Authentication (AuthenticationSaslContinue x)) n → inner_data true (Authentication (AuthenticationSaslContinue x)) ≡ inner_data true n
+more_data x (Authentication (AuthenticationSaslContinue y)) e = refl
+more_data x n e = data_by true (Authentication (AuthenticationSaslContinue x)) n e
+
+final_data : (x : List ℕ) (n : Message) → Alike (Authentication (AuthenticationSaslFinal x)) n → inner_data true (Authentication (AuthenticationSaslFinal x)) ≡ inner_data true n
+final_data x (Authentication (AuthenticationSaslFinal y)) e = refl
+final_data x n e = data_by true (Authentication (AuthenticationSaslFinal x)) n e
+
+key_data : (x : KeyData) (n : Message) → Alike (BackendKeyData x) n → inner_data true (BackendKeyData x) ≡ inner_data true n
+key_data x (BackendKeyData y) e = refl
+key_data x n e = data_by true (BackendKeyData x) n e
+
+pub same_data : (r : Bool) (m n : Message) → Alike m n → inner_data r m ≡ inner_data r n
+same_data false m n e = refl
+same_data true (Authentication (AuthenticationMd5Password x)) n e = salt_data x n e
+same_data true (Authentication (AuthenticationGssContinue x)) n e = gss_data x n e
+same_data true (Authentication (AuthenticationSaslContinue x)) n e = more_data x n e
+same_data true (Authentication (AuthenticationSaslFinal x)) n e = final_data x n e
+same_data true (BackendKeyData x) n e = key_data x n e
+same_data true m n e = data_by true m n e
+
+pub hidden_inside : (inside : Option (List ℕ)) (style : Style) (m n : Message) (old new : List ℕ) → Alike m n → Says inside (quiet style) m old new → Says inside (quiet style) n old new
+hidden_inside (Some bytes) style m n old new e s = s
+hidden_inside None style m n old new e s = hidden style m n old new e s

@@ -2,6 +2,7 @@ pub mod Parts
 pub mod Fronts
 pub mod Items
 pub mod PlainBodies
+pub mod Inners
 pub mod Numbers
 pub mod UnreadLines
 pub mod FrameLines
@@ -17,6 +18,7 @@ pub mod Runs
 pub mod Hiding
 pub mod ClientHiding
 pub mod Streams
+pub mod Plain
 pub mod ClientStreams
 pub mod OneListing
 pub mod OptionLemmas

@@ -29,15 +29,17 @@ use Rattle.pgp_frontend_read.proofs.OneStep.{step_one}
 use Rattle.pgp_frontend_read.proofs.Refusals.{partial_waits}
 use Rattle.pgp_frontend_read.proofs.Steps.{step_fault}
 use Rattle.pgp_line.specs.declared.style.Style.{Style}
-use Rattle.pgp_line.specs.Line.{Part, Count, Key, ListEnds, Number, ObjectEnds, Text, closing, followed, key as named}
+use Rattle.pgp_line.specs.Line.{Part, Count, Key, ListEnds, Name, Number, ObjectEnds, Text, closing, followed, key as named}
 use Rattle.pgp_trace.specs.declared.side.Phase.{Phase}
-use Rattle.pgp_trace.specs.declared.side.Phase.TheVariants.{Beginning, Messages, Encrypted}
-use Rattle.pgp_trace.specs.Client.{client_line}
-use Rattle.pgp_trace.specs.Shown.{Shows, ShowsCounted, ShowsMarked, ShowsTexts, called, closed, list_of}
+use Rattle.pgp_trace.specs.declared.side.Phase.TheVariants.{Beginning, Messages, Replicating, Encrypted}
+use Rattle.pgp_trace.specs.Client.{ClientSays, client_data}
+use Rattle.pgp_trace.specs.Replication.{ShowsInner, inner_parts}
+use Rattle.pgp_trace.specs.Shown.{Says, Shows, ShowsCounted, ShowsMarked, ShowsTexts, called, closed, inner_data, list_of}
 use Rattle.pgp_trace.specs.Unread.{ShowsCopyBoth, ShowsResult, ShowsUnread, CallResult, CopyBoth, Rejected, copy_parts, result_parts}
+use Rattle.pgp_trace.proofs.Inners.{one_inner}
 use Rattle.pgp_trace.proofs.PlainBodies.{one_copy, one_result}
-use Rattle.pgp_trace.specs.Sides.{Side, Server, Client, Ends, IsRefusedPacket, answered, expected, is_reported, kinds_behind, phase_behind}
-use Rattle.pgp_trace.specs.Listing.{GoesOn, IsAnswerLine, IsListing, IsLineOf, IsNextLine, IsServerLine, LineOf, Listed, Lines, NoLines, OneLine, answer_line, answer_name, client_frame_name, client_front, front, last_line, name_in, place_behind, server_name}
+use Rattle.pgp_trace.specs.Sides.{Side, Server, Client, Ends, IsRefusedPacket, answered, expected, is_reported, kinds_behind, phase_behind, replicates_behind, server_at}
+use Rattle.pgp_trace.specs.Listing.{EndsSo, GoesOn, IsAnswerLine, IsListing, IsLineOf, IsNextLine, IsServerLine, LineOf, Listed, Lines, NoLines, OneLine, answer_line, answer_name, client_frame_name, client_front, front, last_line, name_in, place_behind, server_name}
 use Rattle.pgp_trace.specs.View.{View, shown}
 use Rattle.pgp_trace.proofs.ClientStreams.{behind, frame_some, one_first}
 use Rattle.pgp_trace.proofs.Shorter.{frame_has}
@@ -145,17 +147,27 @@ unread_one style tag body e old new other (Rejected t u a) (CallResult v b) = ab
 unread_one style tag body e old new other (Rejected t u a) (CopyBoth v b) = absurd (u v)
 unread_one style tag body e old new other (Rejected t u a) (Rejected v w b) = a ∙ sym b
 
-goes_one : (style : Style) (tag : ℕ) (body : List ℕ) (r : Result Message Error) (old new other : List ℕ) → GoesOn style tag body r old new → GoesOn style tag body r old other → new ≡ other
-goes_one style tag body (Ok m) old new other a b = shows_one style m (followed style old (called m ∷ [])) new other a b
-goes_one style tag body (Err e) old new other a b = unread_one style tag body e old new other a b
+inside_one : (standby : Bool) (style : Style) (bytes old new other : List ℕ) → ShowsInner standby style bytes old new → ShowsInner standby style bytes old other → new ≡ other
+inside_one standby style bytes old new other (inl a) (inl b) = a.2 ∙ ap (λ m. followed style old (inner_parts m)) (one_inner standby bytes a.0 b.0 a.1 b.1) ∙ sym b.2
+inside_one standby style bytes old new other (inl a) (inr b) = absurd (b.0 a.0 a.1)
+inside_one standby style bytes old new other (inr a) (inl b) = absurd (a.0 b.0 b.1)
+inside_one standby style bytes old new other (inr a) (inr b) = a.1 ∙ sym b.1
+
+says_one : (inside : Option (List ℕ)) (style : Style) (m : Message) (old new other : List ℕ) → Says inside style m old new → Says inside style m old other → new ≡ other
+says_one (Some bytes) style m old new other a b = inside_one false style bytes old new other a b
+says_one None style m old new other a b = shows_one style m old new other a b
+
+goes_one : (style : Style) (replicating : Bool) (tag : ℕ) (body : List ℕ) (r : Result Message Error) (old new other : List ℕ) → GoesOn style replicating tag body r old new → GoesOn style replicating tag body r old other → new ≡ other
+goes_one style replicating tag body (Ok m) old new other a b = says_one (inner_data replicating m) style m (followed style old (called m ∷ [])) new other a b
+goes_one style replicating tag body (Err e) old new other a b = unread_one style tag body e old new other a b
 
 -- ---- a line
 
-line_of_one : (style : Style) (place : ℕ) (f : Frame) (line other : List ℕ) → IsFrame f → IsLineOf style place f line → IsLineOf style place f other → line ≡ other
-line_of_one style place f line other fits a b =
+line_of_one : (style : Style) (place : ℕ) (replicating : Bool) (f : Frame) (line other : List ℕ) → IsFrame f → IsLineOf style place replicating f line → IsLineOf style place replicating f other → line ≡ other
+line_of_one style place replicating f line other fits a b =
     let result : a.result ≡ b.result = sym (one_body f.tag f.payload a.result fits.payload a.body) ∙ one_body f.tag f.payload b.result fits.payload b.body in
-    let reported = subst (λ r. GoesOn style f.tag f.payload r (front style place f) a.text) result a.reported in
-    a.ended ∙ ap (λ t. t ++ closing style ++ 10 ∷ []) (goes_one style f.tag f.payload b.result (front style place f) a.text b.text reported b.reported) ∙ sym b.ended
+    let reported = subst (λ r. GoesOn style replicating f.tag f.payload r (front style place f) a.text) result a.reported in
+    a.ended ∙ ap (λ t. t ++ closing style ++ 10 ∷ []) (goes_one style replicating f.tag f.payload b.result (front style place f) a.text b.text reported b.reported) ∙ sym b.ended
 
 -- the first frames of bytes, their lines, what stands after them, and what is then known of the side
 pub record Same (f g line other x y : List ℕ) (to too : Side) : Type 0 where
@@ -170,13 +182,13 @@ same_read f g r s fits e a b = sym (one_body f.tag f.payload r fits.payload a) �
 same_name : (f g : Frame) (r s : Result Message Error) → f ≡ g → r ≡ s → server_name f.tag r ≡ server_name g.tag s
 same_name f g r s e h = ap (λ (k : Frame). server_name k.tag r) e ∙ ap (server_name g.tag) h
 
-server_one : (style : Style) (place : ℕ) (f g line other x y : List ℕ) (a : IsServerLine style place f line) (b : IsServerLine style place g other) → f ++ x ≡ g ++ y
+server_one : (style : Style) (place : ℕ) (replicating : Bool) (f g line other x y : List ℕ) (a : IsServerLine style place replicating f line) (b : IsServerLine style place replicating g other) → f ++ x ≡ g ++ y
     → (f ≡ g) × (line ≡ other) × (x ≡ y) × (server_name a.first.tag a.reported.result ≡ server_name b.first.tag b.reported.result)
-server_one style place f g line other x y a b e =
+server_one style place replicating f g line other x y a b e =
     let one = front_is_one a.first b.first x y a.fits b.fits (ap (λ l. l ++ x) (sym a.whole) ∙ e ∙ ap (λ l. l ++ y) b.whole) in
-    let reported = subst (λ (h : Frame). IsLineOf style place h line) one.0 a.reported in (
+    let reported = subst (λ (h : Frame). IsLineOf style place replicating h line) one.0 a.reported in (
       a.whole ∙ ap frame_bytes one.0 ∙ sym b.whole,
-      line_of_one style place b.first line other b.fits reported b.reported,
+      line_of_one style place replicating b.first line other b.fits reported b.reported,
       one.1,
       same_name a.first b.first a.reported.result b.reported.result one.0 (same_read a.first b.first a.reported.result b.reported.result a.fits one.0 a.reported.body b.reported.body),
     )
@@ -206,19 +218,28 @@ same_result (Ok x) (Err d) e = absurd cc
 same_result (Err d) (Ok y) e = absurd cc
 same_result (Err d) (Err e) f = cc
 
-client_one : (style : Style) (place : ℕ) (opened : Bool) (kinds : List code.PasswordKind) (f g line other x y : List ℕ) (to too : Side) (a : IsNextLine style place opened kinds f line to) (b : IsNextLine style place opened kinds g other too) → f ++ x ≡ g ++ y
+client_says_one : (inside : Option (List ℕ)) (style : Style) (reported : Bool) (r : Result ClientMessage ClientError) (old new other : List ℕ) → ClientSays inside style reported r old new → ClientSays inside style reported r old other → new ≡ other
+client_says_one (Some bytes) style reported r old new other a b = inside_one true style bytes (followed style old (Name false (codes "CopyData") ∷ [])) new other a b
+client_says_one None style reported r old new other a b = a ∙ sym b
+
+ends_so_one : (style : Style) (reported replicating : Bool) (r : Result ClientMessage ClientError) (front line other : List ℕ) → EndsSo style reported replicating r front line → EndsSo style reported replicating r front other → line ≡ other
+ends_so_one style reported replicating r front line other a b =
+    a.ended ∙ ap (λ t. t ++ closing style ++ 10 ∷ []) (client_says_one (client_data replicating r) style reported r front a.text b.text a.says b.says) ∙ sym b.ended
+
+client_one : (style : Style) (place : ℕ) (opened : Bool) (kinds : List code.PasswordKind) (replicating : Bool) (f g line other x y : List ℕ) (to too : Side) (a : IsNextLine style place opened kinds replicating f line to) (b : IsNextLine style place opened kinds replicating g other too) → f ++ x ≡ g ++ y
     → Same f g line other x y to too × (client_frame_name (is_reported kinds) a.reported.result ≡ client_frame_name (is_reported kinds) b.reported.result)
-client_one style place opened kinds f g line other x y to too a b e =
+client_one style place opened kinds replicating f g line other x y to too a b e =
     let one = one_first opened a.now b.now kinds f g x y a.reported.result b.reported.result a.reported.step b.reported.step e in
     let step = subst (λ l. Step (expected kinds) (record { bytes = l; opened = opened }) (step_of a.reported.result) (record { bytes = []; opened = a.now })) one.0 a.reported.step in
     let both = step_one (expected kinds) (record { bytes = g; opened = opened }) (record { bytes = []; opened = a.now }) (record { bytes = []; opened = b.now }) (step_of a.reported.result) (step_of b.reported.result) step b.reported.step in
     let result = same_result a.reported.result b.reported.result both.0 in (
       record {
         frames = one.0;
-        lines = a.reported.reported ∙ ap (λ r. client_line style (is_reported kinds) r (client_front style place opened f) ++ closing style ++ 10 ∷ []) result
-            ∙ ap (λ l. client_line style (is_reported kinds) b.reported.result (client_front style place opened l) ++ closing style ++ 10 ∷ []) one.0 ∙ sym b.reported.reported;
+        lines = ends_so_one style (is_reported kinds) replicating b.reported.result (client_front style place opened g) line other
+            (subst (λ l. EndsSo style (is_reported kinds) replicating b.reported.result (client_front style place opened l) line) one.0
+            (subst (λ r. EndsSo style (is_reported kinds) replicating r (client_front style place opened f) line) result a.reported.reported)) b.reported.reported;
         rests = one.1;
-        sides = a.behind ∙ ap (λ n. Client n (kinds_behind opened f kinds)) one.2 ∙ ap (λ l. Client b.now (kinds_behind opened l kinds)) one.0 ∙ sym b.behind;
+        sides = a.behind ∙ ap (λ n. Client n (kinds_behind opened f kinds) replicating) one.2 ∙ ap (λ l. Client b.now (kinds_behind opened l kinds) replicating) one.0 ∙ sym b.behind;
       },
       ap (client_frame_name (is_reported kinds)) result,
     )
@@ -233,18 +254,21 @@ line_one style place (Server Beginning) to too f g line other x y (inl a) (inr b
 line_one style place (Server Beginning) to too f g line other x y (inr a) (inl b) e =
     absurd (front_answer b.reported.byte f y x b.phase b.reported.answers (ap (λ l. l ++ y) (sym b.reported.whole) ∙ sym e) (frame_has style place (Server Beginning) to f line (inr a)) a.none)
 line_one style place (Server Beginning) to too f g line other x y (inr a) (inr b) e =
-    let one = server_one style place f g line other x y a.reported b.reported e in
-    (record { frames = one.0; lines = one.1; rests = one.2; sides = a.behind ∙ sym b.behind }, one.3)
+    let one = server_one style place false f g line other x y a.reported b.reported e in
+    (record { frames = one.0; lines = one.1; rests = one.2; sides = a.behind ∙ ap (λ l. server_at (replicates_behind false l)) one.0 ∙ sym b.behind }, one.3)
 line_one style place (Server Messages) to too f g line other x y a b e =
-    let one = server_one style place f g line other x y a.0 b.0 e in
-    (record { frames = one.0; lines = one.1; rests = one.2; sides = a.1 ∙ sym b.1 }, one.3)
+    let one = server_one style place false f g line other x y a.0 b.0 e in
+    (record { frames = one.0; lines = one.1; rests = one.2; sides = a.1 ∙ ap (λ l. server_at (replicates_behind false l)) one.0 ∙ sym b.1 }, one.3)
+line_one style place (Server Replicating) to too f g line other x y a b e =
+    let one = server_one style place true f g line other x y a.0 b.0 e in
+    (record { frames = one.0; lines = one.1; rests = one.2; sides = a.1 ∙ ap (λ l. server_at (replicates_behind true l)) one.0 ∙ sym b.1 }, one.3)
 line_one style place (Server Encrypted) to too f g line other x y a b e = absurd a
-line_one style place (Client opened kinds) to too f g line other x y a b e = client_one style place opened kinds f g line other x y to too a b e
+line_one style place (Client opened kinds replicating) to too f g line other x y a b e = client_one style place opened kinds replicating f g line other x y to too a b e
 
 -- ---- an end
 
-server_end : (style : Style) (place : ℕ) (stopped : Bool) (rest f line x : List ℕ) → IsEnding stopped rest → IsServerLine style place f line → rest ≡ f ++ x → ⊥
-server_end style place stopped rest f line x ends is e = no_ending is.first x stopped is.fits (subst (IsEnding stopped) (e ∙ ap (λ l. l ++ x) is.whole) ends)
+server_end : (style : Style) (place : ℕ) (replicating stopped : Bool) (rest f line x : List ℕ) → IsEnding stopped rest → IsServerLine style place replicating f line → rest ≡ f ++ x → ⊥
+server_end style place replicating stopped rest f line x ends is e = no_ending is.first x stopped is.fits (subst (IsEnding stopped) (e ∙ ap (λ l. l ++ x) is.whole) ends)
 
 no_silence : (r : Result ClientMessage ClientError) → step_of r ≡ Ok None → ⊥
 no_silence (Ok x) e = absurd cc
@@ -260,22 +284,23 @@ stays_there opened now kinds rest x f d r some e stays takes =
     let one = step_one (expected kinds) (record { bytes = rest; opened = opened }) (record { bytes = rest; opened = opened }) (record { bytes = x; opened = now }) (Err d) (step_of r) stays takes in
     omega (arith, some, ap length e, length-append f x, ap length (ap (λ (u : Unread). u.bytes) one.1))
 
-client_end : (opened now stopped : Bool) (kinds : List code.PasswordKind) (rest x f : List ℕ) (r : Result ClientMessage ClientError) → 0 < length f → rest ≡ f ++ x → Ends (Client opened kinds) stopped rest
+client_end : (opened now stopped : Bool) (kinds : List code.PasswordKind) (replicating : Bool) (rest x f : List ℕ) (r : Result ClientMessage ClientError) → 0 < length f → rest ≡ f ++ x → Ends (Client opened kinds replicating) stopped rest
     → Step (expected kinds) (record { bytes = rest; opened = opened }) (step_of r) (record { bytes = x; opened = now }) → ⊥
-client_end opened now false kinds rest x f r some e part takes = no_silence r (partial_waits (expected kinds) opened rest (step_of r) (record { bytes = x; opened = now }) part takes)
-client_end opened now true kinds rest x f r some e (inl fault) takes = stays_there opened now kinds rest x f (Reading InvalidLength) r some e (step_fault (expected kinds) opened rest InvalidLength (refl, fault)) takes
-client_end opened now true kinds rest x f r some e (inr packet) takes = stays_there opened now kinds rest x f packet.error r some e (packet_step opened kinds rest packet) takes
+client_end opened now false kinds replicating rest x f r some e part takes = no_silence r (partial_waits (expected kinds) opened rest (step_of r) (record { bytes = x; opened = now }) part takes)
+client_end opened now true kinds replicating rest x f r some e (inl fault) takes = stays_there opened now kinds rest x f (Reading InvalidLength) r some e (step_fault (expected kinds) opened rest InvalidLength (refl, fault)) takes
+client_end opened now true kinds replicating rest x f r some e (inr packet) takes = stays_there opened now kinds rest x f packet.error r some e (packet_step opened kinds rest packet) takes
 
 -- where none stands first, no frame does
 pub no_line : (style : Style) (place : ℕ) (from to : Side) (stopped : Bool) (rest f line x : List ℕ) → Ends from stopped rest → LineOf style place from f line to → rest ≡ f ++ x → ⊥
 no_line style place (Server Beginning) to stopped rest f line x ends (inl a) e =
     none_some a.phase (phase_behind a.reported.byte) a.reported.answers (sym (ap answered (e ∙ ap (λ l. l ++ x) a.reported.whole)) ∙ ends.0)
-no_line style place (Server Beginning) to stopped rest f line x ends (inr a) e = server_end style place stopped rest f line x ends.1 a.reported e
-no_line style place (Server Messages) to stopped rest f line x ends a e = server_end style place stopped rest f line x ends a.0 e
+no_line style place (Server Beginning) to stopped rest f line x ends (inr a) e = server_end style place false stopped rest f line x ends.1 a.reported e
+no_line style place (Server Messages) to stopped rest f line x ends a e = server_end style place false stopped rest f line x ends a.0 e
+no_line style place (Server Replicating) to stopped rest f line x ends a e = server_end style place true stopped rest f line x ends a.0 e
 no_line style place (Server Encrypted) to stopped rest f line x ends a e = a
-no_line style place (Client opened kinds) to stopped rest f line x ends a e =
+no_line style place (Client opened kinds replicating) to stopped rest f line x ends a e =
     let takes = subst (λ l. Step (expected kinds) (record { bytes = l; opened = opened }) (step_of a.reported.result) (record { bytes = x; opened = a.now })) (sym e) (behind opened a.now kinds f x a.reported.result a.reported.step) in
-    client_end opened a.now stopped kinds rest x f a.reported.result (frame_some opened a.now kinds f a.reported.result a.reported.step) e ends takes
+    client_end opened a.now stopped kinds replicating rest x f a.reported.result (frame_some opened a.now kinds f a.reported.result a.reported.step) e ends takes
 
 server_ends : (s t : Bool) (rest : List ℕ) → IsEnding s rest → IsEnding t rest → s ≡ t
 server_ends s t rest a b =
@@ -288,21 +313,22 @@ refuses_silence d e = cc
 never_waits : (opened : Bool) (kinds : List code.PasswordKind) (rest : List ℕ) (d : ClientError) → IsPartial opened rest → Refuses (expected kinds) (record { bytes = rest; opened = opened }) d (record { bytes = rest; opened = opened }) → ⊥
 never_waits opened kinds rest d part stays = refuses_silence d (partial_waits (expected kinds) opened rest (Err d) (record { bytes = rest; opened = opened }) part stays)
 
-stops_there : (opened : Bool) (kinds : List code.PasswordKind) (rest : List ℕ) → IsPartial opened rest → Ends (Client opened kinds) true rest → ⊥
-stops_there opened kinds rest part (inl fault) = never_waits opened kinds rest (Reading InvalidLength) part (step_fault (expected kinds) opened rest InvalidLength (refl, fault))
-stops_there opened kinds rest part (inr packet) = never_waits opened kinds rest packet.error part (packet_step opened kinds rest packet)
+stops_there : (opened : Bool) (kinds : List code.PasswordKind) (replicating : Bool) (rest : List ℕ) → IsPartial opened rest → Ends (Client opened kinds replicating) true rest → ⊥
+stops_there opened kinds replicating rest part (inl fault) = never_waits opened kinds rest (Reading InvalidLength) part (step_fault (expected kinds) opened rest InvalidLength (refl, fault))
+stops_there opened kinds replicating rest part (inr packet) = never_waits opened kinds rest packet.error part (packet_step opened kinds rest packet)
 
 pub ends_one : (from : Side) (s t : Bool) (rest : List ℕ) → Ends from s rest → Ends from t rest → s ≡ t
 ends_one (Server Beginning) s t rest a b = server_ends s t rest a.1 b.1
 ends_one (Server Messages) s t rest a b = server_ends s t rest a b
+ends_one (Server Replicating) s t rest a b = server_ends s t rest a b
 ends_one (Server Encrypted) false false rest a b = refl
 ends_one (Server Encrypted) true true rest a b = refl
 ends_one (Server Encrypted) false true rest a b = absurd (omega (arith, ap length a, b))
 ends_one (Server Encrypted) true false rest a b = absurd (omega (arith, ap length b, a))
-ends_one (Client opened kinds) false false rest a b = refl
-ends_one (Client opened kinds) true true rest a b = refl
-ends_one (Client opened kinds) false true rest a b = absurd (stops_there opened kinds rest a b)
-ends_one (Client opened kinds) true false rest a b = absurd (stops_there opened kinds rest b a)
+ends_one (Client opened kinds replicating) false false rest a b = refl
+ends_one (Client opened kinds replicating) true true rest a b = refl
+ends_one (Client opened kinds replicating) false true rest a b = absurd (stops_there opened kinds replicating rest a b)
+ends_one (Client opened kinds replicating) true false rest a b = absurd (stops_there opened kinds replicating rest b a)
 
 -- ---- lines, the first at first
 

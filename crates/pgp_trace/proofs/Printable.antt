@@ -1,6 +1,6 @@
 -- A line has printable characters alone, and a newline at its end.
 use Rattle.std.proofs.Common.{◌≡◌, ℕ, zero, suc, ◌+◌, ◌-◌, ◌<◌, ◌≤◌, Bool, true, false, List, [], ◌∷◌, ◌++◌, length, take, drop, Option, Some, None, Result, Ok, Err, ℤ, pos, negsuc, refl, sym, ap, subst, ◌∙◌, arith, inl, inr}
-use Rattle.std.specs.Prelude.{slice_get, ◌/◌, ◌%◌, ◌||◌, nat_le, nat_lt, ◌==◌, if◌then◌else◌, codes, decimal}
+use Rattle.std.specs.Prelude.{slice_get, ◌/◌, ◌%◌, ◌^◌, ◌||◌, nat_le, nat_lt, ◌==◌, if◌then◌else◌, codes, decimal}
 use lib.Utf8.{scalar as is_scalar}
 use Rattle.std.specs.Char.{encode_utf8, IsScalar}
 use Rattle.std.specs.Fmt.{digits as numerals, digits_onto, digit_glyph, signed_decimal}
@@ -18,21 +18,22 @@ use Rattle.pgp_line.specs.declared.style.Form.TheVariants.{Columns, Json}
 use Rattle.pgp_line.specs.declared.style.Style.{Style}
 use Rattle.pgp_line.specs.Quoting.{IsPrinted, broken, digits, hex_digit, hex_byte, hex_escape, is_mark, is_printable, is_text, is_visible, escaped_byte, escaped_char, escaped, json_digits, json_hex, json_text, json_value, long, quoted, unit, units, unprinted, value, up_to}
 use Rattle.pgp_line.proofs.Escapes.{front_utf8}
-use Rattle.pgp_line.specs.Line.{Part, Length, Tag, Name, Refusal, Key, Member, Count, ListBegins, ListEnds, ObjectBegins, ObjectEnds, Word, Number, Oid, Text, Value, Hidden, added, added_by, blanks, closing, closing_by, comma, extended, followed, is_opening, json, json_name, key as keyed, named, opening, opening_by, right, separator, shown, space, spelt, string, type_name}
+use Rattle.pgp_line.specs.Line.{Part, Length, Tag, Name, Refusal, Key, Member, Count, ListBegins, ListEnds, ObjectBegins, ObjectEnds, Word, Number, Lsn, Oid, Text, Value, Hidden, added, added_by, blanks, closing, closing_by, comma, extended, followed, is_opening, json, json_name, key as keyed, lsn, named, opening, opening_by, right, separator, shown, space, spelt, string, type_name}
 use Rattle.pgp_line.specs.Types.{type_of}
 use Rattle.pgp_trace.specs.Names.{state_of}
 use Rattle.pgp_message.specs.Items.{TextSpelled, TextRefused, FormatSpelled, FormatRefused, TypeSpelled, TypeRefused, RangeSpelled, RangeRefused, FieldSpelled, FieldRefused, ErrorFieldSpelled, ErrorFieldRefused}
 use Rattle.std.specs.Str.{IsAscii, IsUtf8, all_scalars, chars, encode_utf8_all}
 use Rattle.std.specs.Str.Lossy.{utf8_valid_len}
-use Rattle.pgp_trace.specs.Shown.{Shows, ShowsCounted, ShowsMarked, ShowsTexts, bare, called, closed, column_parts, field_parts, list_of, name_or, number_part, refused, text_part, type_part, value_part}
+use Rattle.pgp_trace.specs.Replication.{ShowsInner, data_parts, inner_parts}
+use Rattle.pgp_trace.specs.Shown.{Says, Shows, ShowsCounted, ShowsMarked, ShowsTexts, bare, called, closed, column_parts, field_parts, inner_data, list_of, name_or, number_part, refused, text_part, type_part, value_part}
 use Rattle.pgp_trace.specs.Unread.{ShowsCopyBoth, ShowsResult, ShowsUnread, CallResult, CopyBoth, Rejected, copy_parts, result_parts}
 use Rattle.pgp_line.specs.Secret.{secret}
 use Rattle.pgp_frontend.specs.ClientMessage.{ClientMessage}
 use Rattle.pgp_frontend_read.specs.declared.error.ClientError.{ClientError}
-use Rattle.pgp_trace.specs.Client.{client_called, client_groups, client_line, grouped, refusal_parts}
+use Rattle.pgp_trace.specs.Client.{ClientSays, client_called, client_data, client_groups, client_line, grouped, refusal_parts}
 use Rattle.pgp_trace.specs.Listing.{GoesOn, IsLineOf, LineOf, answer_name, front, client_front, client_tag}
 use Rattle.pgp_trace.specs.Sides.{Side, Server, Client, is_reported}
-use Rattle.pgp_trace.specs.declared.side.Phase.TheVariants.{Beginning, Messages, Encrypted}
+use Rattle.pgp_trace.specs.declared.side.Phase.TheVariants.{Beginning, Messages, Replicating, Encrypted}
 
 -- ASCII that is printed
 abbrev Plain : List ℕ → Type 0
@@ -97,6 +98,30 @@ onto (suc k) n acc a =
 plain_number : (n : ℕ) → Plain (decimal n)
 unfolding numerals
 plain_number n = onto 64 n [] refl
+
+upper_by : (d : ℕ) (low : Bool) → d < 16 → is_visible (if low then 48 + d else 55 + d) ≡ true
+upper_by d true h = between (48 + d) (omega arith) (omega (arith, h))
+upper_by d false h = between (55 + d) (omega arith) (omega (arith, h))
+
+upper : (d : ℕ) → d < 16 → is_visible (digit_glyph true d) ≡ true
+upper d h = upper_by d (nat_lt d 10) h
+
+upper_onto : (k n : ℕ) (acc : List ℕ) → Plain acc → Plain (digits_onto k 16 true n acc)
+upper_onto zero n acc a = a
+upper_onto (suc k) n acc a =
+    let small : n % 16 < 16 = omega arith in
+    let here : Plain (digit_glyph true (n % 16) ∷ acc) = cons (digit_glyph true (n % 16)) acc (upper (n % 16) small) a in
+    plain_either (n / 16 == 0) _ _ here (upper_onto k (n / 16) _ here)
+
+plain_hex : (n : ℕ) → Plain (numerals 16 true n)
+unfolding numerals
+plain_hex n = upper_onto 64 n [] refl
+
+plain_lsn : (n : ℕ) → Plain (lsn n)
+unfolding lsn
+plain_lsn n =
+    let low = numerals 16 true (n % 2 ^ 32) in
+    plain_join (numerals 16 true (n / 2 ^ 32)) (47 ∷ low) (plain_hex (n / 2 ^ 32)) (cons 47 low refl (plain_hex (n % 2 ^ 32)))
 
 plain_signed : (z : ℤ) → Plain (signed_decimal z)
 plain_signed (pos n) = plain_number n
@@ -281,6 +306,7 @@ part limit (Key word name) = plain (spelt word) (word_of Columns word)
 part limit (Count n) = number n
 part limit (Word word) = plain (spelt word) (word_of Columns word)
 part limit (Number n) = plain (signed_decimal n) (plain_signed n)
+part limit (Lsn n) = plain (lsn n) (plain_lsn n)
 part limit (Oid oid) = join (decimal oid) (type_name (type_of oid)) (number oid) (type_by (type_of oid))
 part limit (Text bytes) = cut (quoted Columns) (quote Columns) limit bytes
 part limit (Value None) = plain (codes "NULL") refl
@@ -306,6 +332,7 @@ json_part limit ObjectBegins = plain (codes "{") refl
 json_part limit ObjectEnds = plain (codes "}") refl
 json_part limit (Word word) = string_of word
 json_part limit (Number n) = plain (signed_decimal n) (plain_signed n)
+json_part limit (Lsn n) = around (34 ∷ []) (lsn n) (34 ∷ []) refl refl (plain (lsn n) (plain_lsn n))
 json_part limit (Oid oid) = join (codes "{\"oid\":" ++ decimal oid) (json_name (type_of oid)) (join (codes "{\"oid\":") (decimal oid) (plain (codes "{\"oid\":") refl) (number oid)) (json_type_by (type_of oid))
 json_part limit (Text bytes) = json_val limit bytes
 json_part limit (Value None) = plain (codes "null") refl
@@ -326,6 +353,7 @@ blank_before ObjectBegins = plain [] refl
 blank_before ObjectEnds = plain [] refl
 blank_before (Word word) = plain (32 ∷ []) refl
 blank_before (Number n) = plain (32 ∷ []) refl
+blank_before (Lsn n) = plain (32 ∷ []) refl
 blank_before (Oid oid) = plain (32 ∷ []) refl
 blank_before (Text bytes) = plain (32 ∷ []) refl
 blank_before (Value bytes) = plain (32 ∷ []) refl
@@ -349,6 +377,7 @@ comma_before line ObjectBegins = one_comma line
 comma_before line ObjectEnds = plain [] refl
 comma_before line (Word word) = one_comma line
 comma_before line (Number n) = one_comma line
+comma_before line (Lsn n) = one_comma line
 comma_before line (Oid oid) = one_comma line
 comma_before line (Text bytes) = one_comma line
 comma_before line (Value bytes) = one_comma line
@@ -446,12 +475,20 @@ unread_printed style tag body e old new a (CopyBoth t s) =
     let names = Name false (codes "CopyBothResponse") ∷ [] in copy_printed style body (followed style old names) new (parts style old names a) s
 unread_printed style tag body e old new a (Rejected t u s) = goes style old new (refused e) a s
 
-result : (style : Style) (tag : ℕ) (body : List ℕ) (r : Result Message Error) (old new : List ℕ) → IsPrinted old → GoesOn style tag body r old new → IsPrinted new
-result style tag body (Ok m) old new a g = says style m (followed style old (called m ∷ [])) new (parts style old (called m ∷ []) a) g
-result style tag body (Err e) old new a g = unread_printed style tag body e old new a g
+inside : (standby : Bool) (style : Style) (bytes old new : List ℕ) → IsPrinted old → ShowsInner standby style bytes old new → IsPrinted new
+inside standby style bytes old new a (inl s) = goes style old new (inner_parts s.0) a s.2
+inside standby style bytes old new a (inr s) = goes style old new (data_parts bytes) a s.1
 
-server_line : (style : Style) (place : ℕ) (f : Frame) (line : List ℕ) → IsLineOf style place f line → (text : List ℕ) × (line ≡ text ++ 10 ∷ []) × IsPrinted text
-server_line style place f line is = (is.text ++ closing style, is.ended, join is.text (closing style) (result style f.tag f.payload is.result (front style place f) is.text (parts style (opening style place) (Length (length (frame_bytes f)) ∷ Tag f.tag ∷ []) (first style.form place)) is.reported) (last style.form))
+says_so : (inside_of : Option (List ℕ)) (style : Style) (m : Message) (old new : List ℕ) → IsPrinted old → Says inside_of style m old new → IsPrinted new
+says_so (Some bytes) style m old new a s = inside false style bytes old new a s
+says_so None style m old new a s = says style m old new a s
+
+result : (style : Style) (replicating : Bool) (tag : ℕ) (body : List ℕ) (r : Result Message Error) (old new : List ℕ) → IsPrinted old → GoesOn style replicating tag body r old new → IsPrinted new
+result style replicating tag body (Ok m) old new a g = says_so (inner_data replicating m) style m (followed style old (called m ∷ [])) new (parts style old (called m ∷ []) a) g
+result style replicating tag body (Err e) old new a g = unread_printed style tag body e old new a g
+
+server_line : (style : Style) (place : ℕ) (replicating : Bool) (f : Frame) (line : List ℕ) → IsLineOf style place replicating f line → (text : List ℕ) × (line ≡ text ++ 10 ∷ []) × IsPrinted text
+server_line style place replicating f line is = (is.text ++ closing style, is.ended, join is.text (closing style) (result style replicating f.tag f.payload is.result (front style place f) is.text (parts style (opening style place) (Length (length (frame_bytes f)) ∷ Tag f.tag ∷ []) (first style.form place)) is.reported) (last style.form))
 
 groups : (style : Style) (line : List ℕ) (gs : List (List Part)) → IsPrinted line → IsPrinted (grouped style line gs)
 groups style line [] a = a
@@ -460,6 +497,10 @@ groups style line (ps ∷ gs) a = groups style (followed style line ps) gs (part
 client : (style : Style) (reported : Bool) (r : Result ClientMessage ClientError) (old : List ℕ) → IsPrinted old → IsPrinted (client_line style reported r old)
 client style reported (Ok x) old a = groups style (followed style old (client_called reported x ∷ [])) (client_groups style reported x) (parts style old (client_called reported x ∷ []) a)
 client style reported (Err e) old a = parts style old (refusal_parts e) a
+
+client_so : (inside_of : Option (List ℕ)) (style : Style) (reported : Bool) (r : Result ClientMessage ClientError) (old new : List ℕ) → IsPrinted old → ClientSays inside_of style reported r old new → IsPrinted new
+client_so (Some bytes) style reported r old new a s = inside true style bytes (followed style old (Name false (codes "CopyData") ∷ [])) new (parts style old (Name false (codes "CopyData") ∷ []) a) s
+client_so None style reported r old new a s = subst IsPrinted (sym s) (client style reported r old a)
 
 begun : (style : Style) (place : ℕ) (opened : Bool) (frame : List ℕ) → IsPrinted (client_front style place opened frame)
 begun style place opened frame = parts style (opening style place) (Length (length frame) ∷ Tag (client_tag opened frame) ∷ []) (first style.form place)
@@ -471,12 +512,13 @@ line_printable style place (Server Beginning) to frame line (inl is) =
       is.reported.reported,
       join (followed style (opening style place) parts_of) (closing style) (parts style (opening style place) parts_of (first style.form place)) (last style.form),
     )
-line_printable style place (Server Beginning) to frame line (inr is) = server_line style place is.reported.first line is.reported.reported
-line_printable style place (Server Messages) to frame line is = server_line style place is.0.first line is.0.reported
+line_printable style place (Server Beginning) to frame line (inr is) = server_line style place false is.reported.first line is.reported.reported
+line_printable style place (Server Messages) to frame line is = server_line style place false is.0.first line is.0.reported
+line_printable style place (Server Replicating) to frame line is = server_line style place true is.0.first line is.0.reported
 line_printable style place (Server Encrypted) to frame line is = absurd is
-line_printable style place (Client opened kinds) to frame line is =
-    let text = client_line style (is_reported kinds) is.reported.result (client_front style place opened frame) in (
-      text ++ closing style,
-      is.reported.reported,
-      join text (closing style) (client style (is_reported kinds) is.reported.result (client_front style place opened frame) (begun style place opened frame)) (last style.form),
+line_printable style place (Client opened kinds replicating) to frame line is =
+    let ends = is.reported.reported in (
+      ends.text ++ closing style,
+      ends.ended,
+      join ends.text (closing style) (client_so (client_data replicating is.reported.result) style (is_reported kinds) is.reported.result (client_front style place opened frame) ends.text (begun style place opened frame) ends.says) (last style.form),
     )

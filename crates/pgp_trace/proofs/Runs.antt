@@ -1,29 +1,28 @@
 -- A listing is that of the run of its stream.
-use Rattle.std.proofs.Common.{ℕ, List, [], ◌∷◌, ◌++◌, Result, ◌+◌, length, sym, ap, subst, inl, inr, ◌∙◌, ◌≡◌, ◌⊎◌, append_assoc}
+use Rattle.std.proofs.Common.{ℕ, Bool, false, List, [], ◌∷◌, ◌++◌, Result, ◌+◌, length, sym, ap, subst, inl, inr, ◌∙◌, ◌≡◌, ◌⊎◌, append_assoc}
 use Rattle.pgp_base.specs.declared.error.Error.{Error}
 use Rattle.pgp_message.specs.BackendMessage.{Message}
 use Rattle.pgp_message.specs.Stream.{Frames, BackendRun, TakesFrame}
 use Rattle.pgp_message.proofs.Runs.{frames_none, frames_next}
 use Rattle.pgp_trace.specs.View.{View}
-use Rattle.pgp_message.specs.Stream.{IsEnding}
 use Rattle.pgp_trace.specs.Listing.{Lines, NoLines, OneLine, IsListing, IsRunBehindAnswers, place_behind}
-use Rattle.pgp_trace.specs.Sides.{Side, Server, Ends}
+use Rattle.pgp_trace.specs.Sides.{Side, Server, Ends, server_at}
 use Rattle.pgp_trace.specs.declared.side.Phase.TheVariants.{Beginning, Messages, Encrypted}
 use Rattle.pgp_trace.proofs.Ends.{answered_stays}
 use Rattle.pgp_trace.proofs.Beginnings.{HasCome, StillAnswers, NowEncrypted, NowMessages, has_come}
-use Rattle.pgp_trace.proofs.Sides.{Told, stays_server, server_line}
+use Rattle.pgp_trace.proofs.Sides.{server_ending, server_line, stays_server}
 
 -- the frames that were listed, and a result for each
 record Read (front rest : List ℕ) : Type 0 where
   results : List (Result Message Error)
   frames : Frames (front ++ rest) results rest
 
-read_of : (view : View) (start : ℕ) (front lines : List ℕ) (to : Side) → Lines view start (Server Messages) front lines to → (rest : List ℕ) → Read front rest
-read_of view start [] [] _ NoLines rest = record { results = []; frames = frames_none rest }
-read_of view start _ _ to (OneLine {bytes = bytes} {lines = lines} {here = here} frame line before has) rest =
-    let has_line : Told view (place_behind (start + length bytes)) frame line = server_line view start (place_behind (start + length bytes)) bytes lines frame line here to before has in
-    let is = has_line.reported in
-    let so_far = read_of view start bytes lines here before (frame ++ rest) in
+read_of : (view : View) (start : ℕ) (replicating : Bool) (front lines : List ℕ) (to : Side) → Lines view start (server_at replicating) front lines to → (rest : List ℕ) → Read front rest
+read_of view start replicating [] [] _ NoLines rest = record { results = []; frames = frames_none rest }
+read_of view start replicating _ _ to (OneLine {bytes = bytes} {lines = lines} {here = here} frame line before has) rest =
+    let has_line = server_line view start (place_behind (start + length bytes)) replicating bytes lines frame line here to before has in
+    let is = has_line.told.reported in
+    let so_far = read_of view start replicating bytes lines here before (frame ++ rest) in
     let takes : TakesFrame (frame ++ rest) is.reported.result rest = record { first = is.first; whole = ap (λ l. l ++ rest) is.whole; fits = is.fits; body = is.reported.body } in
     record {
       results = so_far.results ++ is.reported.result ∷ [];
@@ -33,8 +32,9 @@ read_of view start _ _ to (OneLine {bytes = bytes} {lines = lines} {here = here}
 
 pub run_of : (view : View) (bytes output : List ℕ) (l : IsListing view (Server Messages) bytes output) → (results : List (Result Message Error)) × BackendRun bytes results l.stopped l.rest
 run_of view bytes output l =
-    let read = read_of view 0 l.front l.lines l.to l.listed l.rest in
-    let ends : IsEnding l.stopped l.rest = subst (λ s. Ends s l.stopped l.rest) (stays_server view 0 l.front l.lines l.to l.listed) l.ending in
+    let read = read_of view 0 false l.front l.lines l.to l.listed l.rest in
+    let at = stays_server view 0 false l.front l.lines l.to l.listed in
+    let ends = server_ending at.replicating l.stopped l.rest (subst (λ s. Ends s l.stopped l.rest) at.is l.ending) in
     (read.results, record { run = subst (λ b. Frames b read.results l.rest) (sym l.whole) read.frames; ending = ends })
 
 -- from the first byte on
@@ -43,8 +43,8 @@ begun_run view bytes output l (NowEncrypted e some) = inl e
 begun_run view bytes output l (StillAnswers e plain) =
     let ends = subst (λ s. Ends s l.stopped l.rest) e l.ending in
     inr (record { answers = l.front; more = l.rest; results = []; whole = l.whole; plain = plain; none = ends.0; run = record { run = frames_none l.rest; ending = ends.1 } })
-begun_run view bytes output l (NowMessages e b) =
-    let read = read_of view (0 + length b.answers) b.more b.rest (Server Messages) b.backs l.rest in
+begun_run view bytes output l (NowMessages replicating e b) =
+    let read = read_of view (0 + length b.answers) false b.more b.rest (server_at replicating) b.backs l.rest in
     inr (record {
       answers = b.answers;
       more = b.more ++ l.rest;
@@ -52,7 +52,7 @@ begun_run view bytes output l (NowMessages e b) =
       whole = l.whole ∙ ap (λ x. x ++ l.rest) b.whole ∙ append_assoc b.answers b.more l.rest;
       plain = b.plain;
       none = answered_stays b.more l.rest b.some b.none;
-      run = record { run = read.frames; ending = subst (λ s. Ends s l.stopped l.rest) e l.ending };
+      run = record { run = read.frames; ending = server_ending replicating l.stopped l.rest (subst (λ s. Ends s l.stopped l.rest) e l.ending) };
     })
 
 pub run_behind : (view : View) (bytes output : List ℕ) (l : IsListing view (Server Beginning) bytes output) → (l.to ≡ Server Encrypted) ⊎ IsRunBehindAnswers bytes l.stopped l.rest

@@ -3,7 +3,7 @@ use Rattle.std.proofs.Common.{ℕ, ◌<◌, List, [], length, ap, arith, inl, in
 use Rattle.pgp_line.specs.declared.style.Style.{Style}
 use Rattle.pgp_trace.specs.Listing.{LineOf}
 use Rattle.pgp_trace.specs.Sides.{Side, Server, Client, expected}
-use Rattle.pgp_trace.specs.declared.side.Phase.TheVariants.{Beginning, Messages, Encrypted}
+use Rattle.pgp_trace.specs.declared.side.Phase.TheVariants.{Beginning, Messages, Replicating, Encrypted}
 use Rattle.pgp_trace.specs.Steps.{HasLine}
 use Rattle.pgp_trace.proofs.ClientLines.{step_long}
 use Rattle.pgp_trace.proofs.FrameLines.{frame_long}
@@ -12,8 +12,9 @@ pub frame_has : (style : Style) (place : ℕ) (from to : Side) (frame line : Lis
 frame_has style place (Server Beginning) to frame line (inl is) = omega (arith, ap length is.reported.whole)
 frame_has style place (Server Beginning) to frame line (inr is) = omega (arith, frame_long is.reported.first frame is.reported.whole)
 frame_has style place (Server Messages) to frame line is = omega (arith, frame_long is.0.first frame is.0.whole)
+frame_has style place (Server Replicating) to frame line is = omega (arith, frame_long is.0.first frame is.0.whole)
 frame_has style place (Server Encrypted) to frame line is = absurd is
-frame_has style place (Client opened kinds) to frame line is = omega (arith, step_long (expected kinds) (record { bytes = frame; opened = opened }) (record { bytes = []; opened = is.now }) is.reported.result is.reported.step)
+frame_has style place (Client opened kinds replicating) to frame line is = omega (arith, step_long (expected kinds) (record { bytes = frame; opened = opened }) (record { bytes = []; opened = is.now }) is.reported.result is.reported.step)
 
 pub shorter : (style : Style) (place : ℕ) (from to : Side) (old new line name : List ℕ) → HasLine style place from old new line to name → length new < length old
 shorter style place from to old new line name has = omega (arith, ap length has.whole, length-append has.frame new, frame_has style place from to has.frame line has.reported)

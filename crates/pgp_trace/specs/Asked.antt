@@ -13,6 +13,6 @@ looks style only colored = record { style = style; only = map (λ name. name.now
 
 abbrev pub asked : {A : Type 0} → code.Command.Command A → Command
 asked (variants.Server style only colored resume) = Server (looks style only.items colored) resume
-asked (variants.Client style only colored kinds resume) = Client (looks style only.items colored) kinds.items resume
+asked (variants.Client style only colored kinds resume replicating) = Client (looks style only.items colored) kinds.items resume replicating
 asked variants.Help = Help
 asked variants.Version = Version

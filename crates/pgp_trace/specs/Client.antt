@@ -1,10 +1,11 @@
 -- What the line of a client's message says. PostgreSQL manual, "Message Formats".
-use Rattle.std.specs.Prelude.{ℕ, pos, ℤ, ◌+◌, Bool, true, false, ◌==◌, if◌then◌else◌, List, [], ◌∷◌, length, Option, Some, None, Result, Ok, Err, codes}
+use Rattle.std.specs.Prelude.{◌≡◌, ℕ, pos, ℤ, ◌+◌, Bool, true, false, ◌==◌, if◌then◌else◌, List, [], ◌∷◌, length, Option, Some, None, Result, Ok, Err, codes}
 use Rattle.pgp_frontend.specs.ClientMessage.{ClientMessage, Bind, Close, CopyData, CopyDone, CopyFail, Describe, Execute, Flush, Parse, PasswordMessage, Query, SaslInitialResponse, SaslResponse, Sync, Terminate, Startup, CancelRequest, SslRequest, GssEncRequest, FunctionCall}
 use Rattle.pgp_frontend_read.specs.declared.error.ClientError.{ClientError}
 use Rattle.pgp_frontend_read.specs.declared.error.ClientError.TheVariants.{UnknownPacket, Reading}
 use Rattle.pgp_line.specs.declared.style.Style.{Style}
 use Rattle.pgp_line.specs.Line.{Part, Name, Key, Member, Count, ListBegins, ObjectBegins, ObjectEnds, Number, Text, Value, followed, key}
+use Rattle.pgp_trace.specs.Replication.{ShowsInner}
 use Rattle.pgp_trace.specs.Shown.{list_of, name_or, refused, type_part}
 use Rattle.pgp_line.specs.Secret.{response_parts, secret}
 
@@ -113,7 +114,22 @@ abbrev pub refusal_parts : ClientError → List Part
 refusal_parts (Reading e) = refused e
 refusal_parts (UnknownPacket code) = Name true (codes "packet") ∷ Member (codes "code") ∷ Number code ∷ []
 
+-- the data of a CopyData, where a standby's message may stand inside them
+abbrev pub client_copied : ClientMessage → Option (List ℕ)
+client_copied (CopyData bytes) = Some bytes
+client_copied x = None
+
+abbrev pub client_data : (replicating : Bool) → Result ClientMessage ClientError → Option (List ℕ)
+client_data true (Ok x) = client_copied x
+client_data true (Err e) = None
+client_data false r = None
+
 -- the line goes on with the name of the message and what it says, or with the error
 abbrev pub client_line : Style → Bool → Result ClientMessage ClientError → List ℕ → List ℕ
 client_line style reported (Ok x) old = grouped style (followed style old (client_called reported x ∷ [])) (client_groups style reported x)
 client_line style reported (Err e) old = followed style old (refusal_parts e)
+
+-- and so in a replication stream, where data may hold a standby's message
+abbrev pub ClientSays : (inside : Option (List ℕ)) → Style → Bool → Result ClientMessage ClientError → List ℕ → List ℕ → Type 0
+ClientSays (Some bytes) style reported r old new = ShowsInner true style bytes (followed style old (Name false (codes "CopyData") ∷ [])) new
+ClientSays None style reported r old new = new ≡ client_line style reported r old

@@ -35,5 +35,5 @@ pub record AlikeClientFrames (opened : Bool) (kinds : List PasswordKind) (f g : 
 -- bytes that are frames, each like that of the other bytes in its place; and what is known of the side after them
 pub data AlikeClientStreams (from : Side) : List ℕ → List ℕ → Side → Type 0 where
   NoClientFrames : AlikeClientStreams from [] [] from
-  OneClientAlike : {a b : List ℕ} {opened now : Bool} {kinds : List PasswordKind} (result : Result ClientMessage ClientError) (f g : List ℕ) → AlikeClientStreams from a b (Client opened kinds)
-      → ReadsAs opened kinds f result now → AlikeClientFrames opened kinds f g → AlikeClientStreams from (a ++ f) (b ++ g) (Client now (kinds_behind opened f kinds))
+  OneClientAlike : {a b : List ℕ} {opened now replicating : Bool} {kinds : List PasswordKind} (result : Result ClientMessage ClientError) (f g : List ℕ) → AlikeClientStreams from a b (Client opened kinds replicating)
+      → ReadsAs opened kinds f result now → AlikeClientFrames opened kinds f g → AlikeClientStreams from (a ++ f) (b ++ g) (Client now (kinds_behind opened f kinds) replicating)

@@ -1,5 +1,5 @@
 -- What the program does for its words.
-use Rattle.std.specs.Prelude.{◌≡◌, ⊤, ◌⊎◌, ℕ, Bool, List, [], ◌∷◌, ◌++◌, Option, IfSome, codes}
+use Rattle.std.specs.Prelude.{◌≡◌, ⊤, ◌⊎◌, ℕ, Bool, false, List, [], ◌∷◌, ◌++◌, Option, IfSome, codes}
 use Rattle.std.specs.Io.KnownBytes.{Keeps, Appends, IsAtEnd}
 use Rattle.pgp_frontend_read.specs.declared.message.PasswordKind.{PasswordKind}
 use Rattle.pgp_program.specs.declared.fault.Fault.{Fault}
@@ -15,29 +15,28 @@ use Rattle.pgp_program.specs.Run as run
 use Rattle.pgp_program.specs.Words.{AreWords}
 
 -- Lists a server's or a client's stream in a listing that looks so, a client's with the kinds of its first messages of tag `p`, from the first byte of a connection on
--- or from a message in mid-session on; or says how the program is called, or
--- which one it is.
+-- or from a message in mid-session on, in a replication stream or not; or says how the program is called, or which one it is.
 pub data Command : Type 0 where
   Server : View → (resume : Bool) → Command
-  Client : View → List PasswordKind → (resume : Bool) → Command
+  Client : View → List PasswordKind → (resume replicating : Bool) → Command
   Help : Command
   Version : Command
 
--- The words ask for a listing of this name, which looks so where a terminal shows it or not, with these kinds, and in mid-session or not.
-pub record AsksListing (terminal : Bool) (name : List ℕ) (words : List (List ℕ)) (view : View) (kinds : List PasswordKind) (resume : Bool) : Type 0 where
+-- The words ask for a listing of this name, which looks so where a terminal shows it or not, with these kinds, in mid-session or not, and in a replication stream or not.
+pub record AsksListing (terminal : Bool) (name : List ℕ) (words : List (List ℕ)) (view : View) (kinds : List PasswordKind) (resume replicating : Bool) : Type 0 where
   pub options : List (List ℕ)
   pub whole : words ≡ name ∷ options
-  pub read : AreOptions terminal options view kinds resume
+  pub read : AreOptions terminal options view kinds resume replicating
 
 -- the words ask for it, where a terminal shows what is written or not
 abbrev pub Asks : (terminal : Bool) → List (List ℕ) → Command → Type 0
-Asks terminal words (Server view resume) = AsksListing terminal (codes "server") words view [] resume
-Asks terminal words (Client view kinds resume) = AsksListing terminal (codes "client") words view kinds resume
+Asks terminal words (Server view resume) = AsksListing terminal (codes "server") words view [] resume false
+Asks terminal words (Client view kinds resume replicating) = AsksListing terminal (codes "client") words view kinds resume replicating
 Asks terminal words Help = words ≡ codes "--help" ∷ []
 Asks terminal words Version = words ≡ codes "--version" ∷ []
 
 abbrev pub usage : List ℕ
-usage = codes "usage: pgtrace server [--json] [--full] [--secrets] [--resume] [--only NAME[,NAME]..] [--color auto|always|never] | client [--json] [--full] [--secrets] [--resume] [--only NAME[,NAME]..] [--color auto|always|never] [--password-kind password|initial|response].. | --help | --version" ++ 10 ∷ []
+usage = codes "usage: pgtrace server [--json] [--full] [--secrets] [--resume] [--only NAME[,NAME]..] [--color auto|always|never] | client [--json] [--full] [--secrets] [--resume] [--only NAME[,NAME]..] [--color auto|always|never] [--password-kind password|initial|response].. [--replication] | --help | --version" ++ 10 ∷ []
 
 abbrev pub version : List ℕ
 version = codes "pgtrace 0.1.0" ++ 10 ∷ []
@@ -55,7 +54,7 @@ Lists view from before after said = IsAtEnd after.input × IfSome before.input (
 -- What is done where no fault is met, and what is then to be said on standard error.
 abbrev pub Does : Command → Streams → Streams → List ℕ → Type 0
 Does (Server view resume) before after said = Lists view (side.Server (first_phase resume)) before after said
-Does (Client view kinds resume) before after said = Lists view (side.Client resume kinds) before after said
+Does (Client view kinds resume replicating) before after said = Lists view (side.Client resume kinds replicating) before after said
 Does Help before after said = Keeps before.input after.input × Appends before.output after.output usage × (said ≡ [])
 Does Version before after said = Keeps before.input after.input × Appends before.output after.output version × (said ≡ [])
 
@@ -67,7 +66,7 @@ BreaksOff passed view from fault before after = IsCutShort view from before afte
 -- What is done where one is: what is written is a front of what would be.
 abbrev pub Stops : Type 0 → Command → Fault → Streams → Streams → Type 0
 Stops passed (Server view resume) fault before after = BreaksOff passed view (side.Server (first_phase resume)) fault before after
-Stops passed (Client view kinds resume) fault before after = BreaksOff passed view (side.Client resume kinds) fault before after
+Stops passed (Client view kinds resume replicating) fault before after = BreaksOff passed view (side.Client resume kinds replicating) fault before after
 Stops passed Help fault before after = Keeps before.input after.input × AppendsFront before.output after.output usage
 Stops passed Version fault before after = Keeps before.input after.input × AppendsFront before.output after.output version
 
@@ -86,7 +85,7 @@ module _ {R W : Type 0} (remaining : R → Option (List ℕ)) (contents : W → 
   -- where all lines of what came are written and passed on, the reader may be read for the command; what prints reads nothing
   abbrev pub ReadsFor : Command → R → W → Type 0
   ReadsFor (Server view resume) reader writer = ReadsWhenReady remaining contents Passed MayRead view (side.Server (first_phase resume)) reader writer
-  ReadsFor (Client view kinds resume) reader writer = ReadsWhenReady remaining contents Passed MayRead view (side.Client resume kinds) reader writer
+  ReadsFor (Client view kinds resume replicating) reader writer = ReadsWhenReady remaining contents Passed MayRead view (side.Client resume kinds replicating) reader writer
   ReadsFor command reader writer = ⊤
 
   -- so it may for the command that the words ask for

@@ -1,15 +1,16 @@
 -- What is said on standard error where a stream isn't listed to its end.
 use Rattle.std.specs.Prelude.{ℕ, true, false, List, [], ◌∷◌, ◌++◌, ◌==◌, if◌then◌else◌, codes}
-use Rattle.pgp_trace.specs.declared.side.Phase.TheVariants.{Beginning, Messages, Encrypted}
+use Rattle.pgp_trace.specs.declared.side.Phase.TheVariants.{Beginning, Messages, Replicating, Encrypted}
 use Rattle.pgp_trace.specs.Sides.{Side, Server, Client}
 
 -- why bytes may be left, by what is known of the side there
 abbrev pub hint : Side → List ℕ
 hint (Server Beginning) = codes "pgtrace: no message of a server stands where the stream begins" ++ 10 ∷ []
 hint (Server Messages) = []
+hint (Server Replicating) = []
 hint (Server Encrypted) = codes "pgtrace: what follows is encrypted; a stream that begins in mid-session is listed with --resume" ++ 10 ∷ []
-hint (Client false kinds) = codes "pgtrace: no packet that opens a connection stands there: what follows is encrypted, or the stream begins in mid-session and is listed with --resume" ++ 10 ∷ []
-hint (Client true kinds) = []
+hint (Client false kinds replicating) = codes "pgtrace: no packet that opens a connection stands there: what follows is encrypted, or the stream begins in mid-session and is listed with --resume" ++ 10 ∷ []
+hint (Client true kinds replicating) = []
 
 -- where so many are
 abbrev pub hint_of : Side → ℕ → List ℕ

@@ -2,6 +2,7 @@ pub mod Names
 pub mod Shown
 pub mod PlainBody
 pub mod Unread
+pub mod Replication
 pub mod Secrets
 pub mod Options
 pub mod Command
@@ -10,6 +11,7 @@ pub mod Client
 pub mod Hints
 pub mod View
 pub mod Listing
+pub mod Plain
 pub mod ClientSecrets
 pub mod Steps
 pub mod Asked

@@ -10,16 +10,16 @@ use Rattle.pgp_frontend_read.specs.Pieces.{step_of}
 use Rattle.pgp_frontend_read.specs.Step.{Step}
 use Rattle.pgp_frontend_read.specs.declared.error.ClientError.{ClientError}
 use Rattle.pgp_frontend_read.specs.declared.message.PasswordKind.{PasswordKind}
-use Rattle.pgp_trace.specs.Client.{client_line, client_name}
-use Rattle.pgp_trace.specs.Sides.{Side, Server, Client, AreAnswers, Ends, answered, expected, is_reported, kinds_behind, phase_behind}
+use Rattle.pgp_trace.specs.Client.{ClientSays, client_data, client_name}
+use Rattle.pgp_trace.specs.Sides.{Side, Server, Client, AreAnswers, Ends, answered, expected, is_reported, kinds_behind, phase_behind, replicates_behind, server_at}
 use Rattle.pgp_trace.specs.declared.side.Phase.{Phase}
-use Rattle.pgp_trace.specs.declared.side.Phase.TheVariants.{Beginning, Messages, Encrypted}
+use Rattle.pgp_trace.specs.declared.side.Phase.TheVariants.{Beginning, Messages, Replicating, Encrypted}
 use Rattle.pgp_line.specs.declared.style.Form.{Form}
 use Rattle.pgp_line.specs.declared.style.Form.TheVariants.{Columns, Json}
 use Rattle.pgp_line.specs.declared.style.Style.{Style}
 use Rattle.pgp_line.specs.Line.{Length, Name, Tag, closing, followed, opening}
 use Rattle.pgp_trace.specs.Names.{name_of}
-use Rattle.pgp_trace.specs.Shown.{Shows, called}
+use Rattle.pgp_trace.specs.Shown.{Says, called, inner_data}
 use Rattle.pgp_trace.specs.Unread.{ShowsUnread}
 use Rattle.pgp_trace.specs.Hints.{hint_of}
 use Rattle.pgp_trace.specs.View.{View, shown}
@@ -32,24 +32,24 @@ abbrev pub front : Style → ℕ → Frame → List ℕ
 front style place f = followed style (opening style place) (Length (length (frame_bytes f)) ∷ Tag f.tag ∷ [])
 
 -- and how it goes on: with the name of the message and what it says, or with what a frame says that isn't read
-abbrev pub GoesOn : Style → (tag : ℕ) (body : List ℕ) → Result Message Error → List ℕ → List ℕ → Type 0
-GoesOn style tag body (Ok m) old new = Shows style m (followed style old (called m ∷ [])) new
-GoesOn style tag body (Err e) old new = ShowsUnread style tag body e old new
+abbrev pub GoesOn : Style → (replicating : Bool) (tag : ℕ) (body : List ℕ) → Result Message Error → List ℕ → List ℕ → Type 0
+GoesOn style replicating tag body (Ok m) old new = Says (inner_data replicating m) style m (followed style old (called m ∷ [])) new
+GoesOn style replicating tag body (Err e) old new = ShowsUnread style tag body e old new
 
--- the line of a frame that stands at the place
-pub record IsLineOf (style : Style) (place : ℕ) (f : Frame) (line : List ℕ) : Type 0 where
+-- the line of a frame that stands at the place, in a replication stream or not
+pub record IsLineOf (style : Style) (place : ℕ) (replicating : Bool) (f : Frame) (line : List ℕ) : Type 0 where
   pub result : Result Message Error
   pub body : Body f.tag f.payload result
   pub text : List ℕ
-  pub reported : GoesOn style f.tag f.payload result (front style place f) text
+  pub reported : GoesOn style replicating f.tag f.payload result (front style place f) text
   pub ended : line ≡ text ++ closing style ++ 10 ∷ []
 
 -- the frame of a server, and its line
-pub record IsServerLine (style : Style) (place : ℕ) (frame line : List ℕ) : Type 0 where
+pub record IsServerLine (style : Style) (place : ℕ) (replicating : Bool) (frame line : List ℕ) : Type 0 where
   pub first : Frame
   pub whole : frame ≡ frame_bytes first
   pub fits : IsFrame first
-  pub reported : IsLineOf style place first line
+  pub reported : IsLineOf style place replicating first line
 
 -- which request a server answers, as far as its byte says
 abbrev pub answer_name : ℕ → List ℕ
@@ -75,9 +75,9 @@ pub record IsAnswer (style : Style) (place : ℕ) (frame line : List ℕ) (to : 
   pub behind : to ≡ Server phase
 
 pub record IsFirst (style : Style) (place : ℕ) (frame line : List ℕ) (to : Side) : Type 0 where
-  pub reported : IsServerLine style place frame line
+  pub reported : IsServerLine style place false frame line
   pub none : answered frame ≡ None
-  pub behind : to ≡ Server Messages
+  pub behind : to ≡ server_at (replicates_behind false frame)
 
 -- an opening packet has no tag
 abbrev pub client_tag : Bool → List ℕ → ℕ
@@ -87,23 +87,30 @@ client_tag false frame = 45
 abbrev pub client_front : Style → ℕ → Bool → List ℕ → List ℕ
 client_front style place opened frame = followed style (opening style place) (Length (length frame) ∷ Tag (client_tag opened frame) ∷ [])
 
+-- a line that goes on so, and ends
+pub record EndsSo (style : Style) (reported replicating : Bool) (result : Result ClientMessage ClientError) (front line : List ℕ) : Type 0 where
+  pub text : List ℕ
+  pub says : ClientSays (client_data replicating result) style reported result front text
+  pub ended : line ≡ text ++ closing style ++ 10 ∷ []
+
 -- The bytes are what a step of a server takes or passes that reads a client, and their line.
-pub record IsClientLine (style : Style) (place : ℕ) (opened : Bool) (kinds : List PasswordKind) (frame line : List ℕ) (now : Bool) : Type 0 where
+pub record IsClientLine (style : Style) (place : ℕ) (opened : Bool) (kinds : List PasswordKind) (replicating : Bool) (frame line : List ℕ) (now : Bool) : Type 0 where
   pub result : Result ClientMessage ClientError
   pub step : Step (expected kinds) (record { bytes = frame; opened = opened }) (step_of result) (record { bytes = []; opened = now })
-  pub reported : line ≡ client_line style (is_reported kinds) result (client_front style place opened frame) ++ closing style ++ 10 ∷ []
+  pub reported : EndsSo style (is_reported kinds) replicating result (client_front style place opened frame) line
 
-pub record IsNextLine (style : Style) (place : ℕ) (opened : Bool) (kinds : List PasswordKind) (frame line : List ℕ) (to : Side) : Type 0 where
+pub record IsNextLine (style : Style) (place : ℕ) (opened : Bool) (kinds : List PasswordKind) (replicating : Bool) (frame line : List ℕ) (to : Side) : Type 0 where
   pub now : Bool
-  pub reported : IsClientLine style place opened kinds frame line now
-  pub behind : to ≡ Client now (kinds_behind opened frame kinds)
+  pub reported : IsClientLine style place opened kinds replicating frame line now
+  pub behind : to ≡ Client now (kinds_behind opened frame kinds) replicating
 
 -- a frame that stands at the place, and its line; and what is known of the side after it
 abbrev pub LineOf : Style → ℕ → Side → List ℕ → List ℕ → Side → Type 0
 LineOf style place (Server Beginning) frame line to = IsAnswer style place frame line to ⊎ IsFirst style place frame line to
-LineOf style place (Server Messages) frame line to = IsServerLine style place frame line × (to ≡ Server Messages)
+LineOf style place (Server Messages) frame line to = IsServerLine style place false frame line × (to ≡ server_at (replicates_behind false frame))
+LineOf style place (Server Replicating) frame line to = IsServerLine style place true frame line × (to ≡ server_at (replicates_behind true frame))
 LineOf style place (Server Encrypted) frame line to = ⊥
-LineOf style place (Client opened kinds) frame line to = IsNextLine style place opened kinds frame line to
+LineOf style place (Client opened kinds replicating) frame line to = IsNextLine style place opened kinds replicating frame line to
 
 -- The name of a frame that isn't read: of the two that have their parts all the same, or that it is rejected.
 abbrev pub unread_name : (tag : ℕ) → List ℕ
@@ -126,8 +133,9 @@ abbrev pub name_in : (style : Style) (place : ℕ) (from : Side) (frame line : L
 name_in style place (Server Beginning) frame line to (inl answer) = answer_name answer.reported.byte
 name_in style place (Server Beginning) frame line to (inr first) = server_name first.reported.first.tag first.reported.reported.result
 name_in style place (Server Messages) frame line to is = server_name is.0.first.tag is.0.reported.result
+name_in style place (Server Replicating) frame line to is = server_name is.0.first.tag is.0.reported.result
 name_in style place (Server Encrypted) frame line to is = []
-name_in style place (Client opened kinds) frame line to is = client_frame_name (is_reported kinds) is.reported.result
+name_in style place (Client opened kinds replicating) frame line to is = client_frame_name (is_reported kinds) is.reported.result
 
 -- What stands in the listing of a frame: its line, where its name is asked for.
 pub record Listed (view : View) (place : ℕ) (from : Side) (frame text : List ℕ) (to : Side) : Type 0 where

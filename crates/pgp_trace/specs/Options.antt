@@ -4,7 +4,7 @@ use Rattle.std.specs.List.{flat_map, list_any, slice_split}
 use Rattle.pgp_frontend_read.specs.declared.message.PasswordKind.{PasswordKind}
 use Rattle.pgp_frontend_read.specs.declared.message.PasswordKind.TheVariants.{Password, Initial, Response}
 use Rattle.pgp_trace.specs.declared.options.Choice.{Choice}
-use Rattle.pgp_trace.specs.declared.options.Choice.TheVariants.{AsJson, Full, Secrets, Resume, Only, Color, Kind}
+use Rattle.pgp_trace.specs.declared.options.Choice.TheVariants.{AsJson, Full, Secrets, Resume, Replication, Only, Color, Kind}
 use Rattle.pgp_trace.specs.declared.options.When.{When}
 use Rattle.pgp_trace.specs.declared.options.When.TheVariants.{Auto, Always, Never}
 use Rattle.pgp_line.specs.Styles.{style_of}
@@ -26,6 +26,7 @@ spelled AsJson = codes "--json" ∷ []
 spelled Full = codes "--full" ∷ []
 spelled Secrets = codes "--secrets" ∷ []
 spelled Resume = codes "--resume" ∷ []
+spelled Replication = codes "--replication" ∷ []
 spelled (Only names) = codes "--only" ∷ names.now ∷ []
 spelled (Color when) = codes "--color" ∷ when_word when ∷ []
 spelled (Kind kind) = codes "--password-kind" ∷ kind_word kind ∷ []
@@ -35,6 +36,7 @@ is_json AsJson = true
 is_json Full = false
 is_json Secrets = false
 is_json Resume = false
+is_json Replication = false
 is_json (Only names) = false
 is_json (Color when) = false
 is_json (Kind kind) = false
@@ -44,6 +46,7 @@ is_full AsJson = false
 is_full Full = true
 is_full Secrets = false
 is_full Resume = false
+is_full Replication = false
 is_full (Only names) = false
 is_full (Color when) = false
 is_full (Kind kind) = false
@@ -53,6 +56,7 @@ is_secrets AsJson = false
 is_secrets Full = false
 is_secrets Secrets = true
 is_secrets Resume = false
+is_secrets Replication = false
 is_secrets (Only names) = false
 is_secrets (Color when) = false
 is_secrets (Kind kind) = false
@@ -62,15 +66,27 @@ is_resume AsJson = false
 is_resume Full = false
 is_resume Secrets = false
 is_resume Resume = true
+is_resume Replication = false
 is_resume (Only names) = false
 is_resume (Color when) = false
 is_resume (Kind kind) = false
+
+abbrev pub is_replication : Choice → Bool
+is_replication AsJson = false
+is_replication Full = false
+is_replication Secrets = false
+is_replication Resume = false
+is_replication Replication = true
+is_replication (Only names) = false
+is_replication (Color when) = false
+is_replication (Kind kind) = false
 
 abbrev pub kind_in : Choice → List PasswordKind
 kind_in AsJson = []
 kind_in Full = []
 kind_in Secrets = []
 kind_in Resume = []
+kind_in Replication = []
 kind_in (Only names) = []
 kind_in (Color when) = []
 kind_in (Kind kind) = kind ∷ []
@@ -87,6 +103,7 @@ only_in AsJson = []
 only_in Full = []
 only_in Secrets = []
 only_in Resume = []
+only_in Replication = []
 only_in (Only names) = names_in names.now
 only_in (Color when) = []
 only_in (Kind kind) = []
@@ -102,6 +119,7 @@ colors_in terminal AsJson = []
 colors_in terminal Full = []
 colors_in terminal Secrets = []
 colors_in terminal Resume = []
+colors_in terminal Replication = []
 colors_in terminal (Only names) = []
 colors_in terminal (Color when) = is_colored terminal when ∷ []
 colors_in terminal (Kind kind) = []
@@ -112,8 +130,8 @@ last_of first [] = first
 last_of first (next ∷ more) = last_of next more
 
 -- The words are options, one after another, in any order. They ask for a listing that looks so where a terminal shows it or not, and name these kinds in
--- order; and they say whether the stream is taken in mid-session. Of those that say when a listing has colours the last counts.
-pub record AreOptions (terminal : Bool) (words : List (List ℕ)) (view : View) (kinds : List PasswordKind) (resume : Bool) : Type 0 where
+-- order; and they say whether the stream is taken in mid-session, and whether it is one of replication. Of those that say when a listing has colours the last counts.
+pub record AreOptions (terminal : Bool) (words : List (List ℕ)) (view : View) (kinds : List PasswordKind) (resume replicating : Bool) : Type 0 where
   pub choices : List Choice
   pub spelling : words ≡ flat_map spelled choices
   pub style : view.style ≡ style_of (list_any is_json choices) (list_any is_full choices) (list_any is_secrets choices)
@@ -121,6 +139,7 @@ pub record AreOptions (terminal : Bool) (words : List (List ℕ)) (view : View) 
   pub colored : view.colored ≡ last_of terminal (flat_map (colors_in terminal) choices)
   pub named : kinds ≡ flat_map kind_in choices
   pub resumed : resume ≡ list_any is_resume choices
+  pub replicated : replicating ≡ list_any is_replication choices
 
 -- the words are no options
 abbrev pub AreNoOptions : List (List ℕ) → Type 0

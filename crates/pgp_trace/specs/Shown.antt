@@ -12,6 +12,7 @@ use Rattle.pgp_message.specs.Table.{value_at}
 use Rattle.pgp_line.specs.Line.{Part, Name, Refusal, Key, Member, Count, ListBegins, ListEnds, ObjectBegins, ObjectEnds, Word, Number, Oid, Text, Value, followed, key}
 use Rattle.pgp_line.specs.Secret.{secret}
 use Rattle.pgp_line.specs.declared.style.Style.{Style}
+use Rattle.pgp_trace.specs.Replication.{ShowsInner}
 use Rattle.pgp_trace.specs.Names.{name_of, refusal_of, field_of, state_of}
 
 -- the error of a frame
@@ -93,6 +94,16 @@ ShowsFormats style copy old new =
     ShowsCounted FormatSpelled FormatRefused number_part style copy.count copy.storage
     (followed style old (key (codes "format") ∷ Number (pos copy.format) ∷ Key (codes "columns") (codes "column_formats") ∷ [])) new
 
+-- the data of a CopyData
+abbrev pub copied : Message → Option (List ℕ)
+copied (CopyData bytes) = Some bytes
+copied m = None
+
+-- where a message of replication may stand inside them
+abbrev pub inner_data : (replicating : Bool) → Message → Option (List ℕ)
+inner_data true m = copied m
+inner_data false m = None
+
 -- a message of which no more is said than its name
 abbrev pub says_nothing : Message → Bool
 says_nothing (Authentication AuthenticationOk) = true
@@ -140,3 +151,8 @@ Shows style (ReadyForQuery status) old new = new ≡ followed style old (Member 
 Shows style (CopyData bytes) old new = new ≡ followed style old (key (codes "data") ∷ Value (Some bytes) ∷ [])
 Shows style (ParameterDescription row) old new = ShowsCounted TypeSpelled TypeRefused type_part style row.count row.storage (followed style old (key (codes "types") ∷ [])) new
 Shows style m old new = new ≡ old
+
+-- the same in a replication stream, where data may hold a server's message
+abbrev pub Says : (inside : Option (List ℕ)) → Style → Message → List ℕ → List ℕ → Type 0
+Says (Some bytes) style m old new = ShowsInner false style bytes old new
+Says None style m old new = Shows style m old new

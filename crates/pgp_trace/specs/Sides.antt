@@ -10,12 +10,13 @@ use Rattle.pgp_frontend_read.specs.Views.{kind_view}
 use Rattle.pgp_frontend_read.specs.declared.error.ClientError.{ClientError}
 use Rattle.pgp_frontend_read.specs.declared.message.PasswordKind as code
 use Rattle.pgp_trace.specs.declared.side.Phase.{Phase}
-use Rattle.pgp_trace.specs.declared.side.Phase.TheVariants.{Beginning, Messages, Encrypted}
+use Rattle.pgp_trace.specs.declared.side.Phase.TheVariants.{Beginning, Messages, Replicating, Encrypted}
 
--- A server's, which has come so far; or a client's, of which a startup packet was read or not, and whose next messages of tag `p` are of these kinds.
+-- A server's, which has come so far; or a client's, of which a startup packet was read or not, whose next messages of tag `p` are of these kinds, and whose
+-- CopyData hold a standby's messages or not.
 pub data Side : Type 0 where
   Server : (phase : Phase) → Side
-  Client : (opened : Bool) (kinds : List code.PasswordKind) → Side
+  Client : (opened : Bool) (kinds : List code.PasswordKind) (replicating : Bool) → Side
 
 -- A server answers a request for encryption by one byte: `N` where the connection goes on in the clear, so that a client may ask again; `S` where TLS
 -- follows, and `G` where GSSAPI encryption does. Such answers come before any message, as many as the client asked for. No message of these tags begins a
@@ -35,6 +36,28 @@ AreAnswers bytes = AllByRecursion (λ byte. phase_behind byte ≡ Some Beginning
 abbrev pub first_phase : (resume : Bool) → Phase
 first_phase true = Messages
 first_phase false = Beginning
+
+-- how far it has come where its CopyData hold messages of replication or not
+abbrev pub phase_in : (replicating : Bool) → Phase
+phase_in true = Replicating
+phase_in false = Messages
+
+abbrev pub server_at : (replicating : Bool) → Side
+server_at replicating = Server (phase_in replicating)
+
+-- whether they do after a message of this tag: from a CopyBothResponse on, up to a CopyDone, an ErrorResponse or a CommandComplete
+abbrev pub replicates : (now : Bool) (tag : ℕ) → Bool
+replicates now tag =
+    if tag == 87 then true  -- W
+    else if tag == 99 then false  -- c
+    else if tag == 69 then false  -- E
+    else if tag == 67 then false  -- C
+    else now
+
+-- and after a frame
+abbrev pub replicates_behind : (now : Bool) → List ℕ → Bool
+replicates_behind now [] = now
+replicates_behind now (tag ∷ rest) = replicates now tag
 
 -- how far the stream has come after the answer that stands first, if one does
 abbrev pub answered : List ℕ → Option Phase
@@ -75,7 +98,8 @@ pub record IsRefusedPacket (opened : Bool) (bytes : List ℕ) : Type 0 where
 abbrev pub Ends : Side → Bool → List ℕ → Type 0
 Ends (Server Beginning) stopped rest = (answered rest ≡ None) × IsEnding stopped rest
 Ends (Server Messages) stopped rest = IsEnding stopped rest
+Ends (Server Replicating) stopped rest = IsEnding stopped rest
 Ends (Server Encrypted) false rest = rest ≡ []
 Ends (Server Encrypted) true rest = 0 < length rest
-Ends (Client opened kinds) false rest = client.IsPartial opened rest
-Ends (Client opened kinds) true rest = client.IsLengthFault opened rest ⊎ IsRefusedPacket opened rest
+Ends (Client opened kinds replicating) false rest = client.IsPartial opened rest
+Ends (Client opened kinds replicating) true rest = client.IsLengthFault opened rest ⊎ IsRefusedPacket opened rest

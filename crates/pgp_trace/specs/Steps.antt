@@ -7,7 +7,7 @@ use Rattle.pgp_message.specs.Stream.{Frame, frame_bytes, IsFrame}
 use Rattle.pgp_trace.specs.declared.frame.Next.{Next}
 use Rattle.pgp_trace.specs.declared.frame.Next.TheVariants.{Line, Waits, Stops}
 use Rattle.pgp_trace.specs.declared.side.Phase.{Phase}
-use Rattle.pgp_trace.specs.declared.side.Phase.TheVariants.{Beginning, Messages}
+use Rattle.pgp_trace.specs.declared.side.Phase.TheVariants.{Beginning}
 use Rattle.pgp_trace.specs.declared.side.Side as code
 use Rattle.pgp_trace.specs.declared.view.View as seen
 use Rattle.pgp_trace.specs.declared.side.Side.TheVariants as variants
@@ -16,24 +16,24 @@ use Rattle.pgp_line.specs.Line.{Length, Tag, closing, followed, opening}
 use Rattle.pgp_trace.specs.Unread.{ShowsUnread}
 use Rattle.pgp_trace.specs.Listing.{IsServerLine, LineOf, Lines, name_in, place_behind, server_name}
 use Rattle.pgp_trace.specs.View.{View}
-use Rattle.pgp_trace.specs.Sides.{Side, Server, Client, Ends}
+use Rattle.pgp_trace.specs.Sides.{Side, Server, Client, Ends, phase_in}
 use Rattle.pgp_program.specs.Taken.{AppendsFront}
 use Rattle.pgp_program.specs.Words.{greatest}
 
 -- the code's sides
 abbrev pub side_of : code.Side → Side
 side_of (variants.Server phase) = Server phase
-side_of (variants.Client opened kinds) = Client opened kinds.now
+side_of (variants.Client opened kinds replicating) = Client opened kinds.now replicating
 
 -- the code's views
 abbrev pub view_of : seen.View → View
 view_of view = record { style = view.style; only = map (λ name. name.now) view.only.now; colored = view.colored }
 
 -- how far a server's stream has come after its first message, if it came
-abbrev pub phase_of : Next → Phase
-phase_of (Line name) = Messages
-phase_of Waits = Beginning
-phase_of Stops = Beginning
+abbrev pub phase_of : Next → (replicating : Bool) → Phase
+phase_of (Line name) replicating = phase_in replicating
+phase_of Waits replicating = Beginning
+phase_of Stops replicating = Beginning
 
 -- what stands at the front of bytes that are encrypted
 abbrev pub sealed : List ℕ → Next
@@ -54,8 +54,8 @@ pub record ReportsFault (style : Style) (place : ℕ) (frame : List ℕ) (e : Er
   pub ended : line ≡ text ++ closing style ++ 10 ∷ []
 
 -- a server's frame, its line, and the name in it
-pub record IsNamedLine (style : Style) (place : ℕ) (frame line name : List ℕ) : Type 0 where
-  pub is : IsServerLine style place frame line
+pub record IsNamedLine (style : Style) (place : ℕ) (replicating : Bool) (frame line name : List ℕ) : Type 0 where
+  pub is : IsServerLine style place replicating frame line
   pub named : name ≡ server_name is.first.tag is.reported.result
 
 -- the bytes begin with a frame, which has this line with this name, and then come the new ones

@@ -8,7 +8,7 @@ ghost use Rattle.pgp_trace.specs.Sides.{Server, phase_behind};
 ghost use Rattle.pgp_trace.specs.Steps.{ListsNext, phase_of};
 
 use crate::frame::{Next, begin_line, server_line};
-use crate::side::Phase;
+use crate::side::{Phase, phase_in};
 use pgp_base::Memory;
 use pgp_line::line::{put_called, put_end};
 use pgp_line::style::Style;
@@ -36,8 +36,8 @@ pub fn first_line<'b, A: Memory>(
         answer_line(style, place, *byte, line)?;
         return Ok((Next::Line(answer_name(*byte)), phase, behind));
     }
-    let (next, rest) = server_line(style, place, bytes, line)?;
-    Ok((next, phase_of(next), rest))
+    let (next, now, rest) = server_line(style, place, false, bytes, line)?;
+    Ok((next, phase_of(next, now), rest))
 }
 
 /// How far the stream has come after an answer of this byte, or nothing where it is no answer.
@@ -52,11 +52,11 @@ fn phase_behind(byte: u8) -> Option<Phase>
 }
 
 /// How far the stream has come after its first message, if it came.
-fn phase_of(next: Next) -> Phase
-    ensures { result ≡ phase_of next }
+fn phase_of(next: Next, replicating: bool) -> Phase
+    ensures { result ≡ phase_of next replicating }
 {
     match next {
-        Next::Line(_) => Phase::Messages,
+        Next::Line(_) => phase_in(replicating),
         Next::Waits | Next::Stops => Phase::Beginning,
     }
 }

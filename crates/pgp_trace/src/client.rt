@@ -1,10 +1,11 @@
 //! The line of a client's frame.
 
 ghost use Rattle.std.specs.Prelude.{◌≡◌, ◌≤◌, ◌<◌, ◌∷◌, ◌++◌, [], length, true, IfOk, OnErr, OnOk, Ok, Err, string_bytes};
+ghost use Rattle.std.specs.Option.{option_map};
 ghost use Rattle.pgp_frontend_read.specs.Views.{kind_view, view};
-ghost use Rattle.pgp_trace.specs.Client.{client_line, refusal_parts};
+ghost use Rattle.pgp_trace.specs.Client.{ClientSays, client_copied, client_data, refusal_parts};
 ghost use Rattle.pgp_line.specs.Line.{closing, followed};
-ghost use Rattle.pgp_trace.specs.Listing.{client_front, client_tag};
+ghost use Rattle.pgp_trace.specs.Listing.{EndsSo, client_front, client_tag};
 ghost use Rattle.pgp_trace.specs.Sides.{Client, expected, is_reported, is_password, kinds_behind};
 ghost use Rattle.pgp_trace.specs.Steps.{ListsNext};
 
@@ -12,6 +13,7 @@ use crate::client_body::put_client_message;
 use crate::client_names::{client_name, says_nothing};
 use crate::frame::{Next, begin_line, front_of};
 use crate::lists::put_refused;
+use crate::replication::put_data;
 use pgp_base::Memory;
 use pgp_frontend_read::{ClientError, ClientMessage, ClientMessages, PasswordKind};
 use pgp_line::line::{put_called, put_end, put_signed};
@@ -30,10 +32,11 @@ pub fn client_line<'a, 'b, A: Memory>(
     place: u64,
     opened: bool,
     kinds: &'a [PasswordKind],
+    replicating: bool,
     bytes: &'b [u8],
     line: &mut String<A>,
 ) -> Result<(Next, bool, &'a [PasswordKind], &'b [u8]), AllocError>
-    ensures listed { IfOk result (λ x. ListsNext style place (Client opened kinds.now) bytes.now x.3.now (string_bytes line.new) (Client x.1 x.2.now) x.0) }
+    ensures listed { IfOk result (λ x. ListsNext style place (Client opened kinds.now replicating) bytes.now x.3.now (string_bytes line.new) (Client x.1 x.2.now replicating) x.0) }
     ensures lacks { OnErr result A.Lacks }
 {
     let mut messages = ClientMessages::resume(bytes, opened);
@@ -43,7 +46,8 @@ pub fn client_line<'a, 'b, A: Memory>(
             let frame = front_of(bytes, behind);
             let reported = is_reported(kinds);
             let name = client_name(reported, &message);
-            message_line(style, place, opened, reported, frame, message, line)?;
+            begin_line(style, place, frame.len(), tag_of(opened, frame), line)?;
+            message_line(style, reported, replicating, message, line)?;
             let left = kinds_behind(opened, frame, kinds);
             Ok((Next::Line(name), messages.is_open(), left, behind))
         }
@@ -104,28 +108,60 @@ fn is_password(opened: bool, frame: &[u8]) -> bool
     }
 }
 
-/// Makes the line of a message, whose frame these bytes are.
+/// Ends the line of a message, of which the front stands there.
 fn message_line<A: Memory>(
     style: Style,
-    place: u64,
-    opened: bool,
     reported: bool,
-    frame: &[u8],
+    replicating: bool,
     message: ClientMessage<'_>,
     line: &mut String<A>,
 ) -> Result<(), AllocError>
-    ensures line { OnOk result (string_bytes line.new ≡ client_line style reported (Ok (view message.entry)) (client_front style place opened frame.now) ++ closing style ++ 10 ∷ []) }
+    ensures line { OnOk result (EndsSo style reported replicating (Ok (view message.entry)) (string_bytes line.old) (string_bytes line.new)) }
     ensures lacks { OnErr result A.Lacks }
 {
-    begin_line(style, place, frame.len(), tag_of(opened, frame), line)?;
-    put_called(
-        style,
-        says_nothing(&message),
-        client_name(reported, &message),
-        line,
-    )?;
-    put_client_message(style, reported, message, line)?;
+    put_said(style, reported, replicating, message, line)?;
     put_end(style, line)
+}
+
+/// Adds the name of a message and what it says.
+fn put_said<A: Memory>(
+    style: Style,
+    reported: bool,
+    replicating: bool,
+    message: ClientMessage<'_>,
+    line: &mut String<A>,
+) -> Result<(), AllocError>
+    ensures says { OnOk result (ClientSays (client_data replicating (Ok (view message.entry))) style reported (Ok (view message.entry)) (string_bytes line.old) (string_bytes line.new)) }
+    ensures lacks { OnErr result A.Lacks }
+{
+    match inner_data(replicating, &message) {
+        Some(data) => {
+            put_called(style, false, "CopyData", line)?;
+            put_data(style, true, data, line)
+        }
+        None => {
+            let name = client_name(reported, &message);
+            put_called(style, says_nothing(&message), name, line)?;
+            put_client_message(style, reported, message, line)
+        }
+    }
+}
+
+/// The data of a CopyData, where a standby's message may stand inside them.
+fn inner_data<'a>(replicating: bool, message: &ClientMessage<'a>) -> Option<&'a [u8]>
+    ensures { option_map (λ b. b.now) result ≡ client_data replicating (Ok (view message.now)) }
+{
+    if replicating { copied(message) } else { None }
+}
+
+/// The data of a CopyData.
+fn copied<'a>(message: &ClientMessage<'a>) -> Option<&'a [u8]>
+    ensures { option_map (λ b. b.now) result ≡ client_copied (view message.now) }
+{
+    match message {
+        ClientMessage::CopyData(data) => Some(*data),
+        _ => None,
+    }
 }
 
 /// Makes the line of a rejected frame.

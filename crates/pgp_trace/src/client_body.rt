@@ -143,7 +143,7 @@ fn put_one<A: Memory>(
 }
 
 /// Adds a number with its name.
-fn put_unsigned<A: Memory>(
+pub fn put_unsigned<A: Memory>(
     style: Style,
     name: &str,
     n: u32,

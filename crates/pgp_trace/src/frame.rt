@@ -1,15 +1,19 @@
 //! The line of a server's frame.
 
 ghost use Rattle.std.specs.Prelude.{◌≡◌, ◌≤◌, ◌<◌, ◌-◌, ◌∷◌, ◌++◌, [], length, take, slice_index, IfOk, OnErr, OnOk, Ok, string_bytes};
+ghost use Rattle.std.specs.Option.{option_map};
+ghost use Rattle.pgp_message.specs.BackendMessage.{payload_of};
 ghost use Rattle.pgp_message.specs.Views.{view};
 ghost use Rattle.pgp_line.specs.Line.{Length, Tag, followed, opening};
 ghost use Rattle.pgp_trace.specs.Listing.{unread_name};
-ghost use Rattle.pgp_trace.specs.Sides.{Server};
-ghost use Rattle.pgp_trace.specs.declared.side.Phase.TheVariants as phases;
+ghost use Rattle.pgp_trace.specs.Shown.{Says, copied, inner_data};
+ghost use Rattle.pgp_trace.specs.Sides.{server_at};
 ghost use Rattle.pgp_trace.specs.Steps.{IsFrameOf, IsNamedLine, ListsNext, ReportsFault};
 
 use crate::body::put_message;
 use crate::names::{name_of, says_nothing};
+use crate::replication::put_data;
+use crate::side::replicates_behind;
 use crate::unread::{put_unread, unread_name};
 use pgp_base::{Error, Memory};
 use pgp_line::line::{put_called, put_end, put_frame_length, put_frame_place, put_tag};
@@ -28,7 +32,8 @@ pub enum Next {
     Stops,
 }
 
-/// Makes the line of a server's frame at the front of the bytes, which stands at this place, and returns what stands after the frame.
+/// Makes the line of a server's frame at the front of the bytes, which stands at this place, in a replication stream or not. Returns whether the stream
+/// then is one, and what stands after the frame.
 ///
 /// # Errors
 ///
@@ -36,10 +41,11 @@ pub enum Next {
 pub fn server_line<'b, A: Memory>(
     style: Style,
     place: u64,
+    replicating: bool,
     bytes: &'b [u8],
     line: &mut String<A>,
-) -> Result<(Next, &'b [u8]), AllocError>
-    ensures listed { IfOk result (λ x. ListsNext style place (Server phases.Messages) bytes.now x.1.now (string_bytes line.new) (Server phases.Messages) x.0) }
+) -> Result<(Next, bool, &'b [u8]), AllocError>
+    ensures listed { IfOk result (λ x. ListsNext style place (server_at replicating) bytes.now x.2.now (string_bytes line.new) (server_at x.1) x.0) }
     ensures lacks { OnErr result A.Lacks }
 {
     let mut messages = Messages::new(bytes);
@@ -47,18 +53,20 @@ pub fn server_line<'b, A: Memory>(
         Ok(Some(message)) => {
             let behind = messages.rest();
             let frame = front_of(bytes, behind);
-            let reported = message_line(style, place, frame, &message, line);
+            let reported = message_line(style, place, replicating, frame, &message, line);
             drop(message);
             let name = reported?;
-            Ok((Next::Line(name), behind))
+            let now = replicates_behind(replicating, frame);
+            Ok((Next::Line(name), now, behind))
         }
-        Ok(None) => Ok((Next::Waits, bytes)),
-        Err(Error::InvalidLength) => Ok((Next::Stops, bytes)),
+        Ok(None) => Ok((Next::Waits, replicating, bytes)),
+        Err(Error::InvalidLength) => Ok((Next::Stops, replicating, bytes)),
         Err(refusal) => {
             let behind = messages.rest();
             let frame = front_of(bytes, behind);
             let name = fault_line(style, place, frame, &refusal, line)?;
-            Ok((Next::Line(name), behind))
+            let now = replicates_behind(replicating, frame);
+            Ok((Next::Line(name), now, behind))
         }
     }
 }
@@ -75,21 +83,57 @@ pub fn front_of<'a>(bytes: &'a [u8], rest: &[u8]) -> &'a [u8]
 fn message_line<A: Memory>(
     style: Style,
     place: u64,
+    replicating: bool,
     frame: &[u8],
     message: &Message<&[u8]>,
     line: &mut String<A>,
 ) -> Result<&'static str, AllocError>
     requires { IsFrameOf frame.now (Ok (view message.now)) }
-    ensures line { IfOk result (λ name. IsNamedLine style place frame.now (string_bytes line.new) name.now) }
+    ensures line { IfOk result (λ name. IsNamedLine style place replicating frame.now (string_bytes line.new) name.now) }
     ensures lacks { OnErr result A.Lacks }
 {
     begin(style, place, frame, line)?;
     let name = name_of(message);
     put_called(style, says_nothing(message), name, line)?;
     let (_, body) = frame.split_at(5);
-    put_message(style, message, body, line)?;
+    put_said(style, replicating, message, body, line)?;
     put_end(style, line)?;
     Ok(name)
+}
+
+/// Adds what the message says, whose body these bytes are.
+fn put_said<A: Memory>(
+    style: Style,
+    replicating: bool,
+    message: &Message<&[u8]>,
+    body: &[u8],
+    line: &mut String<A>,
+) -> Result<(), AllocError>
+    requires { body.now ≡ payload_of (view message.now) }
+    ensures says { OnOk result (Says (inner_data replicating (view message.now)) style (view message.now) (string_bytes line.old) (string_bytes line.new)) }
+    ensures lacks { OnErr result A.Lacks }
+{
+    match inner_data(replicating, message) {
+        Some(data) => put_data(style, false, data, line),
+        None => put_message(style, message, body, line),
+    }
+}
+
+/// The data of a CopyData, where a message of replication may stand inside them.
+fn inner_data<'a>(replicating: bool, message: &'a Message<&'a [u8]>) -> Option<&'a [u8]>
+    ensures { option_map (λ b. b.now) result ≡ inner_data replicating (view message.now) }
+{
+    if replicating { copied(message) } else { None }
+}
+
+/// The data of a CopyData.
+fn copied<'a>(message: &'a Message<&'a [u8]>) -> Option<&'a [u8]>
+    ensures { option_map (λ b. b.now) result ≡ copied (view message.now) }
+{
+    match message {
+        Message::CopyData(copy) => Some(copy.data()),
+        _ => None,
+    }
 }
 
 /// Makes the line of a frame that isn't read. Returns the name in it.

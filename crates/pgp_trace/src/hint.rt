@@ -26,6 +26,7 @@ fn hint(side: Side<'_>) -> &'static str
         Side::Client { opened: false, .. } => {
             "pgtrace: no packet that opens a connection stands there: what follows is encrypted, or the stream begins in mid-session and is listed with --resume\n"
         }
-        Side::Server(Phase::Messages) | Side::Client { opened: true, .. } => "",
+        Side::Server(Phase::Messages | Phase::Replicating) | Side::Client { opened: true, .. } =>
+            "",
     }
 }

@@ -13,6 +13,8 @@ ghost use Rattle.pgp_line.specs.declared.style.Style.{Style};
 ghost use Rattle.pgp_trace.specs.View.{View, color_of, painted, plain, shown, uncolored};
 ghost use Rattle.pgp_trace.specs.Listing.{IsListing, IsRunBehindAnswers, LineOf, Lines};
 ghost use Rattle.pgp_line.specs.Quoting.{IsPrinted};
+ghost use Rattle.pgp_trace.specs.Plain.{HasNoCopyBoth, PlainLines};
+ghost use Rattle.pgp_trace.specs.Replication.{Inner, IsInner};
 ghost use Rattle.pgp_trace.specs.Secrets.{Alike, AlikeBeginnings, AlikeStreams, quiet, quietly};
 ghost use Rattle.pgp_trace.specs.Shown.{Shows};
 ghost use Rattle.pgp_trace.specs.Sides.{Client, Server, Side, answered};
@@ -50,8 +52,8 @@ pub fn secrets_are_hidden()
 pub fn streams_hide_their_secrets()
     ensures beginning { (view : View) (start : ℕ) (a b lines : List ℕ) (to : Side) → AlikeBeginnings a b →
         Lines (quietly view) start (Server Beginning) a lines to → Lines (quietly view) start (Server Beginning) b lines to }
-    ensures messages { (view : View) (start : ℕ) (a b lines : List ℕ) → AlikeStreams a b →
-        Lines (quietly view) start (Server Messages) a lines (Server Messages) → Lines (quietly view) start (Server Messages) b lines (Server Messages) }
+    ensures messages { (view : View) (start : ℕ) (a b lines : List ℕ) (to : Side) → AlikeStreams a b →
+        Lines (quietly view) start (Server Messages) a lines to → Lines (quietly view) start (Server Messages) b lines to }
 {}
 
 /// A listing of what a server sent is that of the stream as it is read elsewhere: with these results of its frames, this rest, and this end. From the
@@ -71,6 +73,19 @@ pub fn no_answers()
         IsListing view (Server Messages) bytes output → IsListing view (Server Beginning) bytes output }
 {}
 
+/// A server's stream of messages in which no CopyBothResponse stands is listed as messages alone: each has the line of what it says itself.
+pub fn no_replication()
+    ensures plain { (view : View) (start : ℕ) (bytes lines : List ℕ) (to : Side) → HasNoCopyBoth bytes →
+        Lines view start (Server Messages) bytes lines to → PlainLines view start bytes lines × (to ≡ Server Messages) }
+    ensures other { (view : View) (start : ℕ) (bytes lines : List ℕ) → HasNoCopyBoth bytes →
+        PlainLines view start bytes lines → Lines view start (Server Messages) bytes lines (Server Messages) }
+{}
+
+/// A CopyData has one message of replication inside, or none.
+pub fn one_inner_message()
+    ensures { (standby : Bool) (bytes : List ℕ) (m n : Inner) → IsInner standby bytes m → IsInner standby bytes n → m ≡ n }
+{}
+
 /// A client's messages that differ in their secrets alone have the same lines, unless secrets are asked for. Where it isn't reported which message of tag
 /// `p` one is, it has the same line whatever is asked for.
 pub fn client_secrets_are_hidden()
@@ -88,6 +103,6 @@ pub fn client_secrets_are_hidden()
 
 /// A client's streams that differ in their secrets alone have the same lines, unless secrets are asked for.
 pub fn client_streams_hide_their_secrets()
-    ensures { (view : View) (start : ℕ) (opened : Bool) (kinds : List PasswordKind) (a b lines : List ℕ) (to behind : Side) → AlikeClientStreams (Client opened kinds) a b behind →
-        Lines (quietly view) start (Client opened kinds) a lines to → Lines (quietly view) start (Client opened kinds) b lines to }
+    ensures { (view : View) (start : ℕ) (opened : Bool) (kinds : List PasswordKind) (replicating : Bool) (a b lines : List ℕ) (to behind : Side) → AlikeClientStreams (Client opened kinds replicating) a b behind →
+        Lines (quietly view) start (Client opened kinds replicating) a lines to → Lines (quietly view) start (Client opened kinds replicating) b lines to }
 {}

@@ -6,7 +6,7 @@ ghost use Rattle.pgp_trace.specs.Steps.{ListsNext, sealed, side_of};
 use crate::answer::first_line;
 use crate::client::client_line;
 use crate::frame::{Next, server_line};
-use crate::side::{Phase, Side};
+use crate::side::{Phase, Side, phase_in};
 use pgp_base::Memory;
 use pgp_line::style::Style;
 use std::alloc::AllocError;
@@ -33,17 +33,34 @@ pub fn next_line<'a, 'b, A: Memory>(
             Ok((next, Side::Server(phase), rest))
         }
         Side::Server(Phase::Messages) => {
-            let (next, rest) = server_line(style, place, bytes, line)?;
-            Ok((next, side, rest))
+            let (next, now, rest) = server_line(style, place, false, bytes, line)?;
+            Ok((next, Side::Server(phase_in(now)), rest))
+        }
+        Side::Server(Phase::Replicating) => {
+            let (next, now, rest) = server_line(style, place, true, bytes, line)?;
+            Ok((next, Side::Server(phase_in(now)), rest))
         }
         Side::Server(Phase::Encrypted) => Ok((sealed(bytes), side, bytes)),
-        Side::Client { opened, kinds } => {
-            let (next, now, left, rest) = client_line(style, place, opened, kinds, bytes, line)?;
+        Side::Client {
+            opened,
+            kinds,
+            replicating,
+        } => {
+            let (next, now, left, rest) = client_line(
+                style,
+                place,
+                opened,
+                kinds,
+                replicating,
+                bytes,
+                line,
+            )?;
             Ok((
                 next,
                 Side::Client {
                     opened: now,
                     kinds: left,
+                    replicating,
                 },
                 rest,
             ))

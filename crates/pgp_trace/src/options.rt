@@ -1,7 +1,7 @@
 //! The options of a listing.
 
 ghost use Rattle.std.specs.Prelude.{◌≡◌, ◌++◌, ◌∷◌, ◌||◌, codes, drop, length, map, IfNone, IfOk, IfSome, OnErr, OnOk};
-ghost use Rattle.pgp_trace.specs.Options.{AreNoOptions, AreOptions, BeginsWithNone, NamesNoKind, SaysNoWhen, colors_in, is_colored, is_full, is_json, is_resume, is_secrets, kind_in, kind_word, last_of, names_in, only_in, spelled, when_word};
+ghost use Rattle.pgp_trace.specs.Options.{AreNoOptions, AreOptions, BeginsWithNone, NamesNoKind, SaysNoWhen, colors_in, is_colored, is_full, is_json, is_replication, is_resume, is_secrets, kind_in, kind_word, last_of, names_in, only_in, spelled, when_word};
 ghost use Rattle.pgp_line.specs.Styles.{style_of};
 ghost use Rattle.pgp_trace.specs.Asked.{looks};
 
@@ -26,6 +26,8 @@ pub enum Choice<'a> {
     Secrets,
     /// The stream is taken in mid-session.
     Resume,
+    /// A client's CopyData have a standby's messages inside.
+    Replication,
     /// Names of messages, between commas.
     Only(&'a str),
     Color(When),
@@ -40,6 +42,7 @@ pub struct Options<'a, A: Memory> {
     pub full: bool,
     pub secrets: bool,
     pub resume: bool,
+    pub replicating: bool,
     /// The names of the messages that are listed.
     pub only: Vec<&'a str, A>,
     /// Whether lines have colours.
@@ -58,7 +61,7 @@ pub fn options_of<'a, A: Memory>(
     terminal: bool,
     words: &[&'a str],
 ) -> Result<Option<Options<'a, A>>, AllocError>
-    ensures known { IfOk result (λ r. IfSome r (λ options. AreOptions terminal (map (λ word. word.now) words.now) (looks (style_of options.json options.full options.secrets) options.only.items options.colored) options.kinds.items options.resume)) }
+    ensures known { IfOk result (λ r. IfSome r (λ options. AreOptions terminal (map (λ word. word.now) words.now) (looks (style_of options.json options.full options.secrets) options.only.items options.colored) options.kinds.items options.resume options.replicating)) }
     ensures other { IfOk result (λ r. IfNone r (AreNoOptions (map (λ word. word.now) words.now))) }
     ensures lacks { OnErr result A.Lacks }
 {
@@ -67,6 +70,7 @@ pub fn options_of<'a, A: Memory>(
         full: false,
         secrets: false,
         resume: false,
+        replicating: false,
         only: Vec::new(alloc),
         colored: terminal,
         kinds: Vec::new(alloc),
@@ -92,6 +96,7 @@ fn choose<'a, A: Memory>(
     ensures full { OnOk result (options.new.full ≡ (is_full choice.entry || options.old.full)) }
     ensures secrets { OnOk result (options.new.secrets ≡ (is_secrets choice.entry || options.old.secrets)) }
     ensures resume { OnOk result (options.new.resume ≡ (is_resume choice.entry || options.old.resume)) }
+    ensures replicating { OnOk result (options.new.replicating ≡ (is_replication choice.entry || options.old.replicating)) }
     ensures only { OnOk result (map (λ name. name.now) options.new.only.items ≡ map (λ name. name.now) options.old.only.items ++ only_in choice.entry) }
     ensures colored { OnOk result (options.new.colored ≡ last_of options.old.colored (colors_in terminal choice.entry)) }
     ensures kinds { OnOk result (options.new.kinds.items ≡ options.old.kinds.items ++ kind_in choice.entry) }
@@ -112,6 +117,10 @@ fn choose<'a, A: Memory>(
         }
         Choice::Resume => {
             options.resume = true;
+            Ok(())
+        }
+        Choice::Replication => {
+            options.replicating = true;
             Ok(())
         }
         Choice::Only(names) => add_names(names, &mut options.only),
@@ -154,7 +163,7 @@ fn len(choice: Choice<'_>) -> usize
     ensures { result ≡ length (spelled choice.entry) }
 {
     match choice {
-        Choice::AsJson | Choice::Full | Choice::Secrets | Choice::Resume => 1,
+        Choice::AsJson | Choice::Full | Choice::Secrets | Choice::Resume | Choice::Replication => 1,
         Choice::Only(_) | Choice::Color(_) | Choice::Kind(_) => 2,
     }
 }
@@ -170,6 +179,7 @@ fn first_choice<'a>(words: &[&'a str]) -> Option<Choice<'a>>
         "--full" => Some(Choice::Full),
         "--secrets" => Some(Choice::Secrets),
         "--resume" => Some(Choice::Resume),
+        "--replication" => Some(Choice::Replication),
         "--only" => first_names(rest),
         "--color" => first_when(rest),
         "--password-kind" => first_kind(rest),

@@ -30,7 +30,7 @@ use pgp_program::words::{lent, texts};
 use std::alloc::AllocError;
 
 const USAGE: &str =
-    "usage: pgtrace server [--json] [--full] [--secrets] [--resume] [--only NAME[,NAME]..] [--color auto|always|never] | client [--json] [--full] [--secrets] [--resume] [--only NAME[,NAME]..] [--color auto|always|never] [--password-kind password|initial|response].. | --help | --version\n";
+    "usage: pgtrace server [--json] [--full] [--secrets] [--resume] [--only NAME[,NAME]..] [--color auto|always|never] | client [--json] [--full] [--secrets] [--resume] [--only NAME[,NAME]..] [--color auto|always|never] [--password-kind password|initial|response].. [--replication] | --help | --version\n";
 
 const VERSION: &str = "pgtrace 0.1.0\n";
 
@@ -52,13 +52,14 @@ enum Command<'a, A: Memory> {
         colored: bool,
         resume: bool,
     },
-    /// A client's, and which its messages of tag `p` are.
+    /// A client's, which its messages of tag `p` are, and whether its CopyData have a standby's messages inside.
     Client {
         style: Style,
         only: Vec<&'a str, A>,
         colored: bool,
         kinds: Vec<PasswordKind, A>,
         resume: bool,
+        replicating: bool,
     },
     Help,
     Version,
@@ -105,6 +106,9 @@ fn server_of<'a, A: Memory>(
     if !options.kinds.is_empty() {
         return Ok(None);
     }
+    if options.replicating {
+        return Ok(None);
+    }
     let style = style_of(options.json, options.full, options.secrets);
     Ok(Some(Command::Server {
         style,
@@ -134,6 +138,7 @@ fn client_of<'a, A: Memory>(
         colored: options.colored,
         kinds: options.kinds,
         resume: options.resume,
+        replicating: options.replicating,
     }))
 }
 
@@ -159,21 +164,22 @@ fn list_server<A: Memory, R: Input, W: Output>(
     list(alloc, view, side, input, output)
 }
 
-/// Lists what a client sent, whose first messages of tag `p` are of these kinds. Returns what is to be said of what is left of it.
+/// Lists what a client sent, whose first messages of tag `p` are of these kinds, in a replication stream or not. Returns what is to be said of what is left of it.
 fn list_client<A: Memory, R: Input, W: Output>(
     alloc: A,
     view: View<'_>,
     kinds: &[PasswordKind],
     resume: bool,
+    replicating: bool,
     input: &mut R,
     output: &mut W,
 ) -> Result<&'static str, Fault>
-    requires live { ReadsWhenReady R.remaining W.contents W.Passed R.MayRead (view_of view) (side.Client resume kinds.now) input.old output.old }
+    requires live { ReadsWhenReady R.remaining W.contents W.Passed R.MayRead (view_of view) (side.Client resume kinds.now replicating) input.old output.old }
     ensures passed { OnOk result (W.Passed output.new) }
-    ensures done { IfOk result (λ said. Lists (view_of view.entry) (side.Client resume kinds.now)
+    ensures done { IfOk result (λ said. Lists (view_of view.entry) (side.Client resume kinds.now replicating)
         (record { input = R.remaining input.old; output = W.contents output.old })
         (record { input = R.remaining input.new; output = W.contents output.new }) said.now) }
-    ensures stops { IfErr result (λ fault. BreaksOff (W.Passed output.new) (view_of view.entry) (side.Client resume kinds.now) fault
+    ensures stops { IfErr result (λ fault. BreaksOff (W.Passed output.new) (view_of view.entry) (side.Client resume kinds.now replicating) fault
         (record { input = R.remaining input.old; output = W.contents output.old })
         (record { input = R.remaining input.new; output = W.contents output.new })) }
     ensures cause { IfErr result (Caused A.Lacks (GivesUp R.Fails R.Called) (GivesUp W.Fails W.Interrupted)) }
@@ -181,6 +187,7 @@ fn list_client<A: Memory, R: Input, W: Output>(
     let side = Side::Client {
         opened: resume,
         kinds,
+        replicating,
     };
     list(alloc, view, side, input, output)
 }
@@ -235,13 +242,22 @@ fn perform<A: Memory, R: Input, W: Output>(
             colored,
             kinds,
             resume,
+            replicating,
         } => {
             let view = View {
                 style,
                 only: only.as_slice(),
                 colored,
             };
-            list_client(alloc, view, kinds.as_slice(), resume, input, output)
+            list_client(
+                alloc,
+                view,
+                kinds.as_slice(),
+                resume,
+                replicating,
+                input,
+                output,
+            )
         }
         Command::Help => print(USAGE, output),
         Command::Version => print(VERSION, output),

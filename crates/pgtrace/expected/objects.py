@@ -116,6 +116,47 @@ SERVER = [
     (b"R", int32(99), fault(6, "UnknownAuthentication")),
 ]
 
+def int64(*numbers):
+    return b"".join(n.to_bytes(8, "big") for n in numbers)
+
+
+def inner(name, **parts):
+    """A CopyData with a message of the manual's "Streaming Replication Protocol" inside."""
+    return message("CopyData", inner=name, **parts)
+
+
+PLACE, LATER = 0x16B374D848, 0x16B374D900
+# two days, three hours and four microseconds after the beginning of 2000; and one microsecond before it
+CLOCK, EARLY = 183600000004, 2**64 - 1
+
+# A server's replication stream, and messages after it.
+REPLICATION = [
+    (b"d", b"k" + int64(PLACE, CLOCK) + b"\0", message("CopyData", data={"hex": "6b00000016b374d8480000002abf69ac0400"})),
+    (b"W", b"\0" + int16(0), message("CopyBothResponse", format=0, column_formats=[])),
+    (b"d", b"w" + int64(PLACE, LATER, CLOCK) + b"begin", inner("XLogData", start="16/B374D848", end="16/B374D900", clock=CLOCK, data="begin")),
+    (b"d", b"w" + int64(0, 2**64 - 1, EARLY), inner("XLogData", start="0/0", end="FFFFFFFF/FFFFFFFF", clock=-1, data="")),
+    (b"d", b"w" + int64(0, 0, 0)[:23], message("CopyData", data={"hex": "77" + "00" * 23})),
+    (b"d", b"k" + int64(LATER, 0) + b"\1", inner("PrimaryKeepalive", end="16/B374D900", clock=0, reply=1)),
+    (b"d", b"k" + int64(LATER, 0), message("CopyData", data={"hex": "6b00000016b374d9000000000000000000"})),
+    (b"d", b"k" + int64(LATER, 0) + b"\0\0", message("CopyData", data={"hex": "6b00000016b374d90000000000000000000000"})),
+    (b"d", b"r" + b"later", message("CopyData", data="rlater")),
+    (b"d", b"", message("CopyData", data="")),
+    (b"c", b"", message("CopyDone")),
+    (b"d", b"k" + int64(1, 2) + b"\0", message("CopyData", data={"hex": "6b0000000000000001000000000000000200"})),
+    (b"C", b"COPY 0\0", message("CommandComplete", command_tag="COPY 0")),
+]
+
+# A standby's replies.
+REPLIES = [
+    (b"d", b"r" + int64(PLACE, LATER, 0, CLOCK) + b"\0", inner("StandbyStatusUpdate", written="16/B374D848", flushed="16/B374D900", applied="0/0", clock=CLOCK, reply=0)),
+    (b"d", b"r" + int64(1, 2, 3, 4), message("CopyData", data={"hex": "72" + "".join("%016x" % n for n in (1, 2, 3, 4))})),
+    (b"d", b"r" + int64(1, 2, 3, 4) + b"\0\0", message("CopyData", data={"hex": "72" + "".join("%016x" % n for n in (1, 2, 3, 4)) + "0000"})),
+    (b"d", b"h" + int64(EARLY) + int32(745, 0, 2**31 - 1, 1), inner("HotStandbyFeedback", clock=-1, xmin=745, epoch=0, catalog_xmin=2147483647, catalog_epoch=1)),
+    (b"d", b"h" + int64(0) + int32(-1, -2, 0, 0), inner("HotStandbyFeedback", clock=0, xmin=4294967295, epoch=4294967294, catalog_xmin=0, catalog_epoch=0)),
+    (b"d", b"k" + int64(1, 2) + b"\0", message("CopyData", data={"hex": "6b0000000000000001000000000000000200"})),
+    (b"c", b"", message("CopyDone")),
+]
+
 # Of each row of `client.SESSION`.
 CLIENT = [
     message("SSLRequest"),
@@ -217,7 +258,10 @@ def agreed(place):
 
 def listings():
     """The lines of each stored listing, with its side."""
-    return [("server", served(2)), ("server", served(3)), ("server", agreed(0)), ("server", agreed(1)), ("client", asked())]
+    return [
+        ("server", served(2)), ("server", served(3)), ("server", agreed(0)), ("server", agreed(1)), ("server", objects(REPLICATION, 0)),
+        ("client", asked()), ("client", objects(REPLIES, 0)),
+    ]
 
 
 def stored():
@@ -230,6 +274,9 @@ def stored():
         out += constant("The objects of the answers `%s`." % AGREED[place][0].decode(), name, "&str", text_literal(agreed(place)))
     assert len(CLIENT) == len(SESSION) and len(spelled(SESSION)) == sum(len(frame(row[0], row[1])) for row in SESSION)
     out += constant("The objects of a client's messages (`SESSION`).", "OBJECTS", "&str", text_literal(asked()))
+    for text, name, rows in (("A server's replication stream", "REPLICATION", REPLICATION), ("A standby's replies", "REPLIES", REPLIES)):
+        out += constant("%s, after a message that is none." % text if rows is REPLICATION else "%s." % text, name, "&[u8]", "b" + literal([frame(row[0], row[1]) for row in rows]))
+        out += constant("Their objects.", name + "_OBJECTS", "&str", text_literal(objects(rows, 0)))
     return out.rstrip("\n") + "\n"
 
 

@@ -1,7 +1,7 @@
 use Rattle.std.proofs.Common.{◌≡◌, ◌∷◌, rules, sym, subst, ◌∙◌, List, ℕ, Some, None}
 use Rattle.std.specs.Prelude.{string_bytes}
 use Rattle.pgp_trace.specs.declared.side.Phase.TheVariants.{Beginning, Messages}
-use Rattle.pgp_trace.specs.Sides.{Server, phase_behind}
+use Rattle.pgp_trace.specs.Sides.{Server, phase_behind, server_at}
 use Rattle.pgp_trace.specs.Steps.{HasLine, ListsNext, phase_of}
 use Rattle.pgp_trace.proofs.Beginnings.{answer_lists, first_lists, none_there}
 use Rattle.pgp_trace.proofs.answer.first_line.Goals as goal
@@ -23,10 +23,11 @@ returns-clause-listed g c =
     let behind = c.in-Some.behind.now in
     let rest = c.in_ok-next.rest.now in
     let next = c.in_ok-next.next in
+    let now = c.in_ok-next.now in
     let line = string_bytes c.server_line.new.line in
     let bytes : c.args.bytes.now ≡ byte ∷ behind = search rules in
     let none : phase_behind byte ≡ None = sym c.phase_behind.ensures ∙ none_there c.phase_behind.result c.in_default-phase_behind.not-Some in
-    let has : ListsNext c.args.style c.args.place (Server Messages) (byte ∷ behind) rest line (Server Messages) next =
-    subst (λ (l : List ℕ). ListsNext c.args.style c.args.place (Server Messages) l rest line (Server Messages) next) bytes c.in_ok-next.ensures.listed in
-    rw c.phase_of.ensures (subst (λ (l : List ℕ). ListsNext c.args.style c.args.place (Server Beginning) l rest line (Server (phase_of next)) next) (sym bytes)
-    (first_lists c.args.style c.args.place byte behind rest line next none has))
+    let has : ListsNext c.args.style c.args.place (Server Messages) (byte ∷ behind) rest line (server_at now) next =
+    subst (λ (l : List ℕ). ListsNext c.args.style c.args.place (Server Messages) l rest line (server_at now) next) bytes c.in_ok-next.ensures.listed in
+    rw c.phase_of.ensures (subst (λ (l : List ℕ). ListsNext c.args.style c.args.place (Server Beginning) l rest line (Server (phase_of next now)) next) (sym bytes)
+    (first_lists c.args.style c.args.place byte behind rest line now next none has))

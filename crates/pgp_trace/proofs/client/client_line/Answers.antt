@@ -4,7 +4,7 @@ use Rattle.pgp_frontend_read.specs.Step.{Refuses, Step}
 use Rattle.pgp_frontend_read.specs.Views.{kind_view, view}
 use Rattle.pgp_trace.specs.Client.{client_line, client_name}
 use Rattle.pgp_line.specs.Line.{closing}
-use Rattle.pgp_trace.specs.Listing.{client_front}
+use Rattle.pgp_trace.specs.Listing.{EndsSo, client_front}
 use Rattle.pgp_trace.specs.Sides.{is_reported}
 use Rattle.pgp_trace.proofs.ClientLines.{message_passed, refusal_passed, refusal_rests}
 use Rattle.pgp_trace.proofs.client.client_line.Goals as goal
@@ -17,9 +17,9 @@ returns-in_ok-message_line-in-Ok-Some-clause-listed g c =
     let line = string_bytes c.message_line.new.line in
     let x = view c.in-Ok-Some.message in
     let step : Step (kind_view c.expected.result) c.resume-messages.result (Ok (Some x)) c.next.new.self = search rules in
-    let has : line ≡ client_line c.args.style (is_reported c.args.kinds.now) (Ok x) (client_front c.args.style c.args.place c.args.opened frame) ++ closing c.args.style ++ 10 ∷ [] = search rules in
+    let has : EndsSo c.args.style (is_reported c.args.kinds.now) c.args.replicating (Ok x) (client_front c.args.style c.args.place c.args.opened frame) line = search rules in
     let named : c.client_name-name.result.now ≡ client_name (is_reported c.args.kinds.now) x = search rules in
-    message_passed c.args.style c.args.place c.args.opened c.is_open.result c.args.kinds.now c.kinds_behind-left.result.now bytes frame rest line c.client_name-name.result.now (kind_view c.expected.result) x c.resume-messages.result c.next.new.self
+    message_passed c.args.style c.args.place c.args.opened c.is_open.result c.args.kinds.now c.kinds_behind-left.result.now c.args.replicating bytes frame rest line c.client_name-name.result.now (kind_view c.expected.result) x c.resume-messages.result c.next.new.self
     c.resume-messages.ensures c.rest-behind.ensures c.is_open.ensures c.expected.ensures step c.front_of-frame.ensures has c.kinds_behind-left.ensures named
 
 pub returns-in_ok-refusal_line-in-Err-clause-listed : goal.returns-in_ok-refusal_line-in-Err-clause-listed
@@ -32,7 +32,7 @@ returns-in_ok-refusal_line-in-Err-clause-listed g c =
     let step : Refuses (kind_view c.expected.result) c.resume-messages.result e c.next.new.self = search rules in
     let differ : length rest ≡ length bytes → ⊥ = λ h. search rules in
     let has : line ≡ client_line c.args.style (is_reported c.args.kinds.now) (Err e) (client_front c.args.style c.args.place c.args.opened frame) ++ closing c.args.style ++ 10 ∷ [] = search rules in
-    refusal_passed c.args.style c.args.place c.args.opened c.is_open-in-Err.result c.args.kinds.now c.kinds_behind-left-in-Err.result.now bytes frame rest line (codes "fault") (kind_view c.expected.result) e c.resume-messages.result c.next.new.self
+    refusal_passed c.args.style c.args.place c.args.opened c.is_open-in-Err.result c.args.kinds.now c.kinds_behind-left-in-Err.result.now c.args.replicating bytes frame rest line (codes "fault") (kind_view c.expected.result) e c.resume-messages.result c.next.new.self
     c.resume-messages.ensures c.rest-behind-in-Err.ensures c.is_open-in-Err.ensures c.expected.ensures step differ c.front_of-frame-in-Err.ensures has c.kinds_behind-left-in-Err.ensures refl
 
 pub returns-then-behind-bytes-clause-listed : goal.returns-then-behind-bytes-clause-listed
@@ -43,6 +43,6 @@ returns-then-behind-bytes-clause-listed g c =
     let same : length rest ≡ length bytes = search rules in
     record {
       same = refl;
-      ending = refusal_rests c.args.opened c.args.kinds.now bytes rest (kind_view c.expected.result) c.in-Err.refusal c.resume-messages.result c.next.new.self c.resume-messages.ensures c.rest-behind-in-Err.ensures step same;
+      ending = refusal_rests c.args.opened c.args.kinds.now c.args.replicating bytes rest (kind_view c.expected.result) c.in-Err.refusal c.resume-messages.result c.next.new.self c.resume-messages.ensures c.rest-behind-in-Err.ensures step same;
       side = refl;
     }

@@ -42,7 +42,7 @@ returns-in_ok-name-in-Err g c =
     c.front_of-frame-in-Err.ensures ∙ ap (λ (l : List ℕ). take (length old - length l) old) c.rest-behind-in-Err.ensures in
     let framed : IsFrameOf frame (Err e) = subst (λ l. IsFrameOf l (Err e)) (sym is) (taken_frame old new (Err e) t) in
     record {
-      listed = rw c.rest-behind-in-Err.ensures (line_here c.args.style c.args.place old new frame (string_bytes c.fault_line.new.line) c.in_ok-name-in-Err.name.now (Err e) t is (fault_reported c.args.style c.args.place frame e framed (string_bytes c.fault_line.new.line) c.in_ok-name-in-Err.name.now c.in_ok-name-in-Err.ensures.line c.in_ok-name-in-Err.ensures.named));
+      listed = rw c.rest-behind-in-Err.ensures (line_here c.args.style c.args.place c.args.replicating c.replicates_behind-now-in-Err.result old new frame (string_bytes c.fault_line.new.line) c.in_ok-name-in-Err.name.now (Err e) t is c.replicates_behind-now-in-Err.ensures (fault_reported c.args.style c.args.place c.args.replicating frame e framed (string_bytes c.fault_line.new.line) c.in_ok-name-in-Err.name.now c.in_ok-name-in-Err.ensures.line c.in_ok-name-in-Err.ensures.named));
       lacks = tt;
     }
 
@@ -54,4 +54,4 @@ returns-in_ok-name-in-Ok-Some-clause-listed g c =
     let t : TakesFrame old (Ok (view c.in-Ok-Some.message)) new = subst (λ (l : List ℕ). TakesFrame l (Ok (view c.in-Ok-Some.message)) new) c.new-messages.ensures step in
     let is : c.front_of-frame.result.now ≡ take (length old - length new) old =
     c.front_of-frame.ensures ∙ ap (λ (l : List ℕ). take (length old - length l) old) c.rest-behind.ensures in
-    rw c.rest-behind.ensures (line_here c.args.style c.args.place old new c.front_of-frame.result.now (string_bytes c.message_line-reported.new.line) c.in_ok-name-in-Ok-Some.name.now (Ok (view c.in-Ok-Some.message)) t is c.in_ok-name-in-Ok-Some.ensures.line)
+    rw c.rest-behind.ensures (line_here c.args.style c.args.place c.args.replicating c.replicates_behind-now.result old new c.front_of-frame.result.now (string_bytes c.message_line-reported.new.line) c.in_ok-name-in-Ok-Some.name.now (Ok (view c.in-Ok-Some.message)) t is c.replicates_behind-now.ensures c.in_ok-name-in-Ok-Some.ensures.line)
