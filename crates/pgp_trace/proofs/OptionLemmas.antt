@@ -77,11 +77,11 @@ received_all terminal all rest json full secrets resume only colored kinds style
 
 -- ---- words spell options in one way
 
-abbrev third_letter : List (List ℕ) → ℕ
+abbrev pub third_letter : List (List ℕ) → ℕ
 third_letter words = get_or (get_or words 0 []) 2 0
 
 -- the first option of each has as many kinds, and the same stands after it
-one_first : (c d : Choice) (x y : List (List ℕ)) → spelled c ++ x ≡ spelled d ++ y → (length (kind_in c) ≡ length (kind_in d)) × (x ≡ y)
+pub one_first : (c d : Choice) (x y : List (List ℕ)) → spelled c ++ x ≡ spelled d ++ y → (length (kind_in c) ≡ length (kind_in d)) × (x ≡ y)
 one_first AsJson AsJson x y e = (refl, ap (λ l. drop 1 l) e)
 one_first AsJson Full x y e = let h : 106 ≡ 102 = ap third_letter e in absurd (omega (arith, h))
 one_first AsJson Secrets x y e = let h : 106 ≡ 115 = ap third_letter e in absurd (omega (arith, h))
@@ -132,7 +132,7 @@ one_first (Kind k) (Only j) x y e = let h : 112 ≡ 111 = ap third_letter e in a
 one_first (Kind k) (Color j) x y e = let h : 112 ≡ 99 = ap third_letter e in absurd (omega (arith, h))
 one_first (Kind k) (Kind j) x y e = (refl, ap (λ l. drop 2 l) e)
 
-spelled_long : (c : Choice) (x : List (List ℕ)) → spelled c ++ x ≡ [] → ⊥
+pub spelled_long : (c : Choice) (x : List (List ℕ)) → spelled c ++ x ≡ [] → ⊥
 spelled_long AsJson x e = let h : suc (length x) ≡ 0 = ap length e in absurd (omega (arith, h))
 spelled_long Full x e = let h : suc (length x) ≡ 0 = ap length e in absurd (omega (arith, h))
 spelled_long Secrets x e = let h : suc (length x) ≡ 0 = ap length e in absurd (omega (arith, h))

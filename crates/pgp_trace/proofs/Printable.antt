@@ -38,7 +38,7 @@ use Rattle.pgp_trace.specs.declared.side.Phase.TheVariants.{Beginning, Messages,
 abbrev Plain : List ℕ → Type 0
 Plain text = list_all is_visible text ≡ true
 
-plain_join : (xs ys : List ℕ) → Plain xs → Plain ys → Plain (xs ++ ys)
+pub plain_join : (xs ys : List ℕ) → Plain xs → Plain ys → Plain (xs ++ ys)
 plain_join [] ys a b = b
 plain_join (x ∷ xs) ys a b = let parts = and_parts (is_visible x) (list_all is_visible xs) a in and_from (is_visible x) (list_all is_visible (xs ++ ys)) parts.0 (plain_join xs ys parts.1 b)
 
@@ -94,7 +94,7 @@ onto (suc k) n acc a =
     let here : Plain (digit_glyph false (n % 10) ∷ acc) = cons (digit_glyph false (n % 10)) acc (glyph (n % 10) small) a in
     plain_either (n / 10 == 0) _ _ here (onto k (n / 10) _ here)
 
-plain_number : (n : ℕ) → Plain (decimal n)
+pub plain_number : (n : ℕ) → Plain (decimal n)
 unfolding numerals
 plain_number n = onto 64 n [] refl
 
@@ -132,7 +132,7 @@ all_printed : (xs : List ℕ) → Plain xs → list_all is_printable xs ≡ true
 all_printed [] a = refl
 all_printed (x ∷ xs) a = let parts = and_parts (is_visible x) (list_all is_visible xs) a in and_from (is_printable x) (list_all is_printable xs) (printed x parts.0) (all_printed xs parts.1)
 
-plain : (xs : List ℕ) → Plain xs → IsPrinted xs
+pub plain : (xs : List ℕ) → Plain xs → IsPrinted xs
 plain xs a =
     let same = chars-IsAscii xs (ascii xs a) in
     let utf8 = IsUtf8-from_ascii xs (ascii xs a) in
@@ -146,7 +146,7 @@ scalars_join : (xs ys : List ℕ) → all_scalars xs ≡ true → all_scalars ys
 scalars_join [] ys a b = b
 scalars_join (x ∷ xs) ys a b = let parts = and_parts (is_scalar x) (all_scalars xs) a in and_from (is_scalar x) (all_scalars (xs ++ ys)) parts.0 (scalars_join xs ys parts.1 b)
 
-join : (xs ys : List ℕ) → IsPrinted xs → IsPrinted ys → IsPrinted (xs ++ ys)
+pub join : (xs ys : List ℕ) → IsPrinted xs → IsPrinted ys → IsPrinted (xs ++ ys)
 join xs ys a b = record {
   characters = a.characters ++ b.characters;
   scalars = scalars_join a.characters b.characters a.scalars b.scalars;
@@ -247,7 +247,7 @@ json_val limit bytes = either (is_text bytes) (json_text limit bytes) (json_hex 
 
 -- ---- lines
 
-blank : (n : ℕ) → Plain (blanks n)
+pub blank : (n : ℕ) → Plain (blanks n)
 blank zero = refl
 blank (suc n) = cons 32 (blanks n) refl (blank n)
 

@@ -52,7 +52,7 @@ pub fn next_line<'a, 'b, A: Memory>(
 }
 
 /// What stands at the front of bytes that are encrypted: nothing, or what is no message.
-fn sealed(bytes: &[u8]) -> Next
+pub fn sealed(bytes: &[u8]) -> Next
     ensures { result ≡ sealed bytes.now }
 {
     if bytes.is_empty() {

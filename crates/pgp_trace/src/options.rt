@@ -83,7 +83,7 @@ pub fn options_of<'a, A: Memory>(
 }
 
 /// Adds an option.
-fn choose<'a, A: Memory>(
+pub fn choose<'a, A: Memory>(
     terminal: bool,
     choice: Choice<'a>,
     options: &mut Options<'a, A>,
@@ -150,7 +150,7 @@ fn add_names<'a, A: Memory>(word: &'a str, names: &mut Vec<&'a str, A>) -> Resul
 }
 
 /// How many words an option has.
-fn len(choice: Choice<'_>) -> usize
+pub fn len(choice: Choice<'_>) -> usize
     ensures { result ≡ length (spelled choice.entry) }
 {
     match choice {
@@ -160,7 +160,7 @@ fn len(choice: Choice<'_>) -> usize
 }
 
 /// The option that stands first.
-fn first_choice<'a>(words: &[&'a str]) -> Option<Choice<'a>>
+pub fn first_choice<'a>(words: &[&'a str]) -> Option<Choice<'a>>
     ensures some { IfSome result (λ choice. map (λ word. word.now) words.now ≡ spelled choice ++ map (λ word. word.now) (drop (length (spelled choice)) words.now)) }
     ensures none { IfNone result (BeginsWithNone (map (λ word. word.now) words.now)) }
 {

@@ -253,7 +253,7 @@ fn put_last<W: Output>(line: &[u8], output: &mut W) -> Result<(), Fault>
 }
 
 /// Adds the last line, of so many bytes that are left.
-fn put_rest<A: Memory>(
+pub fn put_rest<A: Memory>(
     style: Style,
     stopped: bool,
     n: u64,

@@ -1,0 +1,9 @@
+pub mod Chunks
+pub mod Naming
+pub mod KindsLeft
+pub mod Marking
+pub mod Tellings
+pub mod Hearings
+pub mod Sessions
+pub mod SettingLemmas
+pub mod Endings

@@ -1,0 +1,9 @@
+pub mod Recording
+pub mod Marks
+pub mod Conversation
+pub mod Steps
+pub mod Session
+pub mod Pieces
+pub mod Settings
+pub mod Chosen
+pub mod Command
