@@ -2,8 +2,10 @@ pub mod Chunks
 pub mod Naming
 pub mod KindsLeft
 pub mod Marking
-pub mod Tellings
-pub mod Hearings
+pub mod FrameLists
+pub mod ChunkLists
 pub mod Sessions
+pub mod OneSession
+pub mod EachSide
 pub mod SettingLemmas
 pub mod Endings

@@ -20,11 +20,11 @@ use Rattle.pgp_conversation.specs.declared.chunk.Sender.TheVariants.{Client, Ser
 use Rattle.pgp_conversation.specs.declared.ending.End.{End}
 use Rattle.pgp_conversation.specs.declared.ending.End.TheVariants.{Whole, Cut, NoChunk, NoRecording}
 use Rattle.pgp_conversation.specs.declared.session.Said.{Said}
-use Rattle.pgp_conversation.specs.Conversation.{Half, Heard, NoneHeard, OneHeard, Talk, at_first, begins, first_start, last_lines, last_of, left, nothing}
-use Rattle.pgp_conversation.specs.Pieces.{HearsAll, ListsPiece, ListsSome, Stays, Tracks, TracksTo, held_first, held_last, held_nothing}
+use Rattle.pgp_conversation.specs.Conversation.{Half, ListsChunks, NoChunkListed, OneChunkListed, Talk, at_first, begins, first_start, last_lines, last_of, left, nothing}
+use Rattle.pgp_conversation.specs.Pieces.{ListsAllChunks, ListsPiece, ListsSome, Stays, Tracks, TracksTo, held_first, held_last, held_nothing}
 use Rattle.pgp_conversation.specs.Recording.{Chunk, EndsBy, IsChunk, IsPartial, Records, beginning, chunk_bytes, complaint_of, magic}
-use Rattle.pgp_conversation.specs.Session.{Awaits, EndsWith, IsCutShort, IsHeard, IsListing, IsReadTo, IsReady, WasListed, WritesListing, said_of}
-use Rattle.pgp_conversation.specs.Steps.{HearsTo, HeldTalk, Keeps, TakesChunk, TakesPart, chunk_of, end_of}
+use Rattle.pgp_conversation.specs.Session.{Awaits, EndsWith, IsCutShort, HasLines, IsListing, IsReadTo, IsReady, WasListed, WritesListing, said_of}
+use Rattle.pgp_conversation.specs.Steps.{ListsChunkTo, HeldTalk, Keeps, TakesChunk, TakesPart, chunk_of, end_of}
 use Rattle.pgp_conversation.proofs.Chunks.{magic_short}
 
 -- ---- a chunk at a time
@@ -59,24 +59,24 @@ more_records bytes chunks chunk rest behind r t = record {
 pub begun : (view : View) (absolute : Bool) (bytes lines : List ℕ) (held : HeldTalk) (rest behind : List ℕ) → Tracks view absolute bytes lines false held rest → rest ≡ magic ++ behind → Tracks view absolute bytes lines true held behind
 begun view absolute bytes lines held rest behind t is = record {
   talk = t.talk;
-  heard = record { chunks = t.heard.chunks; records = begun_records bytes t.heard.chunks rest behind t.heard.records is; heard = t.heard.heard };
+  each = record { chunks = t.each.chunks; records = begun_records bytes t.each.chunks rest behind t.each.records is; each = t.each.each };
   keeps = t.keeps;
 }
 
-pub heard_more : (view : View) (absolute : Bool) (bytes lines : List ℕ) (held next : HeldTalk) (chunk : Chunk) (rest behind old new : List ℕ) (t : Tracks view absolute bytes lines true held rest) → TakesChunk chunk rest behind
-    → HearsTo view t.talk chunk next old new → TracksTo view absolute bytes lines true next behind old new
-heard_more view absolute bytes lines held next chunk rest behind old new t takes hears = record {
-  added = hears.text;
+pub listed_more : (view : View) (absolute : Bool) (bytes lines : List ℕ) (held next : HeldTalk) (chunk : Chunk) (rest behind old new : List ℕ) (t : Tracks view absolute bytes lines true held rest) → TakesChunk chunk rest behind
+    → ListsChunkTo view t.talk chunk next old new → TracksTo view absolute bytes lines true next behind old new
+listed_more view absolute bytes lines held next chunk rest behind old new t takes lists = record {
+  added = lists.text;
   tracks = record {
-    talk = hears.after;
-    heard = record {
-      chunks = t.heard.chunks ++ chunk ∷ [];
-      records = more_records bytes t.heard.chunks chunk rest behind t.heard.records takes;
-      heard = OneHeard chunk hears.text t.heard.heard hears.hears;
+    talk = lists.after;
+    each = record {
+      chunks = t.each.chunks ++ chunk ∷ [];
+      records = more_records bytes t.each.chunks chunk rest behind t.each.records takes;
+      each = OneChunkListed chunk lists.text t.each.each lists.lists;
     };
-    keeps = hears.keeps;
+    keeps = lists.keeps;
   };
-  text = hears.grown;
+  text = lists.grown;
 }
 
 -- ---- chunk after chunk
@@ -85,8 +85,8 @@ heard_more view absolute bytes lines held next chunk rest behind old new t takes
 abbrev pub Lists : View → (begun opened : Bool) (held now : HeldTalk) (bytes rest old new : List ℕ) → Type 0
 Lists view begun opened held now bytes rest old new = (absolute : Bool) (received lines : List ℕ) → Tracks view absolute received lines begun held bytes → TracksTo view absolute received lines opened now rest old new
 
-pub nothing_heard : (view : View) (begun : Bool) (held : HeldTalk) (bytes old : List ℕ) → Lists view begun begun held held bytes bytes old old
-nothing_heard view begun held bytes old absolute received lines t = record {
+pub nothing_listed : (view : View) (begun : Bool) (held : HeldTalk) (bytes old : List ℕ) → Lists view begun begun held held bytes bytes old old
+nothing_listed view begun held bytes old absolute received lines t = record {
   added = [];
   tracks = subst (λ l. Tracks view absolute received l begun held bytes) (sym (append-nil lines)) t;
   text = sym (append-nil old);
@@ -101,12 +101,12 @@ and_begun view was opened held now bytes rest behind old new so_far fresh is abs
       text = to.text;
     }
 
-pub and_heard : (view : View) (was opened : Bool) (held now next : HeldTalk) (chunk : Chunk) (bytes rest behind old mid new : List ℕ) → Lists view was opened held now bytes rest old mid → opened ≡ true → TakesChunk chunk rest behind
-    → ((before : Talk) → Keeps now before → HearsTo view before chunk next mid new) → Lists view was opened held next bytes behind old new
-and_heard view was opened held now next chunk bytes rest behind old mid new so_far opens takes hears absolute received lines t =
+pub and_listed : (view : View) (was opened : Bool) (held now next : HeldTalk) (chunk : Chunk) (bytes rest behind old mid new : List ℕ) → Lists view was opened held now bytes rest old mid → opened ≡ true → TakesChunk chunk rest behind
+    → ((before : Talk) → Keeps now before → ListsChunkTo view before chunk next mid new) → Lists view was opened held next bytes behind old new
+and_listed view was opened held now next chunk bytes rest behind old mid new so_far opens takes lists absolute received lines t =
     let to = so_far absolute received lines t in
     let here = subst (λ b. Tracks view absolute received (lines ++ to.added) b now rest) opens to.tracks in
-    let more = heard_more view absolute received (lines ++ to.added) now next chunk rest behind mid new here takes (hears here.talk here.keeps) in
+    let more = listed_more view absolute received (lines ++ to.added) now next chunk rest behind mid new here takes (lists here.talk here.keeps) in
     record {
       added = to.added ++ more.added;
       tracks = subst (λ l. Tracks view absolute received l opened next behind) (append_assoc lines to.added more.added) (subst (λ b. Tracks view absolute received (lines ++ to.added ++ more.added) b next behind) (sym opens) more.tracks);
@@ -144,41 +144,41 @@ pub all_bytes : (bytes : List ℕ) → (bytes ≡ drop (length bytes - length by
 all_bytes bytes = let none : 0 ≡ length bytes - length bytes = omega arith in (ap (λ n. drop n bytes) none, omega arith)
 
 -- all that are whole were listed
-pub all_heard : (view : View) (was opened stopped : Bool) (held now : HeldTalk) (bytes rest behind old new : List ℕ) → Lists view was opened held now bytes rest old new → Stays opened stopped rest → rest ≡ behind
-    → (absolute : Bool) (received lines : List ℕ) → Tracks view absolute received lines was held bytes → HearsAll view absolute received lines opened stopped now behind old new
-all_heard view was opened stopped held now bytes rest behind old new so_far stays same absolute received lines t =
-    subst (λ l. HearsAll view absolute received lines opened stopped now l old new) same (record { to = so_far absolute received lines t; stays = stays })
+pub all_listed : (view : View) (was opened stopped : Bool) (held now : HeldTalk) (bytes rest behind old new : List ℕ) → Lists view was opened held now bytes rest old new → Stays opened stopped rest → rest ≡ behind
+    → (absolute : Bool) (received lines : List ℕ) → Tracks view absolute received lines was held bytes → ListsAllChunks view absolute received lines opened stopped now behind old new
+all_listed view was opened stopped held now bytes rest behind old new so_far stays same absolute received lines t =
+    subst (λ l. ListsAllChunks view absolute received lines opened stopped now l old new) same (record { to = so_far absolute received lines t; stays = stays })
 
 -- ---- a piece at a time
 
 pub received : (view : View) (absolute : Bool) (bytes lines : List ℕ) (opened : Bool) (held : HeldTalk) (rest piece : List ℕ) → Tracks view absolute bytes lines opened held rest → Tracks view absolute (bytes ++ piece) lines opened held (rest ++ piece)
 received view absolute bytes lines opened held rest piece t = record {
   talk = t.talk;
-  heard = record {
-    chunks = t.heard.chunks;
+  each = record {
+    chunks = t.each.chunks;
     records = record {
-      whole = ap (λ l. l ++ piece) t.heard.records.whole ∙ append_assoc (beginning opened ++ flat_map chunk_bytes t.heard.chunks) rest piece;
-      each = t.heard.records.each;
-      none = t.heard.records.none;
+      whole = ap (λ l. l ++ piece) t.each.records.whole ∙ append_assoc (beginning opened ++ flat_map chunk_bytes t.each.chunks) rest piece;
+      each = t.each.records.each;
+      none = t.each.records.none;
     };
-    heard = t.heard.heard;
+    each = t.each.each;
   };
   keeps = t.keeps;
 }
 
 -- what a call listed of a slice of the bytes that are kept
 pub all_there : (view : View) (opened now stopped : Bool) (held next : HeldTalk) (slice items behind before text : List ℕ) (n : ℕ) → slice ≡ items → before ≡ [] → behind ≡ drop n items
-    → ((absolute : Bool) (received lines : List ℕ) → Tracks view absolute received lines opened held slice → HearsAll view absolute received lines now stopped next (drop n slice) before text)
-    → (absolute : Bool) (received lines : List ℕ) → Tracks view absolute received lines opened held items → HearsAll view absolute received lines now stopped next behind [] text
+    → ((absolute : Bool) (received lines : List ℕ) → Tracks view absolute received lines opened held slice → ListsAllChunks view absolute received lines now stopped next (drop n slice) before text)
+    → (absolute : Bool) (received lines : List ℕ) → Tracks view absolute received lines opened held items → ListsAllChunks view absolute received lines now stopped next behind [] text
 all_there view opened now stopped held next slice items behind before text n same empty cut all absolute received lines t =
-    subst (λ l. HearsAll view absolute received lines now stopped next l [] text) (sym cut)
-    (subst (λ b. HearsAll view absolute received lines now stopped next (drop n items) b text) empty
-    (subst (λ s. HearsAll view absolute received lines now stopped next (drop n s) before text) same
+    subst (λ l. ListsAllChunks view absolute received lines now stopped next l [] text) (sym cut)
+    (subst (λ b. ListsAllChunks view absolute received lines now stopped next (drop n items) b text) empty
+    (subst (λ s. ListsAllChunks view absolute received lines now stopped next (drop n s) before text) same
     (all absolute received lines (subst (λ s. Tracks view absolute received lines opened held s) (sym same) t))))
 
 -- all that is whole with it was listed, and its lines were written
 pub piece_listed : (view : View) (absolute : Bool) (bytes lines piece : List ℕ) (opened now stopped : Bool) (held next : HeldTalk) (rest items behind text : List ℕ) (old new : Option (List ℕ)) → Tracks view absolute bytes lines opened held rest → items ≡ rest ++ piece
-    → ((received lines : List ℕ) → Tracks view absolute received lines opened held items → HearsAll view absolute received lines now stopped next behind [] text) → Appends old new text
+    → ((received lines : List ℕ) → Tracks view absolute received lines opened held items → ListsAllChunks view absolute received lines now stopped next behind [] text) → Appends old new text
     → ListsPiece view absolute (bytes ++ piece) lines now stopped next behind old new
 piece_listed view absolute bytes lines piece opened now stopped held next rest items behind text old new t grown all wrote =
     let here = subst (λ l. Tracks view absolute (bytes ++ piece) lines opened held l) (sym grown) (received view absolute bytes lines opened held rest piece t) in
@@ -186,12 +186,12 @@ piece_listed view absolute bytes lines piece opened now stopped held next rest i
     record { added = done.to.added; tracks = done.to.tracks; stays = done.stays; written = subst (Appends old new) done.to.text wrote }
 
 pub piece_front : (view : View) (absolute : Bool) (bytes lines piece : List ℕ) (opened now stopped : Bool) (held next : HeldTalk) (rest items behind text : List ℕ) (old new : Option (List ℕ)) → Tracks view absolute bytes lines opened held rest → items ≡ rest ++ piece
-    → ((received lines : List ℕ) → Tracks view absolute received lines opened held items → HearsAll view absolute received lines now stopped next behind [] text) → AppendsFront old new text
+    → ((received lines : List ℕ) → Tracks view absolute received lines opened held items → ListsAllChunks view absolute received lines now stopped next behind [] text) → AppendsFront old new text
     → ListsSome view absolute (bytes ++ piece) lines old new
 piece_front view absolute bytes lines piece opened now stopped held next rest items behind text old new t grown all taken =
     let here = subst (λ l. Tracks view absolute (bytes ++ piece) lines opened held l) (sym grown) (received view absolute bytes lines opened held rest piece t) in
     let done = all (bytes ++ piece) lines here in
-    record { begun = now; rest = behind; talk = done.to.tracks.talk; added = done.to.added; heard = done.to.tracks.heard; written = subst (AppendsFront old new) done.to.text taken }
+    record { begun = now; rest = behind; talk = done.to.tracks.talk; added = done.to.added; each = done.to.tracks.each; written = subst (AppendsFront old new) done.to.text taken }
 
 -- or nothing of it
 pub piece_lost : (view : View) (absolute : Bool) (bytes lines piece : List ℕ) (opened : Bool) (held : HeldTalk) (rest : List ℕ) (old : Option (List ℕ)) → Tracks view absolute bytes lines opened held rest → ListsSome view absolute (bytes ++ piece) lines old old
@@ -202,7 +202,7 @@ piece_lost view absolute bytes lines piece opened held rest old t =
       rest = rest ++ piece;
       talk = here.talk;
       added = [];
-      heard = subst (λ l. IsHeard view absolute (bytes ++ piece) opened (rest ++ piece) l here.talk) (sym (append-nil lines)) here.heard;
+      each = subst (λ l. HasLines view absolute (bytes ++ piece) opened (rest ++ piece) l here.talk) (sym (append-nil lines)) here.each;
       written = none_taken old [];
     }
 
@@ -235,7 +235,7 @@ follows_start view absolute s opened held rest fresh first none = record {
   received = Consumes-nil s.input;
   tracks = record {
     talk = begins absolute;
-    heard = record { chunks = []; records = record { whole = sym none ∙ ap (λ b. beginning b ++ [] ++ rest) (sym fresh); each = tt; none = λ e. refl }; heard = NoneHeard };
+    each = record { chunks = []; records = record { whole = sym none ∙ ap (λ b. beginning b ++ [] ++ rest) (sym fresh); each = tt; none = λ e. refl }; each = NoChunkListed };
     keeps = subst (λ h. Keeps h (begins absolute)) (sym first) (nothing_kept absolute);
   };
   stays = subst (λ b. Stays b false rest) (sym fresh) (λ more. no_magic rest more none);
@@ -269,7 +269,7 @@ awaits false rest s = s
 -- reading failed
 pub was_listed : (view : View) (absolute : Bool) (before after : Streams) (opened : Bool) (held : HeldTalk) (rest : List ℕ) → Follows view absolute before after opened held rest → WasListed view absolute before after
 was_listed view absolute before after opened held rest f =
-    record { bytes = f.bytes; begun = opened; rest = rest; lines = f.lines; talk = f.tracks.talk; received = f.received; heard = f.tracks.heard; waits = awaits opened rest f.stays; written = f.written }
+    record { bytes = f.bytes; begun = opened; rest = rest; lines = f.lines; talk = f.tracks.talk; received = f.received; each = f.tracks.each; waits = awaits opened rest f.stays; written = f.written }
 
 pub ready : {R W : Type 0} (remaining : R → Option (List ℕ)) (contents : W → Option (List ℕ)) (Passed : W → Type 0) (view : View) (absolute : Bool) (reader now : R) (writer out : W) (opened : Bool) (held : HeldTalk) (rest : List ℕ)
     → Follows view absolute (record { input = remaining reader; output = contents writer }) (record { input = remaining now; output = contents out }) opened held rest → Same (contents writer) (contents out) ⊎ Passed out → IsReady remaining contents Passed view absolute reader writer now
@@ -278,7 +278,7 @@ ready remaining contents Passed view absolute reader now writer out opened held 
 
 pub cut_here : (view : View) (absolute : Bool) (before after : Streams) (opened : Bool) (held : HeldTalk) (rest : List ℕ) → Follows view absolute before after opened held rest → IsCutShort view absolute before after
 cut_here view absolute before after opened held rest f =
-    record { bytes = f.bytes; begun = opened; rest = rest; lines = f.lines; talk = f.tracks.talk; text = f.lines; received = f.received; heard = f.tracks.heard; due = inl refl; written = all_taken before.output after.output f.lines f.written }
+    record { bytes = f.bytes; begun = opened; rest = rest; lines = f.lines; talk = f.tracks.talk; text = f.lines; received = f.received; each = f.tracks.each; due = inl refl; written = all_taken before.output after.output f.lines f.written }
 
 pub cut_nothing : (view : View) (absolute : Bool) (s : Streams) → IsCutShort view absolute s s
 cut_nothing view absolute s = cut_here view absolute s s false (held_first absolute) [] (follows_start view absolute s false (held_first absolute) [] refl refl refl)
@@ -294,7 +294,7 @@ cut_piece view absolute before after opened held rest piece next output f came s
   talk = some.talk;
   text = f.lines ++ some.added;
   received = Consumes-trans before.input after.input next f.bytes piece f.received came;
-  heard = some.heard;
+  each = some.each;
   due = inl refl;
   written = more_taken before.output after.output output f.lines some.added f.written some.written;
 }
@@ -345,7 +345,7 @@ listing_written view absolute before after opened stopped held rest client serve
       output = lines ++ last_lines view t.talk;
       received = came;
       all = subst (λ e. IsReadTo e after.input) (sym ended) all;
-      is = record { begun = opened; rest = rest; lines = lines; talk = t.talk; heard = t.heard; ending = subst (EndsBy opened rest) (sym ended) (ends_by opened stopped rest stays); text = refl };
+      is = record { begun = opened; rest = rest; lines = lines; talk = t.talk; each = t.each; ending = subst (EndsBy opened rest) (sym ended) (ends_by opened stopped rest stays); text = refl };
       written = Appends-trans before.output after.output output lines (last_lines view t.talk) written (subst (Appends after.output output) (last_is view held t.talk t.keeps) last);
       why = ap (λ l. l ++ server ++ complaint_of end) (c ∙ hints.0) ∙ ap (λ l. hint_of t.talk.known.client (left t.talk.client) ++ l ++ complaint_of end) (s ∙ hints.1);
     }
@@ -362,7 +362,7 @@ last_cut view absolute before after opened stopped held rest bytes lines output 
   talk = t.talk;
   text = lines ++ last_lines view t.talk;
   received = came;
-  heard = t.heard;
+  each = t.each;
   due = inr (record { end = end_of opened stopped rest; ending = ends_by opened stopped rest stays; all = all; is = refl });
   written = more_taken before.output after.output output lines (last_lines view t.talk) written (subst (AppendsFront after.output output) (last_is view held t.talk t.keeps) last);
 }

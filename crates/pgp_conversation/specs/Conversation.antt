@@ -125,7 +125,7 @@ abbrev pub text_of : View → (mark : List ℕ) (place : ℕ) → List Encryptio
 text_of view mark place waiting name line = shown view (called waiting name) (marked view.style.form mark (relined view.style place waiting name line))
 
 -- A frame that this side sent has the line that a listing of that side has, with the mark; and what is known after it.
-pub record Tells (view : View) (mark : List ℕ) (sender : Sender) (place : ℕ) (here : Known) (frame text : List ℕ) (to : Known) : Type 0 where
+pub record ListsFrame (view : View) (mark : List ℕ) (sender : Sender) (place : ℕ) (here : Known) (frame text : List ℕ) (to : Known) : Type 0 where
   pub line : List ℕ
   pub after : Side
   pub reported : LineOf view.style place (side_in sender here) frame line after
@@ -133,10 +133,10 @@ pub record Tells (view : View) (mark : List ℕ) (sender : Sender) (place : ℕ)
   pub behind : to ≡ note (noted_in view.style place (side_in sender here) frame line after reported) (with_side sender here after)
 
 -- These bytes, after so many others, are complete frames of this side, and each has its line, in order.
-pub data Told (view : View) (mark : List ℕ) (sender : Sender) (start : ℕ) (from : Known) : List ℕ → List ℕ → Known → Type 0 where
-  NoneTold : Told view mark sender start from [] [] from
-  OneTold : {bytes lines : List ℕ} {here to : Known} (frame text : List ℕ) → Told view mark sender start from bytes lines here
-      → Tells view mark sender (place_behind (start + length bytes)) here frame text to → Told view mark sender start from (bytes ++ frame) (lines ++ text) to
+pub data ListsFrames (view : View) (mark : List ℕ) (sender : Sender) (start : ℕ) (from : Known) : List ℕ → List ℕ → Known → Type 0 where
+  NoFrames : ListsFrames view mark sender start from [] [] from
+  OneFrame : {bytes lines : List ℕ} {here to : Known} (frame text : List ℕ) → ListsFrames view mark sender start from bytes lines here
+      → ListsFrame view mark sender (place_behind (start + length bytes)) here frame text to → ListsFrames view mark sender start from (bytes ++ frame) (lines ++ text) to
 
 -- ---- chunk by chunk
 
@@ -177,20 +177,20 @@ first_time None micros = micros
 first_time (Some start) micros = start
 
 -- The frames of its side that are complete with a chunk have their lines, with the chunk's mark; of the other side nothing has come.
-pub record Hears (view : View) (before : Talk) (chunk : Chunk) (text : List ℕ) (after : Talk) : Type 0 where
+pub record ListsChunk (view : View) (before : Talk) (chunk : Chunk) (text : List ℕ) (after : Talk) : Type 0 where
   pub front : List ℕ
   pub whole : (half_in chunk.sender before).rest ++ chunk.bytes ≡ front ++ (half_in chunk.sender after).rest
-  pub told : Told view (mark view.style.form chunk.sender (since (first_time before.start chunk.micros) chunk.micros)) chunk.sender (half_in chunk.sender before).passed before.known front text after.known
+  pub each : ListsFrames view (mark view.style.form chunk.sender (since (first_time before.start chunk.micros) chunk.micros)) chunk.sender (half_in chunk.sender before).passed before.known front text after.known
   pub ending : Ends (side_in chunk.sender after.known) (half_in chunk.sender after).stopped (half_in chunk.sender after).rest
   pub passed : (half_in chunk.sender after).passed ≡ (half_in chunk.sender before).passed + length front
   pub same : half_in (other chunk.sender) after ≡ half_in (other chunk.sender) before
   pub start : after.start ≡ Some (first_time before.start chunk.micros)
 
 -- These chunks have these lines.
-pub data Heard (view : View) (from : Talk) : List Chunk → List ℕ → Talk → Type 0 where
-  NoneHeard : Heard view from [] [] from
-  OneHeard : {chunks : List Chunk} {lines : List ℕ} {here to : Talk} (chunk : Chunk) (text : List ℕ) → Heard view from chunks lines here
-      → Hears view here chunk text to → Heard view from (chunks ++ chunk ∷ []) (lines ++ text) to
+pub data ListsChunks (view : View) (from : Talk) : List Chunk → List ℕ → Talk → Type 0 where
+  NoChunkListed : ListsChunks view from [] [] from
+  OneChunkListed : {chunks : List Chunk} {lines : List ℕ} {here to : Talk} (chunk : Chunk) (text : List ℕ) → ListsChunks view from chunks lines here
+      → ListsChunk view here chunk text to → ListsChunks view from (chunks ++ chunk ∷ []) (lines ++ text) to
 
 -- ---- what is left
 

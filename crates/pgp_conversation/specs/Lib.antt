@@ -3,6 +3,7 @@ pub mod Marks
 pub mod Conversation
 pub mod Steps
 pub mod Session
+pub mod Order
 pub mod Pieces
 pub mod Settings
 pub mod Chosen

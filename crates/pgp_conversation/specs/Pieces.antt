@@ -6,13 +6,13 @@ use Rattle.pgp_trace.specs.View.{View}
 use Rattle.pgp_conversation.specs.declared.chunk.Sender.TheVariants.{Client, Server}
 use Rattle.pgp_conversation.specs.Conversation.{Talk, at_first, first_start, last_of}
 use Rattle.pgp_conversation.specs.Recording.{IsNoChunk, IsPartial, magic}
-use Rattle.pgp_conversation.specs.Session.{IsHeard}
+use Rattle.pgp_conversation.specs.Session.{HasLines}
 use Rattle.pgp_conversation.specs.Steps.{HeldHalf, HeldTalk, Keeps}
 
 -- what came was listed, but for this rest, and this is kept of both sides
 pub record Tracks (view : View) (absolute : Bool) (bytes lines : List ℕ) (begun : Bool) (held : HeldTalk) (rest : List ℕ) : Type 0 where
   pub talk : Talk
-  pub heard : IsHeard view absolute bytes begun rest lines talk
+  pub each : HasLines view absolute bytes begun rest lines talk
   pub keeps : Keeps held talk
 
 -- no chunk is whole in the rest; or no chunk comes there
@@ -28,7 +28,7 @@ pub record TracksTo (view : View) (absolute : Bool) (bytes lines : List ℕ) (be
   pub text : new ≡ old ++ added
 
 -- all that are whole were
-pub record HearsAll (view : View) (absolute : Bool) (bytes lines : List ℕ) (begun stopped : Bool) (held : HeldTalk) (rest old new : List ℕ) : Type 0 where
+pub record ListsAllChunks (view : View) (absolute : Bool) (bytes lines : List ℕ) (begun stopped : Bool) (held : HeldTalk) (rest old new : List ℕ) : Type 0 where
   pub to : TracksTo view absolute bytes lines begun held rest old new
   pub stays : Stays begun stopped rest
 
@@ -45,7 +45,7 @@ pub record ListsSome (view : View) (absolute : Bool) (bytes lines : List ℕ) (o
   pub rest : List ℕ
   pub talk : Talk
   pub added : List ℕ
-  pub heard : IsHeard view absolute bytes begun rest (lines ++ added) talk
+  pub each : HasLines view absolute bytes begun rest (lines ++ added) talk
   pub written : AppendsFront old new added
 
 -- before the first chunk

@@ -9,14 +9,14 @@ use Rattle.pgp_trace.specs.Hints.{hint_of}
 use Rattle.pgp_trace.specs.View.{View}
 use Rattle.pgp_conversation.specs.declared.ending.End.{End}
 use Rattle.pgp_conversation.specs.declared.ending.End.TheVariants.{Whole, Cut, NoChunk, NoRecording}
-use Rattle.pgp_conversation.specs.Conversation.{Heard, Talk, begins, last_lines, left}
+use Rattle.pgp_conversation.specs.Conversation.{ListsChunks, Talk, begins, last_lines, left}
 use Rattle.pgp_conversation.specs.Recording.{Chunk, EndsBy, IsNoChunk, IsPartial, Records, complaint_of, magic}
 
 -- These bytes are the beginning of a recording, the chunks, and a rest; and these are the lines of the chunks.
-pub record IsHeard (view : View) (absolute : Bool) (bytes : List ℕ) (begun : Bool) (rest lines : List ℕ) (talk : Talk) : Type 0 where
+pub record HasLines (view : View) (absolute : Bool) (bytes : List ℕ) (begun : Bool) (rest lines : List ℕ) (talk : Talk) : Type 0 where
   pub chunks : List Chunk
   pub records : Records bytes begun chunks rest
-  pub heard : Heard view (begins absolute) chunks lines talk
+  pub each : ListsChunks view (begins absolute) chunks lines talk
 
 -- The listing of a recording that ends so: the lines of its chunks, and a last line for each side of which bytes are left.
 pub record IsListing (view : View) (absolute : Bool) (bytes : List ℕ) (end : End) (output : List ℕ) : Type 0 where
@@ -24,7 +24,7 @@ pub record IsListing (view : View) (absolute : Bool) (bytes : List ℕ) (end : E
   pub rest : List ℕ
   pub lines : List ℕ
   pub talk : Talk
-  pub heard : IsHeard view absolute bytes begun rest lines talk
+  pub each : HasLines view absolute bytes begun rest lines talk
   pub ending : EndsBy begun rest end
   pub text : output ≡ lines ++ last_lines view talk
 
@@ -62,7 +62,7 @@ pub record WasListed (view : View) (absolute : Bool) (before after : Streams) : 
   pub lines : List ℕ
   pub talk : Talk
   pub received : Consumes before.input after.input bytes
-  pub heard : IsHeard view absolute bytes begun rest lines talk
+  pub each : HasLines view absolute bytes begun rest lines talk
   pub waits : Awaits begun rest
   pub written : Appends before.output after.output lines
 
@@ -82,7 +82,7 @@ pub record IsCutShort (view : View) (absolute : Bool) (before after : Streams) :
   pub talk : Talk
   pub text : List ℕ
   pub received : Consumes before.input after.input bytes
-  pub heard : IsHeard view absolute bytes begun rest lines talk
+  pub each : HasLines view absolute bytes begun rest lines talk
   pub due : (text ≡ lines) ⊎ EndsWith view begun rest lines talk after.input text
   pub written : AppendsFront before.output after.output text
 

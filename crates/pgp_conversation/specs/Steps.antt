@@ -17,14 +17,14 @@ use Rattle.pgp_conversation.specs.declared.chunk.Part.{Part}
 use Rattle.pgp_conversation.specs.declared.chunk.Part.TheVariants as part
 use Rattle.pgp_conversation.specs.declared.ending.End.{End}
 use Rattle.pgp_conversation.specs.declared.ending.End.TheVariants.{Whole, Cut, NoChunk, NoRecording}
-use Rattle.pgp_conversation.specs.declared.hear.Half as code_half
-use Rattle.pgp_conversation.specs.declared.hear.Talk as code_talk
+use Rattle.pgp_conversation.specs.declared.talk.Half as code_half
+use Rattle.pgp_conversation.specs.declared.talk.Talk as code_talk
 use Rattle.pgp_conversation.specs.declared.known.Known as code_known
 use Rattle.pgp_conversation.specs.declared.noted.Encryption.TheVariants.{Tls, Gss}
 use Rattle.pgp_conversation.specs.declared.noted.Noted.{Noted}
 use Rattle.pgp_conversation.specs.declared.noted.Noted.TheVariants.{Asks, Requests, Answers, Nothing}
 use Rattle.std.specs.Borrow.{Bor}
-use Rattle.pgp_conversation.specs.Conversation.{Half, Hears, Known, Talk, Tells, Told, side_in, with_side}
+use Rattle.pgp_conversation.specs.Conversation.{Half, ListsChunk, Known, Talk, ListsFrame, ListsFrames, side_in, with_side}
 use Rattle.pgp_conversation.specs.Recording.{Chunk, IsChunk, IsNoChunk, IsPartial, IsShort, arrow, chunk_bytes, magic}
 
 -- ---- parts of a recording
@@ -91,32 +91,32 @@ pub record KnowsNext (style : Style) (sender : Sender) (place : ℕ) (old : Know
   pub same : new ≡ with_side sender old (side_in sender new)
 
 -- the bytes begin with a frame, which has its line after the old ones, and then come the new ones
-pub record TellsOne (view : View) (mark : List ℕ) (sender : Sender) (place : ℕ) (here : Known) (bytes behind old new : List ℕ) (to : Known) : Type 0 where
+pub record ListsOneFrame (view : View) (mark : List ℕ) (sender : Sender) (place : ℕ) (here : Known) (bytes behind old new : List ℕ) (to : Known) : Type 0 where
   pub frame : List ℕ
   pub text : List ℕ
   pub whole : bytes ≡ frame ++ behind
   pub some : 0 < length frame
-  pub tells : Tells view mark sender place here frame text to
+  pub lists : ListsFrame view mark sender place here frame text to
   pub grown : new ≡ old ++ text
 
 -- nothing was taken, and nothing stands first that could be
-pub record TellsNone (sender : Sender) (stopped : Bool) (here : Known) (bytes behind old new : List ℕ) (to : Known) : Type 0 where
+pub record ListsNoFrame (sender : Sender) (stopped : Bool) (here : Known) (bytes behind old new : List ℕ) (to : Known) : Type 0 where
   pub same : behind ≡ bytes
   pub ending : Ends (side_in sender here) stopped bytes
   pub known : to ≡ here
   pub none : new ≡ old
 
 -- a frame has its line after the old ones; or none is whole, or nothing says where the next one begins
-abbrev pub TellsNext : View → (mark : List ℕ) → Sender → (place : ℕ) → Known → (bytes behind old new : List ℕ) → Known → Next → Type 0
-TellsNext view mark sender place here bytes behind old new to (next.Line name) = TellsOne view mark sender place here bytes behind old new to
-TellsNext view mark sender place here bytes behind old new to next.Waits = TellsNone sender false here bytes behind old new to
-TellsNext view mark sender place here bytes behind old new to next.Stops = TellsNone sender true here bytes behind old new to
+abbrev pub ListsNextFrame : View → (mark : List ℕ) → Sender → (place : ℕ) → Known → (bytes behind old new : List ℕ) → Known → Next → Type 0
+ListsNextFrame view mark sender place here bytes behind old new to (next.Line name) = ListsOneFrame view mark sender place here bytes behind old new to
+ListsNextFrame view mark sender place here bytes behind old new to next.Waits = ListsNoFrame sender false here bytes behind old new to
+ListsNextFrame view mark sender place here bytes behind old new to next.Stops = ListsNoFrame sender true here bytes behind old new to
 
 -- The frames of the front have their lines after the old ones, and no whole one is left.
-pub record TellsAll (view : View) (mark : List ℕ) (sender : Sender) (start : ℕ) (from : Known) (bytes front rest : List ℕ) (stopped : Bool) (to : Known) (old new : List ℕ) : Type 0 where
+pub record ListsAllFrames (view : View) (mark : List ℕ) (sender : Sender) (start : ℕ) (from : Known) (bytes front rest : List ℕ) (stopped : Bool) (to : Known) (old new : List ℕ) : Type 0 where
   pub lines : List ℕ
   pub whole : bytes ≡ front ++ rest
-  pub told : Told view mark sender start from front lines to
+  pub each : ListsFrames view mark sender start from front lines to
   pub ending : Ends (side_in sender to) stopped rest
   pub text : new ≡ old ++ lines
 
@@ -156,20 +156,20 @@ pub record Keeps (held : HeldTalk) (talk : Talk) : Type 0 where
   pub start : held.start ≡ talk.start
 
 -- These bytes, after so many others, are what is to be listed of a side. All frames at their front were, and this is kept of what is left.
-pub record HearsBytes (view : View) (mark : List ℕ) (sender : Sender) (from : Known) (bytes : List ℕ) (start : ℕ) (to : Known) (held : HeldHalf) (old new : List ℕ) : Type 0 where
+pub record ListsBytes (view : View) (mark : List ℕ) (sender : Sender) (from : Known) (bytes : List ℕ) (start : ℕ) (to : Known) (held : HeldHalf) (old new : List ℕ) : Type 0 where
   pub front : List ℕ
   pub lines : List ℕ
   pub half : Half
   pub whole : bytes ≡ front ++ half.rest
-  pub told : Told view mark sender start from front lines to
+  pub each : ListsFrames view mark sender start from front lines to
   pub holds : Holds (side_in sender to) held half
   pub passed : half.passed ≡ start + length front
   pub text : new ≡ old ++ lines
 
 -- a chunk was listed, and this is kept
-pub record HearsTo (view : View) (before : Talk) (chunk : Chunk) (held : HeldTalk) (old new : List ℕ) : Type 0 where
+pub record ListsChunkTo (view : View) (before : Talk) (chunk : Chunk) (held : HeldTalk) (old new : List ℕ) : Type 0 where
   pub after : Talk
   pub text : List ℕ
-  pub hears : Hears view before chunk text after
+  pub lists : ListsChunk view before chunk text after
   pub keeps : Keeps held after
   pub grown : new ≡ old ++ text

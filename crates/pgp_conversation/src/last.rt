@@ -5,9 +5,9 @@ ghost use Rattle.pgp_trace.specs.Steps.{view_of};
 ghost use Rattle.pgp_conversation.specs.Conversation.{last_of};
 
 use crate::chunk::Sender;
-use crate::hear::Half;
+use crate::frames::Texts;
 use crate::mark::{put_last_mark, put_marked};
-use crate::tell::Texts;
+use crate::talk::Half;
 use pgp_base::Memory;
 use pgp_line::line::add_line;
 use pgp_trace::stream::put_rest;

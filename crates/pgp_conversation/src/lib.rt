@@ -4,13 +4,14 @@
 
 pub mod chunk;
 pub mod ending;
-pub mod hear;
+pub mod frames;
 pub mod known;
 pub mod last;
+pub mod laws;
 pub mod mark;
 pub mod noted;
 pub mod options;
 pub mod outcome;
 pub mod run;
 pub mod session;
-pub mod tell;
+pub mod talk;

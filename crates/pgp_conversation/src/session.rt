@@ -8,17 +8,17 @@ ghost use Rattle.pgp_program.specs.Taken.{AppendsFront};
 ghost use Rattle.pgp_trace.specs.Hints.{hint_of};
 ghost use Rattle.pgp_trace.specs.Steps.{view_of};
 ghost use Rattle.pgp_conversation.specs.Conversation.{first_start};
-ghost use Rattle.pgp_conversation.specs.Pieces.{HearsAll, ListsPiece, ListsSome, Tracks, held_first, held_last, held_nothing};
+ghost use Rattle.pgp_conversation.specs.Pieces.{ListsAllChunks, ListsPiece, ListsSome, Tracks, held_first, held_last, held_nothing};
 ghost use Rattle.pgp_conversation.specs.Recording.{complaint_of};
 ghost use Rattle.pgp_conversation.specs.Session.{IsCutShort, ReadsWhenReady, WasListed, WritesListing};
 ghost use Rattle.pgp_conversation.specs.Steps.{end_of, half_of, kept_of};
 
 use crate::chunk::{Part, Sender, first_part};
 use crate::ending::{End, end_of};
-use crate::hear::{Half, Talk, hear};
+use crate::frames::{Texts, no_texts};
 use crate::known::at_first;
 use crate::last::add_last;
-use crate::tell::{Texts, no_texts};
+use crate::talk::{Half, Talk, list_chunk};
 use bytes::{Buf, BytesMut};
 use pgp_base::Memory;
 use pgp_program::fault::Fault;
@@ -199,7 +199,7 @@ fn list_piece<A: Memory, W: Output>(
 {
     A::append(&mut held.bytes, piece)?;
     held.texts.lines.clear();
-    let (begun, listed, stopped) = hear_chunks(
+    let (begun, listed, stopped) = list_chunks(
         view,
         held.begun,
         held.bytes.as_slice(),
@@ -214,7 +214,7 @@ fn list_piece<A: Memory, W: Output>(
 
 /// Adds the lines of the whole chunks at the front of the bytes. Returns whether the beginning of the recording was read, how many bytes they
 /// take, and whether no chunk comes after them.
-fn hear_chunks<A: Memory>(
+fn list_chunks<A: Memory>(
     view: View<'_>,
     begun: bool,
     bytes: &[u8],
@@ -223,7 +223,7 @@ fn hear_chunks<A: Memory>(
 ) -> Result<(bool, usize, bool), AllocError>
     ensures within { IfOk result (λ x. x.1 ≤ length bytes.now) }
     ensures all { IfOk result (λ x. (absolute : Bool) (received lines : List ℕ) → Tracks (view_of view.entry) absolute received lines begun (kept_of talk.old) bytes.now →
-        HearsAll (view_of view.entry) absolute received lines x.0 x.2 (kept_of talk.new) (drop x.1 bytes.now) (string_bytes texts.old.lines) (string_bytes texts.new.lines)) }
+        ListsAllChunks (view_of view.entry) absolute received lines x.0 x.2 (kept_of talk.new) (drop x.1 bytes.now) (string_bytes texts.old.lines) (string_bytes texts.new.lines)) }
     ensures lacks { OnErr result A.Lacks }
 {
     let mut opened = begun;
@@ -236,7 +236,7 @@ fn hear_chunks<A: Memory>(
                 rest = behind;
             }
             Part::Chunk(chunk) => {
-                hear(view, chunk, talk, texts)?;
+                list_chunk(view, chunk, talk, texts)?;
                 rest = behind;
             }
             Part::Waits => return Ok((opened, bytes.len() - rest.len(), false)),

@@ -3,13 +3,13 @@ use Rattle.std.specs.Prelude.{string_bytes}
 use Rattle.pgp_trace.specs.Steps.{view_of}
 use Rattle.pgp_conversation.specs.Recording.{chunk_bytes, magic}
 use Rattle.pgp_conversation.specs.Steps.{TakesPart, chunk_of, kept_of}
-use Rattle.pgp_conversation.proofs.Sessions.{all_bytes, all_heard, and_begun, and_heard, ends_bytes, nothing_heard, stops, takes_chunk, takes_magic, waits}
-use Rattle.pgp_conversation.proofs.session.hear_chunks.Goals as goal
+use Rattle.pgp_conversation.proofs.Sessions.{all_bytes, all_listed, and_begun, and_listed, ends_bytes, nothing_listed, stops, takes_chunk, takes_magic, waits}
+use Rattle.pgp_conversation.proofs.session.list_chunks.Goals as goal
 
 pub chunks-init : goal.chunks-init
 chunks-init g c =
     let ends = all_bytes c.args.bytes.now in
-    (nothing_heard (view_of c.args.view) c.args.begun (kept_of c.args.talk.now) c.args.bytes.now (string_bytes c.args.texts.now.lines), ends.0, ends.1)
+    (nothing_listed (view_of c.args.view) c.args.begun (kept_of c.args.talk.now) c.args.bytes.now (string_bytes c.args.texts.now.lines), ends.0, ends.1)
 
 pub chunks-preserved-in-Magic : goal.chunks-preserved-in-Magic
 chunks-preserved-in-Magic g c =
@@ -29,8 +29,8 @@ chunks-preserved g c =
     let chunk = chunk_of c.in-Chunk.chunk in
     let takes = takes_chunk c.chunks.opened rest behind c.in-Chunk.chunk (subst (λ p. TakesPart c.chunks.opened rest p behind) c.in-Chunk.is c.first_part.ensures) in
     let ends = ends_bytes c.args.bytes.now rest (chunk_bytes chunk) behind takes.1.whole c.chunks.invariant.1 c.chunks.invariant.2 in (
-      and_heard (view_of c.args.view) c.args.begun c.chunks.opened (kept_of c.args.talk.now) (kept_of c.chunks.talk) (kept_of c.hear.new.talk) chunk c.args.bytes.now rest behind (string_bytes c.args.texts.now.lines) (string_bytes c.chunks.texts.lines) (string_bytes c.hear.new.texts.lines)
-          c.chunks.invariant.0 takes.0 takes.1 c.in_ok-hear-in-Chunk.ensures.lines,
+      and_listed (view_of c.args.view) c.args.begun c.chunks.opened (kept_of c.args.talk.now) (kept_of c.chunks.talk) (kept_of c.list_chunk.new.talk) chunk c.args.bytes.now rest behind (string_bytes c.args.texts.now.lines) (string_bytes c.chunks.texts.lines) (string_bytes c.list_chunk.new.texts.lines)
+          c.chunks.invariant.0 takes.0 takes.1 c.in_ok-list_chunk-in-Chunk.ensures.lines,
       ends.0,
       ends.1,
     )
@@ -39,12 +39,12 @@ pub returns-in-Waits-clause-all : goal.returns-in-Waits-clause-all
 returns-in-Waits-clause-all g c =
     let rest = c.chunks.rest.now in
     let behind = c.first_part.result.1.now in
-    all_heard (view_of c.args.view) c.args.begun c.chunks.opened _ (kept_of c.args.talk.now) (kept_of c.chunks.talk) c.args.bytes.now rest _ (string_bytes c.args.texts.now.lines) (string_bytes c.chunks.texts.lines) c.chunks.invariant.0
+    all_listed (view_of c.args.view) c.args.begun c.chunks.opened _ (kept_of c.args.talk.now) (kept_of c.chunks.talk) c.args.bytes.now rest _ (string_bytes c.args.texts.now.lines) (string_bytes c.chunks.texts.lines) c.chunks.invariant.0
     (waits c.chunks.opened rest behind (subst (λ p. TakesPart c.chunks.opened rest p behind) c.in-Waits.is c.first_part.ensures)) c.chunks.invariant.1
 
 pub returns-in-Stops-clause-all : goal.returns-in-Stops-clause-all
 returns-in-Stops-clause-all g c =
     let rest = c.chunks.rest.now in
     let behind = c.first_part.result.1.now in
-    all_heard (view_of c.args.view) c.args.begun c.chunks.opened _ (kept_of c.args.talk.now) (kept_of c.chunks.talk) c.args.bytes.now rest _ (string_bytes c.args.texts.now.lines) (string_bytes c.chunks.texts.lines) c.chunks.invariant.0
+    all_listed (view_of c.args.view) c.args.begun c.chunks.opened _ (kept_of c.args.talk.now) (kept_of c.chunks.talk) c.args.bytes.now rest _ (string_bytes c.args.texts.now.lines) (string_bytes c.chunks.texts.lines) c.chunks.invariant.0
     (stops c.chunks.opened rest behind (subst (λ p. TakesPart c.chunks.opened rest p behind) c.in-Stops.is c.first_part.ensures)) c.chunks.invariant.1

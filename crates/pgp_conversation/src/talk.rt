@@ -4,12 +4,12 @@ ghost use Rattle.std.specs.Prelude.{◌≡◌, ◌++◌, OnErr, OnOk, string_byt
 ghost use Rattle.pgp_trace.specs.Steps.{view_of};
 ghost use Rattle.pgp_conversation.specs.Conversation as spec;
 ghost use Rattle.pgp_conversation.specs.Conversation.{first_time, side_in};
-ghost use Rattle.pgp_conversation.specs.Steps.{HearsBytes, HearsTo, Holds, Keeps, chunk_of, half_of, kept_of, known_of};
+ghost use Rattle.pgp_conversation.specs.Steps.{ListsBytes, ListsChunkTo, Holds, Keeps, chunk_of, half_of, kept_of, known_of};
 
 use crate::chunk::{Chunk, Sender};
+use crate::frames::{Texts, list_frames};
 use crate::known::Known;
 use crate::mark::put_mark;
-use crate::tell::{Texts, tell_frames};
 use bytes::{Buf, BytesMut};
 use pgp_base::Memory;
 use pgp_trace::view::View;
@@ -43,13 +43,13 @@ pub struct Talk<A: Memory> {
 /// # Errors
 ///
 /// Returns `AllocError` if there is no memory for them.
-pub fn hear<A: Memory>(
+pub fn list_chunk<A: Memory>(
     view: View<'_>,
     chunk: Chunk<'_>,
     talk: &mut Talk<A>,
     texts: &mut Texts<A>,
 ) -> Result<(), AllocError>
-    ensures lines { OnOk result ((before : spec.Talk) → Keeps (kept_of talk.old) before → HearsTo (view_of view.entry) before (chunk_of chunk.entry) (kept_of talk.new) (string_bytes texts.old.lines) (string_bytes texts.new.lines)) }
+    ensures lines { OnOk result ((before : spec.Talk) → Keeps (kept_of talk.old) before → ListsChunkTo (view_of view.entry) before (chunk_of chunk.entry) (kept_of talk.new) (string_bytes texts.old.lines) (string_bytes texts.new.lines)) }
     ensures lacks { OnErr result A.Lacks }
 {
     let start = first_time(talk.start, chunk.micros);
@@ -63,7 +63,7 @@ pub fn hear<A: Memory>(
     )?;
     talk.start = Some(start);
     match chunk.sender {
-        Sender::Client => hear_bytes(
+        Sender::Client => list_bytes(
             view,
             Sender::Client,
             chunk.bytes,
@@ -71,7 +71,7 @@ pub fn hear<A: Memory>(
             &mut talk.known,
             texts,
         ),
-        Sender::Server => hear_bytes(
+        Sender::Server => list_bytes(
             view,
             Sender::Server,
             chunk.bytes,
@@ -93,7 +93,7 @@ fn first_time(start: Option<u64>, micros: u64) -> u64
 }
 
 /// Adds the lines of all frames that are whole with these bytes of a side.
-fn hear_bytes<A: Memory>(
+fn list_bytes<A: Memory>(
     view: View<'_>,
     sender: Sender,
     bytes: &[u8],
@@ -102,7 +102,7 @@ fn hear_bytes<A: Memory>(
     texts: &mut Texts<A>,
 ) -> Result<(), AllocError>
     ensures lines { OnOk result ((before : spec.Half) → Holds (side_in sender (known_of known.old)) (half_of half.old) before →
-        HearsBytes (view_of view.entry) (string_bytes texts.old.mark) sender (known_of known.old) (before.rest ++ bytes.now) before.passed (known_of known.new) (half_of half.new) (string_bytes texts.old.lines) (string_bytes texts.new.lines)) }
+        ListsBytes (view_of view.entry) (string_bytes texts.old.mark) sender (known_of known.old) (before.rest ++ bytes.now) before.passed (known_of known.new) (half_of half.new) (string_bytes texts.old.lines) (string_bytes texts.new.lines)) }
     ensures lacks { OnErr result A.Lacks }
 {
     if half.stopped {
@@ -110,7 +110,7 @@ fn hear_bytes<A: Memory>(
         return Ok(());
     }
     A::append(&mut half.bytes, bytes)?;
-    let (listed, stopped) = tell_frames(
+    let (listed, stopped) = list_frames(
         view,
         sender,
         half.place,

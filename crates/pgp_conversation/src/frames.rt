@@ -3,7 +3,7 @@
 ghost use Rattle.std.specs.Prelude.{◌≡◌, ◌++◌, ◌≤◌, drop, length, take, IfOk, OnErr, OnOk, string_bytes};
 ghost use Rattle.pgp_trace.specs.Steps.{view_of};
 ghost use Rattle.pgp_conversation.specs.Conversation.{answer_line, answer_to, called, called_after, relined, relined_after, text_of};
-ghost use Rattle.pgp_conversation.specs.Steps.{TellsAll, TellsNext, known_of};
+ghost use Rattle.pgp_conversation.specs.Steps.{ListsAllFrames, ListsNextFrame, known_of};
 
 use crate::chunk::Sender;
 use crate::known::{Known, next_line, note};
@@ -47,7 +47,7 @@ pub fn no_texts<A: Memory>(alloc: A) -> Texts<A> {
 /// # Errors
 ///
 /// Returns `AllocError` if there is no memory for them.
-pub fn tell_frames<A: Memory>(
+pub fn list_frames<A: Memory>(
     view: View<'_>,
     sender: Sender,
     place: u64,
@@ -56,7 +56,7 @@ pub fn tell_frames<A: Memory>(
     texts: &mut Texts<A>,
 ) -> Result<(usize, bool), AllocError>
     ensures within { IfOk result (λ answer. answer.0 ≤ length bytes.now) }
-    ensures all { IfOk result (λ answer. TellsAll (view_of view.entry) (string_bytes texts.old.mark) sender place (known_of known.old) bytes.now (take answer.0 bytes.now) (drop answer.0 bytes.now) answer.1 (known_of known.new)
+    ensures all { IfOk result (λ answer. ListsAllFrames (view_of view.entry) (string_bytes texts.old.mark) sender place (known_of known.old) bytes.now (take answer.0 bytes.now) (drop answer.0 bytes.now) answer.1 (known_of known.new)
         (string_bytes texts.old.lines) (string_bytes texts.new.lines)) }
     ensures lacks { OnErr result A.Lacks }
 {
@@ -64,7 +64,7 @@ pub fn tell_frames<A: Memory>(
     'frames: loop {
         let passed = bytes.len() - rest.len();
         let at = place.saturating_add(passed as u64);
-        let (next, behind) = tell_next(view, sender, at, rest, known, texts)?;
+        let (next, behind) = list_next(view, sender, at, rest, known, texts)?;
         match next {
             Next::Line(_) => rest = behind,
             Next::Waits => return Ok((passed, false)),
@@ -74,7 +74,7 @@ pub fn tell_frames<A: Memory>(
 }
 
 /// Adds the line of the frame that stands first. Returns what stands after it.
-fn tell_next<'b, A: Memory>(
+fn list_next<'b, A: Memory>(
     view: View<'_>,
     sender: Sender,
     place: u64,
@@ -82,14 +82,14 @@ fn tell_next<'b, A: Memory>(
     known: &mut Known<A>,
     texts: &mut Texts<A>,
 ) -> Result<(Next, &'b [u8]), AllocError>
-    ensures told { IfOk result (λ x. TellsNext (view_of view.entry) (string_bytes texts.old.mark) sender place (known_of known.old) bytes.now x.1.now (string_bytes texts.old.lines) (string_bytes texts.new.lines) (known_of known.new) x.0) }
+    ensures each { IfOk result (λ x. ListsNextFrame (view_of view.entry) (string_bytes texts.old.mark) sender place (known_of known.old) bytes.now x.1.now (string_bytes texts.old.lines) (string_bytes texts.new.lines) (known_of known.new) x.0) }
     ensures mark { OnOk result (string_bytes texts.new.mark ≡ string_bytes texts.old.mark) }
     ensures lacks { OnErr result A.Lacks }
 {
     let (next, behind) = next_line(view.style, sender, place, bytes, known, &mut texts.line)?;
     match next {
         Next::Line(name) => {
-            tell_line(view, place, name, known.requests.as_slice(), texts)?;
+            list_line(view, place, name, known.requests.as_slice(), texts)?;
             note(note_of(name), known)?;
             Ok((next, behind))
         }
@@ -99,7 +99,7 @@ fn tell_next<'b, A: Memory>(
 }
 
 /// Adds a line with this name, an answer under the name of the request that it belongs to.
-fn tell_line<A: Memory>(
+fn list_line<A: Memory>(
     view: View<'_>,
     place: u64,
     name: &str,
