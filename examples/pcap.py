@@ -4,15 +4,18 @@
     pcap.py CAPTURE                                          prints the connections, with their numbers
     pcap.py CAPTURE --connection N CLIENT-FILE SERVER-FILE [TIMES-FILE]
                                                              writes the bytes of both sides of one, and when they came
+    pcap.py CAPTURE --connection N --recording FILE          writes them as a recording (docs/RECORDING.md), which `pgtrace session` lists
 
 Reads pcap and pcapng, IPv4 and IPv6. Segments that come out of order or again are put in their place; where one is missing, its side ends there, and
 the status is 1. Fragments of IP packets aren't joined. Needs dpkt (on Debian: apt-get install python3-dpkt).
 
     tcpdump -i any -s 0 -w all.pcap tcp port 5432
+    pcap.py all.pcap --connection 1 --recording r && pgtrace session < r
     pcap.py all.pcap --connection 1 client server times && session.py client server times
 """
 import argparse
 import socket
+import struct
 import sys
 
 import dpkt
@@ -125,20 +128,39 @@ def connections(capture, port):
     return found
 
 
-def write(one, names):
-    status, pieces = 0, []
-    for end, name, who, arrow in zip(one.ends, names, ("client", "server"), "><"):
-        found, missing, times = one.sides[end].stream()
+def streams(one):
+    """The bytes of both sides, when their pieces came, and whether none are missing."""
+    found, pieces, is_whole = [], [], True
+    for end, who, arrow in zip(one.ends, ("client", "server"), "><"):
+        stream, missing, times = one.sides[end].stream()
+        found.append(stream)
         pieces += [(when, arrow, length) for when, length in times]
-        with open(name, "wb") as file:
-            file.write(found)
         if missing:
-            print(f"pcap.py: the {who}'s byte {len(found)} is missing, and what comes after it is left out", file=sys.stderr)
-            status = 1
+            print(f"pcap.py: the {who}'s byte {len(stream)} is missing, and what comes after it is left out", file=sys.stderr)
+            is_whole = False
+    return found, pieces, is_whole
+
+
+def write_recording(one, name):
+    (client, server), pieces, is_whole = streams(one)
+    rest = {">": client, "<": server}
+    with open(name, "wb") as file:
+        file.write(b"pgtrace recording 1\n")
+        for when, arrow, length in sorted(pieces, key=lambda it: it[0]):
+            file.write(arrow.encode() + struct.pack(">QI", round(when * 1000000), length) + rest[arrow][:length])
+            rest[arrow] = rest[arrow][length:]
+    return 0 if is_whole else 1
+
+
+def write(one, names):
+    found, pieces, is_whole = streams(one)
+    for name, stream in zip(names, found):
+        with open(name, "wb") as file:
+            file.write(stream)
     for name in names[2:]:
         with open(name, "w", encoding="ascii") as file:
             file.writelines(f"{when:.6f} {arrow} {length}\n" for when, arrow, length in sorted(pieces, key=lambda it: it[0]))
-    return status
+    return 0 if is_whole else 1
 
 
 def main():
@@ -146,6 +168,7 @@ def main():
     words.add_argument("capture")
     words.add_argument("--connection", type=int, metavar="N", help="the number of the connection")
     words.add_argument("--port", type=int, default=5432, help="the server's port, for connections that are open when the capture begins")
+    words.add_argument("--recording", metavar="FILE", help="a file for the bytes of both, with the times at which they came")
     words.add_argument("files", nargs="*", metavar="FILE", help="a file for the client's bytes, one for the server's, and one for when they came")
     given = words.parse_intermixed_args()
     with open(given.capture, "rb") as capture:
@@ -153,8 +176,10 @@ def main():
     if given.connection is None:
         print(*(f"{number} {one}" for number, one in enumerate(found, start=1)), sep="\n")
         return 0
-    if not 1 <= given.connection <= len(found) or len(given.files) not in (2, 3):
-        words.error(f"the capture has {len(found)} connections, and two or three files are wanted")
+    if not 1 <= given.connection <= len(found) or len(given.files) not in ((0,) if given.recording else (2, 3)):
+        words.error(f"the capture has {len(found)} connections, and two or three files are wanted, or a recording")
+    if given.recording:
+        return write_recording(found[given.connection - 1], given.recording)
     return write(found[given.connection - 1], given.files)
 
 

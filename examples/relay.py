@@ -1,15 +1,19 @@
 #!/usr/bin/env python3
 """Passes the bytes of connections to a port of this machine on to a server and back, and writes down what each side sent.
 
-    relay.py PORT HOST SERVER-PORT CLIENT-FILE SERVER-FILE [TIMES-FILE]   takes one connection, and ends with it
+    relay.py PORT HOST SERVER-PORT FILE.recording                         takes one connection, and ends with it
+    relay.py PORT HOST SERVER-PORT CLIENT-FILE SERVER-FILE [TIMES-FILE]   the same, in a file for each side
     relay.py PORT HOST SERVER-PORT FOLDER                                 takes connections, many at a time, until it is interrupted (SIGINT or SIGTERM)
 
 The bytes of the connection that came Nth stand in FOLDER/N.client and FOLDER/N.server, and in FOLDER/N.times when they came: a line for each piece, with its time in
 seconds since 1970, `>` where the client sent it and `<` where the server did, and how many bytes it has. session.py lists all three.
+
+FILE.recording is a recording of both sides (docs/RECORDING.md), which `pgtrace session` lists, also while it is written.
 """
 import pathlib
 import signal
 import socket
+import struct
 import sys
 import threading
 import time
@@ -27,26 +31,70 @@ class Times:
                 print(f"{time.time():.6f} {arrow} {length}", file=self.file, flush=True)
 
 
-def pass_on(source, target, name, arrow, times):
+class Side:
+    """What one side sent, in a file of its own."""
+
+    def __init__(self, name, arrow, times):
+        self.file, self.arrow, self.times = open(name, "wb"), arrow, times
+
+    def add(self, piece):
+        self.times.add(self.arrow, len(piece))
+        self.file.write(piece)
+        self.file.flush()
+
+
+class Recording:
+    """What both sides sent, in one file."""
+
+    def __init__(self, name):
+        self.file, self.lock = open(name, "wb"), threading.Lock()
+        self.file.write(b"pgtrace recording 1\n")
+        self.file.flush()
+
+    def add(self, arrow, piece):
+        with self.lock:
+            self.file.write(arrow + struct.pack(">QI", time.time_ns() // 1000, len(piece)) + piece)
+            self.file.flush()
+
+    def side(self, arrow):
+        return RecordedSide(self, arrow)
+
+
+class RecordedSide:
+    def __init__(self, recording, arrow):
+        self.recording, self.arrow = recording, arrow
+
+    def add(self, piece):
+        self.recording.add(self.arrow, piece)
+
+
+def pass_on(source, target, side):
     """Passes bytes on until their side ends, or the other one takes no more; each piece is written down before it goes on."""
-    with open(name, "wb") as record:
-        try:
-            while piece := source.recv(262144):
-                times.add(arrow, len(piece))
-                record.write(piece)
-                record.flush()
-                target.sendall(piece)
-            target.shutdown(socket.SHUT_WR)
-        except OSError:
-            pass
+    try:
+        while piece := source.recv(262144):
+            side.add(piece)
+            target.sendall(piece)
+        target.shutdown(socket.SHUT_WR)
+    except OSError:
+        pass
 
 
-def serve(client, address, client_file, server_file, times_file=None):
-    times = Times(times_file)
+def sides(names):
+    """Where what the client sent and what the server sent is written down."""
+    if len(names) == 1:
+        recording = Recording(names[0])
+        return recording.side(b">"), recording.side(b"<")
+    client_file, server_file, *times_file = names
+    times = Times(*times_file or [None])
+    return Side(client_file, ">", times), Side(server_file, "<", times)
+
+
+def serve(client, address, *names):
+    sent, answered = sides(names)
     with client, socket.create_connection(address) as server:
-        back = threading.Thread(target=pass_on, args=(server, client, server_file, "<", times))
+        back = threading.Thread(target=pass_on, args=(server, client, answered))
         back.start()
-        pass_on(client, server, client_file, ">", times)
+        pass_on(client, server, sent)
         back.join()
 
 
@@ -66,7 +114,7 @@ def serve_all(listener, address, folder):
 def main(port, host, server_port, first, *second):
     address = host, int(server_port)
     with socket.create_server(("127.0.0.1", int(port))) as listener:
-        if not second:
+        if not second and not first.endswith(".recording"):
             return serve_all(listener, address, pathlib.Path(first))
         client = listener.accept()[0]
     return serve(client, address, first, *second)

@@ -23,6 +23,8 @@ mod trace_colors;
 #[cfg(test)]
 mod trace_objects;
 #[cfg(test)]
+mod trace_recording;
+#[cfg(test)]
 mod trace_replication;
 #[cfg(test)]
 mod trace_session;

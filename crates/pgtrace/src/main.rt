@@ -1,8 +1,8 @@
 //! Shows a person what a PostgreSQL server or client sent, a line a message, as it comes.
 #![tactic(auto)]
 
+use pgp_conversation::run::run_own;
 use pgp_trace::pipe::Pipe;
-use pgp_trace::run::run_own;
 use std::io::{self, IsTerminal};
 use std::process::ExitCode;
 

@@ -1,0 +1,71 @@
+-- What each side sent, and the lines of the server's stream alone.
+use Rattle.std.proofs.Common.{◌≡◌, ℕ, ◌+◌, Bool, List, [], ◌∷◌, ◌++◌, length, refl, sym, ap, subst, ◌∙◌, arith, length-append, append_assoc}
+use Rattle.std.specs.List.{flat_map}
+use Rattle.std.proofs.lemmas.List.{append-nil}
+use Rattle.std.proofs.lemmas.List.Concat.{flat_map-cons}
+use Rattle.std.proofs.lemmas.Grind.{flat_map-append}
+use Rattle.pgp_program.specs.Words.{greatest}
+use Rattle.pgp_trace.specs.Listing.{Listed, Lines, NoLines, OneLine, place_behind}
+use Rattle.pgp_trace.specs.Sides as side
+use Rattle.pgp_trace.specs.Sides.{Side, Ends}
+use Rattle.pgp_trace.specs.View.{View, plain}
+use Rattle.pgp_trace.specs.declared.side.Phase.TheVariants.{Beginning}
+use Rattle.pgp_trace.proofs.Ends.{nothing_ends}
+use Rattle.pgp_trace.proofs.Parts.{saturates}
+use Rattle.pgp_trace.proofs.Traces.{lines_join}
+use Rattle.pgp_conversation.specs.declared.chunk.Sender.{Sender}
+use Rattle.pgp_conversation.specs.declared.chunk.Sender.TheVariants.{Client, Server}
+use Rattle.pgp_conversation.specs.declared.noted.Noted.{Noted}
+use Rattle.pgp_conversation.specs.declared.noted.Noted.TheVariants.{Asks, Requests, Answers, Nothing}
+use Rattle.pgp_conversation.specs.Conversation.{Half, Known, ListsChunk, ListsChunks, NoChunkListed, OneChunkListed, ListsFrame, ListsFrames, NoFrames, OneFrame, Talk, at_first, begins, first_time, half_in, note, noted_in, other, side_in, with_side}
+use Rattle.pgp_conversation.specs.Marks.{mark, since}
+use Rattle.pgp_conversation.specs.Order.{IsSplit, sent, sent_by}
+use Rattle.pgp_conversation.specs.Recording.{Chunk}
+use Rattle.pgp_conversation.proofs.FrameLists.{other_ends}
+
+sent_more : (who : Sender) (chunks : List Chunk) (chunk : Chunk) → sent who (chunks ++ chunk ∷ []) ≡ sent who chunks ++ sent_by who chunk.sender chunk.bytes
+sent_more who chunks chunk =
+    let f : Chunk → List ℕ = λ c. sent_by who c.sender c.bytes in
+    flat_map-append f chunks (chunk ∷ []) ∙ ap (λ l. flat_map f chunks ++ l) (flat_map-cons f chunk [] ∙ append-nil (f chunk))
+
+-- the side whose chunk it is
+own : (view : View) (here to : Talk) (chunks : List Chunk) (chunk : Chunk) (text : List ℕ) (who : Sender) → chunk.sender ≡ who → sent_by who chunk.sender chunk.bytes ≡ chunk.bytes → (s : IsSplit who chunks here) → (l : ListsChunk view here chunk text to) → IsSplit who (chunks ++ chunk ∷ []) to
+own view here to chunks chunk text who is all s l = subst (λ w. IsSplit w (chunks ++ chunk ∷ []) to) is (
+    let t = subst (λ w. IsSplit w chunks here) (sym is) s in
+    let mine : sent_by chunk.sender chunk.sender chunk.bytes ≡ chunk.bytes = subst (λ w. sent_by w chunk.sender chunk.bytes ≡ chunk.bytes) (sym is) all in
+    record {
+      front = t.front ++ l.front;
+      whole = sent_more chunk.sender chunks chunk ∙ ap (λ b. sent chunk.sender chunks ++ b) mine ∙ ap (λ b. b ++ chunk.bytes) t.whole ∙ append_assoc t.front (half_in chunk.sender here).rest chunk.bytes
+          ∙ ap (λ b. t.front ++ b) l.whole ∙ sym (append_assoc t.front l.front (half_in chunk.sender to).rest);
+      passed = l.passed ∙ ap (λ n. n + length l.front) t.passed ∙ sym (length-append t.front l.front);
+      ending = l.ending;
+    })
+
+-- and the other
+beside : (view : View) (here to : Talk) (chunks : List Chunk) (chunk : Chunk) (text : List ℕ) (who : Sender) → other chunk.sender ≡ who → sent_by who chunk.sender chunk.bytes ≡ [] → IsSplit who chunks here → ListsChunk view here chunk text to → IsSplit who (chunks ++ chunk ∷ []) to
+beside view here to chunks chunk text who is none s l = subst (λ w. IsSplit w (chunks ++ chunk ∷ []) to) is (
+    let t = subst (λ w. IsSplit w chunks here) (sym is) s in
+    let empty : sent_by (other chunk.sender) chunk.sender chunk.bytes ≡ [] = subst (λ w. sent_by w chunk.sender chunk.bytes ≡ []) (sym is) none in
+    let m = mark view.style.form chunk.sender (since (first_time here.start chunk.micros) chunk.micros) in
+    record {
+      front = t.front;
+      whole = sent_more (other chunk.sender) chunks chunk ∙ ap (λ b. sent (other chunk.sender) chunks ++ b) empty ∙ append-nil (sent (other chunk.sender) chunks) ∙ t.whole ∙ ap (λ (h : Half). t.front ++ h.rest) (sym l.same);
+      passed = ap (λ (h : Half). h.passed) l.same ∙ t.passed;
+      ending = subst (λ (h : Half). Ends (side_in (other chunk.sender) to.known) h.stopped h.rest) (sym l.same)
+          (other_ends view m chunk.sender (half_in chunk.sender here).passed here.known l.front text to.known (half_in (other chunk.sender) here).stopped (half_in (other chunk.sender) here).rest l.each t.ending);
+    })
+
+split_more : (view : View) (here to : Talk) (chunks : List Chunk) (chunk : Chunk) (text : List ℕ) (who sender : Sender) → chunk.sender ≡ sender → IsSplit who chunks here → ListsChunk view here chunk text to → IsSplit who (chunks ++ chunk ∷ []) to
+split_more view here to chunks chunk text Client Client is s l = own view here to chunks chunk text Client is (ap (λ w. sent_by Client w chunk.bytes) is) s l
+split_more view here to chunks chunk text Server Server is s l = own view here to chunks chunk text Server is (ap (λ w. sent_by Server w chunk.bytes) is) s l
+split_more view here to chunks chunk text Server Client is s l = beside view here to chunks chunk text Server (ap other is) (ap (λ w. sent_by Server w chunk.bytes) is) s l
+split_more view here to chunks chunk text Client Server is s l = beside view here to chunks chunk text Client (ap other is) (ap (λ w. sent_by Client w chunk.bytes) is) s l
+
+split_none : (absolute : Bool) (who : Sender) → IsSplit who [] (begins absolute)
+split_none absolute Client = record { front = []; whole = refl; passed = refl; ending = nothing_ends at_first.client }
+split_none absolute Server = record { front = []; whole = refl; passed = refl; ending = nothing_ends at_first.server }
+
+pub each_side : (view : View) (absolute : Bool) (chunks : List Chunk) (lines : List ℕ) (talk : Talk) → ListsChunks view (begins absolute) chunks lines talk → (who : Sender) → IsSplit who chunks talk
+each_side view absolute [] [] _ NoChunkListed who = split_none absolute who
+each_side view absolute _ _ talk (OneChunkListed {chunks = chunks} {lines = lines} {here = here} chunk text before l) who =
+    split_more view here talk chunks chunk text who chunk.sender refl (each_side view absolute chunks lines here before who) l

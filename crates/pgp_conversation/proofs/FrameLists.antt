@@ -1,0 +1,135 @@
+-- The lines of a side, a frame at a time.
+use Rattle.std.proofs.Common.{◌≡◌, ℕ, ◌+◌, ◌-◌, ◌<◌, ◌≤◌, Bool, true, false, List, [], ◌∷◌, ◌++◌, length, take, drop, min, refl, sym, ap, subst, ◌∙◌, arith, length-append, append_assoc}
+use Rattle.std.proofs.lemmas.List.{append-nil}
+use Rattle.std.proofs.Math.Seq.{take-append_seam, drop-append_seam}
+use Rattle.std.specs.Borrow.{Bor}
+use Rattle.pgp_frontend_read.specs.declared.message.PasswordKind.{PasswordKind}
+use Rattle.pgp_program.specs.Words.{greatest}
+use Rattle.pgp_trace.specs.declared.frame.Next.TheVariants as next
+use Rattle.pgp_trace.specs.Listing.{place_behind, name_in}
+use Rattle.pgp_trace.specs.Sides.{Side, Server as ServerSide, Client as ClientSide, Ends}
+use Rattle.pgp_trace.specs.declared.side.Phase.TheVariants.{Beginning, Messages, Encrypted}
+use Rattle.pgp_trace.specs.Steps.{HasLine}
+use Rattle.pgp_trace.specs.View.{View}
+use Rattle.pgp_trace.proofs.Shorter.{frame_has}
+use Rattle.pgp_conversation.specs.declared.chunk.Sender.{Sender}
+use Rattle.pgp_conversation.specs.declared.chunk.Sender.TheVariants.{Client, Server}
+use Rattle.pgp_conversation.specs.declared.noted.Noted.{Noted}
+use Rattle.pgp_conversation.specs.declared.noted.Noted.TheVariants.{Asks, Requests, Answers, Nothing}
+use Rattle.pgp_conversation.specs.Conversation.{Known, ListsFrame, ListsFrames, NoFrames, OneFrame, note, noted_in, other, side_in, text_of, with_kind, with_side}
+use Rattle.pgp_conversation.specs.Steps.{KnowsNext, ListsAllFrames, ListsNoFrame, ListsOneFrame, noted_by}
+use Rattle.pgp_conversation.proofs.Naming.{name_noted}
+
+requests_kept : (who : Sender) (old : Known) (side : Side) → (with_side who old side).requests ≡ old.requests
+requests_kept Client old side = refl
+requests_kept Server old side = refl
+
+-- a frame with its line, and what is known after it
+pub lists_one : (view : View) (mark : List ℕ) (who : Sender) (place : ℕ) (old mid new : Known) (bytes behind line name before after : List ℕ)
+    → HasLine view.style place (side_in who old) bytes behind line (side_in who mid) name → mid ≡ with_side who old (side_in who mid)
+    → after ≡ before ++ text_of view mark place mid.requests name line → new ≡ note (noted_by name) mid → ListsOneFrame view mark who place old bytes behind before after new
+lists_one view mark who place old mid new bytes behind line name before after has same grown noted =
+    let waiting : mid.requests ≡ old.requests = ap (λ (k : Known). k.requests) same ∙ requests_kept who old (side_in who mid) in
+    let from = side_in who old in
+    let to = side_in who mid in
+    let named = name_in view.style place from has.frame line to has.reported in
+    record {
+      frame = has.frame;
+      text = text_of view mark place old.requests named line;
+      whole = has.whole;
+      some = frame_has view.style place from to has.frame line has.reported;
+      lists = record {
+        line = line;
+        after = to;
+        reported = has.reported;
+        is = refl;
+        behind = noted ∙ ap (λ n. note (noted_by n) mid) has.named ∙ ap (λ n. note n mid) (name_noted view.style place from has.frame line to has.reported)
+            ∙ ap (note (noted_in view.style place from has.frame line to has.reported)) same;
+      };
+      grown = grown ∙ ap (λ r. before ++ text_of view mark place r name line) waiting ∙ ap (λ n. before ++ text_of view mark place old.requests n line) has.named;
+    }
+
+pub lists_none : (who : Sender) (stopped : Bool) (old new : Known) (bytes behind lines : List ℕ) → behind ≡ bytes → Ends (side_in who old) stopped bytes → side_in who new ≡ side_in who old → new ≡ with_side who old (side_in who new)
+    → ListsNoFrame who stopped old bytes behind lines lines new
+lists_none who stopped old new bytes behind lines rests ending side same = record {
+  same = rests;
+  ending = ending;
+  known = same ∙ ap (with_side who old) side ∙ with_own who old;
+  none = refl;
+}
+  where
+    with_own : (who : Sender) (old : Known) → with_side who old (side_in who old) ≡ old
+    with_own Client old = refl
+    with_own Server old = refl
+
+-- ---- frame by frame
+
+-- those so far have their lines
+pub record ListsFramesTo (view : View) (mark : List ℕ) (who : Sender) (start : ℕ) (from : Known) (bytes rest : List ℕ) (to : Known) (old new : List ℕ) : Type 0 where
+  pub front : List ℕ
+  pub lines : List ℕ
+  pub whole : bytes ≡ front ++ rest
+  pub each : ListsFrames view mark who start from front lines to
+  pub text : new ≡ old ++ lines
+
+pub nothing_yet : (view : View) (mark : List ℕ) (who : Sender) (start : ℕ) (from : Known) (bytes old : List ℕ) → ListsFramesTo view mark who start from bytes bytes from old old
+nothing_yet view mark who start from bytes old = record { front = []; lines = []; whole = refl; each = NoFrames; text = sym (append-nil old) }
+
+passed_is : (bytes front rest : List ℕ) → bytes ≡ front ++ rest → length bytes - length rest ≡ length front
+passed_is bytes front rest e = omega (arith, ap length e, length-append front rest)
+
+-- one more
+pub one_more : (view : View) (mark : List ℕ) (who : Sender) (start here : ℕ) (from mid to : Known) (bytes rest behind old now new : List ℕ) → ListsFramesTo view mark who start from bytes rest mid old now
+    → here ≡ min (start + (length bytes - length rest)) greatest → ListsOneFrame view mark who here mid rest behind now new to → ListsFramesTo view mark who start from bytes behind to old new
+one_more view mark who start here from mid to bytes rest behind old now new so_far at one =
+    let place : here ≡ place_behind (start + length so_far.front) = at ∙ ap (λ n. place_behind (start + n)) (passed_is bytes so_far.front rest so_far.whole) in
+    record {
+      front = so_far.front ++ one.frame;
+      lines = so_far.lines ++ one.text;
+      whole = so_far.whole ∙ ap (λ l. so_far.front ++ l) one.whole ∙ sym (append_assoc so_far.front one.frame behind);
+      each = OneFrame one.frame one.text so_far.each (subst (λ p. ListsFrame view mark who p mid one.frame one.text to) place one.lists);
+      text = one.grown ∙ ap (λ l. l ++ one.text) so_far.text ∙ append_assoc old so_far.lines one.text;
+    }
+
+pub shorter : (view : View) (mark : List ℕ) (who : Sender) (place : ℕ) (here to : Known) (bytes behind old new : List ℕ) → ListsOneFrame view mark who place here bytes behind old new to → length behind < length bytes
+shorter view mark who place here to bytes behind old new one = omega (arith, ap length one.whole, length-append one.frame behind, one.some)
+
+-- and no more
+pub all_of_them : (view : View) (mark : List ℕ) (who : Sender) (start n : ℕ) (from mid to : Known) (bytes rest behind : List ℕ) (stopped : Bool) (old now new : List ℕ) → ListsFramesTo view mark who start from bytes rest mid old now
+    → n ≡ length bytes - length rest → ListsNoFrame who stopped mid rest behind now new to → ListsAllFrames view mark who start from bytes (take n bytes) (drop n bytes) stopped to old new
+all_of_them view mark who start n from mid to bytes rest behind stopped old now new so_far passed ends =
+    let count : n ≡ length so_far.front = passed ∙ passed_is bytes so_far.front rest so_far.whole in
+    let is : take n bytes ≡ so_far.front = ap (λ k. take k bytes) count ∙ ap (take (length so_far.front)) so_far.whole ∙ take-append_seam so_far.front rest in
+    let left : drop n bytes ≡ rest = ap (λ k. drop k bytes) count ∙ ap (drop (length so_far.front)) so_far.whole ∙ drop-append_seam so_far.front rest in
+    record {
+      lines = so_far.lines;
+      whole = rw (is, left) so_far.whole;
+      each = subst (λ l. ListsFrames view mark who start from l so_far.lines to) (sym is) (subst (λ k. ListsFrames view mark who start from so_far.front so_far.lines k) (sym ends.known) so_far.each);
+      ending = subst (Ends (side_in who to) stopped) (sym left) (subst (λ k. Ends (side_in who k) stopped rest) (sym ends.known) ends.ending);
+      text = ends.none ∙ so_far.text;
+    }
+
+-- ---- the other side
+
+other_kind : (side : Side) (kind : PasswordKind) (stopped : Bool) (rest : List ℕ) → Ends side stopped rest → Ends (with_kind side kind) stopped rest
+other_kind (ClientSide opened kinds) kind false rest e = e
+other_kind (ClientSide opened kinds) kind true rest e = e
+other_kind (ServerSide phase) kind stopped rest e = e
+
+other_note : (who : Sender) (here : Known) (side : Side) (n : Noted) (stopped : Bool) (rest : List ℕ) → Ends (side_in (other who) here) stopped rest → Ends (side_in (other who) (note n (with_side who here side))) stopped rest
+other_note Client here side (Asks kind) stopped rest e = e
+other_note Client here side (Requests x) stopped rest e = e
+other_note Client here side Answers stopped rest e = e
+other_note Client here side Nothing stopped rest e = e
+other_note Server here side (Asks kind) stopped rest e = other_kind here.client kind stopped rest e
+other_note Server here side (Requests x) stopped rest e = e
+other_note Server here side Answers stopped rest e = e
+other_note Server here side Nothing stopped rest e = e
+
+-- of the other side as much is awaited as before
+pub other_ends : (view : View) (mark : List ℕ) (who : Sender) (start : ℕ) (from : Known) (bytes lines : List ℕ) (to : Known) (stopped : Bool) (rest : List ℕ) → ListsFrames view mark who start from bytes lines to
+    → Ends (side_in (other who) from) stopped rest → Ends (side_in (other who) to) stopped rest
+other_ends view mark who start from [] [] _ stopped rest NoFrames e = e
+other_ends view mark who start from _ _ to stopped rest (OneFrame {bytes = bytes} {lines = lines} {here = here} frame text before one) e =
+    subst (λ k. Ends (side_in (other who) k) stopped rest) (sym one.behind)
+    (other_note who here one.after (noted_in view.style (place_behind (start + length bytes)) (side_in who here) frame one.line one.after one.reported) stopped rest (other_ends view mark who start from bytes lines here stopped rest before e))

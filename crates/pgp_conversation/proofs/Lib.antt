@@ -1,0 +1,11 @@
+pub mod Chunks
+pub mod Naming
+pub mod KindsLeft
+pub mod Marking
+pub mod FrameLists
+pub mod ChunkLists
+pub mod Sessions
+pub mod OneSession
+pub mod EachSide
+pub mod SettingLemmas
+pub mod Endings

@@ -1,0 +1,270 @@
+-- A recording has one listing.
+use Rattle.std.proofs.Common.{◌≡◌, ◌≢◌, ℕ, suc, ◌+◌, ◌<◌, ◌^◌, Bool, true, false, List, [], ◌∷◌, ◌++◌, length, take, drop, get_or, Option, refl, sym, ap, subst, ◌∙◌, arith, inl, inr, length-append, append_assoc}
+use Rattle.std.specs.List.{flat_map, AllByRecursion}
+use Rattle.std.proofs.lemmas.List.{append-nil}
+use Rattle.std.proofs.lemmas.List.Concat.{flat_map-cons}
+use Rattle.std.proofs.Math.Seq.{drop-append_seam, take-append_seam}
+use Rattle.std.specs.Int.{w32, w64, from_be_bytes}
+use Rattle.pgp_base.specs.Wire.{uint32, uint64}
+use Rattle.pgp_base.proofs.PartLemmas.{oid_number, uint64_number}
+use Rattle.pgp_trace.specs.Listing.{place_behind, name_in}
+use Rattle.pgp_trace.specs.Sides.{Ends}
+use Rattle.pgp_trace.specs.View.{View}
+use Rattle.pgp_trace.proofs.OneListing.{ends_one, line_one, no_line}
+use Rattle.pgp_conversation.specs.declared.chunk.Sender.{Sender}
+use Rattle.pgp_conversation.specs.declared.chunk.Sender.TheVariants.{Client, Server}
+use Rattle.pgp_conversation.specs.declared.ending.End.{End}
+use Rattle.pgp_conversation.specs.declared.ending.End.TheVariants.{Whole, Cut, NoChunk, NoRecording}
+use Rattle.pgp_conversation.specs.Conversation.{Half, ListsChunks, NoChunkListed, OneChunkListed, ListsChunk, Known, Talk, ListsFrame, ListsFrames, NoFrames, OneFrame, begins, half_in, last_lines, note, noted_in, other, side_in, text_of, with_side}
+use Rattle.pgp_conversation.specs.Marks.{mark, since}
+use Rattle.pgp_conversation.specs.Conversation.{first_time}
+use Rattle.pgp_conversation.specs.Recording.{Chunk, EndsBy, IsChunk, IsNoChunk, IsPartial, IsShort, Records, arrow, beginning, chunk_bytes, magic}
+use Rattle.pgp_conversation.specs.Session.{HasLines, IsListing}
+use Rattle.pgp_conversation.specs.Steps.{noted_by}
+use Rattle.pgp_conversation.proofs.Naming.{name_noted}
+
+-- ---- a frame
+
+-- the first frames of bytes, what stands in the listing of them, what stands after them, and what is then known
+record SameFrame (f g text else_text x y : List ℕ) (to too : Known) : Type 0 where
+  frames : f ≡ g
+  texts : text ≡ else_text
+  rests : x ≡ y
+  knowns : to ≡ too
+
+lists_one : (view : View) (m : List ℕ) (who : Sender) (place : ℕ) (here to too : Known) (f g text another x y : List ℕ) → ListsFrame view m who place here f text to → ListsFrame view m who place here g another too → f ++ x ≡ g ++ y → SameFrame f g text another x y to too
+lists_one view m who place here to too f g text another x y a b e =
+    let from = side_in who here in
+    let one = line_one view.style place from a.after b.after f g a.line b.line x y a.reported b.reported e in
+    let named = name_in view.style place from g b.line b.after b.reported in
+    let notes = noted_in view.style place from g b.line b.after b.reported in
+    let noted : noted_in view.style place from f a.line a.after a.reported ≡ notes =
+    sym (name_noted view.style place from f a.line a.after a.reported) ∙ ap noted_by one.1 ∙ name_noted view.style place from g b.line b.after b.reported in
+    record {
+      frames = one.0.frames;
+      texts = a.is ∙ ap (λ n. text_of view m place here.requests n a.line) one.1 ∙ ap (λ l. text_of view m place here.requests named l) one.0.lines ∙ sym b.is;
+      rests = one.0.rests;
+      knowns = a.behind ∙ ap (λ n. note n (with_side who here a.after)) noted ∙ ap (λ s. note notes (with_side who here s)) one.0.sides ∙ sym b.behind;
+    }
+
+data Rows (view : View) (m : List ℕ) (who : Sender) (to : Known) : ℕ → Known → List ℕ → List ℕ → Type 0 where
+  NoRows : {start : ℕ} → Rows view m who to start to [] []
+  OneRow : {start : ℕ} {from mid : Known} {bytes lines : List ℕ} (frame line : List ℕ) → ListsFrame view m who (place_behind start) from frame line mid → Rows view m who to (start + length frame) mid bytes lines → Rows view m who to start from (frame ++ bytes) (line ++ lines)
+
+row_more : (view : View) (m : List ℕ) (who : Sender) (here : Known) (start : ℕ) (from to : Known) (bytes lines frame line : List ℕ) → Rows view m who here start from bytes lines → ListsFrame view m who (place_behind (start + length bytes)) here frame line to
+    → Rows view m who to start from (bytes ++ frame) (lines ++ line)
+row_more view m who _ start from to [] [] frame line NoRows has =
+    let here : place_behind (start + 0) ≡ place_behind start = ap place_behind (omega arith) in
+    subst (λ l. Rows view m who to start from l line) (append-nil frame)
+    (subst (λ l. Rows view m who to start from (frame ++ []) l) (append-nil line)
+    (OneRow {start = start} frame line (subst (λ p. ListsFrame view m who p from frame line to) here has) NoRows))
+row_more view m who here start from to _ _ frame line (OneRow {mid = mid} {bytes = bytes} {lines = lines} f l is rest) has =
+    let place : place_behind (start + length (f ++ bytes)) ≡ place_behind ((start + length f) + length bytes) = ap place_behind (omega (arith, length-append f bytes)) in
+    let more = row_more view m who here (start + length f) mid to bytes lines frame line rest (subst (λ p. ListsFrame view m who p here frame line to) place has) in
+    subst (λ x. Rows view m who to start from x ((l ++ lines) ++ line)) (sym (append_assoc f bytes frame))
+    (subst (λ x. Rows view m who to start from (f ++ (bytes ++ frame)) x) (sym (append_assoc l lines line))
+    (OneRow f l is more))
+
+rows_of : (view : View) (m : List ℕ) (who : Sender) (start : ℕ) (from to : Known) (bytes lines : List ℕ) → ListsFrames view m who start from bytes lines to → Rows view m who to start from bytes lines
+rows_of view m who start from _ [] [] NoFrames = NoRows
+rows_of view m who start from to _ _ (OneFrame {bytes = bytes} {lines = lines} {here = here} frame line before has) = row_more view m who here start from to bytes lines frame line (rows_of view m who start from here bytes lines before) has
+
+-- what stands at the end is one thing
+record SameEnd (a b lines others x y : List ℕ) (s t : Bool) (to too : Known) : Type 0 where
+  fronts : a ≡ b
+  texts : lines ≡ others
+  rests : x ≡ y
+  ends : s ≡ t
+  knowns : to ≡ too
+
+rows_one : (view : View) (m : List ℕ) (who : Sender) (to too : Known) (start : ℕ) (from : Known) (a b lines others x y : List ℕ) (s t : Bool) → Rows view m who to start from a lines → Ends (side_in who to) s x → Rows view m who too start from b others → Ends (side_in who too) t y
+    → a ++ x ≡ b ++ y → SameEnd a b lines others x y s t to too
+rows_one view m who _ _ start from [] [] [] [] x y s t NoRows ends NoRows others e = record { fronts = refl; texts = refl; rests = e; ends = ends_one (side_in who from) s t y (subst (Ends (side_in who from) s) e ends) others; knowns = refl }
+rows_one view m who _ too start from [] _ [] _ x y s t NoRows ends (OneRow {mid = mid} {bytes = bytes} {lines = more} g k is rest) others e =
+    absurd (no_line view.style (place_behind start) (side_in who from) is.after s x g is.line (bytes ++ y) ends is.reported (e ∙ append_assoc g bytes y))
+rows_one view m who to _ start from _ [] _ [] x y s t (OneRow {mid = mid} {bytes = bytes} {lines = more} f l is rest) ends NoRows others e =
+    absurd (no_line view.style (place_behind start) (side_in who from) is.after t y f is.line (bytes ++ x) others is.reported (sym e ∙ append_assoc f bytes x))
+rows_one view m who to too start from _ _ _ _ x y s t (OneRow {mid = mid} {bytes = bytes} {lines = more} f l is rest) ends (OneRow {mid = last} {bytes = left} {lines = less} g k has tail) others e =
+    let one = lists_one view m who (place_behind start) from mid last f g l k (bytes ++ x) (left ++ y) is has (sym (append_assoc f bytes x) ∙ e ∙ append_assoc g left y) in
+    let here : Rows view m who too (start + length f) mid left less = subst (λ h. Rows view m who too (start + length f) h left less) (sym one.knowns) (subst (λ h. Rows view m who too (start + length h) last left less) (sym one.frames) tail) in
+    let same = rows_one view m who to too (start + length f) mid bytes left more less x y s t rest ends here others one.rests in
+    record {
+      fronts = ap (λ h. h ++ bytes) one.frames ∙ ap (λ h. g ++ h) same.fronts;
+      texts = ap (λ h. h ++ more) one.texts ∙ ap (λ h. k ++ h) same.texts;
+      rests = same.rests;
+      ends = same.ends;
+      knowns = same.knowns;
+    }
+
+-- ---- a chunk
+
+half_same : (a b : Half) → a.passed ≡ b.passed → a.rest ≡ b.rest → a.stopped ≡ b.stopped → a ≡ b
+half_same a b p r s =
+    ap (λ n. record { passed = n; rest = a.rest; stopped = a.stopped }) p ∙ ap (λ l. record { passed = b.passed; rest = l; stopped = a.stopped }) r ∙ ap (λ t. record { passed = b.passed; rest = b.rest; stopped = t }) s
+
+parts_same : (a b : Talk) → a.known ≡ b.known → a.client ≡ b.client → a.server ≡ b.server → a.start ≡ b.start → a ≡ b
+parts_same a b k c s t =
+    ap (λ x. record { known = x; client = a.client; server = a.server; start = a.start }) k ∙ ap (λ x. record { known = b.known; client = x; server = a.server; start = a.start }) c
+    ∙ ap (λ x. record { known = b.known; client = b.client; server = x; start = a.start }) s ∙ ap (λ x. record { known = b.known; client = b.client; server = b.server; start = x }) t
+
+talk_same : (who : Sender) (a b : Talk) → a.known ≡ b.known → half_in who a ≡ half_in who b → half_in (other who) a ≡ half_in (other who) b → a.start ≡ b.start → a ≡ b
+talk_same Client a b k c s t = parts_same a b k c s t
+talk_same Server a b k s c t = parts_same a b k c s t
+
+pub chunk_lists_one : (view : View) (before after then : Talk) (chunk : Chunk) (text another : List ℕ) → ListsChunk view before chunk text after → ListsChunk view before chunk another then → (text ≡ another) × (after ≡ then)
+chunk_lists_one view before after then chunk text another a b =
+    let who = chunk.sender in
+    let m = mark view.style.form who (since (first_time before.start chunk.micros) chunk.micros) in
+    let start = (half_in who before).passed in
+    let one = rows_one view m who after.known then.known start before.known a.front b.front text another (half_in who after).rest (half_in who then).rest (half_in who after).stopped (half_in who then).stopped
+    (rows_of view m who start before.known after.known a.front text a.each) a.ending (rows_of view m who start before.known then.known b.front another b.each) b.ending (sym a.whole ∙ b.whole) in
+    let half = half_same (half_in who after) (half_in who then) (a.passed ∙ ap (λ l. start + length l) one.fronts ∙ sym b.passed) one.rests one.ends in
+    (one.texts, talk_same who after then one.knowns half (a.same ∙ sym b.same) (a.start ∙ sym b.start))
+
+data InOrder (view : View) (to : Talk) : Talk → List Chunk → List ℕ → Type 0 where
+  NoMore : InOrder view to to [] []
+  OneMore : {from mid : Talk} {chunks : List Chunk} {lines : List ℕ} (chunk : Chunk) (text : List ℕ) → ListsChunk view from chunk text mid → InOrder view to mid chunks lines → InOrder view to from (chunk ∷ chunks) (text ++ lines)
+
+chunk_more : (view : View) (here from to : Talk) (chunks : List Chunk) (chunk : Chunk) (lines text : List ℕ) → InOrder view here from chunks lines → ListsChunk view here chunk text to → InOrder view to from (chunks ++ chunk ∷ []) (lines ++ text)
+chunk_more view _ from to [] chunk [] text NoMore has = subst (λ l. InOrder view to from (chunk ∷ []) l) (append-nil text) (OneMore chunk text has NoMore)
+chunk_more view here from to _ chunk _ text (OneMore {mid = mid} {chunks = chunks} {lines = lines} c t is rest) has =
+    subst (λ l. InOrder view to from (c ∷ (chunks ++ chunk ∷ [])) l) (sym (append_assoc t lines text)) (OneMore c t is (chunk_more view here mid to chunks chunk lines text rest has))
+
+chunks_of : (view : View) (from to : Talk) (chunks : List Chunk) (lines : List ℕ) → ListsChunks view from chunks lines to → InOrder view to from chunks lines
+chunks_of view from _ [] [] NoChunkListed = NoMore
+chunks_of view from to _ _ (OneChunkListed {chunks = chunks} {lines = lines} {here = here} chunk text before has) = chunk_more view here from to chunks chunk lines text (chunks_of view from here chunks lines before) has
+
+listed_one : (view : View) (to too from : Talk) (cs ds : List Chunk) (lines others : List ℕ) → InOrder view to from cs lines → InOrder view too from ds others → cs ≡ ds → (lines ≡ others) × (to ≡ too)
+listed_one view _ _ _ [] [] [] [] NoMore NoMore e = (refl, refl)
+listed_one view _ too from [] _ [] _ NoMore (OneMore {chunks = ds} d u has tail) e = let h : 0 ≡ suc (length ds) = ap length e in absurd (omega (arith, h))
+listed_one view to _ from _ [] _ [] (OneMore {chunks = cs} c t is rest) NoMore e = let h : suc (length cs) ≡ 0 = ap length e in absurd (omega (arith, h))
+listed_one view to too from _ _ _ _ (OneMore {mid = mid} {chunks = cs} {lines = more} c t is rest) (OneMore {mid = last} {chunks = ds} {lines = less} d u has tail) e =
+    let first = ap (λ l. get_or l 0 c) e in
+    let one = chunk_lists_one view from mid last d t u (subst (λ k. ListsChunk view from k t mid) first is) has in
+    let same = listed_one view to too mid cs ds more less rest (subst (λ h. InOrder view too h ds less) (sym one.1) tail) (ap (λ l. drop 1 l) e) in
+    (ap (λ l. l ++ more) one.0 ∙ ap (λ l. u ++ l) same.0, same.1)
+
+-- ---- the chunks of a recording
+
+arrow_one : (a b : Sender) → arrow a ≡ arrow b → a ≡ b
+arrow_one Client Client e = refl
+arrow_one Server Server e = refl
+arrow_one Client Server e = let h : 62 ≡ 60 = e in absurd (omega (arith, h))
+arrow_one Server Client e = let h : 60 ≡ 62 = e in absurd (omega (arith, h))
+
+-- as many bytes at the front of both
+fronts_one : (xs ys p q : List ℕ) → length xs ≡ length ys → xs ++ p ≡ ys ++ q → (xs ≡ ys) × (p ≡ q)
+fronts_one xs ys p q long e = (
+  sym (take-append_seam xs p) ∙ ap (take (length xs)) e ∙ ap (λ n. take n (ys ++ q)) long ∙ take-append_seam ys q,
+  sym (drop-append_seam xs p) ∙ ap (drop (length xs)) e ∙ ap (λ n. drop n (ys ++ q)) long ∙ drop-append_seam ys q,
+)
+
+-- the time, the length and what comes after them
+numbers_one : (m n k l : ℕ) (x y : List ℕ) → m < 2 ^ 64 → n < 2 ^ 64 → k < 2 ^ 32 → l < 2 ^ 32 → uint64 m ++ uint32 k ++ x ≡ uint64 n ++ uint32 l ++ y → (m ≡ n) × (k ≡ l) × (x ≡ y)
+numbers_one m n k l x y fm fn fk fl e =
+    let times = fronts_one (uint64 m) (uint64 n) (uint32 k ++ x) (uint32 l ++ y) (uint64_number.len m ∙ sym (uint64_number.len n)) (sym (append_assoc (uint64 m) (uint32 k) x) ∙ e ∙ append_assoc (uint64 n) (uint32 l) y) in
+    let sizes = fronts_one (uint32 k) (uint32 l) x y (oid_number.len k ∙ sym (oid_number.len l)) times.1 in
+    (sym (uint64_number.back m fm) ∙ ap (from_be_bytes w64) times.0 ∙ uint64_number.back n fn, sym (oid_number.back k fk) ∙ ap (from_be_bytes w32) sizes.0 ∙ oid_number.back l fl, sizes.1)
+
+behind_arrow : (c : Chunk) (x : List ℕ) → chunk_bytes c ++ x ≡ arrow c.sender ∷ (uint64 c.micros ++ uint32 (length c.bytes) ++ (c.bytes ++ x))
+behind_arrow c x = ap (λ l. arrow c.sender ∷ l) (append_assoc (uint64 c.micros ++ uint32 (length c.bytes)) c.bytes x)
+
+pub chunk_one : (a b : Chunk) (x y : List ℕ) → IsChunk a → IsChunk b → chunk_bytes a ++ x ≡ chunk_bytes b ++ y → (a ≡ b) × (x ≡ y)
+chunk_one a b x y fa fb e =
+    let all = sym (behind_arrow a x) ∙ e ∙ behind_arrow b y in
+    let who = arrow_one a.sender b.sender (ap (λ l. get_or l 0 0) all) in
+    let parts = numbers_one a.micros b.micros (length a.bytes) (length b.bytes) (a.bytes ++ x) (b.bytes ++ y) fa.time fb.time fa.fits fb.fits (ap (drop 1) all) in
+    let bodies = fronts_one a.bytes b.bytes x y parts.1 parts.2 in (
+      ap (λ s. record { sender = s; micros = a.micros; bytes = a.bytes }) who ∙ ap (λ n. record { sender = b.sender; micros = n; bytes = a.bytes }) parts.0 ∙ ap (λ l. record { sender = b.sender; micros = b.micros; bytes = l }) bodies.0,
+      bodies.1,
+    )
+
+-- no whole chunk stands first
+abbrev NoneStands : List ℕ → Type 0
+NoneStands rest = (c : Chunk) (more : List ℕ) → IsChunk c → rest ≢ chunk_bytes c ++ more
+
+short_bytes : (c : Chunk) (more rest : List ℕ) (first : ℕ) → IsChunk c → first ∷ rest ≡ chunk_bytes c ++ more → IsShort rest → ⊥
+short_bytes c more rest first is e short =
+    let all = ap (drop 1) (e ∙ behind_arrow c more) in
+    let parts = numbers_one short.micros c.micros short.len (length c.bytes) short.rest (c.bytes ++ more) short.time is.time short.fits is.fits (sym short.parts ∙ all) in
+    omega (arith, short.missing, parts.1, ap length parts.2, length-append c.bytes more)
+
+few_bytes : (c : Chunk) (more rest : List ℕ) (first : ℕ) → first ∷ rest ≡ chunk_bytes c ++ more → length rest < 12 → ⊥
+few_bytes c more rest first e few =
+    let all = ap (drop 1) (e ∙ behind_arrow c more) in
+    omega (arith, few, ap length all, length-append (uint64 c.micros ++ uint32 (length c.bytes)) (c.bytes ++ more), length-append (uint64 c.micros) (uint32 (length c.bytes)), uint64_number.len c.micros, oid_number.len (length c.bytes))
+
+partial_none : (rest : List ℕ) → IsPartial rest → NoneStands rest
+partial_none [] p c more is e = let h : 0 ≡ suc (length (uint64 c.micros ++ uint32 (length c.bytes) ++ (c.bytes ++ more))) = ap length (e ∙ behind_arrow c more) in omega (arith, h)
+partial_none (first ∷ rest) p c more is e = elim p.1 [ inl few ↦ few_bytes c more rest first e few | inr short ↦ short_bytes c more rest first is e short ]
+
+ends_none : (rest : List ℕ) (end : End) → EndsBy true rest end → NoneStands rest
+ends_none rest Whole e = partial_none rest (subst IsPartial (sym e) tt)
+ends_none rest Cut e = partial_none rest e.1
+ends_none [] NoChunk e = absurd e
+ends_none (first ∷ rest) NoChunk e = λ c more is same. e c.sender (ap (λ l. get_or l 0 0) same)
+ends_none rest NoRecording e = absurd e
+
+split : (cs : List Chunk) (c : Chunk) (x : List ℕ) → flat_map chunk_bytes (c ∷ cs) ++ x ≡ chunk_bytes c ++ (flat_map chunk_bytes cs ++ x)
+split cs c x = ap (λ l. l ++ x) (flat_map-cons chunk_bytes c cs) ∙ append_assoc (chunk_bytes c) (flat_map chunk_bytes cs) x
+
+chunks_one : (cs ds : List Chunk) (x y : List ℕ) → AllByRecursion IsChunk cs → AllByRecursion IsChunk ds → NoneStands x → NoneStands y → flat_map chunk_bytes cs ++ x ≡ flat_map chunk_bytes ds ++ y → (cs ≡ ds) × (x ≡ y)
+chunks_one [] [] x y fc fd nx ny e = (refl, e)
+chunks_one [] (d ∷ ds) x y fc fd nx ny e = absurd (nx d (flat_map chunk_bytes ds ++ y) fd.0 (e ∙ split ds d y))
+chunks_one (c ∷ cs) [] x y fc fd nx ny e = absurd (ny c (flat_map chunk_bytes cs ++ x) fc.0 (sym e ∙ split cs c x))
+chunks_one (c ∷ cs) (d ∷ ds) x y fc fd nx ny e =
+    let one = chunk_one c d (flat_map chunk_bytes cs ++ x) (flat_map chunk_bytes ds ++ y) fc.0 fd.0 (sym (split cs c x) ∙ e ∙ split ds d y) in
+    let more = chunks_one cs ds x y fc.1 fd.1 nx ny one.1 in
+    (ap (λ k. k ∷ cs) one.0 ∙ ap (λ l. d ∷ l) more.0, more.1)
+
+end_one : (rest : List ℕ) (a b : End) → EndsBy true rest a → EndsBy true rest b → a ≡ b
+end_one rest Whole Whole a b = refl
+end_one rest Cut Cut a b = refl
+end_one rest NoChunk NoChunk a b = refl
+end_one rest Whole Cut a b = absurd (omega (arith, ap length a, b.0))
+end_one rest Cut Whole a b = absurd (omega (arith, ap length b, a.0))
+end_one rest Whole NoChunk a b = let none : IsNoChunk [] = subst IsNoChunk a b in absurd none
+end_one rest NoChunk Whole a b = let none : IsNoChunk [] = subst IsNoChunk b a in absurd none
+end_one [] Cut NoChunk a b = absurd b
+end_one [] NoChunk Cut a b = absurd a
+end_one (first ∷ rest) Cut NoChunk a b = absurd (b a.1.0.0 a.1.0.1)
+end_one (first ∷ rest) NoChunk Cut a b = absurd (a b.1.0.0 b.1.0.1)
+end_one rest NoRecording b a e = absurd a
+end_one rest a NoRecording e b = absurd b
+
+-- ---- the whole
+
+unbegun : (bytes rest : List ℕ) (chunks : List Chunk) → Records bytes false chunks rest → bytes ≡ rest
+unbegun bytes rest chunks r = r.whole ∙ ap (λ cs. flat_map chunk_bytes cs ++ rest) (r.none refl)
+
+no_recording : (bytes rest : List ℕ) (chunks : List Chunk) (end : End) → EndsBy false rest end → Records bytes false chunks rest → (end ≡ NoRecording) × ((more : List ℕ) → bytes ≢ magic ++ more)
+no_recording bytes rest chunks Whole e r = absurd e
+no_recording bytes rest chunks Cut e r = absurd e
+no_recording bytes rest chunks NoChunk e r = absurd e
+no_recording bytes rest chunks NoRecording e r = (refl, λ more same. e more (sym (unbegun bytes rest chunks r) ∙ same))
+
+magic_first : (bytes rest : List ℕ) (chunks : List Chunk) → Records bytes true chunks rest → bytes ≡ magic ++ (flat_map chunk_bytes chunks ++ rest)
+magic_first bytes rest chunks r = r.whole ∙ append_assoc magic (flat_map chunk_bytes chunks) rest
+
+lines_one : (view : View) (absolute : Bool) (cs ds : List Chunk) (lines others : List ℕ) (to too : Talk) → ListsChunks view (begins absolute) cs lines to → ListsChunks view (begins absolute) ds others too → cs ≡ ds → lines ++ last_lines view to ≡ others ++ last_lines view too
+lines_one view absolute cs ds lines others to too a b e =
+    let one = listed_one view to too (begins absolute) cs ds lines others (chunks_of view (begins absolute) to cs lines a) (chunks_of view (begins absolute) too ds others b) e in
+    ap (λ l. l ++ last_lines view to) one.0 ∙ ap (λ t. others ++ last_lines view t) one.1
+
+by_begun : (view : View) (absolute : Bool) (bytes x y lines others : List ℕ) (p q : Bool) (a b : End) (to too : Talk) (m : HasLines view absolute bytes p x lines to) (n : HasLines view absolute bytes q y others too) → EndsBy p x a → EndsBy q y b
+    → (a ≡ b) × (lines ++ last_lines view to ≡ others ++ last_lines view too)
+by_begun view absolute bytes x y lines others true true a b to too m n ea eb =
+    let same = chunks_one m.chunks n.chunks x y m.records.each n.records.each (ends_none x a ea) (ends_none y b eb)
+    (sym (drop-append_seam magic (flat_map chunk_bytes m.chunks ++ x)) ∙ ap (drop 20) (sym (magic_first bytes x m.chunks m.records) ∙ magic_first bytes y n.chunks n.records) ∙ drop-append_seam magic (flat_map chunk_bytes n.chunks ++ y)) in
+    (end_one y a b (subst (λ l. EndsBy true l a) same.1 ea) eb, lines_one view absolute m.chunks n.chunks lines others to too m.each n.each same.0)
+by_begun view absolute bytes x y lines others false false a b to too m n ea eb =
+    ((no_recording bytes x m.chunks a ea m.records).0 ∙ sym (no_recording bytes y n.chunks b eb n.records).0, lines_one view absolute m.chunks n.chunks lines others to too m.each n.each (m.records.none refl ∙ sym (n.records.none refl)))
+by_begun view absolute bytes x y lines others true false a b to too m n ea eb =
+    absurd ((no_recording bytes y n.chunks b eb n.records).1 (flat_map chunk_bytes m.chunks ++ x) (magic_first bytes x m.chunks m.records))
+by_begun view absolute bytes x y lines others false true a b to too m n ea eb =
+    absurd ((no_recording bytes x m.chunks a ea m.records).1 (flat_map chunk_bytes n.chunks ++ y) (magic_first bytes y n.chunks n.records))
+
+pub one_listing : (view : View) (absolute : Bool) (bytes output another : List ℕ) (end ending : End) → IsListing view absolute bytes end output → IsListing view absolute bytes ending another → (end ≡ ending) × (output ≡ another)
+one_listing view absolute bytes output another end ending a b =
+    let one = by_begun view absolute bytes a.rest b.rest a.lines b.lines a.begun b.begun end ending a.talk b.talk a.each b.each a.ending b.ending in
+    (one.0, a.text ∙ one.1 ∙ sym b.text)

@@ -1,0 +1,397 @@
+-- The listing of a recording, a chunk and a piece at a time.
+use Rattle.std.proofs.Common.{◌≡◌, ◌≢◌, ◌⊎◌, ℕ, ◌+◌, ◌-◌, ◌≤◌, ◌<◌, Bool, true, false, List, [], ◌∷◌, ◌++◌, length, take, drop, Option, Result, Ok, Err, refl, sym, ap, subst, ◌∙◌, arith, inl, inr, append_assoc, length-append}
+use Rattle.std.specs.Prelude.{IfOk, OnErr, OnOk}
+use Rattle.std.specs.Io.KnownBytes.{Appends, Consumes, IsAtEnd, Keeps as Same}
+use Rattle.std.specs.List.{flat_map, AllByRecursion}
+use Rattle.std.proofs.KnownBytes.{Appends-nil, Appends-trans, Consumes-nil, Consumes-trans, Consumes-kept}
+use Rattle.std.proofs.lemmas.List.{append-nil, drop-drop}
+use Rattle.std.proofs.Math.Seq.{drop-append_seam}
+use Rattle.std.proofs.lemmas.List.Concat.{flat_map-cons}
+use Rattle.std.proofs.lemmas.Grind.{flat_map-append}
+use Rattle.pgp_program.specs.Run.{Streams}
+use Rattle.pgp_program.specs.Taken.{AppendsFront}
+use Rattle.pgp_trace.specs.Hints.{hint_of}
+use Rattle.pgp_trace.specs.View.{View}
+use Rattle.pgp_trace.proofs.Ends.{nothing_ends}
+use Rattle.pgp_trace.proofs.Fronts.{none_taken, all_taken, more_taken}
+use Rattle.pgp_conversation.specs.declared.chunk.Chunk as code
+use Rattle.pgp_conversation.specs.declared.chunk.Part.TheVariants as part
+use Rattle.pgp_conversation.specs.declared.chunk.Sender.TheVariants.{Client, Server}
+use Rattle.pgp_conversation.specs.declared.ending.End.{End}
+use Rattle.pgp_conversation.specs.declared.ending.End.TheVariants.{Whole, Cut, NoChunk, NoRecording}
+use Rattle.pgp_conversation.specs.declared.session.Said.{Said}
+use Rattle.pgp_conversation.specs.Conversation.{Half, ListsChunks, NoChunkListed, OneChunkListed, Talk, at_first, begins, first_start, last_lines, last_of, left, nothing}
+use Rattle.pgp_conversation.specs.Pieces.{ListsAllChunks, ListsPiece, ListsSome, Stays, Tracks, TracksTo, held_first, held_last, held_nothing}
+use Rattle.pgp_conversation.specs.Recording.{Chunk, EndsBy, IsChunk, IsPartial, Records, beginning, chunk_bytes, complaint_of, magic}
+use Rattle.pgp_conversation.specs.Session.{Awaits, EndsWith, IsCutShort, HasLines, IsListing, IsReadTo, IsReady, WasListed, WritesListing, said_of}
+use Rattle.pgp_conversation.specs.Steps.{ListsChunkTo, HeldTalk, Keeps, TakesChunk, TakesPart, chunk_of, end_of}
+use Rattle.pgp_conversation.proofs.Chunks.{magic_short}
+
+-- ---- a chunk at a time
+
+each_more : (chunks : List Chunk) (chunk : Chunk) → AllByRecursion IsChunk chunks → IsChunk chunk → AllByRecursion IsChunk (chunks ++ chunk ∷ [])
+each_more [] chunk each is = (is, tt)
+each_more (first ∷ more) chunk each is = (each.0, each_more more chunk each.1 is)
+
+flat_more : (chunks : List Chunk) (chunk : Chunk) → flat_map chunk_bytes (chunks ++ chunk ∷ []) ≡ flat_map chunk_bytes chunks ++ chunk_bytes chunk
+flat_more chunks chunk = flat_map-append chunk_bytes chunks (chunk ∷ []) ∙ ap (λ l. flat_map chunk_bytes chunks ++ l) (flat_map-cons chunk_bytes chunk [] ∙ append-nil (chunk_bytes chunk))
+
+opened_not : (true ≡ false) → (chunks : List Chunk) → chunks ≡ []
+opened_not e chunks = absurd cc
+
+-- the beginning was read
+begun_records : (bytes : List ℕ) (chunks : List Chunk) (rest behind : List ℕ) → Records bytes false chunks rest → rest ≡ magic ++ behind → Records bytes true chunks behind
+begun_records bytes chunks rest behind r is = record {
+  whole = r.whole ∙ ap (λ l. l ++ rest) (ap (λ cs. flat_map chunk_bytes cs) (r.none refl)) ∙ is ∙ ap (λ l. l ++ behind) (sym (append-nil magic)) ∙ ap (λ cs. magic ++ flat_map chunk_bytes cs ++ behind) (sym (r.none refl));
+  each = r.each;
+  none = λ e. opened_not e chunks;
+}
+
+-- and one chunk more
+more_records : (bytes : List ℕ) (chunks : List Chunk) (chunk : Chunk) (rest behind : List ℕ) → Records bytes true chunks rest → TakesChunk chunk rest behind → Records bytes true (chunks ++ chunk ∷ []) behind
+more_records bytes chunks chunk rest behind r t = record {
+  whole = r.whole ∙ ap (λ l. magic ++ flat_map chunk_bytes chunks ++ l) t.whole ∙ sym (append_assoc (magic ++ flat_map chunk_bytes chunks) (chunk_bytes chunk) behind)
+      ∙ ap (λ l. l ++ behind) (append_assoc magic (flat_map chunk_bytes chunks) (chunk_bytes chunk) ∙ ap (λ l. magic ++ l) (sym (flat_more chunks chunk)));
+  each = each_more chunks chunk r.each t.is;
+  none = λ e. opened_not e (chunks ++ chunk ∷ []);
+}
+
+pub begun : (view : View) (absolute : Bool) (bytes lines : List ℕ) (held : HeldTalk) (rest behind : List ℕ) → Tracks view absolute bytes lines false held rest → rest ≡ magic ++ behind → Tracks view absolute bytes lines true held behind
+begun view absolute bytes lines held rest behind t is = record {
+  talk = t.talk;
+  each = record { chunks = t.each.chunks; records = begun_records bytes t.each.chunks rest behind t.each.records is; each = t.each.each };
+  keeps = t.keeps;
+}
+
+pub listed_more : (view : View) (absolute : Bool) (bytes lines : List ℕ) (held next : HeldTalk) (chunk : Chunk) (rest behind old new : List ℕ) (t : Tracks view absolute bytes lines true held rest) → TakesChunk chunk rest behind
+    → ListsChunkTo view t.talk chunk next old new → TracksTo view absolute bytes lines true next behind old new
+listed_more view absolute bytes lines held next chunk rest behind old new t takes lists = record {
+  added = lists.text;
+  tracks = record {
+    talk = lists.after;
+    each = record {
+      chunks = t.each.chunks ++ chunk ∷ [];
+      records = more_records bytes t.each.chunks chunk rest behind t.each.records takes;
+      each = OneChunkListed chunk lists.text t.each.each lists.lists;
+    };
+    keeps = lists.keeps;
+  };
+  text = lists.grown;
+}
+
+-- ---- chunk after chunk
+
+-- what those so far come to, whatever came before
+abbrev pub Lists : View → (begun opened : Bool) (held now : HeldTalk) (bytes rest old new : List ℕ) → Type 0
+Lists view begun opened held now bytes rest old new = (absolute : Bool) (received lines : List ℕ) → Tracks view absolute received lines begun held bytes → TracksTo view absolute received lines opened now rest old new
+
+pub nothing_listed : (view : View) (begun : Bool) (held : HeldTalk) (bytes old : List ℕ) → Lists view begun begun held held bytes bytes old old
+nothing_listed view begun held bytes old absolute received lines t = record {
+  added = [];
+  tracks = subst (λ l. Tracks view absolute received l begun held bytes) (sym (append-nil lines)) t;
+  text = sym (append-nil old);
+}
+
+pub and_begun : (view : View) (was opened : Bool) (held now : HeldTalk) (bytes rest behind old new : List ℕ) → Lists view was opened held now bytes rest old new → opened ≡ false → rest ≡ magic ++ behind → Lists view was true held now bytes behind old new
+and_begun view was opened held now bytes rest behind old new so_far fresh is absolute received lines t =
+    let to = so_far absolute received lines t in
+    record {
+      added = to.added;
+      tracks = begun view absolute received (lines ++ to.added) now rest behind (subst (λ b. Tracks view absolute received (lines ++ to.added) b now rest) fresh to.tracks) is;
+      text = to.text;
+    }
+
+pub and_listed : (view : View) (was opened : Bool) (held now next : HeldTalk) (chunk : Chunk) (bytes rest behind old mid new : List ℕ) → Lists view was opened held now bytes rest old mid → opened ≡ true → TakesChunk chunk rest behind
+    → ((before : Talk) → Keeps now before → ListsChunkTo view before chunk next mid new) → Lists view was opened held next bytes behind old new
+and_listed view was opened held now next chunk bytes rest behind old mid new so_far opens takes lists absolute received lines t =
+    let to = so_far absolute received lines t in
+    let here = subst (λ b. Tracks view absolute received (lines ++ to.added) b now rest) opens to.tracks in
+    let more = listed_more view absolute received (lines ++ to.added) now next chunk rest behind mid new here takes (lists here.talk here.keeps) in
+    record {
+      added = to.added ++ more.added;
+      tracks = subst (λ l. Tracks view absolute received l opened next behind) (append_assoc lines to.added more.added) (subst (λ b. Tracks view absolute received (lines ++ to.added ++ more.added) b next behind) (sym opens) more.tracks);
+      text = more.text ∙ ap (λ l. l ++ more.added) to.text ∙ append_assoc old to.added more.added;
+    }
+
+-- ---- what stands first
+
+pub takes_magic : (opened : Bool) (rest behind : List ℕ) → TakesPart opened rest part.Magic behind → (opened ≡ false) × (rest ≡ magic ++ behind)
+takes_magic false rest behind t = (refl, t)
+takes_magic true rest behind t = absurd t
+
+pub takes_chunk : (opened : Bool) (rest behind : List ℕ) (c : code.Chunk) → TakesPart opened rest (part.Chunk c) behind → (opened ≡ true) × TakesChunk (chunk_of c) rest behind
+takes_chunk false rest behind c t = absurd t
+takes_chunk true rest behind c t = (refl, t)
+
+pub waits : (opened : Bool) (rest behind : List ℕ) → TakesPart opened rest part.Waits behind → Stays opened false rest
+waits false rest behind t = t.1
+waits true rest behind t = t.1
+
+pub stops : (opened : Bool) (rest behind : List ℕ) → TakesPart opened rest part.Stops behind → Stays opened true rest
+stops false rest behind t = t.1
+stops true rest behind t = t.1
+
+-- the rest stands at the end of the bytes
+pub ends_bytes : (bytes rest front behind : List ℕ) → rest ≡ front ++ behind → rest ≡ drop (length bytes - length rest) bytes → length rest ≤ length bytes → (behind ≡ drop (length bytes - length behind) bytes) × (length behind ≤ length bytes)
+ends_bytes bytes rest front behind is at le =
+    let long : length rest ≡ length front + length behind = ap length is ∙ length-append front behind in
+    let sum : (length bytes - length rest) + length front ≡ length bytes - length behind = omega (arith, long, le) in (
+      sym (drop-append_seam front behind) ∙ ap (drop (length front)) (sym is ∙ at) ∙ drop-drop (length front) (length bytes - length rest) bytes ∙ ap (λ n. drop n bytes) sum,
+      omega (arith, long, le),
+    )
+
+pub all_bytes : (bytes : List ℕ) → (bytes ≡ drop (length bytes - length bytes) bytes) × (length bytes ≤ length bytes)
+all_bytes bytes = let none : 0 ≡ length bytes - length bytes = omega arith in (ap (λ n. drop n bytes) none, omega arith)
+
+-- all that are whole were listed
+pub all_listed : (view : View) (was opened stopped : Bool) (held now : HeldTalk) (bytes rest behind old new : List ℕ) → Lists view was opened held now bytes rest old new → Stays opened stopped rest → rest ≡ behind
+    → (absolute : Bool) (received lines : List ℕ) → Tracks view absolute received lines was held bytes → ListsAllChunks view absolute received lines opened stopped now behind old new
+all_listed view was opened stopped held now bytes rest behind old new so_far stays same absolute received lines t =
+    subst (λ l. ListsAllChunks view absolute received lines opened stopped now l old new) same (record { to = so_far absolute received lines t; stays = stays })
+
+-- ---- a piece at a time
+
+pub received : (view : View) (absolute : Bool) (bytes lines : List ℕ) (opened : Bool) (held : HeldTalk) (rest piece : List ℕ) → Tracks view absolute bytes lines opened held rest → Tracks view absolute (bytes ++ piece) lines opened held (rest ++ piece)
+received view absolute bytes lines opened held rest piece t = record {
+  talk = t.talk;
+  each = record {
+    chunks = t.each.chunks;
+    records = record {
+      whole = ap (λ l. l ++ piece) t.each.records.whole ∙ append_assoc (beginning opened ++ flat_map chunk_bytes t.each.chunks) rest piece;
+      each = t.each.records.each;
+      none = t.each.records.none;
+    };
+    each = t.each.each;
+  };
+  keeps = t.keeps;
+}
+
+-- what a call listed of a slice of the bytes that are kept
+pub all_there : (view : View) (opened now stopped : Bool) (held next : HeldTalk) (slice items behind before text : List ℕ) (n : ℕ) → slice ≡ items → before ≡ [] → behind ≡ drop n items
+    → ((absolute : Bool) (received lines : List ℕ) → Tracks view absolute received lines opened held slice → ListsAllChunks view absolute received lines now stopped next (drop n slice) before text)
+    → (absolute : Bool) (received lines : List ℕ) → Tracks view absolute received lines opened held items → ListsAllChunks view absolute received lines now stopped next behind [] text
+all_there view opened now stopped held next slice items behind before text n same empty cut all absolute received lines t =
+    subst (λ l. ListsAllChunks view absolute received lines now stopped next l [] text) (sym cut)
+    (subst (λ b. ListsAllChunks view absolute received lines now stopped next (drop n items) b text) empty
+    (subst (λ s. ListsAllChunks view absolute received lines now stopped next (drop n s) before text) same
+    (all absolute received lines (subst (λ s. Tracks view absolute received lines opened held s) (sym same) t))))
+
+-- all that is whole with it was listed, and its lines were written
+pub piece_listed : (view : View) (absolute : Bool) (bytes lines piece : List ℕ) (opened now stopped : Bool) (held next : HeldTalk) (rest items behind text : List ℕ) (old new : Option (List ℕ)) → Tracks view absolute bytes lines opened held rest → items ≡ rest ++ piece
+    → ((received lines : List ℕ) → Tracks view absolute received lines opened held items → ListsAllChunks view absolute received lines now stopped next behind [] text) → Appends old new text
+    → ListsPiece view absolute (bytes ++ piece) lines now stopped next behind old new
+piece_listed view absolute bytes lines piece opened now stopped held next rest items behind text old new t grown all wrote =
+    let here = subst (λ l. Tracks view absolute (bytes ++ piece) lines opened held l) (sym grown) (received view absolute bytes lines opened held rest piece t) in
+    let done = all (bytes ++ piece) lines here in
+    record { added = done.to.added; tracks = done.to.tracks; stays = done.stays; written = subst (Appends old new) done.to.text wrote }
+
+pub piece_front : (view : View) (absolute : Bool) (bytes lines piece : List ℕ) (opened now stopped : Bool) (held next : HeldTalk) (rest items behind text : List ℕ) (old new : Option (List ℕ)) → Tracks view absolute bytes lines opened held rest → items ≡ rest ++ piece
+    → ((received lines : List ℕ) → Tracks view absolute received lines opened held items → ListsAllChunks view absolute received lines now stopped next behind [] text) → AppendsFront old new text
+    → ListsSome view absolute (bytes ++ piece) lines old new
+piece_front view absolute bytes lines piece opened now stopped held next rest items behind text old new t grown all taken =
+    let here = subst (λ l. Tracks view absolute (bytes ++ piece) lines opened held l) (sym grown) (received view absolute bytes lines opened held rest piece t) in
+    let done = all (bytes ++ piece) lines here in
+    record { begun = now; rest = behind; talk = done.to.tracks.talk; added = done.to.added; each = done.to.tracks.each; written = subst (AppendsFront old new) done.to.text taken }
+
+-- or nothing of it
+pub piece_lost : (view : View) (absolute : Bool) (bytes lines piece : List ℕ) (opened : Bool) (held : HeldTalk) (rest : List ℕ) (old : Option (List ℕ)) → Tracks view absolute bytes lines opened held rest → ListsSome view absolute (bytes ++ piece) lines old old
+piece_lost view absolute bytes lines piece opened held rest old t =
+    let here = received view absolute bytes lines opened held rest piece t in
+    record {
+      begun = opened;
+      rest = rest ++ piece;
+      talk = here.talk;
+      added = [];
+      each = subst (λ l. HasLines view absolute (bytes ++ piece) opened (rest ++ piece) l here.talk) (sym (append-nil lines)) here.each;
+      written = none_taken old [];
+    }
+
+-- ---- the whole recording
+
+-- what came so far was listed
+pub record Follows (view : View) (absolute : Bool) (before after : Streams) (opened : Bool) (held : HeldTalk) (rest : List ℕ) : Type 0 where
+  pub bytes : List ℕ
+  pub lines : List ℕ
+  pub received : Consumes before.input after.input bytes
+  pub tracks : Tracks view absolute bytes lines opened held rest
+  pub stays : Stays opened false rest
+  pub written : Appends before.output after.output lines
+
+nothing_kept : (absolute : Bool) → Keeps (held_first absolute) (begins absolute)
+nothing_kept absolute = record {
+  known = refl;
+  client = record { ending = nothing_ends at_first.client; stopped = refl; count = refl; place = refl; bytes = λ e. refl };
+  server = record { ending = nothing_ends at_first.server; stopped = refl; count = refl; place = refl; bytes = λ e. refl };
+  start = refl;
+}
+
+no_magic : (rest more : List ℕ) → rest ≡ [] → rest ≢ magic ++ more
+no_magic rest more none = magic_short rest more (omega (arith, ap length none))
+
+pub follows_start : (view : View) (absolute : Bool) (s : Streams) (opened : Bool) (held : HeldTalk) (rest : List ℕ) → opened ≡ false → held ≡ held_first absolute → rest ≡ [] → Follows view absolute s s opened held rest
+follows_start view absolute s opened held rest fresh first none = record {
+  bytes = [];
+  lines = [];
+  received = Consumes-nil s.input;
+  tracks = record {
+    talk = begins absolute;
+    each = record { chunks = []; records = record { whole = sym none ∙ ap (λ b. beginning b ++ [] ++ rest) (sym fresh); each = tt; none = λ e. refl }; each = NoChunkListed };
+    keeps = subst (λ h. Keeps h (begins absolute)) (sym first) (nothing_kept absolute);
+  };
+  stays = subst (λ b. Stays b false rest) (sym fresh) (λ more. no_magic rest more none);
+  written = Appends-nil s.output;
+}
+
+-- times are counted so
+pub first_held : (absolute : Bool) (held : HeldTalk) → held ≡ held_first false → record { known = held.known; client = held.client; server = held.server; start = first_start absolute } ≡ held_first absolute
+first_held absolute held e = ap (λ (h : HeldTalk). record { known = h.known; client = h.client; server = h.server; start = first_start absolute }) e
+
+pub follows_same : (view : View) (absolute : Bool) (before after : Streams) (opened : Bool) (held : HeldTalk) (rest : List ℕ) (next : Option (List ℕ)) → Follows view absolute before after opened held rest → Same after.input next
+    → Follows view absolute before (record { input = next; output = after.output }) opened held rest
+follows_same view absolute before after opened held rest next f kept =
+    record { bytes = f.bytes; lines = f.lines; received = Consumes-kept before.input after.input next f.bytes f.received kept; tracks = f.tracks; stays = f.stays; written = f.written }
+
+pub follows_piece : (view : View) (absolute : Bool) (before after : Streams) (opened now : Bool) (held new : HeldTalk) (rest behind piece : List ℕ) (next output : Option (List ℕ)) (f : Follows view absolute before after opened held rest) → Consumes after.input next piece
+    → ListsPiece view absolute (f.bytes ++ piece) f.lines now false new behind after.output output → Follows view absolute before (record { input = next; output = output }) now new behind
+follows_piece view absolute before after opened now held new rest behind piece next output f came one = record {
+  bytes = f.bytes ++ piece;
+  lines = f.lines ++ one.added;
+  received = Consumes-trans before.input after.input next f.bytes piece f.received came;
+  tracks = one.tracks;
+  stays = one.stays;
+  written = Appends-trans before.output after.output output f.lines one.added f.written one.written;
+}
+
+awaits : (opened : Bool) (rest : List ℕ) → Stays opened false rest → Awaits opened rest
+awaits true rest s = s
+awaits false rest s = s
+
+-- reading failed
+pub was_listed : (view : View) (absolute : Bool) (before after : Streams) (opened : Bool) (held : HeldTalk) (rest : List ℕ) → Follows view absolute before after opened held rest → WasListed view absolute before after
+was_listed view absolute before after opened held rest f =
+    record { bytes = f.bytes; begun = opened; rest = rest; lines = f.lines; talk = f.tracks.talk; received = f.received; each = f.tracks.each; waits = awaits opened rest f.stays; written = f.written }
+
+pub ready : {R W : Type 0} (remaining : R → Option (List ℕ)) (contents : W → Option (List ℕ)) (Passed : W → Type 0) (view : View) (absolute : Bool) (reader now : R) (writer out : W) (opened : Bool) (held : HeldTalk) (rest : List ℕ)
+    → Follows view absolute (record { input = remaining reader; output = contents writer }) (record { input = remaining now; output = contents out }) opened held rest → Same (contents writer) (contents out) ⊎ Passed out → IsReady remaining contents Passed view absolute reader writer now
+ready remaining contents Passed view absolute reader now writer out opened held rest f p =
+    record { out = out; listed = was_listed view absolute (record { input = remaining reader; output = contents writer }) (record { input = remaining now; output = contents out }) opened held rest f; passed = p }
+
+pub cut_here : (view : View) (absolute : Bool) (before after : Streams) (opened : Bool) (held : HeldTalk) (rest : List ℕ) → Follows view absolute before after opened held rest → IsCutShort view absolute before after
+cut_here view absolute before after opened held rest f =
+    record { bytes = f.bytes; begun = opened; rest = rest; lines = f.lines; talk = f.tracks.talk; text = f.lines; received = f.received; each = f.tracks.each; due = inl refl; written = all_taken before.output after.output f.lines f.written }
+
+pub cut_nothing : (view : View) (absolute : Bool) (s : Streams) → IsCutShort view absolute s s
+cut_nothing view absolute s = cut_here view absolute s s false (held_first absolute) [] (follows_start view absolute s false (held_first absolute) [] refl refl refl)
+
+-- a piece was listed in part
+pub cut_piece : (view : View) (absolute : Bool) (before after : Streams) (opened : Bool) (held : HeldTalk) (rest piece : List ℕ) (next output : Option (List ℕ)) (f : Follows view absolute before after opened held rest) → Consumes after.input next piece
+    → ListsSome view absolute (f.bytes ++ piece) f.lines after.output output → IsCutShort view absolute before (record { input = next; output = output })
+cut_piece view absolute before after opened held rest piece next output f came some = record {
+  bytes = f.bytes ++ piece;
+  begun = some.begun;
+  rest = some.rest;
+  lines = f.lines ++ some.added;
+  talk = some.talk;
+  text = f.lines ++ some.added;
+  received = Consumes-trans before.input after.input next f.bytes piece f.received came;
+  each = some.each;
+  due = inl refl;
+  written = more_taken before.output after.output output f.lines some.added f.written some.written;
+}
+
+-- ---- the end
+
+some_left : (rest : List ℕ) → IsPartial rest → EndsBy true rest (end_of true false rest)
+some_left [] p = refl
+some_left (x ∷ xs) p = (omega arith, p)
+
+pub ends_by : (opened stopped : Bool) (rest : List ℕ) → Stays opened stopped rest → EndsBy opened rest (end_of opened stopped rest)
+ends_by true false rest s = some_left rest s
+ends_by true true rest s = s
+ends_by false stopped rest s = s
+
+read_to : (opened : Bool) (rest : List ℕ) (input : Option (List ℕ)) → IsAtEnd input → IsReadTo (end_of opened false rest) input
+read_to false rest input end = tt
+read_to true [] input end = end
+read_to true (x ∷ xs) input end = end
+
+read_no_more : (opened : Bool) (rest : List ℕ) (input : Option (List ℕ)) → IsReadTo (end_of opened true rest) input
+read_no_more false rest input = tt
+read_no_more true rest input = tt
+
+-- what is kept says how much is left
+last_is : (view : View) (held : HeldTalk) (talk : Talk) → Keeps held talk → held_last view held ≡ last_lines view talk
+last_is view held talk k =
+    ap (λ s. last_of view Client s held.client.left ++ last_of view Server held.server.stopped held.server.left) k.client.stopped
+    ∙ ap (λ n. last_of view Client talk.client.stopped n ++ last_of view Server held.server.stopped held.server.left) k.client.count
+    ∙ ap (λ s. last_of view Client talk.client.stopped (left talk.client) ++ last_of view Server s held.server.left) k.server.stopped
+    ∙ ap (λ n. last_of view Client talk.client.stopped (left talk.client) ++ last_of view Server talk.server.stopped n) k.server.count
+
+hints_are : (held : HeldTalk) (talk : Talk) → Keeps held talk → (hint_of held.known.client held.client.left ≡ hint_of talk.known.client (left talk.client)) × (hint_of held.known.server held.server.left ≡ hint_of talk.known.server (left talk.server))
+hints_are held talk k = (
+  ap (λ n. hint_of held.known.client n) k.client.count ∙ ap (λ known. hint_of known.client (left talk.client)) k.known,
+  ap (λ n. hint_of held.known.server n) k.server.count ∙ ap (λ known. hint_of known.server (left talk.server)) k.known,
+)
+
+-- the last lines were written
+pub listing_written : (view : View) (absolute : Bool) (before after : Streams) (opened stopped : Bool) (held : HeldTalk) (rest client server bytes lines : List ℕ) (end : End) (output : Option (List ℕ)) → Consumes before.input after.input bytes
+    → Appends before.output after.output lines → (t : Tracks view absolute bytes lines opened held rest) → Stays opened stopped rest → IsReadTo (end_of opened stopped rest) after.input → end ≡ end_of opened stopped rest
+    → client ≡ hint_of held.known.client held.client.left → server ≡ hint_of held.known.server held.server.left → Appends after.output output (held_last view held)
+    → WritesListing view absolute before (record { input = after.input; output = output }) end (client ++ server ++ complaint_of end)
+listing_written view absolute before after opened stopped held rest client server bytes lines end output came written t stays all ended c s last =
+    let hints = hints_are held t.talk t.keeps in
+    record {
+      bytes = bytes;
+      output = lines ++ last_lines view t.talk;
+      received = came;
+      all = subst (λ e. IsReadTo e after.input) (sym ended) all;
+      is = record { begun = opened; rest = rest; lines = lines; talk = t.talk; each = t.each; ending = subst (EndsBy opened rest) (sym ended) (ends_by opened stopped rest stays); text = refl };
+      written = Appends-trans before.output after.output output lines (last_lines view t.talk) written (subst (Appends after.output output) (last_is view held t.talk t.keeps) last);
+      why = ap (λ l. l ++ server ++ complaint_of end) (c ∙ hints.0) ∙ ap (λ l. hint_of t.talk.known.client (left t.talk.client) ++ l ++ complaint_of end) (s ∙ hints.1);
+    }
+
+-- or a front of them
+pub last_cut : (view : View) (absolute : Bool) (before after : Streams) (opened stopped : Bool) (held : HeldTalk) (rest bytes lines : List ℕ) (output : Option (List ℕ)) → Consumes before.input after.input bytes
+    → Appends before.output after.output lines → (t : Tracks view absolute bytes lines opened held rest) → Stays opened stopped rest → IsReadTo (end_of opened stopped rest) after.input
+    → AppendsFront after.output output (held_last view held) → IsCutShort view absolute before (record { input = after.input; output = output })
+last_cut view absolute before after opened stopped held rest bytes lines output came written t stays all last = record {
+  bytes = bytes;
+  begun = opened;
+  rest = rest;
+  lines = lines;
+  talk = t.talk;
+  text = lines ++ last_lines view t.talk;
+  received = came;
+  each = t.each;
+  due = inr (record { end = end_of opened stopped rest; ending = ends_by opened stopped rest stays; all = all; is = refl });
+  written = more_taken before.output after.output output lines (last_lines view t.talk) written (subst (AppendsFront after.output output) (last_is view held t.talk t.keeps) last);
+}
+
+-- ---- what calls return of these
+
+-- nothing more came
+pub none_came : (before now next : Option (List ℕ)) (bytes : List ℕ) → Consumes before now bytes → Consumes now next [] → Consumes before next bytes
+none_came before now next bytes came none = subst (Consumes before next) (append-nil bytes) (Consumes-trans before now next bytes [] came none)
+
+pub read_all : (opened : Bool) (rest : List ℕ) (input : Option (List ℕ)) → IsAtEnd input → IsReadTo (end_of opened false rest) input
+read_all opened rest input end = read_to opened rest input end
+
+pub read_rest : (opened : Bool) (rest : List ℕ) (input : Option (List ℕ)) → IsReadTo (end_of opened true rest) input
+read_rest opened rest input = read_no_more opened rest input
+
+module _ {E : Type 0} where
+  pub last_listed : (r : Result Said E) (view : View) (absolute : Bool) (before : Streams) (next middle output : Option (List ℕ)) (opened stopped : Bool) (held : HeldTalk) (rest bytes lines : List ℕ) → Consumes before.input next bytes
+      → Appends before.output middle lines → Tracks view absolute bytes lines opened held rest → Stays opened stopped rest → IsReadTo (end_of opened stopped rest) next
+      → IfOk r (λ said. said.end ≡ end_of opened stopped rest) → IfOk r (λ said. said.client.now ≡ hint_of held.known.client held.client.left) → IfOk r (λ said. said.server.now ≡ hint_of held.known.server held.server.left)
+      → OnOk r (Appends middle output (held_last view held))
+      → IfOk r (λ said. WritesListing view absolute before (record { input = next; output = output }) said.end (said.client.now ++ said.server.now ++ complaint_of said.end))
+  last_listed (Err e) view absolute before next middle output opened stopped held rest bytes lines came written t stays all ended client server last = tt
+  last_listed (Ok said) view absolute before next middle output opened stopped held rest bytes lines came written t stays all ended client server last =
+      listing_written view absolute before (record { input = next; output = middle }) opened stopped held rest said.client.now said.server.now bytes lines said.end output came written t stays all ended client server last
+
+  pub last_broken : (r : Result Said E) (view : View) (absolute : Bool) (before : Streams) (next middle output : Option (List ℕ)) (opened stopped : Bool) (held : HeldTalk) (rest bytes lines : List ℕ) → Consumes before.input next bytes
+      → Appends before.output middle lines → Tracks view absolute bytes lines opened held rest → Stays opened stopped rest → IsReadTo (end_of opened stopped rest) next
+      → OnErr r (AppendsFront middle output (held_last view held)) → OnErr r (IsCutShort view absolute before (record { input = next; output = output }))
+  last_broken (Ok said) view absolute before next middle output opened stopped held rest bytes lines came written t stays all last = tt
+  last_broken (Err e) view absolute before next middle output opened stopped held rest bytes lines came written t stays all last =
+      last_cut view absolute before (record { input = next; output = middle }) opened stopped held rest bytes lines output came written t stays all last

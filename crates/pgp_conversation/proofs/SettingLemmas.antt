@@ -1,0 +1,250 @@
+-- Options of `session`, one after another.
+use Rattle.std.proofs.Common.{◌≡◌, ◌≢◌, ℕ, suc, ◌+◌, ◌-◌, ◌<◌, ◌≤◌, Bool, true, false, List, [], ◌∷◌, ◌++◌, length, length-append, drop, get_or, map, refl, sym, ap, subst, ◌∙◌, append_assoc, arith}
+use Rattle.std.specs.Prelude.{◌||◌, codes}
+use Rattle.std.specs.List.{flat_map, AllByRecursion}
+use Rattle.std.proofs.lemmas.List.{append-nil, drop-drop, length-drop, length-map}
+use Rattle.std.proofs.lemmas.List.Concat.{flat_map-cons}
+use Rattle.std.proofs.lemmas.Grind.{flat_map-append}
+use Rattle.pgp_frontend_read.specs.declared.message.PasswordKind.{PasswordKind}
+use Rattle.pgp_line.specs.Styles.{style_of}
+use Rattle.pgp_line.specs.declared.style.Style.{Style}
+use Rattle.pgp_trace.specs.declared.options.Choice.{Choice}
+use Rattle.pgp_trace.specs.declared.options.Choice.TheVariants.{AsJson, Full, Secrets, Resume, Only, Color, Kind}
+use Rattle.pgp_trace.specs.Options.{AreOptions, BeginsWithNone, is_resume, kind_in, last_of, spelled}
+use Rattle.pgp_trace.specs.View.{View}
+use Rattle.pgp_trace.proofs.OptionLemmas.{Received, one_first, received_all, received_more, received_none, spelled_long, third_letter}
+use Rattle.pgp_conversation.specs.declared.options.Clock.{Clock}
+use Rattle.pgp_conversation.specs.declared.options.Setting.{Setting}
+use Rattle.pgp_conversation.specs.declared.options.Setting.TheVariants.{Listing, Time}
+use Rattle.pgp_conversation.specs.Chosen.{Chooses, Flags, Sets}
+use Rattle.pgp_conversation.specs.Settings.{AreNoSettings, AreSettings, BeginsWithNoSetting, IsCommon, IsSetting, SaysNoClock, clock_in, first_of, is_absolute, listing_in, spelled_by}
+
+-- the options of a listing among them, with whatever stands after them
+abbrev Listings : (terminal : Bool) → List Setting → Flags → Type 0
+Listings terminal settings f = (tail : List (List ℕ)) → Received terminal (flat_map spelled (flat_map listing_in settings) ++ tail) tail f.json f.full f.secrets f.resume f.only f.colored f.kinds
+
+-- Some options came, and these words stand after them.
+pub record Came (terminal : Bool) (all rest : List (List ℕ)) (f : Flags) (absolute : Bool) : Type 0 where
+  pub settings : List Setting
+  pub whole : all ≡ flat_map spelled_by settings ++ rest
+  pub each : AllByRecursion IsSetting settings
+  pub listing : Listings terminal settings f
+  pub clock : absolute ≡ last_of false (flat_map clock_in settings)
+  pub none : (f.resume ≡ false) × (f.kinds ≡ [])
+
+pub came_none : (terminal : Bool) (all : List (List ℕ)) (f : Flags) → f ≡ record { json = false; full = false; secrets = false; resume = false; only = []; colored = terminal; kinds = [] } → Came terminal all all f false
+came_none terminal all f e = subst (λ (x : Flags). Came terminal all all x false) (sym e) (record {
+  settings = [];
+  whole = refl;
+  each = tt;
+  listing = λ tail. received_none terminal tail [] [] refl refl;
+  clock = refl;
+  none = (refl, refl);
+})
+
+flat_more : {X A : Type 0} (f : X → List A) (xs : List X) (x : X) → flat_map f (xs ++ x ∷ []) ≡ flat_map f xs ++ f x
+flat_more f xs x = flat_map-append f xs (x ∷ []) ∙ ap (λ l. flat_map f xs ++ l) (flat_map-cons f x [] ∙ append-nil (f x))
+
+each_more : (settings : List Setting) (s : Setting) → AllByRecursion IsSetting settings → IsSetting s → AllByRecursion IsSetting (settings ++ s ∷ [])
+each_more [] s each is = (is, tt)
+each_more (first ∷ more) s each is = (each.0, each_more more s each.1 is)
+
+last_more : (first : Bool) (xs : List Bool) (y : Bool) → last_of first (xs ++ y ∷ []) ≡ y
+last_more first [] y = refl
+last_more first (x ∷ xs) y = last_more x xs y
+
+common_resume : (c : Choice) (was : Bool) → IsCommon c → (is_resume c || was) ≡ was
+common_resume AsJson was k = refl
+common_resume Full was k = refl
+common_resume Secrets was k = refl
+common_resume Resume was k = absurd k
+common_resume (Only names) was k = refl
+common_resume (Color when) was k = refl
+common_resume (Kind kind) was k = refl
+
+common_kinds : (c : Choice) → IsCommon c → kind_in c ≡ []
+common_kinds AsJson k = refl
+common_kinds Full k = refl
+common_kinds Secrets k = refl
+common_kinds Resume k = refl
+common_kinds (Only names) k = refl
+common_kinds (Color when) k = refl
+common_kinds (Kind kind) k = absurd k
+
+listing_more : (terminal : Bool) (settings : List Setting) (c : Choice) (old new : Flags) → Listings terminal settings old → Chooses terminal c old new → Listings terminal (settings ++ Listing c ∷ []) new
+listing_more terminal settings c old new listing chose tail =
+    let before = flat_map spelled (flat_map listing_in settings) in
+    let all : before ++ (spelled c ++ tail) ≡ flat_map spelled (flat_map listing_in (settings ++ Listing c ∷ [])) ++ tail =
+    sym (append_assoc before (spelled c) tail) ∙ ap (λ l. l ++ tail) (sym (flat_more spelled (flat_map listing_in settings) c) ∙ ap (λ cs. flat_map spelled cs) (sym (flat_more listing_in settings (Listing c)))) in
+    subst (λ l. Received terminal l tail new.json new.full new.secrets new.resume new.only new.colored new.kinds) all
+    (received_more terminal (before ++ (spelled c ++ tail)) (spelled c ++ tail) tail old.json old.full old.secrets old.resume new.json new.full new.secrets new.resume old.only new.only old.colored new.colored old.kinds new.kinds c (listing (spelled c ++ tail)) refl
+    chose.json chose.full chose.secrets chose.resume chose.only chose.colored chose.kinds)
+
+none_listed : (terminal : Bool) (settings : List Setting) (clock : Clock) (old new : Flags) → Listings terminal settings old → new ≡ old → Listings terminal (settings ++ Time clock ∷ []) new
+none_listed terminal settings clock old new listing same tail =
+    let all : flat_map listing_in settings ≡ flat_map listing_in (settings ++ Time clock ∷ []) = sym (flat_more listing_in settings (Time clock) ∙ append-nil (flat_map listing_in settings)) in
+    subst (λ (f : Flags). Received terminal (flat_map spelled (flat_map listing_in (settings ++ Time clock ∷ [])) ++ tail) tail f.json f.full f.secrets f.resume f.only f.colored f.kinds) (sym same)
+    (subst (λ cs. Received terminal (flat_map spelled cs ++ tail) tail old.json old.full old.secrets old.resume old.only old.colored old.kinds) all (listing tail))
+
+one_whole : (terminal : Bool) (all rest behind : List (List ℕ)) (settings : List Setting) (s : Setting) → all ≡ flat_map spelled_by settings ++ rest → rest ≡ spelled_by s ++ behind → all ≡ flat_map spelled_by (settings ++ s ∷ []) ++ behind
+one_whole terminal all rest behind settings s whole is =
+    whole ∙ ap (λ l. flat_map spelled_by settings ++ l) is ∙ sym (append_assoc (flat_map spelled_by settings) (spelled_by s) behind) ∙ ap (λ l. l ++ behind) (sym (flat_more spelled_by settings s))
+
+pub came_more : (terminal : Bool) (all rest behind : List (List ℕ)) (s : Setting) (old new : Flags) (was now : Bool) → Came terminal all rest old was → rest ≡ spelled_by s ++ behind → IsSetting s → Sets terminal s old new was now → Came terminal all behind new now
+came_more terminal all rest behind (Listing c) old new was now came is fits sets = record {
+  settings = came.settings ++ Listing c ∷ [];
+  whole = one_whole terminal all rest behind came.settings (Listing c) came.whole is;
+  each = each_more came.settings (Listing c) came.each fits;
+  listing = listing_more terminal came.settings c old new came.listing sets.0;
+  clock = sets.1 ∙ came.clock ∙ ap (last_of false) (sym (flat_more clock_in came.settings (Listing c) ∙ append-nil (flat_map clock_in came.settings)));
+  none = (sets.0.resume ∙ common_resume c old.resume fits ∙ came.none.0, sets.0.kinds ∙ ap (λ l. old.kinds ++ l) (common_kinds c fits) ∙ append-nil old.kinds ∙ came.none.1);
+}
+came_more terminal all rest behind (Time clock) old new was now came is fits sets = record {
+  settings = came.settings ++ Time clock ∷ [];
+  whole = one_whole terminal all rest behind came.settings (Time clock) came.whole is;
+  each = each_more came.settings (Time clock) came.each fits;
+  listing = none_listed terminal came.settings clock old new came.listing sets.0;
+  clock = sets.1 ∙ sym (ap (last_of false) (flat_more clock_in came.settings (Time clock)) ∙ last_more false (flat_map clock_in came.settings) (is_absolute clock));
+  none = (ap (λ (f : Flags). f.resume) sets.0 ∙ came.none.0, ap (λ (f : Flags). f.kinds) sets.0 ∙ came.none.1);
+}
+
+-- all came
+pub came_all : (terminal : Bool) (all rest : List (List ℕ)) (f : Flags) (absolute : Bool) (style : Style) → Came terminal all rest f absolute → rest ≡ [] → style ≡ style_of f.json f.full f.secrets → AreSettings terminal all (record { style = style; only = f.only; colored = f.colored }) absolute
+came_all terminal all rest f absolute style came end shown =
+    let words = flat_map spelled (flat_map listing_in came.settings) in
+    let view : View = record { style = style; only = f.only; colored = f.colored } in
+    let are : AreOptions terminal (words ++ []) view f.kinds f.resume = received_all terminal (words ++ []) [] f.json f.full f.secrets f.resume f.only f.colored f.kinds style (came.listing []) refl shown in
+    record {
+      settings = came.settings;
+      spelling = came.whole ∙ ap (λ l. flat_map spelled_by came.settings ++ l) end ∙ append-nil (flat_map spelled_by came.settings);
+      each = came.each;
+      listing = subst (λ l. AreOptions terminal l view [] false) (append-nil words) (subst (λ ks. AreOptions terminal (words ++ []) view ks false) came.none.1 (subst (λ b. AreOptions terminal (words ++ []) view f.kinds b) came.none.0 are));
+      clock = came.clock;
+    }
+
+-- ---- words spell options in one way
+
+time_other : (c : Choice) (clock : Clock) (x y : List (List ℕ)) → spelled c ++ x ≡ spelled_by (Time clock) ++ y → ⊥
+time_other AsJson clock x y e = let h : 106 ≡ 116 = ap third_letter e in omega (arith, h)
+time_other Full clock x y e = let h : 102 ≡ 116 = ap third_letter e in omega (arith, h)
+time_other Secrets clock x y e = let h : 115 ≡ 116 = ap third_letter e in omega (arith, h)
+time_other Resume clock x y e = let h : 114 ≡ 116 = ap third_letter e in omega (arith, h)
+time_other (Only names) clock x y e = let h : 111 ≡ 116 = ap third_letter e in omega (arith, h)
+time_other (Color when) clock x y e = let h : 99 ≡ 116 = ap third_letter e in omega (arith, h)
+time_other (Kind kind) clock x y e = let h : 112 ≡ 116 = ap third_letter e in omega (arith, h)
+
+-- the same stands after the first option of each
+one_setting : (s t : Setting) (x y : List (List ℕ)) → spelled_by s ++ x ≡ spelled_by t ++ y → x ≡ y
+one_setting (Listing c) (Listing d) x y e = (one_first c d x y e).1
+one_setting (Listing c) (Time k) x y e = absurd (time_other c k x y e)
+one_setting (Time k) (Listing d) x y e = absurd (time_other d k y x (sym e))
+one_setting (Time k) (Time j) x y e = ap (λ l. drop 2 l) e
+
+setting_long : (s : Setting) (x : List (List ℕ)) → spelled_by s ++ x ≡ [] → ⊥
+setting_long (Listing c) x e = spelled_long c x e
+setting_long (Time k) x e = let h : suc (suc (length x)) ≡ 0 = ap length e in absurd (omega (arith, h))
+
+split : (cs : List Setting) (c : Setting) (rest : List (List ℕ)) → flat_map spelled_by (c ∷ cs) ++ rest ≡ spelled_by c ++ (flat_map spelled_by cs ++ rest)
+split cs c rest = ap (λ l. l ++ rest) (flat_map-cons spelled_by c cs) ∙ append_assoc (spelled_by c) (flat_map spelled_by cs) rest
+
+breaks_off : (cs ds : List Setting) (rest : List (List ℕ)) → rest ≢ [] → BeginsWithNoSetting rest → AllByRecursion IsSetting ds → flat_map spelled_by cs ++ rest ≡ flat_map spelled_by ds → ⊥
+breaks_off [] [] rest some none each e = some e
+breaks_off [] (d ∷ ds) rest some none each e = none d (flat_map spelled_by ds) each.0 (e ∙ flat_map-cons spelled_by d ds)
+breaks_off (c ∷ cs) [] rest some none each e = setting_long c (flat_map spelled_by cs ++ rest) (sym (split cs c rest) ∙ e)
+breaks_off (c ∷ cs) (d ∷ ds) rest some none each e =
+    breaks_off cs ds rest some none each.1 (one_setting c d (flat_map spelled_by cs ++ rest) (flat_map spelled_by ds) (sym (split cs c rest) ∙ e ∙ flat_map-cons spelled_by d ds))
+
+-- where no option stands after some, the words are no options
+pub came_wrong : (terminal : Bool) (all rest : List (List ℕ)) (f : Flags) (absolute : Bool) → Came terminal all rest f absolute → rest ≢ [] → BeginsWithNoSetting rest → AreNoSettings all
+came_wrong terminal all rest f absolute came some none = λ ds each e. breaks_off came.settings ds rest some none each (sym came.whole ∙ e)
+
+-- ---- places in the words
+
+pub place_next : {X : Type 0} (terminal : Bool) (word : X → List ℕ) (words : List X) (at n next : ℕ) (s : Setting) (old new : Flags) (was now : Bool) → at < length words
+    → Came terminal (map word words) (map word (drop at words)) old was → map word (drop at words) ≡ spelled_by s ++ map word (drop (length (spelled_by s)) (drop at words)) → IsSetting s → n ≡ length (spelled_by s) → next ≡ at + n
+    → Sets terminal s old new was now → (next ≤ length words) × Came terminal (map word words) (map word (drop next words)) new now
+place_next {X = X} terminal word words at n next s old new was now less came is fits long sum sets =
+    let rest = drop at words in
+    let there : drop (length (spelled_by s)) rest ≡ drop next words = drop-drop (length (spelled_by s)) at words ∙ ap (λ i. drop i words) (omega (arith, long, sum)) in
+    let size : length rest ≡ length words - at = length-drop at words in
+    let lengths : length rest ≡ length (spelled_by s) + length (map word (drop (length (spelled_by s)) rest)) = sym (length-map rest word) ∙ ap length is ∙ length-append (spelled_by s) (map word (drop (length (spelled_by s)) rest)) in (
+      omega (arith, less, long, sum, size, lengths),
+      subst (λ (l : List X). Came terminal (map word words) (map word l) new now) there
+          (came_more terminal (map word words) (map word rest) (map word (drop (length (spelled_by s)) rest)) s old new was now came is fits sets),
+    )
+
+-- ---- the first option
+
+abbrev letters : List (List ℕ) → ℕ
+letters words = get_or (first_of words) 2 0
+
+-- a word that begins otherwise than options that a session has
+other_letter : (words : List (List ℕ)) (letter : ℕ) → letters words ≡ letter → letter ≢ 106 → letter ≢ 102 → letter ≢ 115 → letter ≢ 111 → letter ≢ 99 → letter ≢ 116 → BeginsWithNoSetting words
+other_letter words letter is j f s o c t (Listing AsJson) more fits e = j (sym is ∙ ap letters e)
+other_letter words letter is j f s o c t (Listing Full) more fits e = f (sym is ∙ ap letters e)
+other_letter words letter is j f s o c t (Listing Secrets) more fits e = s (sym is ∙ ap letters e)
+other_letter words letter is j f s o c t (Listing Resume) more fits e = fits
+other_letter words letter is j f s o c t (Listing (Only names)) more fits e = o (sym is ∙ ap letters e)
+other_letter words letter is j f s o c t (Listing (Color when)) more fits e = c (sym is ∙ ap letters e)
+other_letter words letter is j f s o c t (Listing (Kind kind)) more fits e = fits
+other_letter words letter is j f s o c t (Time clock) more fits e = t (sym is ∙ ap letters e)
+
+pub no_resume : (words rest : List (List ℕ)) (word : List ℕ) → words ≡ word ∷ rest → word ≡ codes "--resume" → BeginsWithNoSetting words
+no_resume words rest word is same = other_letter words 114 (ap letters (is ∙ ap (λ w. w ∷ rest) same)) (λ e. let h : 114 ≡ 106 = e in omega (arith, h)) (λ e. let h : 114 ≡ 102 = e in omega (arith, h)) (λ e. let h : 114 ≡ 115 = e in omega (arith, h)) (λ e. let h : 114 ≡ 111 = e in omega (arith, h)) (λ e. let h : 114 ≡ 99 = e in omega (arith, h)) (λ e. let h : 114 ≡ 116 = e in omega (arith, h))
+
+pub no_kind : (words rest : List (List ℕ)) (word : List ℕ) → words ≡ word ∷ rest → word ≡ codes "--password-kind" → BeginsWithNoSetting words
+no_kind words rest word is same = other_letter words 112 (ap letters (is ∙ ap (λ w. w ∷ rest) same)) (λ e. let h : 112 ≡ 106 = e in omega (arith, h)) (λ e. let h : 112 ≡ 102 = e in omega (arith, h)) (λ e. let h : 112 ≡ 115 = e in omega (arith, h)) (λ e. let h : 112 ≡ 111 = e in omega (arith, h)) (λ e. let h : 112 ≡ 99 = e in omega (arith, h)) (λ e. let h : 112 ≡ 116 = e in omega (arith, h))
+
+pub none_first : (words : List (List ℕ)) → words ≡ [] → BeginsWithNoSetting words
+none_first words none s more fits e = setting_long s more (sym e ∙ none)
+
+-- one that a listing has, but for those two
+pub common_first : (c : Choice) (words more : List (List ℕ)) → words ≡ spelled c ++ more → first_of words ≢ codes "--resume" → first_of words ≢ codes "--password-kind" → IsCommon c
+common_first AsJson words more is r k = tt
+common_first Full words more is r k = tt
+common_first Secrets words more is r k = tt
+common_first Resume words more is r k = r (ap first_of is)
+common_first (Only names) words more is r k = tt
+common_first (Color when) words more is r k = tt
+common_first (Kind kind) words more is r k = k (ap first_of is)
+
+pub no_listing : (words : List (List ℕ)) → BeginsWithNone words → first_of words ≢ codes "--time" → BeginsWithNoSetting words
+no_listing words none time (Listing c) more fits e = none c more e
+no_listing words none time (Time clock) more fits e = time (ap first_of e)
+
+-- after the word of times
+pub no_clock : (words rest : List (List ℕ)) (word : List ℕ) → words ≡ word ∷ rest → SaysNoClock word → BeginsWithNoSetting (codes "--time" ∷ words)
+no_clock words rest word is none (Listing c) more fits e = absurd (time_first c words more e)
+  where
+    time_first : (c : Choice) (words more : List (List ℕ)) → codes "--time" ∷ words ≡ spelled c ++ more → ⊥
+    time_first AsJson words more e = let h : 116 ≡ 106 = ap third_letter e in omega (arith, h)
+    time_first Full words more e = let h : 116 ≡ 102 = ap third_letter e in omega (arith, h)
+    time_first Secrets words more e = let h : 116 ≡ 115 = ap third_letter e in omega (arith, h)
+    time_first Resume words more e = let h : 116 ≡ 114 = ap third_letter e in omega (arith, h)
+    time_first (Only names) words more e = let h : 116 ≡ 111 = ap third_letter e in omega (arith, h)
+    time_first (Color when) words more e = let h : 116 ≡ 99 = ap third_letter e in omega (arith, h)
+    time_first (Kind kind) words more e = let h : 116 ≡ 112 = ap third_letter e in omega (arith, h)
+no_clock words rest word is none (Time clock) more fits e = none clock (ap first_of (sym is ∙ ap (λ l. drop 1 l) e))
+
+pub lone_time : (words : List (List ℕ)) → words ≡ [] → BeginsWithNoSetting (codes "--time" ∷ words)
+lone_time words none (Listing c) more fits e = absurd (alone c more (ap (λ l. codes "--time" ∷ l) (sym none) ∙ e))
+  where
+    alone : (c : Choice) (more : List (List ℕ)) → codes "--time" ∷ [] ≡ spelled c ++ more → ⊥
+    alone AsJson more e = let h : 116 ≡ 106 = ap third_letter e in omega (arith, h)
+    alone Full more e = let h : 116 ≡ 102 = ap third_letter e in omega (arith, h)
+    alone Secrets more e = let h : 116 ≡ 115 = ap third_letter e in omega (arith, h)
+    alone Resume more e = let h : 116 ≡ 114 = ap third_letter e in omega (arith, h)
+    alone (Only names) more e = let h : 116 ≡ 111 = ap third_letter e in omega (arith, h)
+    alone (Color when) more e = let h : 116 ≡ 99 = ap third_letter e in omega (arith, h)
+    alone (Kind kind) more e = let h : 116 ≡ 112 = ap third_letter e in omega (arith, h)
+lone_time words none (Time clock) more fits e = let h : 1 ≡ suc (suc (length more)) = ap length (ap (λ l. codes "--time" ∷ l) (sym none) ∙ e) in absurd (omega (arith, h))
+
+pub left_words : {X : Type 0} (word : X → List ℕ) (words : List X) (at : ℕ) → at < length words → map word (drop at words) ≢ []
+left_words word words at less e = absurd (omega (arith, less, length-drop at words, length-map (drop at words) word, ap length e))
+
+no_length : {X : Type 0} (xs : List X) → length xs ≡ 0 → xs ≡ []
+no_length [] e = refl
+no_length (x ∷ xs) e = absurd (omega (arith, e))
+
+pub none_left : {X : Type 0} (word : X → List ℕ) (words : List X) (at : ℕ) → length words ≤ at → map word (drop at words) ≡ []
+none_left word words at le = no_length (map word (drop at words)) (omega (arith, le, length-drop at words, length-map (drop at words) word))

@@ -1,0 +1,34 @@
+use Rattle.std.proofs.Common.{refl, rules, subst, ◌∙◌}
+use Rattle.std.specs.Prelude.{List, ℕ, string_bytes}
+use Rattle.pgp_trace.specs.Steps.{view_of}
+use Rattle.pgp_conversation.specs.Steps.{ListsOneFrame, known_of}
+use Rattle.pgp_conversation.proofs.FrameLists.{nothing_yet, one_more, shorter}
+use Rattle.pgp_conversation.proofs.frames.list_frames.Goals as goal
+
+pub frames-init : goal.frames-init
+frames-init g c = (nothing_yet (view_of c.args.view) (string_bytes c.args.texts.now.mark) c.args.sender c.args.place (known_of c.args.known.now) c.args.bytes.now (string_bytes c.args.texts.now.lines), refl)
+
+pub frames-preserved : goal.frames-preserved
+frames-preserved g c =
+    let view = view_of c.args.view in
+    let mid = known_of c.frames.known in
+    let to = known_of c.list_next.new.known in
+    let rest = c.frames.rest.now in
+    let behind = c.in_ok-next.behind.now in
+    let now = string_bytes c.frames.texts.lines in
+    let new = string_bytes c.list_next.new.texts.lines in
+    let one : ListsOneFrame view (string_bytes c.frames.texts.mark) c.args.sender c.saturating_add-at.result mid rest behind now new to = search rules in (
+      one_more view (string_bytes c.args.texts.now.mark) c.args.sender c.args.place c.saturating_add-at.result (known_of c.args.known.now) mid to c.args.bytes.now rest behind (string_bytes c.args.texts.now.lines) now new
+          c.frames.invariant.0 c.saturating_add-at.ensures (subst (λ (m : List ℕ). ListsOneFrame view m c.args.sender c.saturating_add-at.result mid rest behind now new to) c.frames.invariant.1 one),
+      c.in_ok-next.ensures.mark ∙ c.frames.invariant.1,
+    )
+
+pub frames-smaller : goal.frames-smaller
+frames-smaller g c =
+    let view = view_of c.args.view in
+    let mid = known_of c.frames.known in
+    let to = known_of c.list_next.new.known in
+    let now = string_bytes c.frames.texts.lines in
+    let new = string_bytes c.list_next.new.texts.lines in
+    let one : ListsOneFrame view (string_bytes c.frames.texts.mark) c.args.sender c.saturating_add-at.result mid c.frames.rest.now c.in_ok-next.behind.now now new to = search rules in
+    shorter view (string_bytes c.frames.texts.mark) c.args.sender c.saturating_add-at.result mid to c.frames.rest.now c.in_ok-next.behind.now now new one

@@ -1,0 +1,14 @@
+-- The frames so far have their lines, and the mark is the same.
+use Rattle.std.proofs.Common.{◌≡◌, length}
+use Rattle.std.specs.Prelude.{string_bytes}
+use Rattle.pgp_trace.specs.Steps.{view_of}
+use Rattle.pgp_conversation.specs.Steps.{known_of}
+use Rattle.pgp_conversation.proofs.FrameLists.{ListsFramesTo}
+use Rattle.pgp_conversation.proofs.frames.list_frames.Given as goal
+
+abbrev pub invariant-frames : goal.invariant-frames
+invariant-frames g l = ListsFramesTo (view_of l.view) (string_bytes l.fn.texts.mark) l.sender l.place (known_of l.fn.known) l.bytes l.rest (known_of l.known) (string_bytes l.fn.texts.lines) (string_bytes l.texts.lines)
+    × (string_bytes l.texts.mark ≡ string_bytes l.fn.texts.mark)
+
+abbrev pub decreases-frames : goal.decreases-frames
+decreases-frames g l = length l.rest

@@ -1,0 +1,15 @@
+-- The chunks so far were listed, whatever came before.
+use Rattle.std.proofs.Common.{◌≡◌, ◌≤◌, ◌-◌, drop, length}
+use Rattle.std.specs.Prelude.{string_bytes}
+use Rattle.pgp_trace.specs.Steps.{view_of}
+use Rattle.pgp_conversation.specs.Steps.{kept_of}
+use Rattle.pgp_conversation.proofs.Sessions.{Lists}
+use Rattle.pgp_conversation.proofs.session.list_chunks.Given as goal
+
+abbrev pub invariant-chunks : goal.invariant-chunks
+invariant-chunks g l = Lists (view_of l.view) l.begun l.opened (kept_of l.fn.talk) (kept_of l.talk) l.bytes l.rest (string_bytes l.fn.texts.lines) (string_bytes l.texts.lines)
+    × (l.rest ≡ drop (length l.bytes - length l.rest) l.bytes)
+    × (length l.rest ≤ length l.bytes)
+
+abbrev pub decreases-chunks : goal.decreases-chunks
+decreases-chunks g l = length l.rest

@@ -1,0 +1,54 @@
+-- Private: what options come to.
+use Rattle.std.specs.Prelude.{◌≡◌, ℕ, Bool, ◌||◌, List, ◌++◌, map}
+use Rattle.std.specs.Borrow.{Bor}
+use Rattle.pgp_frontend_read.specs.declared.message.PasswordKind.{PasswordKind}
+use Rattle.pgp_line.specs.Styles.{style_of}
+use Rattle.pgp_trace.specs.Asked.{looks}
+use Rattle.pgp_trace.specs.declared.options.Choice.{Choice}
+use Rattle.pgp_trace.specs.declared.options.Options as code
+use Rattle.pgp_trace.specs.Options.{colors_in, is_full, is_json, is_resume, is_secrets, kind_in, last_of, only_in}
+use Rattle.pgp_trace.specs.View.{View}
+use Rattle.pgp_conversation.specs.declared.options.Clock.{Clock}
+use Rattle.pgp_conversation.specs.declared.options.Setting.{Setting}
+use Rattle.pgp_conversation.specs.declared.options.Setting.TheVariants.{Listing, Time}
+use Rattle.pgp_conversation.specs.declared.options.Settings as code_settings
+use Rattle.pgp_conversation.specs.Settings.{is_absolute}
+
+-- those of a listing
+pub record Flags : Type 0 where
+  pub json : Bool
+  pub full : Bool
+  pub secrets : Bool
+  pub resume : Bool
+  pub only : List (List ℕ)
+  pub colored : Bool
+  pub kinds : List PasswordKind
+
+abbrev pub flags_of : {A : Type 0} → code.Options A → Flags
+flags_of options = record {
+  json = options.json;
+  full = options.full;
+  secrets = options.secrets;
+  resume = options.resume;
+  only = map (λ (name : Bor (List ℕ)). name.now) options.only.items;
+  colored = options.colored;
+  kinds = options.kinds.items;
+}
+
+-- one more, after those
+pub record Chooses (terminal : Bool) (choice : Choice) (old new : Flags) : Type 0 where
+  pub json : new.json ≡ (is_json choice || old.json)
+  pub full : new.full ≡ (is_full choice || old.full)
+  pub secrets : new.secrets ≡ (is_secrets choice || old.secrets)
+  pub resume : new.resume ≡ (is_resume choice || old.resume)
+  pub only : new.only ≡ old.only ++ only_in choice
+  pub colored : new.colored ≡ last_of old.colored (colors_in terminal choice)
+  pub kinds : new.kinds ≡ old.kinds ++ kind_in choice
+
+abbrev pub Sets : (terminal : Bool) → Setting → (old new : Flags) (was now : Bool) → Type 0
+Sets terminal (Listing choice) old new was now = Chooses terminal choice old new × (now ≡ was)
+Sets terminal (Time clock) old new was now = (new ≡ old) × (now ≡ is_absolute clock)
+
+-- how a listing with these options looks
+abbrev pub settings_view : {A : Type 0} → code_settings.Settings A → View
+settings_view settings = looks (style_of settings.options.json settings.options.full settings.options.secrets) settings.options.only.items settings.options.colored

@@ -1,0 +1,205 @@
+-- The listing of both sides of a connection, a chunk at a time.
+use Rattle.std.specs.Prelude.{◌≡◌, ℕ, ◌+◌, Bool, true, false, ◌==◌, if◌then◌else◌, List, [], ◌∷◌, ◌++◌, drop, length, Result, Ok, Err, Option, None, Some, bytes_eq, codes}
+use mathlib.Core.Logic.{inl, inr}
+use Rattle.pgp_base.specs.declared.error.Error.{Error}
+use Rattle.pgp_message.specs.BackendMessage.{Message, Authentication, AuthenticationCleartextPassword, AuthenticationMd5Password, AuthenticationSasl, AuthenticationSaslContinue, AuthenticationGss, AuthenticationSspi, AuthenticationGssContinue}
+use Rattle.pgp_frontend.specs.ClientMessage.{ClientMessage, SslRequest, GssEncRequest}
+use Rattle.pgp_frontend_read.specs.declared.error.ClientError.{ClientError}
+use Rattle.pgp_frontend_read.specs.declared.message.PasswordKind.{PasswordKind}
+use Rattle.pgp_frontend_read.specs.declared.message.PasswordKind.TheVariants.{Password, Initial, Response}
+use Rattle.pgp_line.specs.Line.{Length, Tag, Name, closing, followed, opening}
+use Rattle.pgp_line.specs.declared.style.Style.{Style}
+use Rattle.pgp_trace.specs.Listing.{LineOf, name_in, place_behind, last_line}
+use Rattle.pgp_trace.specs.Sides as side
+use Rattle.pgp_trace.specs.Sides.{Side, Ends}
+use Rattle.pgp_trace.specs.declared.side.Phase.TheVariants.{Beginning, Messages, Encrypted}
+use Rattle.pgp_trace.specs.View.{View, shown}
+use Rattle.pgp_conversation.specs.declared.chunk.Sender.{Sender}
+use Rattle.pgp_conversation.specs.declared.chunk.Sender.TheVariants.{Client, Server}
+use Rattle.pgp_conversation.specs.declared.noted.Encryption.{Encryption}
+use Rattle.pgp_conversation.specs.declared.noted.Encryption.TheVariants.{Tls, Gss}
+use Rattle.pgp_conversation.specs.declared.noted.Noted.{Noted}
+use Rattle.pgp_conversation.specs.declared.noted.Noted.TheVariants.{Asks, Requests, Answers, Nothing}
+use Rattle.pgp_conversation.specs.Recording.{Chunk}
+use Rattle.pgp_conversation.specs.Marks.{last_mark, mark, marked, since}
+
+-- ---- what is known of both sides
+
+-- What is known of either, and the client's requests for encryption that the server hasn't answered.
+pub record Known : Type 0 where
+  pub client : Side
+  pub server : Side
+  pub requests : List Encryption
+
+-- before the first byte of a connection
+abbrev pub at_first : Known
+at_first = record { client = side.Client false []; server = side.Server Beginning; requests = [] }
+
+abbrev pub side_in : Sender → Known → Side
+side_in Client known = known.client
+side_in Server known = known.server
+
+abbrev pub with_side : Sender → Known → Side → Known
+with_side Client known to = record { client = to; server = known.server; requests = known.requests }
+with_side Server known to = record { client = known.client; server = to; requests = known.requests }
+
+-- the message of tag `p` that a server asks for
+abbrev pub asks : Message → Noted
+asks (Authentication AuthenticationCleartextPassword) = Asks Password
+asks (Authentication (AuthenticationMd5Password salt)) = Asks Password
+asks (Authentication (AuthenticationSasl mechanisms)) = Asks Initial
+asks (Authentication (AuthenticationSaslContinue bytes)) = Asks Response
+asks (Authentication AuthenticationGss) = Asks Response
+asks (Authentication AuthenticationSspi) = Asks Response
+asks (Authentication (AuthenticationGssContinue bytes)) = Asks Response
+asks m = Nothing
+
+abbrev pub asks_by : Result Message Error → Noted
+asks_by (Ok m) = asks m
+asks_by (Err e) = Nothing
+
+-- the encryption that a client asks for
+abbrev pub requests : ClientMessage → Noted
+requests SslRequest = Requests Tls
+requests GssEncRequest = Requests Gss
+requests m = Nothing
+
+abbrev pub requests_by : Result ClientMessage ClientError → Noted
+requests_by (Ok m) = requests m
+requests_by (Err e) = Nothing
+
+-- what a frame says of those that are still to come
+abbrev pub noted_in : (style : Style) (place : ℕ) (from : Side) (frame line : List ℕ) (to : Side) → LineOf style place from frame line to → Noted
+noted_in style place (side.Server Beginning) frame line to (inl answer) = Answers
+noted_in style place (side.Server Beginning) frame line to (inr first) = asks_by first.reported.reported.result
+noted_in style place (side.Server Messages) frame line to is = asks_by is.0.reported.result
+noted_in style place (side.Server Encrypted) frame line to is = Nothing
+noted_in style place (side.Client opened kinds) frame line to is = requests_by is.reported.result
+
+-- the client's next messages of tag `p` are of one kind more
+abbrev pub with_kind : Side → PasswordKind → Side
+with_kind (side.Client opened kinds) kind = side.Client opened (kinds ++ kind ∷ [])
+with_kind (side.Server phase) kind = side.Server phase
+
+-- what is known after it
+abbrev pub note : Noted → Known → Known
+note (Asks kind) known = record { client = with_kind known.client kind; server = known.server; requests = known.requests }
+note (Requests encryption) known = record { client = known.client; server = known.server; requests = known.requests ++ encryption ∷ [] }
+note Answers known = record { client = known.client; server = known.server; requests = drop 1 known.requests }
+note Nothing known = known
+
+-- ---- answers of one byte
+
+-- one that doesn't say to which request it belongs
+abbrev pub either : List ℕ
+either = codes "SSLResponse or GSSENCResponse"
+
+-- the name of the answer to a request
+abbrev pub answer_to : Encryption → List ℕ
+answer_to Tls = codes "SSLResponse"
+answer_to Gss = codes "GSSENCResponse"
+
+-- such an answer has the name of the first request that isn't answered
+abbrev pub called_after : Encryption → List ℕ → List ℕ
+called_after first name = if bytes_eq name either then answer_to first else name
+
+abbrev pub called : List Encryption → List ℕ → List ℕ
+called [] name = name
+called (first ∷ more) name = called_after first name
+
+-- and a line with it, which is that of a byte `N`
+abbrev pub answer_line : Style → ℕ → Encryption → List ℕ
+answer_line style place first = followed style (opening style place) (Length 1 ∷ Tag 78 ∷ Name true (answer_to first) ∷ []) ++ closing style ++ 10 ∷ []
+
+abbrev pub relined_after : Style → ℕ → Encryption → (name line : List ℕ) → List ℕ
+relined_after style place first name line = if bytes_eq name either then answer_line style place first else line
+
+abbrev pub relined : Style → ℕ → List Encryption → (name line : List ℕ) → List ℕ
+relined style place [] name line = line
+relined style place (first ∷ more) name line = relined_after style place first name line
+
+-- ---- lines with marks
+
+-- what stands in the listing of a line that has this name, with this mark, where these requests aren't answered
+abbrev pub text_of : View → (mark : List ℕ) (place : ℕ) → List Encryption → (name line : List ℕ) → List ℕ
+text_of view mark place waiting name line = shown view (called waiting name) (marked view.style.form mark (relined view.style place waiting name line))
+
+-- A frame that this side sent has the line that a listing of that side has, with the mark; and what is known after it.
+pub record ListsFrame (view : View) (mark : List ℕ) (sender : Sender) (place : ℕ) (here : Known) (frame text : List ℕ) (to : Known) : Type 0 where
+  pub line : List ℕ
+  pub after : Side
+  pub reported : LineOf view.style place (side_in sender here) frame line after
+  pub is : text ≡ text_of view mark place here.requests (name_in view.style place (side_in sender here) frame line after reported) line
+  pub behind : to ≡ note (noted_in view.style place (side_in sender here) frame line after reported) (with_side sender here after)
+
+-- These bytes, after so many others, are complete frames of this side, and each has its line, in order.
+pub data ListsFrames (view : View) (mark : List ℕ) (sender : Sender) (start : ℕ) (from : Known) : List ℕ → List ℕ → Known → Type 0 where
+  NoFrames : ListsFrames view mark sender start from [] [] from
+  OneFrame : {bytes lines : List ℕ} {here to : Known} (frame text : List ℕ) → ListsFrames view mark sender start from bytes lines here
+      → ListsFrame view mark sender (place_behind (start + length bytes)) here frame text to → ListsFrames view mark sender start from (bytes ++ frame) (lines ++ text) to
+
+-- ---- chunk by chunk
+
+-- Of one side: how many bytes were listed, those that weren't, and whether nothing says where a frame begins in them.
+pub record Half : Type 0 where
+  pub passed : ℕ
+  pub rest : List ℕ
+  pub stopped : Bool
+
+-- Of both: what is known, and what times are counted from, once it is.
+pub record Talk : Type 0 where
+  pub known : Known
+  pub client : Half
+  pub server : Half
+  pub start : Option ℕ
+
+abbrev pub nothing : Half
+nothing = record { passed = 0; rest = []; stopped = false }
+
+-- what times are counted from: 1970, or the first chunk
+abbrev pub first_start : (absolute : Bool) → Option ℕ
+first_start absolute = if absolute then Some 0 else None
+
+-- before the first chunk
+abbrev pub begins : (absolute : Bool) → Talk
+begins absolute = record { known = at_first; client = nothing; server = nothing; start = first_start absolute }
+
+abbrev pub half_in : Sender → Talk → Half
+half_in Client talk = talk.client
+half_in Server talk = talk.server
+
+abbrev pub other : Sender → Sender
+other Client = Server
+other Server = Client
+
+abbrev pub first_time : Option ℕ → ℕ → ℕ
+first_time None micros = micros
+first_time (Some start) micros = start
+
+-- The frames of its side that are complete with a chunk have their lines, with the chunk's mark; of the other side nothing has come.
+pub record ListsChunk (view : View) (before : Talk) (chunk : Chunk) (text : List ℕ) (after : Talk) : Type 0 where
+  pub front : List ℕ
+  pub whole : (half_in chunk.sender before).rest ++ chunk.bytes ≡ front ++ (half_in chunk.sender after).rest
+  pub each : ListsFrames view (mark view.style.form chunk.sender (since (first_time before.start chunk.micros) chunk.micros)) chunk.sender (half_in chunk.sender before).passed before.known front text after.known
+  pub ending : Ends (side_in chunk.sender after.known) (half_in chunk.sender after).stopped (half_in chunk.sender after).rest
+  pub passed : (half_in chunk.sender after).passed ≡ (half_in chunk.sender before).passed + length front
+  pub same : half_in (other chunk.sender) after ≡ half_in (other chunk.sender) before
+  pub start : after.start ≡ Some (first_time before.start chunk.micros)
+
+-- These chunks have these lines.
+pub data ListsChunks (view : View) (from : Talk) : List Chunk → List ℕ → Talk → Type 0 where
+  NoChunkListed : ListsChunks view from [] [] from
+  OneChunkListed : {chunks : List Chunk} {lines : List ℕ} {here to : Talk} (chunk : Chunk) (text : List ℕ) → ListsChunks view from chunks lines here
+      → ListsChunk view here chunk text to → ListsChunks view from (chunks ++ chunk ∷ []) (lines ++ text) to
+
+-- ---- what is left
+
+-- the last line of a side, where so many bytes of it are left
+abbrev pub last_of : View → Sender → (stopped : Bool) → ℕ → List ℕ
+last_of view sender stopped n = if n == 0 then [] else marked view.style.form (last_mark view.style.form sender) (last_line view stopped n)
+
+abbrev pub left : Half → ℕ
+left half = place_behind (length half.rest)
+
+abbrev pub last_lines : View → Talk → List ℕ
+last_lines view talk = last_of view Client talk.client.stopped (left talk.client) ++ last_of view Server talk.server.stopped (left talk.server)

@@ -1,0 +1,10 @@
+pub mod Recording
+pub mod Marks
+pub mod Conversation
+pub mod Steps
+pub mod Session
+pub mod Order
+pub mod Pieces
+pub mod Settings
+pub mod Chosen
+pub mod Command

@@ -1,0 +1,39 @@
+-- The mark of a line: when its message was whole, and who sent it.
+use Rattle.std.specs.Prelude.{ℕ, ◌-◌, ◌/◌, ◌%◌, nat_lt, ◌==◌, if◌then◌else◌, List, [], ◌∷◌, ◌++◌, length, codes, decimal}
+use Rattle.pgp_line.specs.Line.{blanks}
+use Rattle.pgp_line.specs.declared.style.Form.{Form}
+use Rattle.pgp_line.specs.declared.style.Form.TheVariants.{Columns, Json}
+use Rattle.pgp_conversation.specs.declared.chunk.Sender.{Sender}
+use Rattle.pgp_conversation.specs.declared.chunk.Sender.TheVariants.{Client, Server}
+use Rattle.pgp_conversation.specs.Recording.{arrow}
+
+-- so many microseconds as seconds, with six digits after the point
+unfoldable pub number : ℕ → List ℕ
+number n = decimal (n / 1000000) ++ codes "." ++ decimal (n / 100000 % 10) ++ decimal (n / 10000 % 10) ++ decimal (n / 1000 % 10) ++ decimal (n / 100 % 10) ++ decimal (n / 10 % 10) ++ decimal (n % 10)
+
+-- the seconds from one time to another, which may lie before it
+abbrev pub since : (start micros : ℕ) → List ℕ
+since start micros = if nat_lt micros start then 45 ∷ number (start - micros) else number (micros - start)
+
+abbrev pub between : Sender → List ℕ
+between sender = 32 ∷ arrow sender ∷ 32 ∷ []
+
+abbrev pub member : Sender → List ℕ
+member Client = codes ",\"from\":\"client\","
+member Server = codes ",\"from\":\"server\","
+
+-- a time at the right of 12 characters, and an arrow; or the first members of an object
+abbrev pub mark : Form → Sender → (time : List ℕ) → List ℕ
+mark Columns sender time = blanks (12 - length time) ++ time ++ between sender
+mark Json sender time = codes "\"time\":" ++ time ++ member sender
+
+-- that of a last line, which has no time
+abbrev pub last_mark : Form → Sender → List ℕ
+last_mark Columns sender = mark Columns sender []
+last_mark Json sender = mark Json sender (codes "null")
+
+-- A line with its mark: before it, or as the first members of its object. (What is no object has it before it.)
+abbrev pub marked : Form → (mark line : List ℕ) → List ℕ
+marked Columns mark line = mark ++ line
+marked Json mark [] = mark
+marked Json mark (first ∷ rest) = if first == 123 then 123 ∷ mark ++ rest else mark ++ first ∷ rest

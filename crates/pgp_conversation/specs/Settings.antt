@@ -1,0 +1,72 @@
+-- The options of `session`, as words spell them.
+use Rattle.std.specs.Prelude.{◌≡◌, ◌≢◌, ⊤, ℕ, Bool, true, false, List, [], ◌∷◌, ◌++◌, get_or, codes}
+use Rattle.std.specs.List.{flat_map, AllByRecursion}
+use Rattle.pgp_trace.specs.declared.options.Choice.{Choice}
+use Rattle.pgp_trace.specs.declared.options.Choice.TheVariants.{AsJson, Full, Secrets, Resume, Only, Color, Kind}
+use Rattle.pgp_trace.specs.Options.{AreOptions, last_of, spelled}
+use Rattle.pgp_trace.specs.View.{View}
+use Rattle.pgp_conversation.specs.declared.options.Clock.{Clock}
+use Rattle.pgp_conversation.specs.declared.options.Clock.TheVariants.{Absolute, Relative}
+use Rattle.pgp_conversation.specs.declared.options.Setting.{Setting}
+use Rattle.pgp_conversation.specs.declared.options.Setting.TheVariants.{Listing, Time}
+
+abbrev pub clock_word : Clock → List ℕ
+clock_word Absolute = codes "absolute"
+clock_word Relative = codes "relative"
+
+-- the words of one
+abbrev pub spelled_by : Setting → List (List ℕ)
+spelled_by (Listing choice) = spelled choice
+spelled_by (Time clock) = codes "--time" ∷ clock_word clock ∷ []
+
+-- A recording begins with its connection, and the server says in it which a client's messages of tag `p` are.
+abbrev pub IsCommon : Choice → Type 0
+IsCommon AsJson = ⊤
+IsCommon Full = ⊤
+IsCommon Secrets = ⊤
+IsCommon Resume = ⊥
+IsCommon (Only names) = ⊤
+IsCommon (Color when) = ⊤
+IsCommon (Kind kind) = ⊥
+
+abbrev pub IsSetting : Setting → Type 0
+IsSetting (Listing choice) = IsCommon choice
+IsSetting (Time clock) = ⊤
+
+-- those that a listing of one side has too
+abbrev pub listing_in : Setting → List Choice
+listing_in (Listing choice) = choice ∷ []
+listing_in (Time clock) = []
+
+abbrev pub is_absolute : Clock → Bool
+is_absolute Absolute = true
+is_absolute Relative = false
+
+abbrev pub clock_in : Setting → List Bool
+clock_in (Listing choice) = []
+clock_in (Time clock) = is_absolute clock ∷ []
+
+-- The words are options, one after another, in any order. Those of a listing ask for one that looks so, and of those of times the last counts, which
+-- says whether they are counted from 1970 on.
+pub record AreSettings (terminal : Bool) (words : List (List ℕ)) (view : View) (absolute : Bool) : Type 0 where
+  pub settings : List Setting
+  pub spelling : words ≡ flat_map spelled_by settings
+  pub each : AllByRecursion IsSetting settings
+  pub listing : AreOptions terminal (flat_map spelled (flat_map listing_in settings)) view [] false
+  pub clock : absolute ≡ last_of false (flat_map clock_in settings)
+
+-- the words are no options
+abbrev pub AreNoSettings : List (List ℕ) → Type 0
+AreNoSettings words = (settings : List Setting) → AllByRecursion IsSetting settings → words ≢ flat_map spelled_by settings
+
+-- no option stands first
+abbrev pub BeginsWithNoSetting : List (List ℕ) → Type 0
+BeginsWithNoSetting words = (setting : Setting) (more : List (List ℕ)) → IsSetting setting → words ≢ spelled_by setting ++ more
+
+-- the word that stands first
+abbrev pub first_of : List (List ℕ) → List ℕ
+first_of words = get_or words 0 []
+
+-- the word says nothing of times
+abbrev pub SaysNoClock : List ℕ → Type 0
+SaysNoClock word = (clock : Clock) → word ≢ clock_word clock

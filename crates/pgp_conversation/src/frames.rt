@@ -1,0 +1,210 @@
+//! The lines of what one side sent, with their marks.
+
+ghost use Rattle.std.specs.Prelude.{◌≡◌, ◌++◌, ◌≤◌, drop, length, take, IfOk, OnErr, OnOk, string_bytes};
+ghost use Rattle.pgp_trace.specs.Steps.{view_of};
+ghost use Rattle.pgp_conversation.specs.Conversation.{answer_line, answer_to, called, called_after, relined, relined_after, text_of};
+ghost use Rattle.pgp_conversation.specs.Steps.{ListsAllFrames, ListsNextFrame, known_of};
+
+use crate::chunk::Sender;
+use crate::known::{Known, next_line, note};
+use crate::mark::put_marked;
+use crate::noted::{Encryption, note_of};
+use pgp_base::Memory;
+use pgp_line::line::{put_called, put_end};
+use pgp_line::style::Style;
+use pgp_trace::frame::{Next, begin_line};
+use pgp_trace::view::{View, add_shown};
+use std::alloc::AllocError;
+
+/// Memory for the texts of a listing.
+#[derive(Drop)]
+pub struct Texts<A: Memory> {
+    /// The time of a chunk.
+    pub time: String<A>,
+    /// The mark of its messages.
+    pub mark: String<A>,
+    /// The line of a message, and the same with the mark.
+    pub line: String<A>,
+    pub marked: String<A>,
+    /// The lines that aren't written yet.
+    pub lines: String<A>,
+}
+
+/// Memory for texts, of which none is written.
+pub fn no_texts<A: Memory>(alloc: A) -> Texts<A> {
+    Texts {
+        time: String::new(alloc),
+        mark: String::new(alloc),
+        line: String::new(alloc),
+        marked: String::new(alloc),
+        lines: String::new(alloc),
+    }
+}
+
+/// Adds the lines of the complete frames at the front of the bytes, which this side sent and which stand at this place. Returns how many bytes they
+/// take, and whether nothing says where the next one begins.
+///
+/// # Errors
+///
+/// Returns `AllocError` if there is no memory for them.
+pub fn list_frames<A: Memory>(
+    view: View<'_>,
+    sender: Sender,
+    place: u64,
+    bytes: &[u8],
+    known: &mut Known<A>,
+    texts: &mut Texts<A>,
+) -> Result<(usize, bool), AllocError>
+    ensures within { IfOk result (λ answer. answer.0 ≤ length bytes.now) }
+    ensures all { IfOk result (λ answer. ListsAllFrames (view_of view.entry) (string_bytes texts.old.mark) sender place (known_of known.old) bytes.now (take answer.0 bytes.now) (drop answer.0 bytes.now) answer.1 (known_of known.new)
+        (string_bytes texts.old.lines) (string_bytes texts.new.lines)) }
+    ensures lacks { OnErr result A.Lacks }
+{
+    let mut rest = bytes;
+    'frames: loop {
+        let passed = bytes.len() - rest.len();
+        let at = place.saturating_add(passed as u64);
+        let (next, behind) = list_next(view, sender, at, rest, known, texts)?;
+        match next {
+            Next::Line(_) => rest = behind,
+            Next::Waits => return Ok((passed, false)),
+            Next::Stops => return Ok((passed, true)),
+        }
+    }
+}
+
+/// Adds the line of the frame that stands first. Returns what stands after it.
+fn list_next<'b, A: Memory>(
+    view: View<'_>,
+    sender: Sender,
+    place: u64,
+    bytes: &'b [u8],
+    known: &mut Known<A>,
+    texts: &mut Texts<A>,
+) -> Result<(Next, &'b [u8]), AllocError>
+    ensures each { IfOk result (λ x. ListsNextFrame (view_of view.entry) (string_bytes texts.old.mark) sender place (known_of known.old) bytes.now x.1.now (string_bytes texts.old.lines) (string_bytes texts.new.lines) (known_of known.new) x.0) }
+    ensures mark { OnOk result (string_bytes texts.new.mark ≡ string_bytes texts.old.mark) }
+    ensures lacks { OnErr result A.Lacks }
+{
+    let (next, behind) = next_line(view.style, sender, place, bytes, known, &mut texts.line)?;
+    match next {
+        Next::Line(name) => {
+            list_line(view, place, name, known.requests.as_slice(), texts)?;
+            note(note_of(name), known)?;
+            Ok((next, behind))
+        }
+        Next::Waits => Ok((next, behind)),
+        Next::Stops => Ok((next, behind)),
+    }
+}
+
+/// Adds a line with this name, an answer under the name of the request that it belongs to.
+fn list_line<A: Memory>(
+    view: View<'_>,
+    place: u64,
+    name: &str,
+    requests: &[Encryption],
+    texts: &mut Texts<A>,
+) -> Result<(), AllocError>
+    ensures text { OnOk result (string_bytes texts.new.lines ≡ string_bytes texts.old.lines ++ text_of (view_of view.entry) (string_bytes texts.old.mark) place requests.now name.now (string_bytes texts.old.line)) }
+    ensures mark { OnOk result (string_bytes texts.new.mark ≡ string_bytes texts.old.mark) }
+    ensures lacks { OnErr result A.Lacks }
+{
+    reline(view.style, place, requests, name, &mut texts.line)?;
+    put_marked(
+        view.style.form,
+        texts.mark.as_str(),
+        texts.line.as_str(),
+        &mut texts.marked,
+    )?;
+    add_shown(
+        view,
+        called(requests, name),
+        texts.marked.as_str(),
+        &mut texts.lines,
+    )
+}
+
+/// The name of a message, where these requests for encryption aren't answered.
+fn called<'a>(requests: &[Encryption], name: &'a str) -> &'a str
+    ensures { result.now ≡ called requests.now name.now }
+{
+    match requests {
+        [] => name,
+        [first, ..] => called_after(*first, name),
+    }
+}
+
+/// The same, where this is the first of them.
+fn called_after<'a>(first: Encryption, name: &'a str) -> &'a str
+    ensures { result.now ≡ called_after first name.now }
+{
+    if name == EITHER {
+        answer_to(first)
+    } else {
+        name
+    }
+}
+
+/// The name of an answer that doesn't say to which request it belongs.
+const EITHER: &str = "SSLResponse or GSSENCResponse";
+
+/// The name of the answer to a request.
+fn answer_to(request: Encryption) -> &'static str
+    ensures { result.now ≡ answer_to request }
+{
+    match request {
+        Encryption::Tls => "SSLResponse",
+        Encryption::Gss => "GSSENCResponse",
+    }
+}
+
+/// Writes the line of an answer anew, where it is known to which request it belongs.
+fn reline<A: Memory>(
+    style: Style,
+    place: u64,
+    requests: &[Encryption],
+    name: &str,
+    line: &mut String<A>,
+) -> Result<(), AllocError>
+    ensures line { OnOk result (string_bytes line.new ≡ relined style place requests.now name.now (string_bytes line.old)) }
+    ensures lacks { OnErr result A.Lacks }
+{
+    match requests {
+        [] => Ok(()),
+        [first, ..] => reline_after(style, place, *first, name, line),
+    }
+}
+
+/// The same, where this is the first of them.
+fn reline_after<A: Memory>(
+    style: Style,
+    place: u64,
+    first: Encryption,
+    name: &str,
+    line: &mut String<A>,
+) -> Result<(), AllocError>
+    ensures line { OnOk result (string_bytes line.new ≡ relined_after style place first name.now (string_bytes line.old)) }
+    ensures lacks { OnErr result A.Lacks }
+{
+    if name == EITHER {
+        answer_line(style, place, first, line)
+    } else {
+        Ok(())
+    }
+}
+
+/// Writes the line of the answer to a request.
+fn answer_line<A: Memory>(
+    style: Style,
+    place: u64,
+    request: Encryption,
+    line: &mut String<A>,
+) -> Result<(), AllocError>
+    ensures line { OnOk result (string_bytes line.new ≡ answer_line style place request) }
+    ensures lacks { OnErr result A.Lacks }
+{
+    begin_line(style, place, 1, b'N', line)?;
+    put_called(style, true, answer_to(request), line)?;
+    put_end(style, line)
+}

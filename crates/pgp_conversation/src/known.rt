@@ -1,0 +1,153 @@
+//! What is known of both sides of a connection.
+
+ghost use Rattle.std.specs.Prelude.{◌≡◌, drop, nat_lt, vec_len, if◌then◌else◌, IfOk, OnErr, OnOk, string_bytes};
+ghost use Rattle.pgp_conversation.specs.Steps.{KnowsNext, known_of};
+ghost use Rattle.pgp_conversation.specs.Conversation.{at_first, note};
+
+use crate::chunk::Sender;
+use crate::noted::{Encryption, Noted};
+use pgp_base::Memory;
+use pgp_frontend_read::PasswordKind;
+use pgp_line::style::Style;
+use pgp_trace::answer::first_line;
+use pgp_trace::client::client_line;
+use pgp_trace::frame::{Next, server_line};
+use pgp_trace::next::sealed;
+use pgp_trace::side::Phase;
+use std::alloc::AllocError;
+
+/// What is known of both sides.
+#[derive(Drop)]
+pub struct Known<A: Memory> {
+    /// Whether a startup packet of the client came.
+    pub opened: bool,
+    /// Which its next messages of tag `p` are.
+    pub kinds: Vec<PasswordKind, A>,
+    /// How far the server's stream has come.
+    pub phase: Phase,
+    /// The requests for encryption that aren't answered.
+    pub requests: Vec<Encryption, A>,
+}
+
+/// Before a connection's first byte.
+pub fn at_first<A: Memory>(alloc: A) -> Known<A>
+    ensures { known_of result ≡ at_first }
+{
+    Known {
+        opened: false,
+        kinds: Vec::new(alloc),
+        phase: Phase::Beginning,
+        requests: Vec::new(alloc),
+    }
+}
+
+/// Makes the line of the frame at the front of the bytes, which this side sent and which stands at this place. Returns what stands after it.
+///
+/// # Errors
+///
+/// Returns `AllocError` if there is no memory for the line.
+pub fn next_line<'b, A: Memory>(
+    style: Style,
+    sender: Sender,
+    place: u64,
+    bytes: &'b [u8],
+    known: &mut Known<A>,
+    line: &mut String<A>,
+) -> Result<(Next, &'b [u8]), AllocError>
+    ensures listed { IfOk result (λ x. KnowsNext style sender place (known_of known.old) bytes.now x.1.now (string_bytes line.new) (known_of known.new) x.0) }
+    ensures lacks { OnErr result A.Lacks }
+{
+    match sender {
+        Sender::Client => next_of_client(style, place, bytes, known, line),
+        Sender::Server => next_of_server(style, place, bytes, known, line),
+    }
+}
+
+fn next_of_client<'b, A: Memory>(
+    style: Style,
+    place: u64,
+    bytes: &'b [u8],
+    known: &mut Known<A>,
+    line: &mut String<A>,
+) -> Result<(Next, &'b [u8]), AllocError>
+    ensures listed { IfOk result (λ x. KnowsNext style Sender.Client place (known_of known.old) bytes.now x.1.now (string_bytes line.new) (known_of known.new) x.0) }
+    ensures lacks { OnErr result A.Lacks }
+{
+    let (next, opened, left, rest) = client_line(
+        style,
+        place,
+        known.opened,
+        known.kinds.as_slice(),
+        bytes,
+        line,
+    )?;
+    let left = left.len();
+    known.opened = opened;
+    keep_last(left, &mut known.kinds);
+    Ok((next, rest))
+}
+
+/// Lets the first kind go, where fewer are left.
+fn keep_last<A: Memory>(left: usize, kinds: &mut Vec<PasswordKind, A>)
+    ensures { kinds.new.items ≡ (if nat_lt left (vec_len kinds.old) then drop 1 kinds.old.items else kinds.old.items) }
+{
+    if left < kinds.len() {
+        let _ = kinds.remove(0);
+    }
+}
+
+fn next_of_server<'b, A: Memory>(
+    style: Style,
+    place: u64,
+    bytes: &'b [u8],
+    known: &mut Known<A>,
+    line: &mut String<A>,
+) -> Result<(Next, &'b [u8]), AllocError>
+    ensures listed { IfOk result (λ x. KnowsNext style Sender.Server place (known_of known.old) bytes.now x.1.now (string_bytes line.new) (known_of known.new) x.0) }
+    ensures lacks { OnErr result A.Lacks }
+{
+    match known.phase {
+        Phase::Beginning => {
+            let (next, phase, rest) = first_line(style, place, bytes, line)?;
+            known.phase = phase;
+            Ok((next, rest))
+        }
+        Phase::Messages => server_line(style, place, bytes, line),
+        Phase::Encrypted => Ok((sealed(bytes), bytes)),
+    }
+}
+
+/// Takes note of what a message says of those that are still to come.
+///
+/// # Errors
+///
+/// Returns `AllocError` if there is no memory for it.
+pub fn note<A: Memory>(noted: Noted, known: &mut Known<A>) -> Result<(), AllocError>
+    ensures noted { OnOk result (known_of known.new ≡ note noted (known_of known.old)) }
+    ensures lacks { OnErr result A.Lacks }
+{
+    match noted {
+        Noted::Asks(kind) => {
+            A::push(&mut known.kinds, kind)?;
+            Ok(())
+        }
+        Noted::Requests(encryption) => {
+            A::push(&mut known.requests, encryption)?;
+            Ok(())
+        }
+        Noted::Answers => {
+            drop_first(&mut known.requests);
+            Ok(())
+        }
+        Noted::Nothing => Ok(()),
+    }
+}
+
+/// Lets the first request go.
+fn drop_first<A: Memory>(requests: &mut Vec<Encryption, A>)
+    ensures { requests.new.items ≡ drop 1 requests.old.items }
+{
+    if !requests.is_empty() {
+        let _ = requests.remove(0);
+    }
+}

@@ -1,0 +1,17 @@
+//! Shows a person both sides of a recorded connection in one listing, a line a message, in the order in which they came: what the program
+//! `pgtrace` runs for `session`, with all else of `pgp_trace`.
+#![tactic(auto)]
+
+pub mod chunk;
+pub mod ending;
+pub mod frames;
+pub mod known;
+pub mod last;
+pub mod laws;
+pub mod mark;
+pub mod noted;
+pub mod options;
+pub mod outcome;
+pub mod run;
+pub mod session;
+pub mod talk;

@@ -1,0 +1,182 @@
+//! The mark before a line: when its message was whole, and who sent it.
+
+ghost use Rattle.std.specs.Prelude.{◌≡◌, ◌++◌, OnErr, OnOk, string_bytes};
+ghost use Rattle.pgp_line.specs.Line.{blanks};
+ghost use Rattle.pgp_conversation.specs.Marks.{between, last_mark, mark, marked, member, number, since};
+
+use crate::chunk::Sender;
+use pgp_base::Memory;
+use pgp_line::line::add_line;
+use pgp_line::style::Form;
+use std::alloc::AllocError;
+
+/// How many characters a time takes.
+const WIDTH: usize = 12;
+
+/// Writes the mark of a message that came at a time, where others are counted from another.
+///
+/// # Errors
+///
+/// Returns `AllocError` if there is no memory for it.
+pub fn put_mark<A: Memory>(
+    form: Form,
+    sender: Sender,
+    start: u64,
+    micros: u64,
+    time: &mut String<A>,
+    text: &mut String<A>,
+) -> Result<(), AllocError>
+    ensures text { OnOk result (string_bytes text.new ≡ mark form sender (since start micros)) }
+    ensures lacks { OnErr result A.Lacks }
+{
+    time.clear();
+    put_since(start, micros, time)?;
+    text.clear();
+    put_time(form, sender, time.as_str(), text)
+}
+
+/// Adds the seconds from one time to another.
+fn put_since<A: Memory>(start: u64, micros: u64, text: &mut String<A>) -> Result<(), AllocError>
+    ensures text { OnOk result (string_bytes text.new ≡ string_bytes text.old ++ since start micros) }
+    ensures lacks { OnErr result A.Lacks }
+{
+    if micros < start {
+        A::push_char(text, '-')?;
+        put_number(start - micros, text)
+    } else {
+        put_number(micros - start, text)
+    }
+}
+
+/// Adds so many microseconds as seconds.
+#[tactic(auto, unfolding(crate::specs::Marks::number))]
+fn put_number<A: Memory>(n: u64, text: &mut String<A>) -> Result<(), AllocError>
+    ensures text { OnOk result (string_bytes text.new ≡ string_bytes text.old ++ number n) }
+    ensures lacks { OnErr result A.Lacks }
+{
+    let seconds = n / 1_000_000;
+    let a = n / 100_000 % 10;
+    let b = n / 10_000 % 10;
+    let c = n / 1_000 % 10;
+    let d = n / 100 % 10;
+    let e = n / 10 % 10;
+    let f = n % 10;
+    A::push_shown(text, format_args!("{seconds}.{a}{b}{c}{d}{e}{f}"))
+}
+
+/// Adds a mark with this time.
+fn put_time<A: Memory>(
+    form: Form,
+    sender: Sender,
+    time: &str,
+    text: &mut String<A>,
+) -> Result<(), AllocError>
+    ensures text { OnOk result (string_bytes text.new ≡ string_bytes text.old ++ mark form sender time.now) }
+    ensures lacks { OnErr result A.Lacks }
+{
+    match form {
+        Form::Columns => {
+            put_blanks(WIDTH.saturating_sub(time.len()), text)?;
+            A::push_str(text, time)?;
+            A::push_str(text, arrow_of(sender))
+        }
+        Form::Json => {
+            A::push_str(text, "\"time\":")?;
+            A::push_str(text, time)?;
+            A::push_str(text, member_of(sender))
+        }
+    }
+}
+
+/// The mark of a line that says what is left.
+///
+/// # Errors
+///
+/// Returns `AllocError` if there is no memory for it.
+pub fn put_last_mark<A: Memory>(
+    form: Form,
+    sender: Sender,
+    text: &mut String<A>,
+) -> Result<(), AllocError>
+    ensures text { OnOk result (string_bytes text.new ≡ last_mark form sender) }
+    ensures lacks { OnErr result A.Lacks }
+{
+    text.clear();
+    match form {
+        Form::Columns => put_time(form, sender, "", text),
+        Form::Json => put_time(form, sender, "null", text),
+    }
+}
+
+/// The arrow of a side, between spaces.
+fn arrow_of(sender: Sender) -> &'static str
+    ensures { result.now ≡ between sender }
+{
+    match sender {
+        Sender::Client => " > ",
+        Sender::Server => " < ",
+    }
+}
+
+/// The member of an object that says who sent its message, with commas around it.
+fn member_of(sender: Sender) -> &'static str
+    ensures { result.now ≡ member sender }
+{
+    match sender {
+        Sender::Client => ",\"from\":\"client\",",
+        Sender::Server => ",\"from\":\"server\",",
+    }
+}
+
+/// Adds so many blanks.
+fn put_blanks<A: Memory>(len: usize, text: &mut String<A>) -> Result<(), AllocError>
+    ensures text { OnOk result (string_bytes text.new ≡ string_bytes text.old ++ blanks len) }
+    ensures lacks { OnErr result A.Lacks }
+{
+    for _ in 0..len {
+        A::push_char(text, ' ')?;
+    }
+    Ok(())
+}
+
+/// Writes a line with a mark: before it, or as the first members of its object.
+///
+/// # Errors
+///
+/// Returns `AllocError` if there is no memory for it.
+pub fn put_marked<A: Memory>(
+    form: Form,
+    mark: &str,
+    line: &str,
+    text: &mut String<A>,
+) -> Result<(), AllocError>
+    ensures text { OnOk result (string_bytes text.new ≡ marked form mark.now line.now) }
+    ensures lacks { OnErr result A.Lacks }
+{
+    text.clear();
+    match form {
+        Form::Columns => put_both(mark, line, text),
+        Form::Json => put_inside(mark, line, text),
+    }
+}
+
+/// Adds one text after the other.
+fn put_both<A: Memory>(mark: &str, line: &str, text: &mut String<A>) -> Result<(), AllocError>
+    ensures text { OnOk result (string_bytes text.new ≡ string_bytes text.old ++ mark.now ++ line.now) }
+    ensures lacks { OnErr result A.Lacks }
+{
+    add_line(mark, text)?;
+    add_line(line, text)
+}
+
+/// Adds an object with the members of a mark first.
+fn put_inside<A: Memory>(mark: &str, line: &str, text: &mut String<A>) -> Result<(), AllocError>
+    ensures text { OnOk result (string_bytes text.new ≡ string_bytes text.old ++ marked Form.Json mark.now line.now) }
+    ensures lacks { OnErr result A.Lacks }
+{
+    let Some(members) = line.strip_prefix('{') else {
+        return put_both(mark, line, text);
+    };
+    A::push_char(text, '{')?;
+    put_both(mark, members, text)
+}

@@ -1,0 +1,288 @@
+//! The listing of a recording, as it comes.
+
+ghost use Rattle.std.specs.Prelude.{◌≡◌, ◌≤◌, ◌<◌, ◌++◌, ◌⊎◌, ℕ, Bool, List, [], false, drop, length, IfErr, IfOk, OnErr, OnOk, string_bytes};
+ghost use Rattle.std.specs.Io.KnownBytes.{Appends, Keeps};
+ghost use Rattle.pgp_program.specs.Interruptions.{GivesUp};
+ghost use Rattle.pgp_program.specs.Run.{Caused};
+ghost use Rattle.pgp_program.specs.Taken.{AppendsFront};
+ghost use Rattle.pgp_trace.specs.Hints.{hint_of};
+ghost use Rattle.pgp_trace.specs.Steps.{view_of};
+ghost use Rattle.pgp_conversation.specs.Conversation.{first_start};
+ghost use Rattle.pgp_conversation.specs.Pieces.{ListsAllChunks, ListsPiece, ListsSome, Tracks, held_first, held_last, held_nothing};
+ghost use Rattle.pgp_conversation.specs.Recording.{complaint_of};
+ghost use Rattle.pgp_conversation.specs.Session.{IsCutShort, ReadsWhenReady, WasListed, WritesListing};
+ghost use Rattle.pgp_conversation.specs.Steps.{end_of, half_of, kept_of};
+
+use crate::chunk::{Part, Sender, first_part};
+use crate::ending::{End, end_of};
+use crate::frames::{Texts, no_texts};
+use crate::known::at_first;
+use crate::last::add_last;
+use crate::talk::{Half, Talk, list_chunk};
+use bytes::{Buf, BytesMut};
+use pgp_base::Memory;
+use pgp_program::fault::Fault;
+use pgp_program::ports::Output;
+use pgp_program::print::put;
+use pgp_trace::hint::hint_of;
+use pgp_trace::ports::Input;
+use pgp_trace::side::Side;
+use pgp_trace::view::View;
+use std::alloc::AllocError;
+use std::io::ErrorKind;
+
+/// How many bytes are read at a time.
+const PIECE: usize = 65536;
+
+/// What is kept of a recording.
+#[derive(Drop)]
+struct Held<A: Memory> {
+    /// Whether its beginning was read.
+    begun: bool,
+    talk: Talk<A>,
+    /// The bytes of which no chunk is whole.
+    bytes: BytesMut<A>,
+    texts: Texts<A>,
+}
+
+/// How a recording ends, and what is to be said of bytes of both sides that are left.
+#[derive(Debug, Clone, Copy)]
+pub struct Said {
+    pub client: &'static str,
+    pub server: &'static str,
+    pub end: End,
+}
+
+/// Lists a recording, as it comes: the lines of all frames that are whole with a chunk are written and passed on before more is read. Of what is no
+/// recording, and of what comes after the last chunk where no other follows, no more is read.
+///
+/// # Errors
+///
+/// Returns `Memory` if an allocation fails, `Read` if reading fails, and `Write` if writing or a flush fails.
+pub fn list_session<A: Memory, R: Input, W: Output>(
+    alloc: A,
+    view: View<'_>,
+    absolute: bool,
+    input: &mut R,
+    output: &mut W,
+) -> Result<Said, Fault>
+    requires live { ReadsWhenReady R.remaining W.contents W.Passed R.MayRead (view_of view) absolute input.old output.old }
+    ensures listed { IfOk result (λ said. WritesListing (view_of view.entry) absolute
+        (record { input = R.remaining input.old; output = W.contents output.old })
+        (record { input = R.remaining input.new; output = W.contents output.new }) said.end (said.client.now ++ said.server.now ++ complaint_of said.end)) }
+    ensures live { IfErr result (λ fault. fault ≡ Fault.Read → WasListed (view_of view.entry) absolute
+        (record { input = R.remaining input.old; output = W.contents output.old })
+        (record { input = R.remaining input.new; output = W.contents output.new })) }
+    ensures passed { IfErr result (λ fault. fault ≡ Fault.Read → Keeps (W.contents output.old) (W.contents output.new) ⊎ W.Passed output.new) }
+    ensures done { OnOk result (W.Passed output.new) }
+    ensures cut { OnErr result (IsCutShort (view_of view.entry) absolute
+        (record { input = R.remaining input.old; output = W.contents output.old })
+        (record { input = R.remaining input.new; output = W.contents output.new })) }
+    ensures cause { IfErr result (Caused A.Lacks (GivesUp R.Fails R.Called) (GivesUp W.Fails W.Interrupted)) }
+{
+    let mut piece = A::list_filled(alloc, 0, PIECE)?;
+    let mut held = held_at_first(alloc);
+    list_pieces(
+        view,
+        absolute,
+        input,
+        piece.as_mut_slice(),
+        &mut held,
+        output,
+    )
+}
+
+/// Before the first byte of a recording.
+fn held_at_first<A: Memory>(alloc: A) -> Held<A>
+    ensures begun { result.begun ≡ false }
+    ensures talk { kept_of result.talk ≡ held_first false }
+    ensures bytes { result.bytes.items ≡ [] }
+{
+    Held {
+        begun: false,
+        talk: talk_at_first(alloc),
+        bytes: BytesMut::new(alloc),
+        texts: no_texts(alloc),
+    }
+}
+
+/// Before the first chunk.
+fn talk_at_first<A: Memory>(alloc: A) -> Talk<A>
+    ensures { kept_of result ≡ held_first false }
+{
+    Talk {
+        known: at_first(alloc),
+        client: half_at_first(alloc),
+        server: half_at_first(alloc),
+        start: None,
+    }
+}
+
+fn half_at_first<A: Memory>(alloc: A) -> Half<A>
+    ensures { half_of result ≡ held_nothing }
+{
+    Half {
+        bytes: BytesMut::new(alloc),
+        place: 0,
+        stopped: false,
+        left: 0,
+    }
+}
+
+/// What times are counted from, before the first chunk.
+fn first_start(absolute: bool) -> Option<u64>
+    ensures { result ≡ first_start absolute }
+{
+    if absolute { Some(0) } else { None }
+}
+
+/// Lists a recording, a piece at a time.
+fn list_pieces<A: Memory, R: Input, W: Output>(
+    view: View<'_>,
+    absolute: bool,
+    input: &mut R,
+    piece: &mut [u8],
+    held: &mut Held<A>,
+    output: &mut W,
+) -> Result<Said, Fault>
+    requires some { 0 < length piece.old }
+    requires begun { held.old.begun ≡ false }
+    requires talk { kept_of held.old.talk ≡ held_first false }
+    requires bytes { held.old.bytes.items ≡ [] }
+    requires live { ReadsWhenReady R.remaining W.contents W.Passed R.MayRead (view_of view) absolute input.old output.old }
+    ensures listed { IfOk result (λ said. WritesListing (view_of view.entry) absolute
+        (record { input = R.remaining input.old; output = W.contents output.old })
+        (record { input = R.remaining input.new; output = W.contents output.new }) said.end (said.client.now ++ said.server.now ++ complaint_of said.end)) }
+    ensures live { IfErr result (λ fault. fault ≡ Fault.Read → WasListed (view_of view.entry) absolute
+        (record { input = R.remaining input.old; output = W.contents output.old })
+        (record { input = R.remaining input.new; output = W.contents output.new })) }
+    ensures passed { IfErr result (λ fault. fault ≡ Fault.Read → Keeps (W.contents output.old) (W.contents output.new) ⊎ W.Passed output.new) }
+    ensures done { OnOk result (W.Passed output.new) }
+    ensures cut { OnErr result (IsCutShort (view_of view.entry) absolute
+        (record { input = R.remaining input.old; output = W.contents output.old })
+        (record { input = R.remaining input.new; output = W.contents output.new })) }
+    ensures cause { IfErr result (Caused A.Lacks (GivesUp R.Fails R.Called) (GivesUp W.Fails W.Interrupted)) }
+{
+    held.talk.start = first_start(absolute);
+    // Bounded, since each function has to end, and a reader may give pieces or be interrupted forever.
+    'pieces: for _ in 0..u64::MAX {
+        match input.read_some(piece) {
+            Ok(0) => return list_last(view, false, held, output),
+            Ok(n) => {
+                if list_piece(view, &piece[..n], held, output)? {
+                    return list_last(view, true, held, output);
+                }
+            }
+            Err(e) => match e.kind() {
+                ErrorKind::Interrupted => {}
+                ErrorKind::OutOfMemory => return Err(Fault::Memory),
+                _ => return Err(Fault::Read),
+            },
+        }
+    }
+    Err(Fault::Read)
+}
+
+/// Lists the chunks that are whole with this piece, and has their lines passed on. Returns whether no chunk comes after them.
+fn list_piece<A: Memory, W: Output>(
+    view: View<'_>,
+    piece: &[u8],
+    held: &mut Held<A>,
+    output: &mut W,
+) -> Result<bool, Fault>
+    ensures all { IfOk result (λ stopped. (absolute : Bool) (bytes lines : List ℕ) → Tracks (view_of view.entry) absolute bytes lines held.old.begun (kept_of held.old.talk) held.old.bytes.items →
+        ListsPiece (view_of view.entry) absolute (bytes ++ piece.now) lines held.new.begun stopped (kept_of held.new.talk) held.new.bytes.items (W.contents output.old) (W.contents output.new)) }
+    ensures passed { OnOk result (W.Passed output.new) }
+    ensures some { OnErr result ((absolute : Bool) (bytes lines : List ℕ) → Tracks (view_of view.entry) absolute bytes lines held.old.begun (kept_of held.old.talk) held.old.bytes.items →
+        ListsSome (view_of view.entry) absolute (bytes ++ piece.now) lines (W.contents output.old) (W.contents output.new)) }
+    ensures cause { IfErr result (Caused A.Lacks ⊥ (GivesUp W.Fails W.Interrupted)) }
+{
+    A::append(&mut held.bytes, piece)?;
+    held.texts.lines.clear();
+    let (begun, listed, stopped) = list_chunks(
+        view,
+        held.begun,
+        held.bytes.as_slice(),
+        &mut held.talk,
+        &mut held.texts,
+    )?;
+    held.begun = begun;
+    held.bytes.advance(listed);
+    put_lines(held.texts.lines.as_str(), output)?;
+    Ok(stopped)
+}
+
+/// Adds the lines of the whole chunks at the front of the bytes. Returns whether the beginning of the recording was read, how many bytes they
+/// take, and whether no chunk comes after them.
+fn list_chunks<A: Memory>(
+    view: View<'_>,
+    begun: bool,
+    bytes: &[u8],
+    talk: &mut Talk<A>,
+    texts: &mut Texts<A>,
+) -> Result<(bool, usize, bool), AllocError>
+    ensures within { IfOk result (λ x. x.1 ≤ length bytes.now) }
+    ensures all { IfOk result (λ x. (absolute : Bool) (received lines : List ℕ) → Tracks (view_of view.entry) absolute received lines begun (kept_of talk.old) bytes.now →
+        ListsAllChunks (view_of view.entry) absolute received lines x.0 x.2 (kept_of talk.new) (drop x.1 bytes.now) (string_bytes texts.old.lines) (string_bytes texts.new.lines)) }
+    ensures lacks { OnErr result A.Lacks }
+{
+    let mut opened = begun;
+    let mut rest = bytes;
+    'chunks: loop {
+        let (part, behind) = first_part(opened, rest);
+        match part {
+            Part::Magic => {
+                opened = true;
+                rest = behind;
+            }
+            Part::Chunk(chunk) => {
+                list_chunk(view, chunk, talk, texts)?;
+                rest = behind;
+            }
+            Part::Waits => return Ok((opened, bytes.len() - rest.len(), false)),
+            Part::Stops => return Ok((opened, bytes.len() - rest.len(), true)),
+        }
+    }
+}
+
+/// Writes lines, and has them passed on.
+fn put_lines<W: Output>(lines: &str, output: &mut W) -> Result<(), Fault>
+    ensures written { OnOk result (Appends (W.contents output.old) (W.contents output.new) lines.now) }
+    ensures front { OnErr result (AppendsFront (W.contents output.old) (W.contents output.new) lines.now) }
+    ensures passed { OnOk result (W.Passed output.new) }
+    ensures fault { IfErr result (λ fault. fault ≡ Fault.Write) }
+    ensures failed { OnErr result (GivesUp W.Fails W.Interrupted) }
+{
+    put(lines.as_bytes(), output)
+}
+
+/// Writes the last lines, where no chunk comes any more. Returns what is to be said then.
+fn list_last<A: Memory, W: Output>(
+    view: View<'_>,
+    stopped: bool,
+    held: &mut Held<A>,
+    output: &mut W,
+) -> Result<Said, Fault>
+    ensures end { IfOk result (λ said. said.end ≡ end_of held.old.begun stopped held.old.bytes.items) }
+    ensures client { IfOk result (λ said. said.client.now ≡ hint_of (kept_of held.old.talk).known.client held.old.talk.client.left) }
+    ensures server { IfOk result (λ said. said.server.now ≡ hint_of (kept_of held.old.talk).known.server held.old.talk.server.left) }
+    ensures all { OnOk result (Appends (W.contents output.old) (W.contents output.new) (held_last (view_of view.entry) (kept_of held.old.talk))) }
+    ensures some { OnErr result (AppendsFront (W.contents output.old) (W.contents output.new) (held_last (view_of view.entry) (kept_of held.old.talk))) }
+    ensures passed { OnOk result (W.Passed output.new) }
+    ensures cause { IfErr result (Caused A.Lacks ⊥ (GivesUp W.Fails W.Interrupted)) }
+{
+    held.texts.lines.clear();
+    add_last(view, Sender::Client, &held.talk.client, &mut held.texts)?;
+    add_last(view, Sender::Server, &held.talk.server, &mut held.texts)?;
+    put_lines(held.texts.lines.as_str(), output)?;
+    let known = &held.talk.known;
+    let client = Side::Client {
+        opened: known.opened,
+        kinds: known.kinds.as_slice(),
+    };
+    Ok(Said {
+        client: hint_of(client, held.talk.client.left),
+        server: hint_of(Side::Server(known.phase), held.talk.server.left),
+        end: end_of(held.begun, stopped, held.bytes.as_slice()),
+    })
+}

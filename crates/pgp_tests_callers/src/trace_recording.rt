@@ -1,0 +1,227 @@
+//! Recordings of both sides of a connection. Expected lines are after the message formats of the PostgreSQL manual.
+
+use crate::checks::{holds, same};
+use crate::failing::{FailingReader, PieceReader};
+use pgp_conversation::run::run;
+use std::alloc::Global;
+use std::io::{self, Read};
+use std::process::Abort;
+use std::test::Fail;
+
+/// What a run comes to: its status, what it writes, and what it says on standard error.
+#[derive(Clone, Copy)]
+struct Outcome<'a> {
+    status: u8,
+    written: &'a str,
+    reported: &'a str,
+}
+
+/// The program on these words and this input comes to this, where no terminal shows it.
+fn comes_to<R: Read>(
+    rt: &impl Abort,
+    alloc: Global,
+    words: &[&str],
+    input: &mut R,
+    wanted: &Outcome<'_>,
+) {
+    let mut output = Vec::new(alloc);
+    let mut errors = Vec::new(alloc);
+    let status = run(alloc, false, words, input, &mut output, &mut errors);
+    same(rt, status, wanted.status);
+    holds(rt, output.as_slice() == wanted.written.as_bytes());
+    holds(rt, errors.as_slice() == wanted.reported.as_bytes());
+}
+
+/// A client asks for TLS, which the server refuses; logs in with a password, by a clock that was set back; and the first byte of a message comes. The
+/// chunks came 0, 312, 100,000, 200,000, -1 and 300,001 microseconds after a second.
+const RECORDING: &[u8] = b"pgtrace recording 1\n\
+    >\x00\x00\x00\x00\x00\x0fB@\x00\x00\x00\x08\x00\x00\x00\x08\x04\xd2\x16/\
+    <\x00\x00\x00\x00\x00\x0fCx\x00\x00\x00\x01N\
+    >\x00\x00\x00\x00\x00\x10\xc8\xe0\x00\x00\x00\x10\x00\x00\x00\x10\x00\x03\x00\x00user\x00a\x00\x00\
+    <\x00\x00\x00\x00\x00\x12O\x80\x00\x00\x00\x09R\x00\x00\x00\x08\x00\x00\x00\x03\
+    >\x00\x00\x00\x00\x00\x0fB?\x00\x00\x00\x08p\x00\x00\x00\x07ab\x00\
+    <\x00\x00\x00\x00\x00\x13\xd6!\x00\x00\x00\x0aR\x00\x00\x00\x08\x00\x00\x00\x00Z";
+
+/// Where each of its chunks ends, and the line of the message in it.
+const LINES: [(usize, &str); 6] = [
+    (41, "    0.000000 >          0        8 - SSLRequest\n"),
+    (55, "    0.000312 <          0        1 N SSLResponse\n"),
+    (
+        84,
+        "    0.100000 >          8       16 - StartupMessage       version 196608 parameters \"user\" \"a\"\n",
+    ),
+    (
+        106,
+        "    0.200000 <          1        9 R AuthenticationCleartextPassword\n",
+    ),
+    (
+        127,
+        "   -0.000001 >         24        8 p PasswordMessage      password (2 bytes)\n",
+    ),
+    (
+        150,
+        "    0.300001 <         10        9 R AuthenticationOk\n",
+    ),
+];
+
+const ALL: &str =
+    "    0.000000 >          0        8 - SSLRequest\n    0.000312 <          0        1 N SSLResponse\n    0.100000 >          8       16 - StartupMessage       version 196608 parameters \"user\" \"a\"\n    0.200000 <          1        9 R AuthenticationCleartextPassword\n   -0.000001 >         24        8 p PasswordMessage      password (2 bytes)\n    0.300001 <         10        9 R AuthenticationOk\n             < rest 1\n";
+
+/// Those before the last chunk.
+const FRONT: &str =
+    "    0.000000 >          0        8 - SSLRequest\n    0.000312 <          0        1 N SSLResponse\n    0.100000 >          8       16 - StartupMessage       version 196608 parameters \"user\" \"a\"\n    0.200000 <          1        9 R AuthenticationCleartextPassword\n   -0.000001 >         24        8 p PasswordMessage      password (2 bytes)\n";
+
+const OPEN: &str =
+    "    0.999999 >         24        8 p PasswordMessage      password \"ab\"\n    1.300001 <         10        9 R AuthenticationOk\n             < rest 1\n";
+
+const OBJECTS: &str =
+    "{\"time\":0.000312,\"from\":\"server\",\"offset\":0,\"length\":1,\"tag\":\"N\",\"name\":\"SSLResponse\"}\n{\"time\":-0.000001,\"from\":\"client\",\"offset\":24,\"length\":8,\"tag\":\"p\",\"name\":\"PasswordMessage\",\"password\":{\"bytes\":2}}\n{\"time\":null,\"from\":\"server\",\"rest\":1,\"stopped\":false}\n";
+
+const USAGE: &str =
+    "usage: pgtrace server [--json] [--full] [--secrets] [--resume] [--only NAME[,NAME]..] [--color auto|always|never] | client [--json] [--full] [--secrets] [--resume] [--only NAME[,NAME]..] [--color auto|always|never] [--password-kind password|initial|response].. | session [--json] [--full] [--secrets] [--time absolute|relative] [--only NAME[,NAME]..] [--color auto|always|never] | --help | --version\n";
+
+#[test]
+fn both_sides_are_listed(rt: HostRuntime) {
+    let runs: [(&[&str], u8, &str, &str); 8] = [
+        (&["session"], 0, ALL, ""),
+        (
+            &["session", "--time", "absolute", "--time", "relative"],
+            0,
+            ALL,
+            "",
+        ),
+        (
+            &[
+                "session",
+                "--only",
+                "PasswordMessage,AuthenticationOk",
+                "--time",
+                "absolute",
+                "--secrets",
+            ],
+            0,
+            OPEN,
+            "",
+        ),
+        (
+            &["session", "--only", "PasswordMessage,SSLResponse", "--json"],
+            0,
+            OBJECTS,
+            "",
+        ),
+        (&["session", "--resume"], 2, "", USAGE),
+        (&["session", "--password-kind", "password"], 2, "", USAGE),
+        (&["session", "--time"], 2, "", USAGE),
+        (&["session", "--time", "now"], 2, "", USAGE),
+    ];
+    for (words, status, written, reported) in runs {
+        let wanted = Outcome {
+            status,
+            written,
+            reported,
+        };
+        let mut input = RECORDING;
+        comes_to(&rt, rt.alloc(), words, &mut input, &wanted);
+    }
+}
+
+const CUT: &str = "pgtrace: the recording ends inside a chunk\n";
+
+const OTHER: &str = "pgtrace: what follows in the recording is no chunk\n";
+
+const NONE: &str = "pgtrace: this is no recording: it begins otherwise\n";
+
+#[test]
+fn what_is_no_chunk_is_reported(rt: HostRuntime) -> Result<(), Fail> {
+    let (cut, _) = RECORDING.split_at(149);
+    let (empty, _) = RECORDING.split_at(20);
+    let (short, _) = RECORDING.split_at(19);
+    let mut longer = Vec::from_slice(rt.alloc(), RECORDING)?;
+    longer.push(b'|')?;
+    let mut renamed = Vec::from_slice(rt.alloc(), RECORDING)?;
+    renamed[18] = b'2';
+    let runs: [(&[u8], u8, &str, &str); 6] = [
+        (cut, 0, FRONT, CUT),
+        (empty, 0, "", ""),
+        (short, 1, "", NONE),
+        (&[], 1, "", NONE),
+        (longer.as_slice(), 1, ALL, OTHER),
+        (renamed.as_slice(), 1, "", NONE),
+    ];
+    for (bytes, status, written, reported) in runs {
+        let wanted = Outcome {
+            status,
+            written,
+            reported,
+        };
+        let mut input = bytes;
+        comes_to(&rt, rt.alloc(), &["session"], &mut input, &wanted);
+    }
+    Ok(())
+}
+
+/// The chunks before the place at which reading fails have their lines.
+#[test]
+fn no_line_is_held_back(rt: HostRuntime) -> Result<(), Fail> {
+    for n in 0..=RECORDING.len() {
+        let (rest, _) = RECORDING.split_at(n);
+        let mut wanted = Vec::new(rt.alloc());
+        for (end, line) in &LINES {
+            if *end <= n {
+                wanted.extend_from_slice(line.as_bytes())?;
+            }
+        }
+        let mut input = FailingReader { rest, step: 1 };
+        let mut output = Vec::new(rt.alloc());
+        let mut errors = Vec::new(rt.alloc());
+        let status = run(
+            rt.alloc(),
+            false,
+            &["session"],
+            &mut input,
+            &mut output,
+            &mut errors,
+        );
+        same(&rt, status, 1);
+        holds(&rt, output.as_slice() == wanted.as_slice());
+        holds(&rt, errors.as_slice() == b"pgtrace: read failed\n");
+    }
+    Ok(())
+}
+
+/// A reader that gives the beginning of a recording at once, and what comes after it in pieces.
+#[derive(Drop)]
+struct Begun<'a> {
+    first: &'a [u8],
+    more: PieceReader<'a>,
+}
+
+impl Read for Begun<'_> {
+    fn read(&mut self, buf: &mut [u8]) -> io::Result<usize> {
+        if self.first.is_empty() {
+            return self.more.read(buf);
+        }
+        self.first.read(buf)
+    }
+}
+
+/// A recording of one chunk and of the first two bytes of another has the same listing in whatever pieces these sixteen bytes come.
+#[test]
+fn pieces_change_nothing(rt: HostRuntime) {
+    let wanted = Outcome {
+        status: 0,
+        written: "    0.000000 <          0        1 N SSLResponse or GSSENCResponse\n",
+        reported: CUT,
+    };
+    for cuts in 0..=32767u16 {
+        let mut input = Begun {
+            first: b"pgtrace recording 1\n",
+            more: PieceReader {
+                rest: b"<\x00\x00\x00\x00\x00\x00\x00\x01\x00\x00\x00\x01N>\x00",
+                cuts,
+                interrupted: false,
+            },
+        };
+        comes_to(&rt, rt.alloc(), &["session"], &mut input, &wanted);
+    }
+}
