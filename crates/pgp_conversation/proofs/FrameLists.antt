@@ -8,7 +8,7 @@ use Rattle.pgp_program.specs.Words.{greatest}
 use Rattle.pgp_trace.specs.declared.frame.Next.TheVariants as next
 use Rattle.pgp_trace.specs.Listing.{place_behind, name_in}
 use Rattle.pgp_trace.specs.Sides.{Side, Server as ServerSide, Client as ClientSide, Ends}
-use Rattle.pgp_trace.specs.declared.side.Phase.TheVariants.{Beginning, Messages, Encrypted}
+use Rattle.pgp_trace.specs.declared.side.Phase.TheVariants.{Beginning, Messages, Replicating, Encrypted}
 use Rattle.pgp_trace.specs.Steps.{HasLine}
 use Rattle.pgp_trace.specs.View.{View}
 use Rattle.pgp_trace.proofs.Shorter.{frame_has}
@@ -16,7 +16,7 @@ use Rattle.pgp_conversation.specs.declared.chunk.Sender.{Sender}
 use Rattle.pgp_conversation.specs.declared.chunk.Sender.TheVariants.{Client, Server}
 use Rattle.pgp_conversation.specs.declared.noted.Noted.{Noted}
 use Rattle.pgp_conversation.specs.declared.noted.Noted.TheVariants.{Asks, Requests, Answers, Nothing}
-use Rattle.pgp_conversation.specs.Conversation.{Known, ListsFrame, ListsFrames, NoFrames, OneFrame, note, noted_in, other, side_in, text_of, with_kind, with_side}
+use Rattle.pgp_conversation.specs.Conversation.{Known, ListsFrame, ListsFrames, NoFrames, OneFrame, as_standby, note, noted_in, other, replicates_in, side_in, text_of, with_kind, with_side}
 use Rattle.pgp_conversation.specs.Steps.{KnowsNext, ListsAllFrames, ListsNoFrame, ListsOneFrame, noted_by}
 use Rattle.pgp_conversation.proofs.Naming.{name_noted}
 
@@ -50,17 +50,13 @@ lists_one view mark who place old mid new bytes behind line name before after ha
     }
 
 pub lists_none : (who : Sender) (stopped : Bool) (old new : Known) (bytes behind lines : List ℕ) → behind ≡ bytes → Ends (side_in who old) stopped bytes → side_in who new ≡ side_in who old → new ≡ with_side who old (side_in who new)
-    → ListsNoFrame who stopped old bytes behind lines lines new
-lists_none who stopped old new bytes behind lines rests ending side same = record {
+    → with_side who old (side_in who old) ≡ old → ListsNoFrame who stopped old bytes behind lines lines new
+lists_none who stopped old new bytes behind lines rests ending side same kept = record {
   same = rests;
   ending = ending;
-  known = same ∙ ap (with_side who old) side ∙ with_own who old;
+  known = same ∙ ap (with_side who old) side ∙ kept;
   none = refl;
 }
-  where
-    with_own : (who : Sender) (old : Known) → with_side who old (side_in who old) ≡ old
-    with_own Client old = refl
-    with_own Server old = refl
 
 -- ---- frame by frame
 
@@ -112,19 +108,25 @@ all_of_them view mark who start n from mid to bytes rest behind stopped old now 
 -- ---- the other side
 
 other_kind : (side : Side) (kind : PasswordKind) (stopped : Bool) (rest : List ℕ) → Ends side stopped rest → Ends (with_kind side kind) stopped rest
-other_kind (ClientSide opened kinds) kind false rest e = e
-other_kind (ClientSide opened kinds) kind true rest e = e
+other_kind (ClientSide opened kinds replicating) kind false rest e = e
+other_kind (ClientSide opened kinds replicating) kind true rest e = e
 other_kind (ServerSide phase) kind stopped rest e = e
+
+-- and so where it is taken for a standby's or not
+other_standby : (replicating : Bool) (side : Side) (stopped : Bool) (rest : List ℕ) → Ends side stopped rest → Ends (as_standby replicating side) stopped rest
+other_standby replicating (ClientSide opened kinds was) false rest e = e
+other_standby replicating (ClientSide opened kinds was) true rest e = e
+other_standby replicating (ServerSide phase) stopped rest e = e
 
 other_note : (who : Sender) (here : Known) (side : Side) (n : Noted) (stopped : Bool) (rest : List ℕ) → Ends (side_in (other who) here) stopped rest → Ends (side_in (other who) (note n (with_side who here side))) stopped rest
 other_note Client here side (Asks kind) stopped rest e = e
 other_note Client here side (Requests x) stopped rest e = e
 other_note Client here side Answers stopped rest e = e
 other_note Client here side Nothing stopped rest e = e
-other_note Server here side (Asks kind) stopped rest e = other_kind here.client kind stopped rest e
-other_note Server here side (Requests x) stopped rest e = e
-other_note Server here side Answers stopped rest e = e
-other_note Server here side Nothing stopped rest e = e
+other_note Server here side (Asks kind) stopped rest e = other_kind (as_standby (replicates_in side) here.client) kind stopped rest (other_standby (replicates_in side) here.client stopped rest e)
+other_note Server here side (Requests x) stopped rest e = other_standby (replicates_in side) here.client stopped rest e
+other_note Server here side Answers stopped rest e = other_standby (replicates_in side) here.client stopped rest e
+other_note Server here side Nothing stopped rest e = other_standby (replicates_in side) here.client stopped rest e
 
 -- of the other side as much is awaited as before
 pub other_ends : (view : View) (mark : List ℕ) (who : Sender) (start : ℕ) (from : Known) (bytes lines : List ℕ) (to : Known) (stopped : Bool) (rest : List ℕ) → ListsFrames view mark who start from bytes lines to

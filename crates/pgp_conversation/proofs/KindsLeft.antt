@@ -10,7 +10,7 @@ use Rattle.pgp_trace.specs.Sides.{Side, Server, Client, is_password}
 use Rattle.pgp_trace.specs.Steps.{ListsNext}
 
 kinds_of : Side → List PasswordKind → List PasswordKind
-kinds_of (Client opened kinds) none = kinds
+kinds_of (Client opened kinds replicating) none = kinds
 kinds_of (Server phase) none = none
 
 abbrev behind : List PasswordKind → List PasswordKind → List PasswordKind
@@ -27,9 +27,9 @@ chosen : (b : Bool) (left kinds : List PasswordKind) → left ≡ (if b then dro
 chosen true left kinds e = e ∙ once kinds ∙ ap (λ l. behind l kinds) (sym e)
 chosen false left kinds e = e ∙ never kinds ∙ ap (λ l. behind l kinds) (sym e)
 
-pub kinds_left : (style : Style) (place : ℕ) (opened now : Bool) (kinds left : List PasswordKind) (bytes rest line : List ℕ) (next : Next) → ListsNext style place (Client opened kinds) bytes rest line (Client now left) next
+pub kinds_left : (style : Style) (place : ℕ) (opened now replicating : Bool) (kinds left : List PasswordKind) (bytes rest line : List ℕ) (next : Next) → ListsNext style place (Client opened kinds replicating) bytes rest line (Client now left replicating) next
     → left ≡ (if nat_lt (length left) (length kinds) then drop 1 kinds else kinds)
 unfolding kinds_of
-kinds_left style place opened now kinds left bytes rest line (Line name) has = chosen (is_password opened has.frame) left kinds (ap (λ s. kinds_of s []) has.reported.behind)
-kinds_left style place opened now kinds left bytes rest line Waits rests = chosen false left kinds (ap (λ s. kinds_of s []) rests.side)
-kinds_left style place opened now kinds left bytes rest line Stops rests = chosen false left kinds (ap (λ s. kinds_of s []) rests.side)
+kinds_left style place opened now replicating kinds left bytes rest line (Line name) has = chosen (is_password opened has.frame) left kinds (ap (λ s. kinds_of s []) has.reported.behind)
+kinds_left style place opened now replicating kinds left bytes rest line Waits rests = chosen false left kinds (ap (λ s. kinds_of s []) rests.side)
+kinds_left style place opened now replicating kinds left bytes rest line Stops rests = chosen false left kinds (ap (λ s. kinds_of s []) rests.side)

@@ -10,7 +10,7 @@ use Rattle.pgp_trace.specs.Client.{client_name}
 use Rattle.pgp_trace.specs.Listing.{LineOf, answer_name, client_frame_name, name_in, server_name, unread_name}
 use Rattle.pgp_trace.specs.Names.{name_of}
 use Rattle.pgp_trace.specs.Sides.{Side, Server, Client, is_reported}
-use Rattle.pgp_trace.specs.declared.side.Phase.TheVariants.{Beginning, Messages, Encrypted}
+use Rattle.pgp_trace.specs.declared.side.Phase.TheVariants.{Beginning, Messages, Replicating, Encrypted}
 use Rattle.pgp_conversation.specs.declared.noted.Noted.TheVariants.{Answers, Nothing}
 use Rattle.pgp_conversation.specs.Conversation.{asks, asks_by, noted_in, requests, requests_by}
 use Rattle.pgp_conversation.specs.Steps.{noted_by}
@@ -47,5 +47,6 @@ pub name_noted : (style : Style) (place : ℕ) (from : Side) (frame line : List 
 name_noted style place (Server Beginning) frame line to (inl answer) = answer_by (answer.reported.byte == 83) (answer.reported.byte == 71)
 name_noted style place (Server Beginning) frame line to (inr first) = server_noted first.reported.first.tag first.reported.reported.result
 name_noted style place (Server Messages) frame line to is = server_noted is.0.first.tag is.0.reported.result
+name_noted style place (Server Replicating) frame line to is = server_noted is.0.first.tag is.0.reported.result
 name_noted style place (Server Encrypted) frame line to is = absurd is
-name_noted style place (Client opened kinds) frame line to is = client_noted (is_reported kinds) is.reported.result
+name_noted style place (Client opened kinds replicating) frame line to is = client_noted (is_reported kinds) is.reported.result

@@ -9,8 +9,8 @@ use Rattle.pgp_frontend_read.specs.declared.message.PasswordKind.{PasswordKind}
 use Rattle.pgp_line.specs.Styles.{style_of}
 use Rattle.pgp_line.specs.declared.style.Style.{Style}
 use Rattle.pgp_trace.specs.declared.options.Choice.{Choice}
-use Rattle.pgp_trace.specs.declared.options.Choice.TheVariants.{AsJson, Full, Secrets, Resume, Only, Color, Kind}
-use Rattle.pgp_trace.specs.Options.{AreOptions, BeginsWithNone, is_resume, kind_in, last_of, spelled}
+use Rattle.pgp_trace.specs.declared.options.Choice.TheVariants.{AsJson, Full, Secrets, Resume, Replication, Only, Color, Kind}
+use Rattle.pgp_trace.specs.Options.{AreOptions, BeginsWithNone, is_replication, is_resume, kind_in, last_of, spelled}
 use Rattle.pgp_trace.specs.View.{View}
 use Rattle.pgp_trace.proofs.OptionLemmas.{Received, one_first, received_all, received_more, received_none, spelled_long, third_letter}
 use Rattle.pgp_conversation.specs.declared.options.Clock.{Clock}
@@ -21,7 +21,7 @@ use Rattle.pgp_conversation.specs.Settings.{AreNoSettings, AreSettings, BeginsWi
 
 -- the options of a listing among them, with whatever stands after them
 abbrev Listings : (terminal : Bool) → List Setting → Flags → Type 0
-Listings terminal settings f = (tail : List (List ℕ)) → Received terminal (flat_map spelled (flat_map listing_in settings) ++ tail) tail f.json f.full f.secrets f.resume f.only f.colored f.kinds
+Listings terminal settings f = (tail : List (List ℕ)) → Received terminal (flat_map spelled (flat_map listing_in settings) ++ tail) tail f.json f.full f.secrets f.resume f.replicating f.only f.colored f.kinds
 
 -- Some options came, and these words stand after them.
 pub record Came (terminal : Bool) (all rest : List (List ℕ)) (f : Flags) (absolute : Bool) : Type 0 where
@@ -30,16 +30,16 @@ pub record Came (terminal : Bool) (all rest : List (List ℕ)) (f : Flags) (abso
   pub each : AllByRecursion IsSetting settings
   pub listing : Listings terminal settings f
   pub clock : absolute ≡ last_of false (flat_map clock_in settings)
-  pub none : (f.resume ≡ false) × (f.kinds ≡ [])
+  pub none : (f.resume ≡ false) × (f.replicating ≡ false) × (f.kinds ≡ [])
 
-pub came_none : (terminal : Bool) (all : List (List ℕ)) (f : Flags) → f ≡ record { json = false; full = false; secrets = false; resume = false; only = []; colored = terminal; kinds = [] } → Came terminal all all f false
+pub came_none : (terminal : Bool) (all : List (List ℕ)) (f : Flags) → f ≡ record { json = false; full = false; secrets = false; resume = false; replicating = false; only = []; colored = terminal; kinds = [] } → Came terminal all all f false
 came_none terminal all f e = subst (λ (x : Flags). Came terminal all all x false) (sym e) (record {
   settings = [];
   whole = refl;
   each = tt;
   listing = λ tail. received_none terminal tail [] [] refl refl;
   clock = refl;
-  none = (refl, refl);
+  none = (refl, refl, refl);
 })
 
 flat_more : {X A : Type 0} (f : X → List A) (xs : List X) (x : X) → flat_map f (xs ++ x ∷ []) ≡ flat_map f xs ++ f x
@@ -58,15 +58,27 @@ common_resume AsJson was k = refl
 common_resume Full was k = refl
 common_resume Secrets was k = refl
 common_resume Resume was k = absurd k
+common_resume Replication was k = absurd k
 common_resume (Only names) was k = refl
 common_resume (Color when) was k = refl
 common_resume (Kind kind) was k = refl
+
+common_replication : (c : Choice) (was : Bool) → IsCommon c → (is_replication c || was) ≡ was
+common_replication AsJson was k = refl
+common_replication Full was k = refl
+common_replication Secrets was k = refl
+common_replication Resume was k = absurd k
+common_replication Replication was k = absurd k
+common_replication (Only names) was k = refl
+common_replication (Color when) was k = refl
+common_replication (Kind kind) was k = refl
 
 common_kinds : (c : Choice) → IsCommon c → kind_in c ≡ []
 common_kinds AsJson k = refl
 common_kinds Full k = refl
 common_kinds Secrets k = refl
 common_kinds Resume k = refl
+common_kinds Replication k = refl
 common_kinds (Only names) k = refl
 common_kinds (Color when) k = refl
 common_kinds (Kind kind) k = absurd k
@@ -76,15 +88,15 @@ listing_more terminal settings c old new listing chose tail =
     let before = flat_map spelled (flat_map listing_in settings) in
     let all : before ++ (spelled c ++ tail) ≡ flat_map spelled (flat_map listing_in (settings ++ Listing c ∷ [])) ++ tail =
     sym (append_assoc before (spelled c) tail) ∙ ap (λ l. l ++ tail) (sym (flat_more spelled (flat_map listing_in settings) c) ∙ ap (λ cs. flat_map spelled cs) (sym (flat_more listing_in settings (Listing c)))) in
-    subst (λ l. Received terminal l tail new.json new.full new.secrets new.resume new.only new.colored new.kinds) all
-    (received_more terminal (before ++ (spelled c ++ tail)) (spelled c ++ tail) tail old.json old.full old.secrets old.resume new.json new.full new.secrets new.resume old.only new.only old.colored new.colored old.kinds new.kinds c (listing (spelled c ++ tail)) refl
-    chose.json chose.full chose.secrets chose.resume chose.only chose.colored chose.kinds)
+    subst (λ l. Received terminal l tail new.json new.full new.secrets new.resume new.replicating new.only new.colored new.kinds) all
+    (received_more terminal (before ++ (spelled c ++ tail)) (spelled c ++ tail) tail old.json old.full old.secrets old.resume old.replicating new.json new.full new.secrets new.resume new.replicating old.only new.only old.colored new.colored old.kinds new.kinds c (listing (spelled c ++ tail)) refl
+    chose.json chose.full chose.secrets chose.resume chose.replicating chose.only chose.colored chose.kinds)
 
 none_listed : (terminal : Bool) (settings : List Setting) (clock : Clock) (old new : Flags) → Listings terminal settings old → new ≡ old → Listings terminal (settings ++ Time clock ∷ []) new
 none_listed terminal settings clock old new listing same tail =
     let all : flat_map listing_in settings ≡ flat_map listing_in (settings ++ Time clock ∷ []) = sym (flat_more listing_in settings (Time clock) ∙ append-nil (flat_map listing_in settings)) in
-    subst (λ (f : Flags). Received terminal (flat_map spelled (flat_map listing_in (settings ++ Time clock ∷ [])) ++ tail) tail f.json f.full f.secrets f.resume f.only f.colored f.kinds) (sym same)
-    (subst (λ cs. Received terminal (flat_map spelled cs ++ tail) tail old.json old.full old.secrets old.resume old.only old.colored old.kinds) all (listing tail))
+    subst (λ (f : Flags). Received terminal (flat_map spelled (flat_map listing_in (settings ++ Time clock ∷ [])) ++ tail) tail f.json f.full f.secrets f.resume f.replicating f.only f.colored f.kinds) (sym same)
+    (subst (λ cs. Received terminal (flat_map spelled cs ++ tail) tail old.json old.full old.secrets old.resume old.replicating old.only old.colored old.kinds) all (listing tail))
 
 one_whole : (terminal : Bool) (all rest behind : List (List ℕ)) (settings : List Setting) (s : Setting) → all ≡ flat_map spelled_by settings ++ rest → rest ≡ spelled_by s ++ behind → all ≡ flat_map spelled_by (settings ++ s ∷ []) ++ behind
 one_whole terminal all rest behind settings s whole is =
@@ -97,7 +109,7 @@ came_more terminal all rest behind (Listing c) old new was now came is fits sets
   each = each_more came.settings (Listing c) came.each fits;
   listing = listing_more terminal came.settings c old new came.listing sets.0;
   clock = sets.1 ∙ came.clock ∙ ap (last_of false) (sym (flat_more clock_in came.settings (Listing c) ∙ append-nil (flat_map clock_in came.settings)));
-  none = (sets.0.resume ∙ common_resume c old.resume fits ∙ came.none.0, sets.0.kinds ∙ ap (λ l. old.kinds ++ l) (common_kinds c fits) ∙ append-nil old.kinds ∙ came.none.1);
+  none = (sets.0.resume ∙ common_resume c old.resume fits ∙ came.none.0, sets.0.replicating ∙ common_replication c old.replicating fits ∙ came.none.1, sets.0.kinds ∙ ap (λ l. old.kinds ++ l) (common_kinds c fits) ∙ append-nil old.kinds ∙ came.none.2);
 }
 came_more terminal all rest behind (Time clock) old new was now came is fits sets = record {
   settings = came.settings ++ Time clock ∷ [];
@@ -105,7 +117,7 @@ came_more terminal all rest behind (Time clock) old new was now came is fits set
   each = each_more came.settings (Time clock) came.each fits;
   listing = none_listed terminal came.settings clock old new came.listing sets.0;
   clock = sets.1 ∙ sym (ap (last_of false) (flat_more clock_in came.settings (Time clock)) ∙ last_more false (flat_map clock_in came.settings) (is_absolute clock));
-  none = (ap (λ (f : Flags). f.resume) sets.0 ∙ came.none.0, ap (λ (f : Flags). f.kinds) sets.0 ∙ came.none.1);
+  none = (ap (λ (f : Flags). f.resume) sets.0 ∙ came.none.0, ap (λ (f : Flags). f.replicating) sets.0 ∙ came.none.1, ap (λ (f : Flags). f.kinds) sets.0 ∙ came.none.2);
 }
 
 -- all came
@@ -113,12 +125,12 @@ pub came_all : (terminal : Bool) (all rest : List (List ℕ)) (f : Flags) (absol
 came_all terminal all rest f absolute style came end shown =
     let words = flat_map spelled (flat_map listing_in came.settings) in
     let view : View = record { style = style; only = f.only; colored = f.colored } in
-    let are : AreOptions terminal (words ++ []) view f.kinds f.resume = received_all terminal (words ++ []) [] f.json f.full f.secrets f.resume f.only f.colored f.kinds style (came.listing []) refl shown in
+    let are : AreOptions terminal (words ++ []) view f.kinds f.resume f.replicating = received_all terminal (words ++ []) [] f.json f.full f.secrets f.resume f.replicating f.only f.colored f.kinds style (came.listing []) refl shown in
     record {
       settings = came.settings;
       spelling = came.whole ∙ ap (λ l. flat_map spelled_by came.settings ++ l) end ∙ append-nil (flat_map spelled_by came.settings);
       each = came.each;
-      listing = subst (λ l. AreOptions terminal l view [] false) (append-nil words) (subst (λ ks. AreOptions terminal (words ++ []) view ks false) came.none.1 (subst (λ b. AreOptions terminal (words ++ []) view f.kinds b) came.none.0 are));
+      listing = subst (λ l. AreOptions terminal l view [] false false) (append-nil words) (subst (λ ks. AreOptions terminal (words ++ []) view ks false false) came.none.2 (subst (λ r. AreOptions terminal (words ++ []) view f.kinds false r) came.none.1 (subst (λ b. AreOptions terminal (words ++ []) view f.kinds b f.replicating) came.none.0 are)));
       clock = came.clock;
     }
 
@@ -129,13 +141,14 @@ time_other AsJson clock x y e = let h : 106 ≡ 116 = ap third_letter e in omega
 time_other Full clock x y e = let h : 102 ≡ 116 = ap third_letter e in omega (arith, h)
 time_other Secrets clock x y e = let h : 115 ≡ 116 = ap third_letter e in omega (arith, h)
 time_other Resume clock x y e = let h : 114 ≡ 116 = ap third_letter e in omega (arith, h)
+time_other Replication clock x y e = let h : 114 ≡ 116 = ap third_letter e in omega (arith, h)
 time_other (Only names) clock x y e = let h : 111 ≡ 116 = ap third_letter e in omega (arith, h)
 time_other (Color when) clock x y e = let h : 99 ≡ 116 = ap third_letter e in omega (arith, h)
 time_other (Kind kind) clock x y e = let h : 112 ≡ 116 = ap third_letter e in omega (arith, h)
 
 -- the same stands after the first option of each
 one_setting : (s t : Setting) (x y : List (List ℕ)) → spelled_by s ++ x ≡ spelled_by t ++ y → x ≡ y
-one_setting (Listing c) (Listing d) x y e = (one_first c d x y e).1
+one_setting (Listing c) (Listing d) x y e = (one_first c d x y e).2
 one_setting (Listing c) (Time k) x y e = absurd (time_other c k x y e)
 one_setting (Time k) (Listing d) x y e = absurd (time_other d k y x (sym e))
 one_setting (Time k) (Time j) x y e = ap (λ l. drop 2 l) e
@@ -184,10 +197,14 @@ other_letter words letter is j f s o c t (Listing AsJson) more fits e = j (sym i
 other_letter words letter is j f s o c t (Listing Full) more fits e = f (sym is ∙ ap letters e)
 other_letter words letter is j f s o c t (Listing Secrets) more fits e = s (sym is ∙ ap letters e)
 other_letter words letter is j f s o c t (Listing Resume) more fits e = fits
+other_letter words letter is j f s o c t (Listing Replication) more fits e = fits
 other_letter words letter is j f s o c t (Listing (Only names)) more fits e = o (sym is ∙ ap letters e)
 other_letter words letter is j f s o c t (Listing (Color when)) more fits e = c (sym is ∙ ap letters e)
 other_letter words letter is j f s o c t (Listing (Kind kind)) more fits e = fits
 other_letter words letter is j f s o c t (Time clock) more fits e = t (sym is ∙ ap letters e)
+
+pub no_replication : (words rest : List (List ℕ)) (word : List ℕ) → words ≡ word ∷ rest → word ≡ codes "--replication" → BeginsWithNoSetting words
+no_replication words rest word is same = other_letter words 114 (ap letters (is ∙ ap (λ w. w ∷ rest) same)) (λ e. let h : 114 ≡ 106 = e in omega (arith, h)) (λ e. let h : 114 ≡ 102 = e in omega (arith, h)) (λ e. let h : 114 ≡ 115 = e in omega (arith, h)) (λ e. let h : 114 ≡ 111 = e in omega (arith, h)) (λ e. let h : 114 ≡ 99 = e in omega (arith, h)) (λ e. let h : 114 ≡ 116 = e in omega (arith, h))
 
 pub no_resume : (words rest : List (List ℕ)) (word : List ℕ) → words ≡ word ∷ rest → word ≡ codes "--resume" → BeginsWithNoSetting words
 no_resume words rest word is same = other_letter words 114 (ap letters (is ∙ ap (λ w. w ∷ rest) same)) (λ e. let h : 114 ≡ 106 = e in omega (arith, h)) (λ e. let h : 114 ≡ 102 = e in omega (arith, h)) (λ e. let h : 114 ≡ 115 = e in omega (arith, h)) (λ e. let h : 114 ≡ 111 = e in omega (arith, h)) (λ e. let h : 114 ≡ 99 = e in omega (arith, h)) (λ e. let h : 114 ≡ 116 = e in omega (arith, h))
@@ -198,15 +215,16 @@ no_kind words rest word is same = other_letter words 112 (ap letters (is ∙ ap 
 pub none_first : (words : List (List ℕ)) → words ≡ [] → BeginsWithNoSetting words
 none_first words none s more fits e = setting_long s more (sym e ∙ none)
 
--- one that a listing has, but for those two
-pub common_first : (c : Choice) (words more : List (List ℕ)) → words ≡ spelled c ++ more → first_of words ≢ codes "--resume" → first_of words ≢ codes "--password-kind" → IsCommon c
-common_first AsJson words more is r k = tt
-common_first Full words more is r k = tt
-common_first Secrets words more is r k = tt
-common_first Resume words more is r k = r (ap first_of is)
-common_first (Only names) words more is r k = tt
-common_first (Color when) words more is r k = tt
-common_first (Kind kind) words more is r k = k (ap first_of is)
+-- one that a listing has, but for those three
+pub common_first : (c : Choice) (words more : List (List ℕ)) → words ≡ spelled c ++ more → first_of words ≢ codes "--resume" → first_of words ≢ codes "--replication" → first_of words ≢ codes "--password-kind" → IsCommon c
+common_first AsJson words more is r p k = tt
+common_first Full words more is r p k = tt
+common_first Secrets words more is r p k = tt
+common_first Resume words more is r p k = r (ap first_of is)
+common_first Replication words more is r p k = p (ap first_of is)
+common_first (Only names) words more is r p k = tt
+common_first (Color when) words more is r p k = tt
+common_first (Kind kind) words more is r p k = k (ap first_of is)
 
 pub no_listing : (words : List (List ℕ)) → BeginsWithNone words → first_of words ≢ codes "--time" → BeginsWithNoSetting words
 no_listing words none time (Listing c) more fits e = none c more e
@@ -221,6 +239,7 @@ no_clock words rest word is none (Listing c) more fits e = absurd (time_first c 
     time_first Full words more e = let h : 116 ≡ 102 = ap third_letter e in omega (arith, h)
     time_first Secrets words more e = let h : 116 ≡ 115 = ap third_letter e in omega (arith, h)
     time_first Resume words more e = let h : 116 ≡ 114 = ap third_letter e in omega (arith, h)
+    time_first Replication words more e = let h : 116 ≡ 114 = ap third_letter e in omega (arith, h)
     time_first (Only names) words more e = let h : 116 ≡ 111 = ap third_letter e in omega (arith, h)
     time_first (Color when) words more e = let h : 116 ≡ 99 = ap third_letter e in omega (arith, h)
     time_first (Kind kind) words more e = let h : 116 ≡ 112 = ap third_letter e in omega (arith, h)
@@ -234,6 +253,7 @@ lone_time words none (Listing c) more fits e = absurd (alone c more (ap (λ l. c
     alone Full more e = let h : 116 ≡ 102 = ap third_letter e in omega (arith, h)
     alone Secrets more e = let h : 116 ≡ 115 = ap third_letter e in omega (arith, h)
     alone Resume more e = let h : 116 ≡ 114 = ap third_letter e in omega (arith, h)
+    alone Replication more e = let h : 116 ≡ 114 = ap third_letter e in omega (arith, h)
     alone (Only names) more e = let h : 116 ≡ 111 = ap third_letter e in omega (arith, h)
     alone (Color when) more e = let h : 116 ≡ 99 = ap third_letter e in omega (arith, h)
     alone (Kind kind) more e = let h : 116 ≡ 112 = ap third_letter e in omega (arith, h)

@@ -6,7 +6,7 @@ use Rattle.pgp_line.specs.Styles.{style_of}
 use Rattle.pgp_trace.specs.Asked.{looks}
 use Rattle.pgp_trace.specs.declared.options.Choice.{Choice}
 use Rattle.pgp_trace.specs.declared.options.Options as code
-use Rattle.pgp_trace.specs.Options.{colors_in, is_full, is_json, is_resume, is_secrets, kind_in, last_of, only_in}
+use Rattle.pgp_trace.specs.Options.{colors_in, is_full, is_json, is_replication, is_resume, is_secrets, kind_in, last_of, only_in}
 use Rattle.pgp_trace.specs.View.{View}
 use Rattle.pgp_conversation.specs.declared.options.Clock.{Clock}
 use Rattle.pgp_conversation.specs.declared.options.Setting.{Setting}
@@ -20,6 +20,7 @@ pub record Flags : Type 0 where
   pub full : Bool
   pub secrets : Bool
   pub resume : Bool
+  pub replicating : Bool
   pub only : List (List ℕ)
   pub colored : Bool
   pub kinds : List PasswordKind
@@ -30,6 +31,7 @@ flags_of options = record {
   full = options.full;
   secrets = options.secrets;
   resume = options.resume;
+  replicating = options.replicating;
   only = map (λ (name : Bor (List ℕ)). name.now) options.only.items;
   colored = options.colored;
   kinds = options.kinds.items;
@@ -41,6 +43,7 @@ pub record Chooses (terminal : Bool) (choice : Choice) (old new : Flags) : Type 
   pub full : new.full ≡ (is_full choice || old.full)
   pub secrets : new.secrets ≡ (is_secrets choice || old.secrets)
   pub resume : new.resume ≡ (is_resume choice || old.resume)
+  pub replicating : new.replicating ≡ (is_replication choice || old.replicating)
   pub only : new.only ≡ old.only ++ only_in choice
   pub colored : new.colored ≡ last_of old.colored (colors_in terminal choice)
   pub kinds : new.kinds ≡ old.kinds ++ kind_in choice

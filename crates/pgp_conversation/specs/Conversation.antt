@@ -12,7 +12,8 @@ use Rattle.pgp_line.specs.declared.style.Style.{Style}
 use Rattle.pgp_trace.specs.Listing.{LineOf, name_in, place_behind, last_line}
 use Rattle.pgp_trace.specs.Sides as side
 use Rattle.pgp_trace.specs.Sides.{Side, Ends}
-use Rattle.pgp_trace.specs.declared.side.Phase.TheVariants.{Beginning, Messages, Encrypted}
+use Rattle.pgp_trace.specs.declared.side.Phase.{Phase}
+use Rattle.pgp_trace.specs.declared.side.Phase.TheVariants.{Beginning, Messages, Replicating, Encrypted}
 use Rattle.pgp_trace.specs.View.{View, shown}
 use Rattle.pgp_conversation.specs.declared.chunk.Sender.{Sender}
 use Rattle.pgp_conversation.specs.declared.chunk.Sender.TheVariants.{Client, Server}
@@ -33,15 +34,30 @@ pub record Known : Type 0 where
 
 -- before the first byte of a connection
 abbrev pub at_first : Known
-at_first = record { client = side.Client false []; server = side.Server Beginning; requests = [] }
+at_first = record { client = side.Client false [] false; server = side.Server Beginning; requests = [] }
 
 abbrev pub side_in : Sender → Known → Side
 side_in Client known = known.client
 side_in Server known = known.server
 
+-- A client's CopyData have a standby's messages inside while the server's stream is one of replication.
+abbrev pub is_replicating : Phase → Bool
+is_replicating Beginning = false
+is_replicating Messages = false
+is_replicating Replicating = true
+is_replicating Encrypted = false
+
+abbrev pub replicates_in : Side → Bool
+replicates_in (side.Server phase) = is_replicating phase
+replicates_in (side.Client opened kinds replicating) = false
+
+abbrev pub as_standby : Bool → Side → Side
+as_standby replicating (side.Client opened kinds was) = side.Client opened kinds replicating
+as_standby replicating (side.Server phase) = side.Server phase
+
 abbrev pub with_side : Sender → Known → Side → Known
 with_side Client known to = record { client = to; server = known.server; requests = known.requests }
-with_side Server known to = record { client = known.client; server = to; requests = known.requests }
+with_side Server known to = record { client = as_standby (replicates_in to) known.client; server = to; requests = known.requests }
 
 -- the message of tag `p` that a server asks for
 abbrev pub asks : Message → Noted
@@ -73,12 +89,13 @@ abbrev pub noted_in : (style : Style) (place : ℕ) (from : Side) (frame line : 
 noted_in style place (side.Server Beginning) frame line to (inl answer) = Answers
 noted_in style place (side.Server Beginning) frame line to (inr first) = asks_by first.reported.reported.result
 noted_in style place (side.Server Messages) frame line to is = asks_by is.0.reported.result
+noted_in style place (side.Server Replicating) frame line to is = asks_by is.0.reported.result
 noted_in style place (side.Server Encrypted) frame line to is = Nothing
-noted_in style place (side.Client opened kinds) frame line to is = requests_by is.reported.result
+noted_in style place (side.Client opened kinds replicating) frame line to is = requests_by is.reported.result
 
 -- the client's next messages of tag `p` are of one kind more
 abbrev pub with_kind : Side → PasswordKind → Side
-with_kind (side.Client opened kinds) kind = side.Client opened (kinds ++ kind ∷ [])
+with_kind (side.Client opened kinds replicating) kind = side.Client opened (kinds ++ kind ∷ []) replicating
 with_kind (side.Server phase) kind = side.Server phase
 
 -- what is known after it

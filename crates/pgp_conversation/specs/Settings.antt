@@ -2,7 +2,7 @@
 use Rattle.std.specs.Prelude.{◌≡◌, ◌≢◌, ⊤, ℕ, Bool, true, false, List, [], ◌∷◌, ◌++◌, get_or, codes}
 use Rattle.std.specs.List.{flat_map, AllByRecursion}
 use Rattle.pgp_trace.specs.declared.options.Choice.{Choice}
-use Rattle.pgp_trace.specs.declared.options.Choice.TheVariants.{AsJson, Full, Secrets, Resume, Only, Color, Kind}
+use Rattle.pgp_trace.specs.declared.options.Choice.TheVariants.{AsJson, Full, Secrets, Resume, Replication, Only, Color, Kind}
 use Rattle.pgp_trace.specs.Options.{AreOptions, last_of, spelled}
 use Rattle.pgp_trace.specs.View.{View}
 use Rattle.pgp_conversation.specs.declared.options.Clock.{Clock}
@@ -19,12 +19,13 @@ abbrev pub spelled_by : Setting → List (List ℕ)
 spelled_by (Listing choice) = spelled choice
 spelled_by (Time clock) = codes "--time" ∷ clock_word clock ∷ []
 
--- A recording begins with its connection, and the server says in it which a client's messages of tag `p` are.
+-- A recording begins with its connection, and the server says in it which a client's messages of tag `p` are, and whether the stream is one of replication.
 abbrev pub IsCommon : Choice → Type 0
 IsCommon AsJson = ⊤
 IsCommon Full = ⊤
 IsCommon Secrets = ⊤
 IsCommon Resume = ⊥
+IsCommon Replication = ⊥
 IsCommon (Only names) = ⊤
 IsCommon (Color when) = ⊤
 IsCommon (Kind kind) = ⊥
@@ -52,7 +53,7 @@ pub record AreSettings (terminal : Bool) (words : List (List ℕ)) (view : View)
   pub settings : List Setting
   pub spelling : words ≡ flat_map spelled_by settings
   pub each : AllByRecursion IsSetting settings
-  pub listing : AreOptions terminal (flat_map spelled (flat_map listing_in settings)) view [] false
+  pub listing : AreOptions terminal (flat_map spelled (flat_map listing_in settings)) view [] false false
   pub clock : absolute ≡ last_of false (flat_map clock_in settings)
 
 -- the words are no options

@@ -24,7 +24,7 @@ use Rattle.pgp_conversation.specs.declared.noted.Encryption.TheVariants.{Tls, Gs
 use Rattle.pgp_conversation.specs.declared.noted.Noted.{Noted}
 use Rattle.pgp_conversation.specs.declared.noted.Noted.TheVariants.{Asks, Requests, Answers, Nothing}
 use Rattle.std.specs.Borrow.{Bor}
-use Rattle.pgp_conversation.specs.Conversation.{Half, ListsChunk, Known, Talk, ListsFrame, ListsFrames, side_in, with_side}
+use Rattle.pgp_conversation.specs.Conversation.{Half, ListsChunk, Known, Talk, ListsFrame, ListsFrames, is_replicating, side_in, with_side}
 use Rattle.pgp_conversation.specs.Recording.{Chunk, IsChunk, IsNoChunk, IsPartial, IsShort, arrow, chunk_bytes, magic}
 
 -- ---- parts of a recording
@@ -83,12 +83,13 @@ noted_by name =
 -- ---- what is kept
 
 abbrev pub known_of : {A : Type 0} → code_known.Known A → Known
-known_of known = record { client = side.Client known.opened known.kinds.items; server = side.Server known.phase; requests = known.requests.items }
+known_of known = record { client = side.Client known.opened known.kinds.items (is_replicating known.phase); server = side.Server known.phase; requests = known.requests.items }
 
 -- the line of the next frame of a side; of the other one the same is known
 pub record KnowsNext (style : Style) (sender : Sender) (place : ℕ) (old : Known) (bytes behind line : List ℕ) (new : Known) (next : Next) : Type 0 where
   pub listed : ListsNext style place (side_in sender old) bytes behind line (side_in sender new) next
   pub same : new ≡ with_side sender old (side_in sender new)
+  pub kept : with_side sender old (side_in sender old) ≡ old
 
 -- the bytes begin with a frame, which has its line after the old ones, and then come the new ones
 pub record ListsOneFrame (view : View) (mark : List ℕ) (sender : Sender) (place : ℕ) (here : Known) (bytes behind old new : List ℕ) (to : Known) : Type 0 where

@@ -1,8 +1,9 @@
 //! What is known of both sides of a connection.
 
 ghost use Rattle.std.specs.Prelude.{◌≡◌, drop, nat_lt, vec_len, if◌then◌else◌, IfOk, OnErr, OnOk, string_bytes};
+ghost use Rattle.pgp_trace.specs.Sides.{phase_in};
 ghost use Rattle.pgp_conversation.specs.Steps.{KnowsNext, known_of};
-ghost use Rattle.pgp_conversation.specs.Conversation.{at_first, note};
+ghost use Rattle.pgp_conversation.specs.Conversation.{at_first, is_replicating, note};
 
 use crate::chunk::Sender;
 use crate::noted::{Encryption, Noted};
@@ -13,7 +14,7 @@ use pgp_trace::answer::first_line;
 use pgp_trace::client::client_line;
 use pgp_trace::frame::{Next, server_line};
 use pgp_trace::next::sealed;
-use pgp_trace::side::Phase;
+use pgp_trace::side::{Phase, phase_in};
 use std::alloc::AllocError;
 
 /// What is known of both sides.
@@ -78,6 +79,7 @@ fn next_of_client<'b, A: Memory>(
         place,
         known.opened,
         known.kinds.as_slice(),
+        is_replicating(known.phase),
         bytes,
         line,
     )?;
@@ -112,8 +114,37 @@ fn next_of_server<'b, A: Memory>(
             known.phase = phase;
             Ok((next, rest))
         }
-        Phase::Messages => server_line(style, place, bytes, line),
+        Phase::Messages => next_message(style, place, false, bytes, known, line),
+        Phase::Replicating => next_message(style, place, true, bytes, known, line),
         Phase::Encrypted => Ok((sealed(bytes), bytes)),
+    }
+}
+
+/// The same where messages follow one another, in a replication stream or not.
+fn next_message<'b, A: Memory>(
+    style: Style,
+    place: u64,
+    replicating: bool,
+    bytes: &'b [u8],
+    known: &mut Known<A>,
+    line: &mut String<A>,
+) -> Result<(Next, &'b [u8]), AllocError>
+    requires { known.old.phase ≡ phase_in replicating }
+    ensures listed { IfOk result (λ x. KnowsNext style Sender.Server place (known_of known.old) bytes.now x.1.now (string_bytes line.new) (known_of known.new) x.0) }
+    ensures lacks { OnErr result A.Lacks }
+{
+    let (next, now, rest) = server_line(style, place, replicating, bytes, line)?;
+    known.phase = phase_in(now);
+    Ok((next, rest))
+}
+
+/// Whether a client's CopyData have a standby's messages inside.
+fn is_replicating(phase: Phase) -> bool
+    ensures { result ≡ is_replicating phase }
+{
+    match phase {
+        Phase::Replicating => true,
+        Phase::Beginning | Phase::Messages | Phase::Encrypted => false,
     }
 }
 

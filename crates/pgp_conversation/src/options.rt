@@ -53,6 +53,7 @@ pub fn settings_of<'a, A: Memory>(
             full: false,
             secrets: false,
             resume: false,
+            replicating: false,
             only: Vec::new(alloc),
             colored: terminal,
             kinds: Vec::new(alloc),
@@ -109,7 +110,7 @@ fn long(setting: Setting<'_>) -> usize
 }
 
 /// The option that stands first.
-#[tactic(auto, using(crate::proofs::SettingLemmas::no_kind, crate::proofs::SettingLemmas::none_first, crate::proofs::SettingLemmas::no_resume))]
+#[tactic(auto, using(crate::proofs::SettingLemmas::no_kind, crate::proofs::SettingLemmas::none_first, crate::proofs::SettingLemmas::no_replication, crate::proofs::SettingLemmas::no_resume))]
 fn first_setting<'a>(words: &[&'a str]) -> Option<Setting<'a>>
     ensures some { IfSome result (λ setting. IsSetting setting × (map (λ word. word.now) words.now ≡ spelled_by setting ++ map (λ word. word.now) (drop (length (spelled_by setting)) words.now))) }
     ensures none { IfNone result (BeginsWithNoSetting (map (λ word. word.now) words.now)) }
@@ -120,6 +121,7 @@ fn first_setting<'a>(words: &[&'a str]) -> Option<Setting<'a>>
     match *word {
         "--time" => first_clock(rest),
         "--resume" => None,
+        "--replication" => None,
         "--password-kind" => None,
         _ => first_listing(words),
     }
@@ -129,6 +131,7 @@ fn first_setting<'a>(words: &[&'a str]) -> Option<Setting<'a>>
 #[tactic(auto, using(crate::proofs::SettingLemmas::common_first, crate::proofs::SettingLemmas::no_listing))]
 fn first_listing<'a>(words: &[&'a str]) -> Option<Setting<'a>>
     requires resume { first_of (map (λ word. word.now) words.now) ≢ codes "--resume" }
+    requires replication { first_of (map (λ word. word.now) words.now) ≢ codes "--replication" }
     requires kind { first_of (map (λ word. word.now) words.now) ≢ codes "--password-kind" }
     requires time { first_of (map (λ word. word.now) words.now) ≢ codes "--time" }
     ensures some { IfSome result (λ setting. IsSetting setting × (map (λ word. word.now) words.now ≡ spelled_by setting ++ map (λ word. word.now) (drop (length (spelled_by setting)) words.now))) }
