@@ -11,7 +11,7 @@ use Rattle.pgp_trace.proofs.Ends.{stays_ended}
 use Rattle.pgp_trace.proofs.Parts.{saturates}
 use Rattle.pgp_conversation.specs.declared.chunk.Sender.{Sender}
 use Rattle.pgp_conversation.specs.declared.chunk.Sender.TheVariants.{Client, Server}
-use Rattle.pgp_conversation.specs.Conversation.{Half, ListsChunk, Known, Talk, ListsFrame, ListsFrames, NoFrames, OneFrame, first_time, side_in}
+use Rattle.pgp_conversation.specs.Conversation.{Half, Known, Talk, ListsFrame, ListsFrames, NoFrames, OneFrame, first_time, side_in}
 use Rattle.pgp_conversation.specs.Marks.{mark, since}
 use Rattle.pgp_conversation.specs.Recording.{Chunk}
 use Rattle.pgp_conversation.specs.Steps.{ListsBytes, ListsChunkTo, HeldHalf, HeldTalk, Holds, Keeps, ListsAllFrames}

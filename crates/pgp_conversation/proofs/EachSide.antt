@@ -1,23 +1,15 @@
 -- What each side sent, and the lines of the server's stream alone.
-use Rattle.std.proofs.Common.{◌≡◌, ℕ, ◌+◌, Bool, List, [], ◌∷◌, ◌++◌, length, refl, sym, ap, subst, ◌∙◌, arith, length-append, append_assoc}
+use Rattle.std.proofs.Common.{◌≡◌, ℕ, ◌+◌, Bool, List, [], ◌∷◌, ◌++◌, length, refl, sym, ap, subst, ◌∙◌, length-append, append_assoc}
 use Rattle.std.specs.List.{flat_map}
 use Rattle.std.proofs.lemmas.List.{append-nil}
 use Rattle.std.proofs.lemmas.List.Concat.{flat_map-cons}
 use Rattle.std.proofs.lemmas.Grind.{flat_map-append}
-use Rattle.pgp_program.specs.Words.{greatest}
-use Rattle.pgp_trace.specs.Listing.{Listed, Lines, NoLines, OneLine, place_behind}
-use Rattle.pgp_trace.specs.Sides as side
-use Rattle.pgp_trace.specs.Sides.{Side, Ends}
-use Rattle.pgp_trace.specs.View.{View, plain}
-use Rattle.pgp_trace.specs.declared.side.Phase.TheVariants.{Beginning}
+use Rattle.pgp_trace.specs.Sides.{Ends}
+use Rattle.pgp_trace.specs.View.{View}
 use Rattle.pgp_trace.proofs.Ends.{nothing_ends}
-use Rattle.pgp_trace.proofs.Parts.{saturates}
-use Rattle.pgp_trace.proofs.Traces.{lines_join}
 use Rattle.pgp_conversation.specs.declared.chunk.Sender.{Sender}
 use Rattle.pgp_conversation.specs.declared.chunk.Sender.TheVariants.{Client, Server}
-use Rattle.pgp_conversation.specs.declared.noted.Noted.{Noted}
-use Rattle.pgp_conversation.specs.declared.noted.Noted.TheVariants.{Asks, Requests, Answers, Nothing}
-use Rattle.pgp_conversation.specs.Conversation.{Half, Known, ListsChunk, ListsChunks, NoChunkListed, OneChunkListed, ListsFrame, ListsFrames, NoFrames, OneFrame, Talk, at_first, begins, first_time, half_in, note, noted_in, other, side_in, with_side}
+use Rattle.pgp_conversation.specs.Conversation.{Half, ListsChunk, ListsChunks, NoChunkListed, OneChunkListed, Talk, at_first, begins, first_time, half_in, other, side_in}
 use Rattle.pgp_conversation.specs.Marks.{mark, since}
 use Rattle.pgp_conversation.specs.Order.{IsSplit, sent, sent_by}
 use Rattle.pgp_conversation.specs.Recording.{Chunk}

@@ -1,14 +1,11 @@
 -- The lines of a side, a frame at a time.
-use Rattle.std.proofs.Common.{◌≡◌, ℕ, ◌+◌, ◌-◌, ◌<◌, ◌≤◌, Bool, true, false, List, [], ◌∷◌, ◌++◌, length, take, drop, min, refl, sym, ap, subst, ◌∙◌, arith, length-append, append_assoc}
+use Rattle.std.proofs.Common.{◌≡◌, ℕ, ◌+◌, ◌-◌, ◌<◌, Bool, true, false, List, [], ◌++◌, length, take, drop, min, refl, sym, ap, subst, ◌∙◌, arith, length-append, append_assoc}
 use Rattle.std.proofs.lemmas.List.{append-nil}
 use Rattle.std.proofs.Math.Seq.{take-append_seam, drop-append_seam}
-use Rattle.std.specs.Borrow.{Bor}
 use Rattle.pgp_frontend_read.specs.declared.message.PasswordKind.{PasswordKind}
 use Rattle.pgp_program.specs.Words.{greatest}
-use Rattle.pgp_trace.specs.declared.frame.Next.TheVariants as next
 use Rattle.pgp_trace.specs.Listing.{place_behind, name_in}
 use Rattle.pgp_trace.specs.Sides.{Side, Server as ServerSide, Client as ClientSide, Ends}
-use Rattle.pgp_trace.specs.declared.side.Phase.TheVariants.{Beginning, Messages, Replicating, Encrypted}
 use Rattle.pgp_trace.specs.Steps.{HasLine}
 use Rattle.pgp_trace.specs.View.{View}
 use Rattle.pgp_trace.proofs.Shorter.{frame_has}
@@ -17,7 +14,7 @@ use Rattle.pgp_conversation.specs.declared.chunk.Sender.TheVariants.{Client, Ser
 use Rattle.pgp_conversation.specs.declared.noted.Noted.{Noted}
 use Rattle.pgp_conversation.specs.declared.noted.Noted.TheVariants.{Asks, Requests, Answers, Nothing}
 use Rattle.pgp_conversation.specs.Conversation.{Known, ListsFrame, ListsFrames, NoFrames, OneFrame, as_standby, note, noted_in, other, replicates_in, side_in, text_of, with_kind, with_side}
-use Rattle.pgp_conversation.specs.Steps.{KnowsNext, ListsAllFrames, ListsNoFrame, ListsOneFrame, noted_by}
+use Rattle.pgp_conversation.specs.Steps.{ListsAllFrames, ListsNoFrame, ListsOneFrame, noted_by}
 use Rattle.pgp_conversation.proofs.Naming.{name_noted}
 
 requests_kept : (who : Sender) (old : Known) (side : Side) → (with_side who old side).requests ≡ old.requests

@@ -7,5 +7,6 @@ pub mod ChunkLists
 pub mod Sessions
 pub mod OneSession
 pub mod EachSide
+pub mod PrintedMarks
 pub mod SettingLemmas
 pub mod Endings

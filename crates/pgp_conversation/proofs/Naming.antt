@@ -7,7 +7,7 @@ use Rattle.pgp_frontend.specs.ClientMessage.{ClientMessage, SaslResponse}
 use Rattle.pgp_frontend_read.specs.declared.error.ClientError.{ClientError}
 use Rattle.pgp_line.specs.declared.style.Style.{Style}
 use Rattle.pgp_trace.specs.Client.{client_name}
-use Rattle.pgp_trace.specs.Listing.{LineOf, answer_name, client_frame_name, name_in, server_name, unread_name}
+use Rattle.pgp_trace.specs.Listing.{LineOf, client_frame_name, name_in, server_name}
 use Rattle.pgp_trace.specs.Names.{name_of}
 use Rattle.pgp_trace.specs.Sides.{Side, Server, Client, is_reported}
 use Rattle.pgp_trace.specs.declared.side.Phase.TheVariants.{Beginning, Messages, Replicating, Encrypted}

@@ -1,5 +1,5 @@
 -- A recording has one listing.
-use Rattle.std.proofs.Common.{◌≡◌, ◌≢◌, ℕ, suc, ◌+◌, ◌<◌, ◌^◌, Bool, true, false, List, [], ◌∷◌, ◌++◌, length, take, drop, get_or, Option, refl, sym, ap, subst, ◌∙◌, arith, inl, inr, length-append, append_assoc}
+use Rattle.std.proofs.Common.{◌≡◌, ◌≢◌, ℕ, suc, ◌+◌, ◌<◌, ◌^◌, Bool, true, false, List, [], ◌∷◌, ◌++◌, length, take, drop, get_or, refl, sym, ap, subst, ◌∙◌, arith, inl, inr, length-append, append_assoc}
 use Rattle.std.specs.List.{flat_map, AllByRecursion}
 use Rattle.std.proofs.lemmas.List.{append-nil}
 use Rattle.std.proofs.lemmas.List.Concat.{flat_map-cons}
@@ -18,7 +18,7 @@ use Rattle.pgp_conversation.specs.declared.ending.End.TheVariants.{Whole, Cut, N
 use Rattle.pgp_conversation.specs.Conversation.{Half, ListsChunks, NoChunkListed, OneChunkListed, ListsChunk, Known, Talk, ListsFrame, ListsFrames, NoFrames, OneFrame, begins, half_in, last_lines, note, noted_in, other, side_in, text_of, with_side}
 use Rattle.pgp_conversation.specs.Marks.{mark, since}
 use Rattle.pgp_conversation.specs.Conversation.{first_time}
-use Rattle.pgp_conversation.specs.Recording.{Chunk, EndsBy, IsChunk, IsNoChunk, IsPartial, IsShort, Records, arrow, beginning, chunk_bytes, magic}
+use Rattle.pgp_conversation.specs.Recording.{Chunk, EndsBy, IsChunk, IsNoChunk, IsPartial, IsShort, Records, arrow, chunk_bytes, magic}
 use Rattle.pgp_conversation.specs.Session.{HasLines, IsListing}
 use Rattle.pgp_conversation.specs.Steps.{noted_by}
 use Rattle.pgp_conversation.proofs.Naming.{name_noted}

@@ -1,5 +1,5 @@
 -- The listing of a recording, a chunk and a piece at a time.
-use Rattle.std.proofs.Common.{◌≡◌, ◌≢◌, ◌⊎◌, ℕ, ◌+◌, ◌-◌, ◌≤◌, ◌<◌, Bool, true, false, List, [], ◌∷◌, ◌++◌, length, take, drop, Option, Result, Ok, Err, refl, sym, ap, subst, ◌∙◌, arith, inl, inr, append_assoc, length-append}
+use Rattle.std.proofs.Common.{◌≡◌, ◌≢◌, ◌⊎◌, ℕ, ◌+◌, ◌-◌, ◌≤◌, Bool, true, false, List, [], ◌∷◌, ◌++◌, length, drop, Option, Result, Ok, Err, refl, sym, ap, subst, ◌∙◌, arith, inl, inr, append_assoc, length-append}
 use Rattle.std.specs.Prelude.{IfOk, OnErr, OnOk}
 use Rattle.std.specs.Io.KnownBytes.{Appends, Consumes, IsAtEnd, Keeps as Same}
 use Rattle.std.specs.List.{flat_map, AllByRecursion}
@@ -18,12 +18,11 @@ use Rattle.pgp_conversation.specs.declared.chunk.Chunk as code
 use Rattle.pgp_conversation.specs.declared.chunk.Part.TheVariants as part
 use Rattle.pgp_conversation.specs.declared.chunk.Sender.TheVariants.{Client, Server}
 use Rattle.pgp_conversation.specs.declared.ending.End.{End}
-use Rattle.pgp_conversation.specs.declared.ending.End.TheVariants.{Whole, Cut, NoChunk, NoRecording}
 use Rattle.pgp_conversation.specs.declared.session.Said.{Said}
-use Rattle.pgp_conversation.specs.Conversation.{Half, ListsChunks, NoChunkListed, OneChunkListed, Talk, at_first, begins, first_start, last_lines, last_of, left, nothing}
-use Rattle.pgp_conversation.specs.Pieces.{ListsAllChunks, ListsPiece, ListsSome, Stays, Tracks, TracksTo, held_first, held_last, held_nothing}
+use Rattle.pgp_conversation.specs.Conversation.{NoChunkListed, OneChunkListed, Talk, at_first, begins, first_start, last_lines, last_of, left}
+use Rattle.pgp_conversation.specs.Pieces.{ListsAllChunks, ListsPiece, ListsSome, Stays, Tracks, TracksTo, held_first, held_last}
 use Rattle.pgp_conversation.specs.Recording.{Chunk, EndsBy, IsChunk, IsPartial, Records, beginning, chunk_bytes, complaint_of, magic}
-use Rattle.pgp_conversation.specs.Session.{Awaits, EndsWith, IsCutShort, HasLines, IsListing, IsReadTo, IsReady, WasListed, WritesListing, said_of}
+use Rattle.pgp_conversation.specs.Session.{Awaits, IsCutShort, HasLines, IsReadTo, IsReady, WasListed, WritesListing}
 use Rattle.pgp_conversation.specs.Steps.{ListsChunkTo, HeldTalk, Keeps, TakesChunk, TakesPart, chunk_of, end_of}
 use Rattle.pgp_conversation.proofs.Chunks.{magic_short}
 

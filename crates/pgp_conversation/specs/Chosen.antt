@@ -8,7 +8,6 @@ use Rattle.pgp_trace.specs.declared.options.Choice.{Choice}
 use Rattle.pgp_trace.specs.declared.options.Options as code
 use Rattle.pgp_trace.specs.Options.{colors_in, is_full, is_json, is_replication, is_resume, is_secrets, kind_in, last_of, only_in}
 use Rattle.pgp_trace.specs.View.{View}
-use Rattle.pgp_conversation.specs.declared.options.Clock.{Clock}
 use Rattle.pgp_conversation.specs.declared.options.Setting.{Setting}
 use Rattle.pgp_conversation.specs.declared.options.Setting.TheVariants.{Listing, Time}
 use Rattle.pgp_conversation.specs.declared.options.Settings as code_settings

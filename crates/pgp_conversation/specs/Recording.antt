@@ -1,5 +1,5 @@
 -- A recording of a connection: what it begins with, and then its chunks, in the order in which they came.
-use Rattle.std.specs.Prelude.{◌≡◌, ◌≢◌, ◌⊎◌, ⊤, ℕ, ◌<◌, ◌≤◌, ◌^◌, Bool, true, false, List, [], ◌∷◌, ◌++◌, length, codes}
+use Rattle.std.specs.Prelude.{◌≡◌, ◌≢◌, ◌⊎◌, ⊤, ℕ, ◌<◌, ◌^◌, Bool, true, false, List, [], ◌∷◌, ◌++◌, length, codes}
 use Rattle.std.specs.List.{flat_map, AllByRecursion}
 use Rattle.pgp_base.specs.Wire.{uint32, uint64}
 use Rattle.pgp_conversation.specs.declared.chunk.Sender.{Sender}

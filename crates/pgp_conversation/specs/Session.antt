@@ -1,16 +1,16 @@
 -- The listing of a recording, as it comes.
-use Rattle.std.specs.Prelude.{◌≡◌, ◌≢◌, ◌⊎◌, ⊤, ℕ, Bool, true, false, List, [], ◌++◌, Option}
+use Rattle.std.specs.Prelude.{◌≡◌, ◌≢◌, ◌⊎◌, ⊤, ℕ, Bool, true, false, List, ◌++◌, Option}
 use Rattle.std.specs.Io.KnownBytes.{Appends, Consumes, IsAtEnd, Keeps}
 use Rattle.pgp_program.specs.Run.{Streams}
 use Rattle.pgp_program.specs.Taken.{AppendsFront}
 use Rattle.pgp_program.specs.declared.fault.Fault.{Fault}
-use Rattle.pgp_program.specs.declared.fault.Fault.TheVariants.{Memory, Read, Write}
+use Rattle.pgp_program.specs.declared.fault.Fault.TheVariants.{Read}
 use Rattle.pgp_trace.specs.Hints.{hint_of}
 use Rattle.pgp_trace.specs.View.{View}
 use Rattle.pgp_conversation.specs.declared.ending.End.{End}
 use Rattle.pgp_conversation.specs.declared.ending.End.TheVariants.{Whole, Cut, NoChunk, NoRecording}
 use Rattle.pgp_conversation.specs.Conversation.{ListsChunks, Talk, begins, last_lines, left}
-use Rattle.pgp_conversation.specs.Recording.{Chunk, EndsBy, IsNoChunk, IsPartial, Records, complaint_of, magic}
+use Rattle.pgp_conversation.specs.Recording.{Chunk, EndsBy, IsPartial, Records, complaint_of, magic}
 
 -- These bytes are the beginning of a recording, the chunks, and a rest; and these are the lines of the chunks.
 pub record HasLines (view : View) (absolute : Bool) (bytes : List ℕ) (begun : Bool) (rest lines : List ℕ) (talk : Talk) : Type 0 where

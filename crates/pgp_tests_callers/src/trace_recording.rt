@@ -184,7 +184,7 @@ fn no_line_is_held_back(rt: HostRuntime) -> Result<(), Fail> {
         );
         same(&rt, status, 1);
         holds(&rt, output.as_slice() == wanted.as_slice());
-        holds(&rt, errors.as_slice() == b"pgtrace: read failed\n");
+        holds(&rt, errors.as_slice() == b"pgtrace: read failed\n".as_slice());
     }
     Ok(())
 }
