@@ -41,8 +41,8 @@ pub record TakesChunk (chunk : Chunk) (old new : List ℕ) : Type 0 where
 
 -- after the first byte of a chunk
 abbrev pub TakesRest : Sender → List ℕ → Option (code.Chunk × Bor (List ℕ)) → Type 0
-TakesRest sender bytes None = (length bytes < 12) ⊎ IsShort bytes
-TakesRest sender bytes (Some x) = (x.0.sender ≡ sender) × TakesChunk (chunk_of x.0) (arrow sender ∷ bytes) x.1.now
+TakesRest who bytes None = (length bytes < 12) ⊎ IsShort bytes
+TakesRest who bytes (Some x) = (x.0.sender ≡ who) × TakesChunk (chunk_of x.0) (arrow who ∷ bytes) x.1.now
 
 -- what stands first, where the beginning was read or not, and what stands after it
 abbrev pub TakesPart : (begun : Bool) → List ℕ → Part → List ℕ → Type 0

@@ -139,7 +139,7 @@ fn next_message<'b, A: Memory>(
 }
 
 /// Whether a client's CopyData have a standby's messages inside.
-fn is_replicating(phase: Phase) -> bool
+pub fn is_replicating(phase: Phase) -> bool
     ensures { result ≡ is_replicating phase }
 {
     match phase {

@@ -16,7 +16,7 @@ ghost use Rattle.pgp_conversation.specs.Steps.{end_of, half_of, kept_of};
 use crate::chunk::{Part, Sender, first_part};
 use crate::ending::{End, end_of};
 use crate::frames::{Texts, no_texts};
-use crate::known::at_first;
+use crate::known::{at_first, is_replicating};
 use crate::last::add_last;
 use crate::talk::{Half, Talk, list_chunk};
 use bytes::{Buf, BytesMut};
@@ -279,6 +279,7 @@ fn list_last<A: Memory, W: Output>(
     let client = Side::Client {
         opened: known.opened,
         kinds: known.kinds.as_slice(),
+        replicating: is_replicating(known.phase),
     };
     Ok(Said {
         client: hint_of(client, held.talk.client.left),

@@ -1,8 +1,8 @@
-use Rattle.std.proofs.Common.{◌+◌, rules, refl, map, drop}
+use Rattle.std.proofs.Common.{◌+◌, rules, refl, map, drop, arith}
 use Rattle.std.proofs.lemmas.List.{take_rest}
 use Rattle.pgp_line.specs.Styles.{style_of}
 use Rattle.pgp_conversation.specs.Chosen.{flags_of}
-use Rattle.pgp_conversation.proofs.SettingLemmas.{came_all, came_wrong, left_words, none_left, place_next}
+use Rattle.pgp_conversation.proofs.SettingLemmas.{came_all, came_none, came_wrong, left_words, none_left, place_next}
 use Rattle.pgp_conversation.proofs.options.settings_of.Goals as goal
 
 pub returns-in_default-clause-other : goal.returns-in_default-clause-other
@@ -22,3 +22,6 @@ returns-clause-known g c =
     let options = c.each.settings.options in
     came_all c.args.terminal (map (λ word. word.now) words) (map (λ word. word.now) (drop c.each.at words)) (flags_of options) c.each.settings.absolute (style_of options.json options.full options.secrets) c.each.invariant.1
     (none_left (λ word. word.now) words c.each.at c.each-test.false) refl
+
+pub each-init : goal.each-init
+each-init g c = (omega arith, came_none c.args.terminal (map (λ word. word.now) c.args.words.now) _ (rw (c.new.ensures.items, c.new-2.ensures.items) refl))
