@@ -78,7 +78,31 @@ const OBJECTS: &str =
     "{\"time\":0.000312,\"from\":\"server\",\"offset\":0,\"length\":1,\"tag\":\"N\",\"name\":\"SSLResponse\"}\n{\"time\":-0.000001,\"from\":\"client\",\"offset\":24,\"length\":8,\"tag\":\"p\",\"name\":\"PasswordMessage\",\"password\":{\"bytes\":2}}\n{\"time\":null,\"from\":\"server\",\"rest\":1,\"stopped\":false}\n";
 
 const USAGE: &str =
-    "usage: pgtrace server [--json] [--full] [--secrets] [--resume] [--only NAME[,NAME]..] [--color auto|always|never] | client [--json] [--full] [--secrets] [--resume] [--only NAME[,NAME]..] [--color auto|always|never] [--password-kind password|initial|response].. | session [--json] [--full] [--secrets] [--time absolute|relative] [--only NAME[,NAME]..] [--color auto|always|never] | --help | --version\n";
+    "usage: pgtrace server [--json] [--full] [--secrets] [--resume] [--only NAME[,NAME]..] [--color auto|always|never] | client [--json] [--full] [--secrets] [--resume] [--only NAME[,NAME]..] [--color auto|always|never] [--password-kind password|initial|response].. [--replication] | session [--json] [--full] [--secrets] [--time absolute|relative] [--only NAME[,NAME]..] [--color auto|always|never] | --help | --version\n";
+
+/// A standby logs in and asks for a replication stream. The chunks have a StartupMessage; an AuthenticationOk and a CopyBothResponse; a
+/// StandbyStatusUpdate; a CopyDone; and a CopyData again, with the letter of a StandbyStatusUpdate alone. All came at second 1.
+const STANDBY: &[u8] = b"pgtrace recording 1\n\
+    >\0\0\0\0\0\x0fB@\0\0\0\x10\0\0\0\x10\0\x03\0\0user\0a\0\0\
+    <\0\0\0\0\0\x0fB@\0\0\0\x11R\0\0\0\x08\0\0\0\0W\0\0\0\x07\0\0\0\
+    >\0\0\0\0\0\x0fB@\0\0\0\x27d\0\0\0\x26r\0\0\0\0\0\0\0\x01\0\0\0\0\0\0\0\x01\0\0\0\0\0\0\0\0\0\0\0\0\0\0\0\x02\0\
+    <\0\0\0\0\0\x0fB@\0\0\0\x05c\0\0\0\x04\
+    >\0\0\0\0\0\x0fB@\0\0\0\x06d\0\0\0\x05r";
+
+const STANDBY_LINES: &str =
+    "    0.000000 >          0       16 - StartupMessage       version 196608 parameters \"user\" \"a\"\n    0.000000 <          0        9 R AuthenticationOk\n    0.000000 <          9        8 W CopyBothResponse     format 0 columns 0\n    0.000000 >         16       39 d CopyData             StandbyStatusUpdate written 0/1 flushed 0/1 applied 0/0 clock 2 reply 0\n    0.000000 <         17        5 c CopyDone\n    0.000000 >         55        6 d CopyData             data \"r\"\n";
+
+/// The server's messages say whether a client's data are a standby's.
+#[test]
+fn a_standbys_messages_are_listed(rt: HostRuntime) {
+    let wanted = Outcome {
+        status: 0,
+        written: STANDBY_LINES,
+        reported: "",
+    };
+    let mut input = STANDBY;
+    comes_to(&rt, rt.alloc(), &["session"], &mut input, &wanted);
+}
 
 #[test]
 fn both_sides_are_listed(rt: HostRuntime) {
