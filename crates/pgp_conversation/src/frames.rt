@@ -1,6 +1,6 @@
 //! The lines of what one side sent, with their marks.
 
-ghost use Rattle.std.specs.Prelude.{◌≡◌, ◌++◌, ◌≤◌, drop, length, take, IfOk, OnErr, OnOk, string_bytes};
+ghost use Rattle.std.specs.Prelude.{◌≡◌, ◌++◌, ◌≤◌, [], drop, length, take, IfOk, OnErr, OnOk, string_bytes};
 ghost use Rattle.pgp_trace.specs.Steps.{view_of};
 ghost use Rattle.pgp_conversation.specs.Conversation.{answer_line, answer_to, called, called_after, relined, relined_after, text_of};
 ghost use Rattle.pgp_conversation.specs.Steps.{ListsAllFrames, ListsNextFrame, known_of};
@@ -31,7 +31,13 @@ pub struct Texts<A: Memory> {
 }
 
 /// Memory for texts, of which none is written.
-pub fn no_texts<A: Memory>(alloc: A) -> Texts<A> {
+pub fn no_texts<A: Memory>(alloc: A) -> Texts<A>
+    ensures time { string_bytes result.time ≡ [] }
+    ensures mark { string_bytes result.mark ≡ [] }
+    ensures line { string_bytes result.line ≡ [] }
+    ensures marked { string_bytes result.marked ≡ [] }
+    ensures lines { string_bytes result.lines ≡ [] }
+{
     Texts {
         time: String::new(alloc),
         mark: String::new(alloc),
