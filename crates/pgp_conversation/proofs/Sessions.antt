@@ -10,7 +10,7 @@ use Rattle.std.proofs.lemmas.List.Concat.{flat_map-cons}
 use Rattle.std.proofs.lemmas.Grind.{flat_map-append}
 use Rattle.pgp_program.specs.Run.{Streams}
 use Rattle.pgp_program.specs.Taken.{AppendsFront}
-use Rattle.pgp_trace.specs.Hints.{hint_of}
+use Rattle.pgp_conversation.specs.Hints.{hint_of}
 use Rattle.pgp_trace.specs.View.{View}
 use Rattle.pgp_trace.proofs.Ends.{nothing_ends}
 use Rattle.pgp_trace.proofs.Fronts.{none_taken, all_taken, more_taken}

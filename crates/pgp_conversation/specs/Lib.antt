@@ -2,6 +2,7 @@ pub mod Recording
 pub mod Marks
 pub mod Conversation
 pub mod Steps
+pub mod Hints
 pub mod Session
 pub mod Order
 pub mod Pieces

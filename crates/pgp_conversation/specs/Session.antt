@@ -5,7 +5,7 @@ use Rattle.pgp_program.specs.Run.{Streams}
 use Rattle.pgp_program.specs.Taken.{AppendsFront}
 use Rattle.pgp_program.specs.declared.fault.Fault.{Fault}
 use Rattle.pgp_program.specs.declared.fault.Fault.TheVariants.{Read}
-use Rattle.pgp_trace.specs.Hints.{hint_of}
+use Rattle.pgp_conversation.specs.Hints.{hint_of}
 use Rattle.pgp_trace.specs.View.{View}
 use Rattle.pgp_conversation.specs.declared.ending.End.{End}
 use Rattle.pgp_conversation.specs.declared.ending.End.TheVariants.{Whole, Cut, NoChunk, NoRecording}

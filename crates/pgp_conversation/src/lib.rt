@@ -5,6 +5,7 @@
 pub mod chunk;
 pub mod ending;
 pub mod frames;
+pub mod hint;
 pub mod known;
 pub mod last;
 pub mod laws;

@@ -253,3 +253,39 @@ fn pieces_change_nothing(rt: HostRuntime) {
         comes_to(&rt, rt.alloc(), &["session"], &mut input, &wanted);
     }
 }
+
+/// A client whose bytes open no connection, and a server whose bytes begin with no message.
+const NEITHER: &[u8] = b"pgtrace recording 1\n\
+    >\0\0\0\0\0\0\0\0\0\0\0\x07Q\0\0\0\x06x\0\
+    <\0\0\0\0\0\0\0\0\0\0\0\x05Z\0\0\0\x03";
+
+/// A server that agrees to encrypt, and the first five bytes of a record of TLS.
+const SEALED: &[u8] = b"pgtrace recording 1\n\
+    >\0\0\0\0\0\0\0\0\0\0\0\x08\0\0\0\x08\x04\xd2\x16/\
+    <\0\0\0\0\0\0\0\0\0\0\0\x06S\x16\x03\x03\0z";
+
+/// It is said why bytes of a side are left.
+#[test]
+fn what_is_left_of_a_side_is_explained(rt: HostRuntime) {
+    let runs: [(&[u8], &str, &str); 2] = [
+        (
+            NEITHER,
+            "             > rest 7\n             < stopped rest 5\n",
+            "pgtrace: no packet that opens a connection stands where the client's bytes are left: they are encrypted, or the recording begins in mid-session\npgtrace: no message of a server stands where the server's bytes begin\n",
+        ),
+        (
+            SEALED,
+            "    0.000000 >          0        8 - SSLRequest\n    0.000000 <          0        1 S SSLResponse\n             < stopped rest 5\n",
+            "pgtrace: what the server sends from there on is encrypted\n",
+        ),
+    ];
+    for (bytes, written, reported) in runs {
+        let wanted = Outcome {
+            status: 0,
+            written,
+            reported,
+        };
+        let mut input = bytes;
+        comes_to(&rt, rt.alloc(), &["session"], &mut input, &wanted);
+    }
+}

@@ -7,6 +7,7 @@ pub mod Pairs
 pub mod DecimalLemmas
 pub mod TextLemmas
 pub mod AmountLemmas
+pub mod GroupTexts
 pub mod ScanLemmas
 pub mod GroupLemmas
 pub mod MeaningLemmas

@@ -1,11 +1,11 @@
 //! The text of a decimal number, as a server writes it.
 #![tactic(auto, using(pgp_base::proofs::Parts::held_steps))]
 
-ghost use Rattle.std.specs.Prelude.{◌≡◌, ◌≢◌, ◌⊎◌, ℕ, ℤ, pos, negsuc, ◌+◌, ◌-◌, ◌<◌, ◌≤◌, ◌^◌, [], ◌∷◌, length, map, None, OnOk, OnErr, IfOk, IfErr};
+ghost use Rattle.std.specs.Prelude.{◌≡◌, ◌≢◌, ◌⊎◌, ℕ, ℤ, pos, negsuc, ◌+◌, ◌-◌, ◌*◌, ◌<◌, ◌≤◌, ◌^◌, [], ◌∷◌, length, map, None, OnOk, OnErr, IfOk, IfErr};
 ghost use Rattle.pgp_base.specs.Cause.{Wants, WantsMemory, Writes};
 ghost use Rattle.pgp_base.specs.Held.{◌⊕◌, IsFrontOf};
 ghost use Rattle.pgp_values.specs.DecimalSeen.{said};
-ghost use Rattle.pgp_values.specs.DecimalText.{decimal_at, run, letter, sign_text, whole_digits, behind_point, fraction_digits, text_digits, has_digit, shown_sign, fraction_text, decimal_text, numeric_text};
+ghost use Rattle.pgp_values.specs.DecimalText.{decimal_at, decimal_in, run, letter, sign_text, whole_digits, behind_point, fraction_digits, text_digits, has_digit, shown_sign, fraction_text, decimal_text, numeric_text};
 
 use crate::decimal::{Decimal, decimal_in};
 use crate::numeric::Numeric;
@@ -40,6 +40,50 @@ fn put_run<B: Buffer>(d: &Decimal<'_>, from: usize, count: usize, out: &mut B) -
 {
     for i in 0..count {
         put_digit(decimal_at(d, from + i), out)?;
+    }
+    Ok(())
+}
+
+// The letter of one of the four decimal digits of a digit to the base 10,000.
+fn letter_in(digit: u16, place: usize) -> u8
+    requires { digit < 10000 }
+    ensures { result ≡ letter (decimal_in digit place) }
+{
+    48 + decimal_in(digit, place) as u8
+}
+
+// Appends the letters of all four.
+#[tactic(auto, using(pgp_base::proofs::Parts::wants_now))]
+fn put_group<B: Buffer>(digit: u16, out: &mut B) -> Result<(), Error>
+    requires { digit < 10000 }
+    ensures ok { OnOk result (B.held out.new ≡ B.held out.old ⊕ map letter (run (decimal_in digit) 0 4)) }
+    ensures err { OnErr result (B.held out.new ≡ B.held out.old) }
+    ensures cause { IfErr result (WantsMemory (Wants B.Lacks (B.held out.old) 4)) }
+{
+    let letters = [
+        letter_in(digit, 0),
+        letter_in(digit, 1),
+        letter_in(digit, 2),
+        letter_in(digit, 3),
+    ];
+    out.append(&letters)?;
+    Ok(())
+}
+
+// Appends those of so many digits from one on. An error leaves what stood there as a front.
+fn put_groups<B: Buffer>(
+    d: &Decimal<'_>,
+    first: usize,
+    count: usize,
+    out: &mut B,
+) -> Result<(), Error>
+    requires { first + count < 2 ^ 32 }
+    ensures ok { OnOk result (B.held out.new ≡ B.held out.old ⊕ map letter (run (decimal_at d.now.digits) (4 * first) (4 * count))) }
+    ensures err { OnErr result (IsFrontOf (B.held out.old) (B.held out.new)) }
+    ensures cause { IfErr result (WantsMemory (Wants B.Lacks (B.held out.old) (4 * count))) }
+{
+    for i in 0..count {
+        put_group(d.digit(first + i), out)?;
     }
     Ok(())
 }
@@ -89,9 +133,10 @@ fn put_before<B: Buffer>(d: &Decimal<'_>, k: usize, out: &mut B) -> Result<(), E
     ensures err { OnErr result (IsFrontOf (B.held out.old) (B.held out.new)) }
     ensures cause { IfErr result (WantsMemory (Wants B.Lacks (B.held out.old) (length (map letter (whole_digits (pos k) d.now.digits))))) }
 {
-    let last = 4 * k + 3;
-    let from = first_place(d, last);
-    put_run(d, from, last + 1 - from, out)
+    let from = first_place(d, 4 * k + 3);
+    put_run(d, from, 4 - from % 4, out)?;
+    put_groups(d, from / 4 + 1, k - from / 4, out)?;
+    Ok(())
 }
 
 // The decimal digit of this index after the point.
