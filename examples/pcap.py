@@ -2,16 +2,14 @@
 """Takes what each side of a connection sent out of a capture of tcpdump, as pgtrace lists it.
 
     pcap.py CAPTURE                                          prints the connections, with their numbers
-    pcap.py CAPTURE --connection N CLIENT-FILE SERVER-FILE [TIMES-FILE]
-                                                             writes the bytes of both sides of one, and when they came
-    pcap.py CAPTURE --connection N --recording FILE          writes them as a recording (docs/RECORDING.md), which `pgtrace session` lists
+    pcap.py CAPTURE --connection N --recording FILE          writes a recording of one (docs/RECORDING.md), which `pgtrace session` lists
+    pcap.py CAPTURE --connection N CLIENT-FILE SERVER-FILE   writes the bytes of each of its sides
 
 Reads pcap and pcapng, IPv4 and IPv6. Segments that come out of order or again are put in their place; where one is missing, its side ends there, and
 the status is 1. Fragments of IP packets aren't joined. Needs dpkt (on Debian: apt-get install python3-dpkt).
 
     tcpdump -i any -s 0 -w all.pcap tcp port 5432
     pcap.py all.pcap --connection 1 --recording r && pgtrace session < r
-    pcap.py all.pcap --connection 1 client server times && session.py client server times
 """
 import argparse
 import socket
@@ -152,14 +150,11 @@ def write_recording(one, name):
     return 0 if is_whole else 1
 
 
-def write(one, names):
-    found, pieces, is_whole = streams(one)
+def write_sides(one, names):
+    found, _, is_whole = streams(one)
     for name, stream in zip(names, found):
         with open(name, "wb") as file:
             file.write(stream)
-    for name in names[2:]:
-        with open(name, "w", encoding="ascii") as file:
-            file.writelines(f"{when:.6f} {arrow} {length}\n" for when, arrow, length in sorted(pieces, key=lambda it: it[0]))
     return 0 if is_whole else 1
 
 
@@ -169,18 +164,18 @@ def main():
     words.add_argument("--connection", type=int, metavar="N", help="the number of the connection")
     words.add_argument("--port", type=int, default=5432, help="the server's port, for connections that are open when the capture begins")
     words.add_argument("--recording", metavar="FILE", help="a file for the bytes of both, with the times at which they came")
-    words.add_argument("files", nargs="*", metavar="FILE", help="a file for the client's bytes, one for the server's, and one for when they came")
+    words.add_argument("files", nargs="*", metavar="FILE", help="a file for the client's bytes, and one for the server's")
     given = words.parse_intermixed_args()
     with open(given.capture, "rb") as capture:
         found = connections(capture, given.port)
     if given.connection is None:
         print(*(f"{number} {one}" for number, one in enumerate(found, start=1)), sep="\n")
         return 0
-    if not 1 <= given.connection <= len(found) or len(given.files) not in ((0,) if given.recording else (2, 3)):
-        words.error(f"the capture has {len(found)} connections, and two or three files are wanted, or a recording")
+    if not 1 <= given.connection <= len(found) or len(given.files) != (0 if given.recording else 2):
+        words.error(f"the capture has {len(found)} connections, and a recording is wanted, or two files")
     if given.recording:
         return write_recording(found[given.connection - 1], given.recording)
-    return write(found[given.connection - 1], given.files)
+    return write_sides(found[given.connection - 1], given.files)
 
 
 if __name__ == "__main__":

@@ -1,14 +1,12 @@
 #!/usr/bin/env python3
 """Passes the bytes of connections to a port of this machine on to a server and back, and writes down what each side sent.
 
-    relay.py PORT HOST SERVER-PORT FILE.recording                         takes one connection, and ends with it
-    relay.py PORT HOST SERVER-PORT CLIENT-FILE SERVER-FILE [TIMES-FILE]   the same, in a file for each side
-    relay.py PORT HOST SERVER-PORT FOLDER                                 takes connections, many at a time, until it is interrupted (SIGINT or SIGTERM)
+    relay.py PORT HOST SERVER-PORT FILE.recording            takes one connection, and ends with it
+    relay.py PORT HOST SERVER-PORT CLIENT-FILE SERVER-FILE   the same, in a file for each side
+    relay.py PORT HOST SERVER-PORT FOLDER                    takes connections, many at a time, until it is interrupted (SIGINT or SIGTERM): that which
+                                                             came Nth stands in FOLDER/N.recording
 
-The bytes of the connection that came Nth stand in FOLDER/N.client and FOLDER/N.server, and in FOLDER/N.times when they came: a line for each piece, with its time in
-seconds since 1970, `>` where the client sent it and `<` where the server did, and how many bytes it has. session.py lists all three.
-
-FILE.recording is a recording of both sides (docs/RECORDING.md), which `pgtrace session` lists, also while it is written.
+A recording has both sides (docs/RECORDING.md); `pgtrace session` lists it, also while it is written.
 """
 import pathlib
 import signal
@@ -19,26 +17,13 @@ import threading
 import time
 
 
-class Times:
-    """When pieces came, of both sides. What no name is given for isn't written."""
-
-    def __init__(self, name):
-        self.file, self.lock = open(name, "w", encoding="ascii") if name else None, threading.Lock()
-
-    def add(self, arrow, length):
-        if self.file:
-            with self.lock:
-                print(f"{time.time():.6f} {arrow} {length}", file=self.file, flush=True)
-
-
 class Side:
     """What one side sent, in a file of its own."""
 
-    def __init__(self, name, arrow, times):
-        self.file, self.arrow, self.times = open(name, "wb"), arrow, times
+    def __init__(self, name):
+        self.file = open(name, "wb")
 
     def add(self, piece):
-        self.times.add(self.arrow, len(piece))
         self.file.write(piece)
         self.file.flush()
 
@@ -84,9 +69,8 @@ def sides(names):
     if len(names) == 1:
         recording = Recording(names[0])
         return recording.side(b">"), recording.side(b"<")
-    client_file, server_file, *times_file = names
-    times = Times(*times_file or [None])
-    return Side(client_file, ">", times), Side(server_file, "<", times)
+    client_file, server_file = names
+    return Side(client_file), Side(server_file)
 
 
 def serve(client, address, *names):
@@ -105,8 +89,7 @@ def serve_all(listener, address, folder):
         while True:
             client = listener.accept()[0]
             number += 1
-            files = [folder / f"{number}.{side}" for side in ("client", "server", "times")]
-            threading.Thread(target=serve, args=(client, address, *files), daemon=True).start()
+            threading.Thread(target=serve, args=(client, address, folder / f"{number}.recording"), daemon=True).start()
     except KeyboardInterrupt:
         pass
 

@@ -24,7 +24,7 @@ use pgp_program::ports::{Output, Words};
 use pgp_program::words::{lent, texts};
 use pgp_trace::fault::complaint;
 use pgp_trace::ports::Input;
-use pgp_trace::run::{obey as obey_trace, refused};
+use pgp_trace::run::{obey as obey_trace, usage_error};
 use pgp_trace::view::View;
 use std::alloc::AllocError;
 
@@ -169,7 +169,7 @@ fn try_own<A: Memory, V: Words, R: Input, W: Output>(
     ensures output { IfErr result (λ _. Keeps (W.contents output.old) (W.contents output.new)) }
 {
     let Some(texts) = texts(alloc, env)? else {
-        return Ok(of_outcome(refused()));
+        return Ok(of_outcome(usage_error()));
     };
     let words = lent(alloc, texts.as_slice())?;
     Ok(obey(alloc, terminal, words.as_slice(), input, output))

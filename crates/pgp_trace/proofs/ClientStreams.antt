@@ -113,7 +113,7 @@ message_names reported (SaslResponse a) y e = response_name reported a y e
 message_names reported (CancelRequest p a) y e = key_name reported p a y e
 message_names reported x y e = ap (client_name reported) e
 
-names_alike : (reported : Bool) (r s : Result ClientMessage ClientError) → AlikeAnswers r s → client_frame_name reported r ≡ client_frame_name reported s
+pub names_alike : (reported : Bool) (r s : Result ClientMessage ClientError) → AlikeAnswers r s → client_frame_name reported r ≡ client_frame_name reported s
 names_alike reported (Ok x) (Ok y) e = message_names reported x y e
 names_alike reported (Err d) (Err e) h = refl
 names_alike reported (Ok x) (Err e) h = absurd h
@@ -163,25 +163,37 @@ ends_alike_so style reported replicating r s front line h ends = record {
   ended = ends.ended;
 }
 
-line_alike : (view : View) (place : ℕ) (opened : Bool) (kinds : List code.PasswordKind) (replicating : Bool) (f g text : List ℕ) (to : Side) → AlikeClientFrames opened kinds f g
-    → Told (quietly view) place opened kinds replicating f text to → Told (quietly view) place opened kinds replicating g text to
-line_alike view place opened kinds replicating f g text to alike told =
-    let is = told.reported in
-    let style = view.style in
+-- a frame that is alike has the same line
+pub record LineHidden (style : Style) (place : ℕ) (opened : Bool) (kinds : List code.PasswordKind) (replicating : Bool) (g line : List ℕ) (to : Side) (result : Result ClientMessage ClientError) : Type 0 where
+  pub is : IsNextLine (quiet style) place opened kinds replicating g line to
+  pub same : AlikeAnswers result is.reported.result
+
+pub line_hidden : (style : Style) (place : ℕ) (opened : Bool) (kinds : List code.PasswordKind) (replicating : Bool) (f g line : List ℕ) (to : Side) → AlikeClientFrames opened kinds f g
+    → (is : IsNextLine (quiet style) place opened kinds replicating f line to) → LineHidden style place opened kinds replicating g line to is.reported.result
+line_hidden style place opened kinds replicating f g line to alike is =
     let (s, reads, same) = alike.read is.reported.result is.now is.reported.step in
     record {
-      line = told.line;
-      reported = record {
+      is = record {
         now = is.now;
         reported = record {
           result = s;
           step = reads;
-          reported = subst (λ l. EndsSo (quiet style) (is_reported kinds) replicating s l told.line) (same_front (quiet style) place opened f g alike.tagged alike.long)
-              (ends_alike_so style (is_reported kinds) replicating is.reported.result s (client_front (quiet style) place opened f) told.line same is.reported.reported);
+          reported = subst (λ l. EndsSo (quiet style) (is_reported kinds) replicating s l line) (same_front (quiet style) place opened f g alike.tagged alike.long)
+              (ends_alike_so style (is_reported kinds) replicating is.reported.result s (client_front (quiet style) place opened f) line same is.reported.reported);
         };
         behind = is.behind ∙ ap (λ k. Client is.now k replicating) (same_kinds opened kinds f g alike.tagged alike.long);
       };
-      is = told.is ∙ ap (λ n. shown (quietly view) n told.line) (names_alike (is_reported kinds) is.reported.result s same);
+      same = same;
+    }
+
+line_alike : (view : View) (place : ℕ) (opened : Bool) (kinds : List code.PasswordKind) (replicating : Bool) (f g text : List ℕ) (to : Side) → AlikeClientFrames opened kinds f g
+    → Told (quietly view) place opened kinds replicating f text to → Told (quietly view) place opened kinds replicating g text to
+line_alike view place opened kinds replicating f g text to alike told =
+    let hidden = line_hidden view.style place opened kinds replicating f g told.line to alike told.reported in
+    record {
+      line = told.line;
+      reported = hidden.is;
+      is = told.is ∙ ap (λ n. shown (quietly view) n told.line) (names_alike (is_reported kinds) told.reported.reported.result hidden.is.reported.result hidden.same);
     }
 
 framed_some : (tag : Option ℕ) (body : List ℕ) → 0 < length (framed tag body)

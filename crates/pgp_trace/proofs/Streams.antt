@@ -107,11 +107,11 @@ names_alike t u (Err d) (Err h) e same = ap unread_name e
 names_alike t u (Ok m) (Err h) e same = absurd same
 names_alike t u (Err d) (Ok n) e same = absurd same
 
-record LineHidden (style : Style) (place : ℕ) (replicating : Bool) (g : Frame) (line name : List ℕ) : Type 0 where
-  is : IsLineOf (quiet style) place replicating g line
-  named : name ≡ server_name g.tag is.result
+pub record LineHidden (style : Style) (place : ℕ) (replicating : Bool) (g : Frame) (line name : List ℕ) : Type 0 where
+  pub is : IsLineOf (quiet style) place replicating g line
+  pub named : name ≡ server_name g.tag is.result
 
-line_hidden : (style : Style) (place : ℕ) (replicating : Bool) (f g : Frame) (line : List ℕ) → AlikeFrames f g → (is : IsLineOf (quiet style) place replicating f line) → LineHidden style place replicating g line (server_name f.tag is.result)
+pub line_hidden : (style : Style) (place : ℕ) (replicating : Bool) (f g : Frame) (line : List ℕ) → AlikeFrames f g → (is : IsLineOf (quiet style) place replicating f line) → LineHidden style place replicating g line (server_name f.tag is.result)
 line_hidden style place replicating f g line alike is =
     let (s, body, same) = alike.bodies is.result is.body in
     record {

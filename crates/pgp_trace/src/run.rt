@@ -30,12 +30,12 @@ use pgp_program::words::{lent, texts};
 use std::alloc::AllocError;
 
 const USAGE: &str =
-    "usage: pgtrace server [--json] [--full] [--secrets] [--resume] [--only NAME[,NAME]..] [--color auto|always|never] | client [--json] [--full] [--secrets] [--resume] [--only NAME[,NAME]..] [--color auto|always|never] [--password-kind password|initial|response].. [--replication] | session [--json] [--full] [--secrets] [--time absolute|relative] [--only NAME[,NAME]..] [--color auto|always|never] | --help | --version\n";
+    "usage: pgtrace server [--json] [--full] [--secrets] [--resume] [--only NAME[,NAME]..] [--color auto|always|never] | client [--json] [--full] [--secrets] [--resume] [--only NAME[,NAME]..] [--color auto|always|never] [--password-kind password|initial|response].. [--replication] | session [--json] [--full] [--secrets] [--requests] [--time absolute|relative] [--only NAME[,NAME]..] [--color auto|always|never] | --help | --version\n";
 
 const VERSION: &str = "pgtrace 0.1.0\n";
 
 /// The words ask for nothing that there is.
-pub fn refused() -> Outcome
+pub fn usage_error() -> Outcome
     ensures status { result.status ≡ 2 }
     ensures complaint { result.complaint.now ≡ usage }
 {
@@ -280,7 +280,7 @@ pub fn obey<A: Memory, R: Input, W: Output>(
 {
     let command = match command_of(alloc, terminal, words) {
         Ok(Some(command)) => command,
-        Ok(None) => return refused(),
+        Ok(None) => return usage_error(),
         Err(_) => return Outcome::stopped(complaint(Fault::Memory)),
     };
     match perform(alloc, command, input, output) {
@@ -331,7 +331,7 @@ fn try_own<A: Memory, V: Words, R: Input, W: Output>(
     ensures output { IfErr result (λ _. Keeps (W.contents output.old) (W.contents output.new)) }
 {
     let Some(texts) = texts(alloc, env)? else {
-        return Ok(refused());
+        return Ok(usage_error());
     };
     let words = lent(alloc, texts.as_slice())?;
     Ok(obey(alloc, terminal, words.as_slice(), input, output))
