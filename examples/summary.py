@@ -11,8 +11,13 @@ import json
 import statistics
 import sys
 
-# What ends the answer to an Execute, or that to one of the statements of a Query
-ENDS = {"CommandComplete", "EmptyQueryResponse", "ErrorResponse", "PortalSuspended"}
+# What ends the answer to a request
+ENDS = {"Query": {"ReadyForQuery"}, "Execute": {"CommandComplete", "EmptyQueryResponse", "ErrorResponse", "PortalSuspended"}}
+
+
+def text_of(value):
+    """A text of the listing; of one that isn't UTF-8 its digits, and of a rejected message a question mark."""
+    return value.get("hex", "?") if isinstance(value, dict) else value
 
 
 class Statements:
@@ -24,21 +29,22 @@ class Statements:
 
     def ask(self, message):
         name = message["name"]
+        query, statement, portal = (text_of(message.get(key, {})) for key in ("query", "statement", "portal"))
         if name == "Parse":
-            self.statements[message["statement"]] = message["query"]
+            self.statements[statement] = query
         elif name == "Bind":
-            self.portals[message["portal"]] = self.statements.get(message["statement"], "?")
+            self.portals[portal] = self.statements.get(statement, "?")
         elif name == "Execute":
-            self.texts[message["request"]] = self.portals.get(message["portal"], "?")
+            self.texts[message["request"]] = name, self.portals.get(portal, "?")
         elif name == "Query":
-            self.texts[message["request"]] = message["query"]
+            self.texts[message["request"]] = name, query
 
     def answer(self, message):
-        text = self.texts.get(message["request"])
-        if text is None:
+        name, text = self.texts.get(message["request"], (None, None))
+        if name is None:
             return
         self.rows[text] += message["name"] == "DataRow"
-        if message["name"] in ENDS:
+        if message["name"] in ENDS[name]:
             self.times[text].append(1000 * message["after"])
 
     def table(self):
