@@ -11,8 +11,9 @@ use Rattle.pgp_trace.proofs.Ends.{stays_ended}
 use Rattle.pgp_trace.proofs.Parts.{saturates}
 use Rattle.pgp_conversation.specs.declared.chunk.Sender.{Sender}
 use Rattle.pgp_conversation.specs.declared.chunk.Sender.TheVariants.{Client, Server}
-use Rattle.pgp_conversation.specs.Conversation.{Half, Known, Talk, ListsFrame, ListsFrames, NoFrames, OneFrame, first_time, side_in}
+use Rattle.pgp_conversation.specs.Conversation.{Half, Known, Talk, ListsFrame, ListsFrames, NoFrames, OneFrame, first_time, now_at, side_in, with_numbers}
 use Rattle.pgp_conversation.specs.Marks.{mark, since}
+use Rattle.pgp_conversation.specs.Requests.{Numbers, at_time}
 use Rattle.pgp_conversation.specs.Recording.{Chunk}
 use Rattle.pgp_conversation.specs.Steps.{ListsBytes, ListsChunkTo, HeldHalf, HeldTalk, Holds, Keeps, ListsAllFrames}
 use Rattle.pgp_conversation.proofs.FrameLists.{other_ends}
@@ -77,12 +78,12 @@ listed view mark who from to held n moved count before piece items left old new 
 
 -- the lines of a chunk that the client sent
 pub of_client : (view : View) (before : Talk) (held : HeldTalk) (micros : ℕ) (bytes : List ℕ) (to : Known) (half : HeldHalf) (old new : List ℕ) → Keeps held before
-    → ListsBytes view (mark view.style.form Client (since (first_time held.start micros) micros)) Client held.known (before.client.rest ++ bytes) before.client.passed to half old new
+    → ListsBytes view (mark view.style.form Client (since (first_time held.start micros) micros)) Client (now_at micros held.known) (before.client.rest ++ bytes) before.client.passed to half old new
     → ListsChunkTo view before (record { sender = Client; micros = micros; bytes = bytes }) (record { known = to; client = half; server = held.server; start = Some (first_time held.start micros) }) old new
 of_client view before held micros bytes to half old new keeps lists =
     let marks = λ (start : Option ℕ). mark view.style.form Client (since (first_time start micros) micros) in
-    let each : ListsFrames view (marks before.start) Client before.client.passed before.known lists.front lists.lines to =
-    subst (λ k. ListsFrames view (marks before.start) Client before.client.passed k lists.front lists.lines to) keeps.known (subst (λ s. ListsFrames view (marks s) Client before.client.passed held.known lists.front lists.lines to) keeps.start lists.each) in
+    let each : ListsFrames view (marks before.start) Client before.client.passed (now_at micros before.known) lists.front lists.lines to =
+    subst (λ k. ListsFrames view (marks before.start) Client before.client.passed (now_at micros k) lists.front lists.lines to) keeps.known (subst (λ s. ListsFrames view (marks s) Client before.client.passed (now_at micros held.known) lists.front lists.lines to) keeps.start lists.each) in
     let start = ap (λ s. Some (first_time s micros)) keeps.start in
     record {
       after = record { known = to; client = lists.half; server = before.server; start = Some (first_time before.start micros) };
@@ -92,7 +93,7 @@ of_client view before held micros bytes to half old new keeps lists =
         known = refl;
         client = lists.holds;
         server = record {
-          ending = other_ends view (marks before.start) Client before.client.passed before.known lists.front lists.lines to before.server.stopped before.server.rest each keeps.server.ending;
+          ending = other_ends view (marks before.start) Client before.client.passed (now_at micros before.known) lists.front lists.lines to before.server.stopped before.server.rest each keeps.server.ending;
           stopped = keeps.server.stopped;
           count = keeps.server.count;
           place = keeps.server.place;
@@ -105,12 +106,12 @@ of_client view before held micros bytes to half old new keeps lists =
 
 -- and of one that the server sent
 pub of_server : (view : View) (before : Talk) (held : HeldTalk) (micros : ℕ) (bytes : List ℕ) (to : Known) (half : HeldHalf) (old new : List ℕ) → Keeps held before
-    → ListsBytes view (mark view.style.form Server (since (first_time held.start micros) micros)) Server held.known (before.server.rest ++ bytes) before.server.passed to half old new
+    → ListsBytes view (mark view.style.form Server (since (first_time held.start micros) micros)) Server (now_at micros held.known) (before.server.rest ++ bytes) before.server.passed to half old new
     → ListsChunkTo view before (record { sender = Server; micros = micros; bytes = bytes }) (record { known = to; client = held.client; server = half; start = Some (first_time held.start micros) }) old new
 of_server view before held micros bytes to half old new keeps lists =
     let marks = λ (start : Option ℕ). mark view.style.form Server (since (first_time start micros) micros) in
-    let each : ListsFrames view (marks before.start) Server before.server.passed before.known lists.front lists.lines to =
-    subst (λ k. ListsFrames view (marks before.start) Server before.server.passed k lists.front lists.lines to) keeps.known (subst (λ s. ListsFrames view (marks s) Server before.server.passed held.known lists.front lists.lines to) keeps.start lists.each) in
+    let each : ListsFrames view (marks before.start) Server before.server.passed (now_at micros before.known) lists.front lists.lines to =
+    subst (λ k. ListsFrames view (marks before.start) Server before.server.passed (now_at micros k) lists.front lists.lines to) keeps.known (subst (λ s. ListsFrames view (marks s) Server before.server.passed (now_at micros held.known) lists.front lists.lines to) keeps.start lists.each) in
     let start = ap (λ s. Some (first_time s micros)) keeps.start in
     record {
       after = record { known = to; client = before.client; server = lists.half; start = Some (first_time before.start micros) };
@@ -119,7 +120,7 @@ of_server view before held micros bytes to half old new keeps lists =
       keeps = record {
         known = refl;
         client = record {
-          ending = other_ends view (marks before.start) Server before.server.passed before.known lists.front lists.lines to before.client.stopped before.client.rest each keeps.client.ending;
+          ending = other_ends view (marks before.start) Server before.server.passed (now_at micros before.known) lists.front lists.lines to before.client.stopped before.client.rest each keeps.client.ending;
           stopped = keeps.client.stopped;
           count = keeps.client.count;
           place = keeps.client.place;
@@ -134,30 +135,32 @@ of_server view before held micros bytes to half old new keeps lists =
 -- ---- what a call returns of these
 
 module _ {T E : Type 0} where
-  pub ok_client : (r : Result T E) (view : View) (held : HeldTalk) (chunk : Chunk) (start : ℕ) (marks : List ℕ) (to : Known) (half : HeldHalf) (old new : List ℕ) → chunk.sender ≡ Client → start ≡ first_time held.start chunk.micros
+  pub ok_client : (r : Result T E) (view : View) (held : HeldTalk) (chunk : Chunk) (numbers : Option Numbers) (start : ℕ) (marks : List ℕ) (to : Known) (half : HeldHalf) (old new : List ℕ) → chunk.sender ≡ Client → numbers ≡ at_time chunk.micros held.known.numbers → start ≡ first_time held.start chunk.micros
       → marks ≡ mark view.style.form chunk.sender (since start chunk.micros)
-      → OnOk r ((before : Half) → Holds (side_in Client held.known) held.client before → ListsBytes view marks Client held.known (before.rest ++ chunk.bytes) before.passed to half old new)
+      → OnOk r ((before : Half) → Holds (side_in Client held.known) held.client before → ListsBytes view marks Client (with_numbers numbers held.known) (before.rest ++ chunk.bytes) before.passed to half old new)
       → OnOk r ((before : Talk) → Keeps held before → ListsChunkTo view before chunk (record { known = to; client = half; server = held.server; start = Some start }) old new)
-  ok_client (Err e) view held chunk start marks to half old new is first marked all = tt
-  ok_client (Ok x) view held chunk start marks to half old new is first marked all = λ before keeps.
+  ok_client (Err e) view held chunk numbers start marks to half old new is timed first marked all = tt
+  ok_client (Ok x) view held chunk numbers start marks to half old new is timed first marked all = λ before keeps.
       let holds = subst (λ (k : Known). Holds (side_in Client k) held.client before.client) (sym keeps.known) keeps.client in
       let mark_is : marks ≡ mark view.style.form Client (since (first_time held.start chunk.micros) chunk.micros) =
       marked ∙ ap (λ s. mark view.style.form s (since start chunk.micros)) is ∙ ap (λ n. mark view.style.form Client (since n chunk.micros)) first in
-      let lists = subst (λ m. ListsBytes view m Client held.known (before.client.rest ++ chunk.bytes) before.client.passed to half old new) mark_is (all before.client holds) in
+      let lists = subst (λ n. ListsBytes view (mark view.style.form Client (since (first_time held.start chunk.micros) chunk.micros)) Client (with_numbers n held.known) (before.client.rest ++ chunk.bytes) before.client.passed to half old new) timed
+      (subst (λ m. ListsBytes view m Client (with_numbers numbers held.known) (before.client.rest ++ chunk.bytes) before.client.passed to half old new) mark_is (all before.client holds)) in
       subst (λ s. ListsChunkTo view before (record { sender = s; micros = chunk.micros; bytes = chunk.bytes }) (record { known = to; client = half; server = held.server; start = Some start }) old new) (sym is)
       (subst (λ n. ListsChunkTo view before (record { sender = Client; micros = chunk.micros; bytes = chunk.bytes }) (record { known = to; client = half; server = held.server; start = Some n }) old new) (sym first)
       (of_client view before held chunk.micros chunk.bytes to half old new keeps lists))
 
-  pub ok_server : (r : Result T E) (view : View) (held : HeldTalk) (chunk : Chunk) (start : ℕ) (marks : List ℕ) (to : Known) (half : HeldHalf) (old new : List ℕ) → chunk.sender ≡ Server → start ≡ first_time held.start chunk.micros
+  pub ok_server : (r : Result T E) (view : View) (held : HeldTalk) (chunk : Chunk) (numbers : Option Numbers) (start : ℕ) (marks : List ℕ) (to : Known) (half : HeldHalf) (old new : List ℕ) → chunk.sender ≡ Server → numbers ≡ at_time chunk.micros held.known.numbers → start ≡ first_time held.start chunk.micros
       → marks ≡ mark view.style.form chunk.sender (since start chunk.micros)
-      → OnOk r ((before : Half) → Holds (side_in Server held.known) held.server before → ListsBytes view marks Server held.known (before.rest ++ chunk.bytes) before.passed to half old new)
+      → OnOk r ((before : Half) → Holds (side_in Server held.known) held.server before → ListsBytes view marks Server (with_numbers numbers held.known) (before.rest ++ chunk.bytes) before.passed to half old new)
       → OnOk r ((before : Talk) → Keeps held before → ListsChunkTo view before chunk (record { known = to; client = held.client; server = half; start = Some start }) old new)
-  ok_server (Err e) view held chunk start marks to half old new is first marked all = tt
-  ok_server (Ok x) view held chunk start marks to half old new is first marked all = λ before keeps.
+  ok_server (Err e) view held chunk numbers start marks to half old new is timed first marked all = tt
+  ok_server (Ok x) view held chunk numbers start marks to half old new is timed first marked all = λ before keeps.
       let holds = subst (λ (k : Known). Holds (side_in Server k) held.server before.server) (sym keeps.known) keeps.server in
       let mark_is : marks ≡ mark view.style.form Server (since (first_time held.start chunk.micros) chunk.micros) =
       marked ∙ ap (λ s. mark view.style.form s (since start chunk.micros)) is ∙ ap (λ n. mark view.style.form Server (since n chunk.micros)) first in
-      let lists = subst (λ m. ListsBytes view m Server held.known (before.server.rest ++ chunk.bytes) before.server.passed to half old new) mark_is (all before.server holds) in
+      let lists = subst (λ n. ListsBytes view (mark view.style.form Server (since (first_time held.start chunk.micros) chunk.micros)) Server (with_numbers n held.known) (before.server.rest ++ chunk.bytes) before.server.passed to half old new) timed
+      (subst (λ m. ListsBytes view m Server (with_numbers numbers held.known) (before.server.rest ++ chunk.bytes) before.server.passed to half old new) mark_is (all before.server holds)) in
       subst (λ s. ListsChunkTo view before (record { sender = s; micros = chunk.micros; bytes = chunk.bytes }) (record { known = to; client = held.client; server = half; start = Some start }) old new) (sym is)
       (subst (λ n. ListsChunkTo view before (record { sender = Server; micros = chunk.micros; bytes = chunk.bytes }) (record { known = to; client = held.client; server = half; start = Some n }) old new) (sym first)
       (of_server view before held chunk.micros chunk.bytes to half old new keeps lists))

@@ -1,5 +1,5 @@
 -- What each side sent, and the lines of the server's stream alone.
-use Rattle.std.proofs.Common.{◌≡◌, ℕ, ◌+◌, Bool, List, [], ◌∷◌, ◌++◌, length, refl, sym, ap, subst, ◌∙◌, length-append, append_assoc}
+use Rattle.std.proofs.Common.{◌≡◌, ℕ, ◌+◌, List, [], ◌∷◌, ◌++◌, length, refl, sym, ap, subst, ◌∙◌, length-append, append_assoc}
 use Rattle.std.specs.List.{flat_map}
 use Rattle.std.proofs.lemmas.List.{append-nil}
 use Rattle.std.proofs.lemmas.List.Concat.{flat_map-cons}
@@ -9,7 +9,8 @@ use Rattle.pgp_trace.specs.View.{View}
 use Rattle.pgp_trace.proofs.Ends.{nothing_ends}
 use Rattle.pgp_conversation.specs.declared.chunk.Sender.{Sender}
 use Rattle.pgp_conversation.specs.declared.chunk.Sender.TheVariants.{Client, Server}
-use Rattle.pgp_conversation.specs.Conversation.{Half, ListsChunk, ListsChunks, NoChunkListed, OneChunkListed, Talk, at_first, begins, first_time, half_in, other, side_in}
+use Rattle.pgp_conversation.specs.declared.marking.Marking.{Marking}
+use Rattle.pgp_conversation.specs.Conversation.{Half, Known, ListsChunk, ListsChunks, NoChunkListed, OneChunkListed, Talk, at_first, begins, first_time, half_in, now_at, other, side_in}
 use Rattle.pgp_conversation.specs.Marks.{mark, since}
 use Rattle.pgp_conversation.specs.Order.{IsSplit, sent, sent_by}
 use Rattle.pgp_conversation.specs.Recording.{Chunk}
@@ -19,6 +20,11 @@ sent_more : (who : Sender) (chunks : List Chunk) (chunk : Chunk) → sent who (c
 sent_more who chunks chunk =
     let f : Chunk → List ℕ = λ c. sent_by who c.sender c.bytes in
     flat_map-append f chunks (chunk ∷ []) ∙ ap (λ l. flat_map f chunks ++ l) (flat_map-cons f chunk [] ∙ append-nil (f chunk))
+
+-- a time changes no side
+timed_side : (who : Sender) (micros : ℕ) (known : Known) → side_in who (now_at micros known) ≡ side_in who known
+timed_side Client micros known = refl
+timed_side Server micros known = refl
 
 -- the side whose chunk it is
 own : (view : View) (here to : Talk) (chunks : List Chunk) (chunk : Chunk) (text : List ℕ) (who : Sender) → chunk.sender ≡ who → sent_by who chunk.sender chunk.bytes ≡ chunk.bytes → (s : IsSplit who chunks here) → (l : ListsChunk view here chunk text to) → IsSplit who (chunks ++ chunk ∷ []) to
@@ -44,7 +50,8 @@ beside view here to chunks chunk text who is none s l = subst (λ w. IsSplit w (
       whole = sent_more (other chunk.sender) chunks chunk ∙ ap (λ b. sent (other chunk.sender) chunks ++ b) empty ∙ append-nil (sent (other chunk.sender) chunks) ∙ t.whole ∙ ap (λ (h : Half). t.front ++ h.rest) (sym l.same);
       passed = ap (λ (h : Half). h.passed) l.same ∙ t.passed;
       ending = subst (λ (h : Half). Ends (side_in (other chunk.sender) to.known) h.stopped h.rest) (sym l.same)
-          (other_ends view m chunk.sender (half_in chunk.sender here).passed here.known l.front text to.known (half_in (other chunk.sender) here).stopped (half_in (other chunk.sender) here).rest l.each t.ending);
+          (other_ends view m chunk.sender (half_in chunk.sender here).passed (now_at chunk.micros here.known) l.front text to.known (half_in (other chunk.sender) here).stopped (half_in (other chunk.sender) here).rest l.each
+          (subst (λ s. Ends s (half_in (other chunk.sender) here).stopped (half_in (other chunk.sender) here).rest) (sym (timed_side (other chunk.sender) chunk.micros here.known)) t.ending));
     })
 
 split_more : (view : View) (here to : Talk) (chunks : List Chunk) (chunk : Chunk) (text : List ℕ) (who sender : Sender) → chunk.sender ≡ sender → IsSplit who chunks here → ListsChunk view here chunk text to → IsSplit who (chunks ++ chunk ∷ []) to
@@ -53,11 +60,11 @@ split_more view here to chunks chunk text Server Server is s l = own view here t
 split_more view here to chunks chunk text Server Client is s l = beside view here to chunks chunk text Server (ap other is) (ap (λ w. sent_by Server w chunk.bytes) is) s l
 split_more view here to chunks chunk text Client Server is s l = beside view here to chunks chunk text Client (ap other is) (ap (λ w. sent_by Client w chunk.bytes) is) s l
 
-split_none : (absolute : Bool) (who : Sender) → IsSplit who [] (begins absolute)
-split_none absolute Client = record { front = []; whole = refl; passed = refl; ending = nothing_ends at_first.client }
-split_none absolute Server = record { front = []; whole = refl; passed = refl; ending = nothing_ends at_first.server }
+split_none : (marking : Marking) (who : Sender) → IsSplit who [] (begins marking)
+split_none marking Client = record { front = []; whole = refl; passed = refl; ending = nothing_ends (at_first marking.numbered).client }
+split_none marking Server = record { front = []; whole = refl; passed = refl; ending = nothing_ends (at_first marking.numbered).server }
 
-pub each_side : (view : View) (absolute : Bool) (chunks : List Chunk) (lines : List ℕ) (talk : Talk) → ListsChunks view (begins absolute) chunks lines talk → (who : Sender) → IsSplit who chunks talk
-each_side view absolute [] [] _ NoChunkListed who = split_none absolute who
-each_side view absolute _ _ talk (OneChunkListed {chunks = chunks} {lines = lines} {here = here} chunk text before l) who =
-    split_more view here talk chunks chunk text who chunk.sender refl (each_side view absolute chunks lines here before who) l
+pub each_side : (view : View) (marking : Marking) (chunks : List Chunk) (lines : List ℕ) (talk : Talk) → ListsChunks view (begins marking) chunks lines talk → (who : Sender) → IsSplit who chunks talk
+each_side view marking [] [] _ NoChunkListed who = split_none marking who
+each_side view marking _ _ talk (OneChunkListed {chunks = chunks} {lines = lines} {here = here} chunk text before l) who =
+    split_more view here talk chunks chunk text who chunk.sender refl (each_side view marking chunks lines here before who) l

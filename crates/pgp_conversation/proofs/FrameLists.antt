@@ -1,5 +1,5 @@
 -- The lines of a side, a frame at a time.
-use Rattle.std.proofs.Common.{◌≡◌, ℕ, ◌+◌, ◌-◌, ◌<◌, Bool, true, false, List, [], ◌++◌, length, take, drop, min, refl, sym, ap, subst, ◌∙◌, arith, length-append, append_assoc}
+use Rattle.std.proofs.Common.{◌≡◌, ℕ, ◌+◌, ◌-◌, ◌<◌, ◌≤◌, Bool, true, false, List, [], ◌++◌, length, take, drop, min, Option, refl, sym, ap, subst, ◌∙◌, arith, length-append, append_assoc}
 use Rattle.std.proofs.lemmas.List.{append-nil}
 use Rattle.std.proofs.Math.Seq.{take-append_seam, drop-append_seam}
 use Rattle.pgp_frontend_read.specs.declared.message.PasswordKind.{PasswordKind}
@@ -13,38 +13,71 @@ use Rattle.pgp_conversation.specs.declared.chunk.Sender.{Sender}
 use Rattle.pgp_conversation.specs.declared.chunk.Sender.TheVariants.{Client, Server}
 use Rattle.pgp_conversation.specs.declared.noted.Noted.{Noted}
 use Rattle.pgp_conversation.specs.declared.noted.Noted.TheVariants.{Asks, Requests, Answers, Nothing}
-use Rattle.pgp_conversation.specs.Conversation.{Known, ListsFrame, ListsFrames, NoFrames, OneFrame, as_standby, note, noted_in, other, replicates_in, side_in, text_of, with_kind, with_side}
-use Rattle.pgp_conversation.specs.Steps.{ListsAllFrames, ListsNoFrame, ListsOneFrame, noted_by}
+use Rattle.pgp_conversation.specs.declared.known.Known as code_known
+use Rattle.pgp_conversation.specs.declared.role.Role.{Role}
+use Rattle.pgp_conversation.specs.declared.told.Told.{Told}
+use Rattle.pgp_conversation.specs.Conversation.{Known, ListsFrame, ListsFrames, NoFrames, OneFrame, as_standby, note, noted_in, other, replicates_in, side_in, text_of, with_kind, with_numbers, with_side}
+use Rattle.pgp_conversation.specs.Marks.{word}
+use Rattle.pgp_conversation.specs.Requests.{Numbers, role_in, told_in}
+use Rattle.pgp_conversation.specs.Roles.{client_role, role_by}
+use Rattle.pgp_conversation.specs.Steps.{ListsAllFrames, ListsNoFrame, ListsOneFrame, known_of, noted_by}
 use Rattle.pgp_conversation.proofs.Naming.{name_noted}
+use Rattle.pgp_conversation.proofs.Roles.{name_role, role_from}
+
+passed_is : (bytes front rest : List ℕ) → bytes ≡ front ++ rest → length bytes - length rest ≡ length front
+passed_is bytes front rest e = omega (arith, ap length e, length-append front rest)
 
 requests_kept : (who : Sender) (old : Known) (side : Side) → (with_side who old side).requests ≡ old.requests
 requests_kept Client old side = refl
 requests_kept Server old side = refl
 
+numbers_kept : (who : Sender) (old : Known) (side : Side) → (with_side who old side).numbers ≡ old.numbers
+numbers_kept Client old side = refl
+numbers_kept Server old side = refl
+
 -- a frame with its line, and what is known after it
-pub lists_one : (view : View) (mark : List ℕ) (who : Sender) (place : ℕ) (old mid new : Known) (bytes behind line name before after : List ℕ)
-    → HasLine view.style place (side_in who old) bytes behind line (side_in who mid) name → mid ≡ with_side who old (side_in who mid)
-    → after ≡ before ++ text_of view mark place mid.requests name line → new ≡ note (noted_by name) mid → ListsOneFrame view mark who place old bytes behind before after new
-lists_one view mark who place old mid new bytes behind line name before after has same grown noted =
+pub lists_one : (view : View) (mark : List ℕ) (who : Sender) (place : ℕ) (old mid new : Known) (role : Role) (told : Option Told) (numbers : Option Numbers) (bytes behind line name before after : List ℕ)
+    → (has : HasLine view.style place (side_in who old) bytes behind line (side_in who mid) name) → mid ≡ with_side who old (side_in who mid)
+    → role ≡ role_from (side_in who old) name has.frame → told_in role mid.numbers ≡ (told, numbers)
+    → after ≡ before ++ text_of view (mark ++ word view.style.form told) place mid.requests name line → new ≡ note (noted_by name) (with_numbers numbers mid) → ListsOneFrame view mark who place old bytes behind before after new
+lists_one view mark who place old mid new role told numbers bytes behind line name before after has same is tells grown noted =
     let waiting : mid.requests ≡ old.requests = ap (λ (k : Known). k.requests) same ∙ requests_kept who old (side_in who mid) in
+    let counted : mid.numbers ≡ old.numbers = ap (λ (k : Known). k.numbers) same ∙ numbers_kept who old (side_in who mid) in
     let from = side_in who old in
     let to = side_in who mid in
+    let stamp = mark ++ word view.style.form told in
     let named = name_in view.style place from has.frame line to has.reported in
+    let roles : role ≡ role_in view.style place from has.frame line to has.reported = is ∙ ap (λ n. role_from from n has.frame) has.named ∙ name_role view.style place from has.frame line to has.reported in
     record {
       frame = has.frame;
-      text = text_of view mark place old.requests named line;
+      text = text_of view stamp place old.requests named line;
       whole = has.whole;
       some = frame_has view.style place from to has.frame line has.reported;
       lists = record {
         line = line;
         after = to;
+        told = told;
+        numbers = numbers;
         reported = has.reported;
+        numbered = ap (λ r. told_in r old.numbers) (sym roles) ∙ ap (told_in role) (sym counted) ∙ tells;
         is = refl;
-        behind = noted ∙ ap (λ n. note (noted_by n) mid) has.named ∙ ap (λ n. note n mid) (name_noted view.style place from has.frame line to has.reported)
-            ∙ ap (note (noted_in view.style place from has.frame line to has.reported)) same;
+        behind = noted ∙ ap (λ n. note (noted_by n) (with_numbers numbers mid)) has.named ∙ ap (λ n. note n (with_numbers numbers mid)) (name_noted view.style place from has.frame line to has.reported)
+            ∙ ap (λ k. note (noted_in view.style place from has.frame line to has.reported) (with_numbers numbers k)) same;
       };
-      grown = grown ∙ ap (λ r. before ++ text_of view mark place r name line) waiting ∙ ap (λ n. before ++ text_of view mark place old.requests n line) has.named;
+      grown = grown ∙ ap (λ r. before ++ text_of view stamp place r name line) waiting ∙ ap (λ n. before ++ text_of view stamp place old.requests n line) has.named;
     }
+
+-- what it is to the requests, by what is kept
+pub role_side : {A : Type 0} → (who : Sender) (kept : code_known.Known A) (name front frame : List ℕ) → front ≡ frame → role_by who kept.opened name front ≡ role_from (side_in who (known_of kept)) name frame
+role_side Client kept name front frame e = ap (client_role kept.opened name) e
+role_side Server kept name front frame e = refl
+
+pub front_long : (bytes frame behind : List ℕ) → bytes ≡ frame ++ behind → length behind ≤ length bytes
+front_long bytes frame behind whole = omega (arith, ap length whole, length-append frame behind)
+
+-- the frame that stands first
+pub front_is : (bytes frame behind : List ℕ) → bytes ≡ frame ++ behind → take (length bytes - length behind) bytes ≡ frame
+front_is bytes frame behind whole = ap (λ n. take n bytes) (passed_is bytes frame behind whole) ∙ ap (take (length frame)) whole ∙ take-append_seam frame behind
 
 pub lists_none : (who : Sender) (stopped : Bool) (old new : Known) (bytes behind lines : List ℕ) → behind ≡ bytes → Ends (side_in who old) stopped bytes → side_in who new ≡ side_in who old → new ≡ with_side who old (side_in who new)
     → with_side who old (side_in who old) ≡ old → ListsNoFrame who stopped old bytes behind lines lines new
@@ -67,9 +100,6 @@ pub record ListsFramesTo (view : View) (mark : List ℕ) (who : Sender) (start :
 
 pub nothing_yet : (view : View) (mark : List ℕ) (who : Sender) (start : ℕ) (from : Known) (bytes old : List ℕ) → ListsFramesTo view mark who start from bytes bytes from old old
 nothing_yet view mark who start from bytes old = record { front = []; lines = []; whole = refl; each = NoFrames; text = sym (append-nil old) }
-
-passed_is : (bytes front rest : List ℕ) → bytes ≡ front ++ rest → length bytes - length rest ≡ length front
-passed_is bytes front rest e = omega (arith, ap length e, length-append front rest)
 
 -- one more
 pub one_more : (view : View) (mark : List ℕ) (who : Sender) (start here : ℕ) (from mid to : Known) (bytes rest behind old now new : List ℕ) → ListsFramesTo view mark who start from bytes rest mid old now
@@ -115,15 +145,15 @@ other_standby replicating (ClientSide opened kinds was) false rest e = e
 other_standby replicating (ClientSide opened kinds was) true rest e = e
 other_standby replicating (ServerSide phase) stopped rest e = e
 
-other_note : (who : Sender) (here : Known) (side : Side) (n : Noted) (stopped : Bool) (rest : List ℕ) → Ends (side_in (other who) here) stopped rest → Ends (side_in (other who) (note n (with_side who here side))) stopped rest
-other_note Client here side (Asks kind) stopped rest e = e
-other_note Client here side (Requests x) stopped rest e = e
-other_note Client here side Answers stopped rest e = e
-other_note Client here side Nothing stopped rest e = e
-other_note Server here side (Asks kind) stopped rest e = other_kind (as_standby (replicates_in side) here.client) kind stopped rest (other_standby (replicates_in side) here.client stopped rest e)
-other_note Server here side (Requests x) stopped rest e = other_standby (replicates_in side) here.client stopped rest e
-other_note Server here side Answers stopped rest e = other_standby (replicates_in side) here.client stopped rest e
-other_note Server here side Nothing stopped rest e = other_standby (replicates_in side) here.client stopped rest e
+other_note : (who : Sender) (here : Known) (side : Side) (numbers : Option Numbers) (n : Noted) (stopped : Bool) (rest : List ℕ) → Ends (side_in (other who) here) stopped rest → Ends (side_in (other who) (note n (with_numbers numbers (with_side who here side)))) stopped rest
+other_note Client here side numbers (Asks kind) stopped rest e = e
+other_note Client here side numbers (Requests x) stopped rest e = e
+other_note Client here side numbers Answers stopped rest e = e
+other_note Client here side numbers Nothing stopped rest e = e
+other_note Server here side numbers (Asks kind) stopped rest e = other_kind (as_standby (replicates_in side) here.client) kind stopped rest (other_standby (replicates_in side) here.client stopped rest e)
+other_note Server here side numbers (Requests x) stopped rest e = other_standby (replicates_in side) here.client stopped rest e
+other_note Server here side numbers Answers stopped rest e = other_standby (replicates_in side) here.client stopped rest e
+other_note Server here side numbers Nothing stopped rest e = other_standby (replicates_in side) here.client stopped rest e
 
 -- of the other side as much is awaited as before
 pub other_ends : (view : View) (mark : List ℕ) (who : Sender) (start : ℕ) (from : Known) (bytes lines : List ℕ) (to : Known) (stopped : Bool) (rest : List ℕ) → ListsFrames view mark who start from bytes lines to
@@ -131,4 +161,4 @@ pub other_ends : (view : View) (mark : List ℕ) (who : Sender) (start : ℕ) (f
 other_ends view mark who start from [] [] _ stopped rest NoFrames e = e
 other_ends view mark who start from _ _ to stopped rest (OneFrame {bytes = bytes} {lines = lines} {here = here} frame text before one) e =
     subst (λ k. Ends (side_in (other who) k) stopped rest) (sym one.behind)
-    (other_note who here one.after (noted_in view.style (place_behind (start + length bytes)) (side_in who here) frame one.line one.after one.reported) stopped rest (other_ends view mark who start from bytes lines here stopped rest before e))
+    (other_note who here one.after one.numbers (noted_in view.style (place_behind (start + length bytes)) (side_in who here) frame one.line one.after one.reported) stopped rest (other_ends view mark who start from bytes lines here stopped rest before e))

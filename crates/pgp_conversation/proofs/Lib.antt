@@ -1,12 +1,14 @@
 pub mod Chunks
 pub mod Naming
+pub mod Roles
 pub mod KindsLeft
-pub mod Marking
+pub mod Marked
 pub mod FrameLists
 pub mod ChunkLists
 pub mod Sessions
 pub mod OneSession
 pub mod EachSide
+pub mod Turns
 pub mod PrintedMarks
 pub mod SettingLemmas
 pub mod Endings

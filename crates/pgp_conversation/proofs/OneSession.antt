@@ -1,5 +1,5 @@
 -- A recording has one listing.
-use Rattle.std.proofs.Common.{◌≡◌, ◌≢◌, ℕ, suc, ◌+◌, ◌<◌, ◌^◌, Bool, true, false, List, [], ◌∷◌, ◌++◌, length, take, drop, get_or, refl, sym, ap, subst, ◌∙◌, arith, inl, inr, length-append, append_assoc}
+use Rattle.std.proofs.Common.{◌≡◌, ◌≢◌, ℕ, suc, ◌+◌, ◌<◌, ◌^◌, Bool, true, false, List, [], ◌∷◌, ◌++◌, length, take, drop, get_or, Option, refl, sym, ap, subst, ◌∙◌, arith, inl, inr, length-append, append_assoc}
 use Rattle.std.specs.List.{flat_map, AllByRecursion}
 use Rattle.std.proofs.lemmas.List.{append-nil}
 use Rattle.std.proofs.lemmas.List.Concat.{flat_map-cons}
@@ -15,13 +15,17 @@ use Rattle.pgp_conversation.specs.declared.chunk.Sender.{Sender}
 use Rattle.pgp_conversation.specs.declared.chunk.Sender.TheVariants.{Client, Server}
 use Rattle.pgp_conversation.specs.declared.ending.End.{End}
 use Rattle.pgp_conversation.specs.declared.ending.End.TheVariants.{Whole, Cut, NoChunk, NoRecording}
-use Rattle.pgp_conversation.specs.Conversation.{Half, ListsChunks, NoChunkListed, OneChunkListed, ListsChunk, Known, Talk, ListsFrame, ListsFrames, NoFrames, OneFrame, begins, half_in, last_lines, note, noted_in, other, side_in, text_of, with_side}
-use Rattle.pgp_conversation.specs.Marks.{mark, since}
+use Rattle.pgp_conversation.specs.Conversation.{Half, ListsChunks, NoChunkListed, OneChunkListed, ListsChunk, Known, Talk, ListsFrame, ListsFrames, NoFrames, OneFrame, begins, half_in, last_lines, note, noted_in, now_at, other, side_in, text_of, with_numbers, with_side}
+use Rattle.pgp_conversation.specs.declared.marking.Marking.{Marking}
+use Rattle.pgp_conversation.specs.declared.told.Told.{Told}
+use Rattle.pgp_conversation.specs.Marks.{mark, since, word}
+use Rattle.pgp_conversation.specs.Requests.{Numbers, role_in, told_in}
 use Rattle.pgp_conversation.specs.Conversation.{first_time}
 use Rattle.pgp_conversation.specs.Recording.{Chunk, EndsBy, IsChunk, IsNoChunk, IsPartial, IsShort, Records, arrow, chunk_bytes, magic}
 use Rattle.pgp_conversation.specs.Session.{HasLines, IsListing}
 use Rattle.pgp_conversation.specs.Steps.{noted_by}
 use Rattle.pgp_conversation.proofs.Naming.{name_noted}
+use Rattle.pgp_conversation.proofs.Roles.{name_role, role_from}
 
 -- ---- a frame
 
@@ -40,11 +44,18 @@ lists_one view m who place here to too f g text another x y a b e =
     let notes = noted_in view.style place from g b.line b.after b.reported in
     let noted : noted_in view.style place from f a.line a.after a.reported ≡ notes =
     sym (name_noted view.style place from f a.line a.after a.reported) ∙ ap noted_by one.1 ∙ name_noted view.style place from g b.line b.after b.reported in
+    let roles : role_in view.style place from f a.line a.after a.reported ≡ role_in view.style place from g b.line b.after b.reported =
+    sym (name_role view.style place from f a.line a.after a.reported) ∙ ap (λ n. role_from from n f) one.1 ∙ ap (role_from from named) one.0.frames ∙ name_role view.style place from g b.line b.after b.reported in
+    let same : (a.told, a.numbers) ≡ (b.told, b.numbers) = sym a.numbered ∙ ap (λ r. told_in r here.numbers) roles ∙ b.numbered in
+    let told : a.told ≡ b.told = ap (λ (x : Option Told × Option Numbers). x.0) same in
+    let numbers : a.numbers ≡ b.numbers = ap (λ (x : Option Told × Option Numbers). x.1) same in
     record {
       frames = one.0.frames;
-      texts = a.is ∙ ap (λ n. text_of view m place here.requests n a.line) one.1 ∙ ap (λ l. text_of view m place here.requests named l) one.0.lines ∙ sym b.is;
+      texts = a.is ∙ ap (λ t. text_of view (m ++ word view.style.form t) place here.requests (name_in view.style place from f a.line a.after a.reported) a.line) told
+          ∙ ap (λ n. text_of view (m ++ word view.style.form b.told) place here.requests n a.line) one.1 ∙ ap (λ l. text_of view (m ++ word view.style.form b.told) place here.requests named l) one.0.lines ∙ sym b.is;
       rests = one.0.rests;
-      knowns = a.behind ∙ ap (λ n. note n (with_side who here a.after)) noted ∙ ap (λ s. note notes (with_side who here s)) one.0.sides ∙ sym b.behind;
+      knowns = a.behind ∙ ap (λ n. note n (with_numbers a.numbers (with_side who here a.after))) noted ∙ ap (λ n. note notes (with_numbers n (with_side who here a.after))) numbers
+          ∙ ap (λ s. note notes (with_numbers b.numbers (with_side who here s))) one.0.sides ∙ sym b.behind;
     }
 
 data Rows (view : View) (m : List ℕ) (who : Sender) (to : Known) : ℕ → Known → List ℕ → List ℕ → Type 0 where
@@ -116,8 +127,9 @@ chunk_lists_one view before after then chunk text another a b =
     let who = chunk.sender in
     let m = mark view.style.form who (since (first_time before.start chunk.micros) chunk.micros) in
     let start = (half_in who before).passed in
-    let one = rows_one view m who after.known then.known start before.known a.front b.front text another (half_in who after).rest (half_in who then).rest (half_in who after).stopped (half_in who then).stopped
-    (rows_of view m who start before.known after.known a.front text a.each) a.ending (rows_of view m who start before.known then.known b.front another b.each) b.ending (sym a.whole ∙ b.whole) in
+    let from = now_at chunk.micros before.known in
+    let one = rows_one view m who after.known then.known start from a.front b.front text another (half_in who after).rest (half_in who then).rest (half_in who after).stopped (half_in who then).stopped
+    (rows_of view m who start from after.known a.front text a.each) a.ending (rows_of view m who start from then.known b.front another b.each) b.ending (sym a.whole ∙ b.whole) in
     let half = half_same (half_in who after) (half_in who then) (a.passed ∙ ap (λ l. start + length l) one.fronts ∙ sym b.passed) one.rests one.ends in
     (one.texts, talk_same who after then one.knowns half (a.same ∙ sym b.same) (a.start ∙ sym b.start))
 
@@ -246,25 +258,25 @@ no_recording bytes rest chunks NoRecording e r = (refl, λ more same. e more (sy
 magic_first : (bytes rest : List ℕ) (chunks : List Chunk) → Records bytes true chunks rest → bytes ≡ magic ++ (flat_map chunk_bytes chunks ++ rest)
 magic_first bytes rest chunks r = r.whole ∙ append_assoc magic (flat_map chunk_bytes chunks) rest
 
-lines_one : (view : View) (absolute : Bool) (cs ds : List Chunk) (lines others : List ℕ) (to too : Talk) → ListsChunks view (begins absolute) cs lines to → ListsChunks view (begins absolute) ds others too → cs ≡ ds → lines ++ last_lines view to ≡ others ++ last_lines view too
-lines_one view absolute cs ds lines others to too a b e =
-    let one = listed_one view to too (begins absolute) cs ds lines others (chunks_of view (begins absolute) to cs lines a) (chunks_of view (begins absolute) too ds others b) e in
+lines_one : (view : View) (marking : Marking) (cs ds : List Chunk) (lines others : List ℕ) (to too : Talk) → ListsChunks view (begins marking) cs lines to → ListsChunks view (begins marking) ds others too → cs ≡ ds → lines ++ last_lines view to ≡ others ++ last_lines view too
+lines_one view marking cs ds lines others to too a b e =
+    let one = listed_one view to too (begins marking) cs ds lines others (chunks_of view (begins marking) to cs lines a) (chunks_of view (begins marking) too ds others b) e in
     ap (λ l. l ++ last_lines view to) one.0 ∙ ap (λ t. others ++ last_lines view t) one.1
 
-by_begun : (view : View) (absolute : Bool) (bytes x y lines others : List ℕ) (p q : Bool) (a b : End) (to too : Talk) (m : HasLines view absolute bytes p x lines to) (n : HasLines view absolute bytes q y others too) → EndsBy p x a → EndsBy q y b
+by_begun : (view : View) (marking : Marking) (bytes x y lines others : List ℕ) (p q : Bool) (a b : End) (to too : Talk) (m : HasLines view marking bytes p x lines to) (n : HasLines view marking bytes q y others too) → EndsBy p x a → EndsBy q y b
     → (a ≡ b) × (lines ++ last_lines view to ≡ others ++ last_lines view too)
-by_begun view absolute bytes x y lines others true true a b to too m n ea eb =
+by_begun view marking bytes x y lines others true true a b to too m n ea eb =
     let same = chunks_one m.chunks n.chunks x y m.records.each n.records.each (ends_none x a ea) (ends_none y b eb)
     (sym (drop-append_seam magic (flat_map chunk_bytes m.chunks ++ x)) ∙ ap (drop 20) (sym (magic_first bytes x m.chunks m.records) ∙ magic_first bytes y n.chunks n.records) ∙ drop-append_seam magic (flat_map chunk_bytes n.chunks ++ y)) in
-    (end_one y a b (subst (λ l. EndsBy true l a) same.1 ea) eb, lines_one view absolute m.chunks n.chunks lines others to too m.each n.each same.0)
-by_begun view absolute bytes x y lines others false false a b to too m n ea eb =
-    ((no_recording bytes x m.chunks a ea m.records).0 ∙ sym (no_recording bytes y n.chunks b eb n.records).0, lines_one view absolute m.chunks n.chunks lines others to too m.each n.each (m.records.none refl ∙ sym (n.records.none refl)))
-by_begun view absolute bytes x y lines others true false a b to too m n ea eb =
+    (end_one y a b (subst (λ l. EndsBy true l a) same.1 ea) eb, lines_one view marking m.chunks n.chunks lines others to too m.each n.each same.0)
+by_begun view marking bytes x y lines others false false a b to too m n ea eb =
+    ((no_recording bytes x m.chunks a ea m.records).0 ∙ sym (no_recording bytes y n.chunks b eb n.records).0, lines_one view marking m.chunks n.chunks lines others to too m.each n.each (m.records.none refl ∙ sym (n.records.none refl)))
+by_begun view marking bytes x y lines others true false a b to too m n ea eb =
     absurd ((no_recording bytes y n.chunks b eb n.records).1 (flat_map chunk_bytes m.chunks ++ x) (magic_first bytes x m.chunks m.records))
-by_begun view absolute bytes x y lines others false true a b to too m n ea eb =
+by_begun view marking bytes x y lines others false true a b to too m n ea eb =
     absurd ((no_recording bytes x m.chunks a ea m.records).1 (flat_map chunk_bytes n.chunks ++ y) (magic_first bytes y n.chunks n.records))
 
-pub one_listing : (view : View) (absolute : Bool) (bytes output another : List ℕ) (end ending : End) → IsListing view absolute bytes end output → IsListing view absolute bytes ending another → (end ≡ ending) × (output ≡ another)
-one_listing view absolute bytes output another end ending a b =
-    let one = by_begun view absolute bytes a.rest b.rest a.lines b.lines a.begun b.begun end ending a.talk b.talk a.each b.each a.ending b.ending in
+pub one_listing : (view : View) (marking : Marking) (bytes output another : List ℕ) (end ending : End) → IsListing view marking bytes end output → IsListing view marking bytes ending another → (end ≡ ending) × (output ≡ another)
+one_listing view marking bytes output another end ending a b =
+    let one = by_begun view marking bytes a.rest b.rest a.lines b.lines a.begun b.begun end ending a.talk b.talk a.each b.each a.ending b.ending in
     (one.0, a.text ∙ one.1 ∙ sym b.text)

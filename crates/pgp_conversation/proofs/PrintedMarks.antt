@@ -1,5 +1,5 @@
 -- Marks are printable.
-use Rattle.std.proofs.Common.{◌≡◌, ℕ, ◌-◌, Bool, true, false, List, [], ◌∷◌, ◌++◌, length, refl, sym, ap, ◌∙◌, append_assoc}
+use Rattle.std.proofs.Common.{◌≡◌, ℕ, ◌-◌, Bool, true, false, List, [], ◌∷◌, ◌++◌, length, Option, Some, None, refl, sym, ap, ◌∙◌, append_assoc}
 use Rattle.std.specs.Prelude.{◌/◌, ◌%◌, nat_lt, if◌then◌else◌, codes, decimal}
 use Rattle.pgp_line.specs.Line.{blanks}
 use Rattle.std.specs.List.{list_all}
@@ -12,7 +12,9 @@ use Rattle.pgp_trace.specs.Sides.{Side}
 use Rattle.pgp_trace.proofs.Printable.{blank, join, line_printable, plain, plain_join, plain_number}
 use Rattle.pgp_conversation.specs.declared.chunk.Sender.{Sender}
 use Rattle.pgp_conversation.specs.declared.chunk.Sender.TheVariants.{Client, Server}
-use Rattle.pgp_conversation.specs.Marks.{between, last_mark, mark, marked, member, number, since}
+use Rattle.pgp_conversation.specs.declared.told.Told.{Told}
+use Rattle.pgp_conversation.specs.declared.told.Told.TheVariants.{Number, Answer, Lost, Nothing}
+use Rattle.pgp_conversation.specs.Marks.{between, last_mark, later, mark, marked, member, members, millis, number, says, since, word}
 
 abbrev Plain : List ℕ → Type 0
 Plain text = list_all is_visible text ≡ true
@@ -42,24 +44,78 @@ arrows : (who : Sender) → Plain (between who)
 arrows Client = refl
 arrows Server = refl
 
-members : (who : Sender) → Plain (member who)
-members Client = refl
-members Server = refl
+senders : (who : Sender) → Plain (member who)
+senders Client = refl
+senders Server = refl
 
 around : (form : Form) (who : Sender) (time : List ℕ) → Plain time → Plain (mark form who time)
 around Columns who time a = plain_join (blanks (12 - length time) ++ time) (between who) (plain_join (blanks (12 - length time)) time (blank (12 - length time)) a) (arrows who)
-around Json who time a = plain_join (codes "\"time\":" ++ time) (member who) (plain_join (codes "\"time\":") time refl a) (members who)
+around Json who time a = plain_join (codes "\"time\":" ++ time) (member who) (plain_join (codes "\"time\":") time refl a) (senders who)
 
-pub mark_printable : (form : Form) (who : Sender) (start micros : ℕ) → IsPrinted (mark form who (since start micros))
-mark_printable form who start micros = plain (mark form who (since start micros)) (around form who (since start micros) (either_way (nat_lt micros start) (start - micros) (micros - start)))
+-- ---- what it says of requests
 
-pub last_printable : (form : Form) (who : Sender) → IsPrinted (last_mark form who)
-last_printable Columns who = plain (mark Columns who []) (around Columns who [] refl)
-last_printable Json who = plain (mark Json who (codes "null")) (around Json who (codes "null") refl)
+thousandths : (n : ℕ) → Plain (millis n)
+unfolding millis
+thousandths n =
+    let a = decimal (n / 1000) ++ codes "." in
+    let b = a ++ decimal (n / 100 % 10) in
+    let c = b ++ decimal (n / 10 % 10) in
+    let pa : Plain a = plain_join (decimal (n / 1000)) (codes ".") (plain_number (n / 1000)) refl in
+    let pb : Plain b = plain_join a (decimal (n / 100 % 10)) pa (plain_number (n / 100 % 10)) in
+    let pc : Plain c = plain_join b (decimal (n / 10 % 10)) pb (plain_number (n / 10 % 10)) in
+    plain_join c (decimal (n % 10)) pc (plain_number (n % 10))
 
-pub marked_printable : (style : Style) (place : ℕ) (from to : Side) (frame line : List ℕ) (who : Sender) (start micros : ℕ) → LineOf style place from frame line to
-    → (text : List ℕ) × (marked Columns (mark Columns who (since start micros)) line ≡ text ++ 10 ∷ []) × IsPrinted text
-marked_printable style place from to frame line who start micros is =
+later_way : (b : Bool) (n k : ℕ) → Plain (if b then 45 ∷ millis n else 43 ∷ millis k)
+later_way true n k = plain_join (45 ∷ []) (millis n) refl (thousandths n)
+later_way false n k = plain_join (43 ∷ []) (millis k) refl (thousandths k)
+
+since_plain : (start micros : ℕ) → Plain (since start micros)
+since_plain start micros = either_way (nat_lt micros start) (start - micros) (micros - start)
+
+numbered : (n : ℕ) → Plain (codes "#" ++ decimal n)
+numbered n = plain_join (codes "#") (decimal n) refl (plain_number n)
+
+says_plain : (told : Told) → Plain (says told)
+says_plain (Number n) = numbered n
+says_plain (Answer n sent now) =
+    plain_join (codes "#" ++ decimal n ++ codes " ") (later sent now) (plain_join (codes "#" ++ decimal n) (codes " ") (numbered n) refl) (later_way (nat_lt now sent) (sent - now) (now - sent))
+says_plain Lost = refl
+says_plain Nothing = refl
+
+member_plain : (n : ℕ) → Plain (codes "\"request\":" ++ decimal n)
+member_plain n = plain_join (codes "\"request\":") (decimal n) refl (plain_number n)
+
+members_plain : (told : Told) → Plain (members told)
+members_plain (Number n) = plain_join (codes "\"request\":" ++ decimal n) (codes ",") (member_plain n) refl
+members_plain (Answer n sent now) =
+    let a = codes "\"request\":" ++ decimal n ++ codes ",\"after\":" in
+    let b = a ++ since sent now in
+    let pa : Plain a = plain_join (codes "\"request\":" ++ decimal n) (codes ",\"after\":") (member_plain n) refl in
+    let pb : Plain b = plain_join a (since sent now) pa (since_plain sent now) in
+    plain_join b (codes ",") pb refl
+members_plain Lost = refl
+members_plain Nothing = refl
+
+word_plain : (form : Form) (told : Option Told) → Plain (word form told)
+word_plain form None = refl
+word_plain Columns (Some told) = plain_join (says told) (blanks (16 - length (says told))) (says_plain told) (blank (16 - length (says told)))
+word_plain Json (Some told) = members_plain told
+
+-- ---- marks
+
+with_word : (form : Form) (m : List ℕ) (told : Option Told) → Plain m → IsPrinted (m ++ word form told)
+with_word form m told a = plain (m ++ word form told) (plain_join m (word form told) a (word_plain form told))
+
+pub mark_printable : (form : Form) (who : Sender) (start micros : ℕ) (told : Option Told) → IsPrinted (mark form who (since start micros) ++ word form told)
+mark_printable form who start micros told = with_word form (mark form who (since start micros)) told (around form who (since start micros) (since_plain start micros))
+
+pub last_printable : (form : Form) (who : Sender) (told : Option Told) → IsPrinted (last_mark form who ++ word form told)
+last_printable Columns who told = with_word Columns (mark Columns who []) told (around Columns who [] refl)
+last_printable Json who told = with_word Json (mark Json who (codes "null")) told (around Json who (codes "null") refl)
+
+pub marked_printable : (style : Style) (place : ℕ) (from to : Side) (frame line : List ℕ) (who : Sender) (start micros : ℕ) (told : Option Told) → LineOf style place from frame line to
+    → (text : List ℕ) × (marked Columns (mark Columns who (since start micros) ++ word Columns told) line ≡ text ++ 10 ∷ []) × IsPrinted text
+marked_printable style place from to frame line who start micros told is =
     let one = line_printable style place from to frame line is in
-    let m = mark Columns who (since start micros) in
-    (m ++ one.0, ap (λ l. m ++ l) one.1 ∙ sym (append_assoc m one.0 (10 ∷ [])), join m one.0 (mark_printable Columns who start micros) one.2)
+    let m = mark Columns who (since start micros) ++ word Columns told in
+    (m ++ one.0, ap (λ l. m ++ l) one.1 ∙ sym (append_assoc m one.0 (10 ∷ [])), join m one.0 (mark_printable Columns who start micros told) one.2)

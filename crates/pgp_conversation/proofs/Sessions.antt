@@ -18,9 +18,11 @@ use Rattle.pgp_conversation.specs.declared.chunk.Chunk as code
 use Rattle.pgp_conversation.specs.declared.chunk.Part.TheVariants as part
 use Rattle.pgp_conversation.specs.declared.chunk.Sender.TheVariants.{Client, Server}
 use Rattle.pgp_conversation.specs.declared.ending.End.{End}
+use Rattle.pgp_conversation.specs.declared.marking.Marking.{Marking}
 use Rattle.pgp_conversation.specs.declared.session.Said.{Said}
-use Rattle.pgp_conversation.specs.Conversation.{NoChunkListed, OneChunkListed, Talk, at_first, begins, first_start, last_lines, last_of, left}
+use Rattle.pgp_conversation.specs.Conversation.{Known, NoChunkListed, OneChunkListed, Talk, at_first, begins, first_start, last_lines, last_of, left}
 use Rattle.pgp_conversation.specs.Pieces.{ListsAllChunks, ListsPiece, ListsSome, Stays, Tracks, TracksTo, held_first, held_last}
+use Rattle.pgp_conversation.specs.Requests.{unnumbered}
 use Rattle.pgp_conversation.specs.Recording.{Chunk, EndsBy, IsChunk, IsPartial, Records, beginning, chunk_bytes, complaint_of, magic}
 use Rattle.pgp_conversation.specs.Session.{Awaits, IsCutShort, HasLines, IsReadTo, IsReady, WasListed, WritesListing}
 use Rattle.pgp_conversation.specs.Steps.{ListsChunkTo, HeldTalk, Keeps, TakesChunk, TakesPart, chunk_of, end_of}
@@ -55,16 +57,16 @@ more_records bytes chunks chunk rest behind r t = record {
   none = λ e. opened_not e (chunks ++ chunk ∷ []);
 }
 
-pub begun : (view : View) (absolute : Bool) (bytes lines : List ℕ) (held : HeldTalk) (rest behind : List ℕ) → Tracks view absolute bytes lines false held rest → rest ≡ magic ++ behind → Tracks view absolute bytes lines true held behind
-begun view absolute bytes lines held rest behind t is = record {
+pub begun : (view : View) (marking : Marking) (bytes lines : List ℕ) (held : HeldTalk) (rest behind : List ℕ) → Tracks view marking bytes lines false held rest → rest ≡ magic ++ behind → Tracks view marking bytes lines true held behind
+begun view marking bytes lines held rest behind t is = record {
   talk = t.talk;
   each = record { chunks = t.each.chunks; records = begun_records bytes t.each.chunks rest behind t.each.records is; each = t.each.each };
   keeps = t.keeps;
 }
 
-pub listed_more : (view : View) (absolute : Bool) (bytes lines : List ℕ) (held next : HeldTalk) (chunk : Chunk) (rest behind old new : List ℕ) (t : Tracks view absolute bytes lines true held rest) → TakesChunk chunk rest behind
-    → ListsChunkTo view t.talk chunk next old new → TracksTo view absolute bytes lines true next behind old new
-listed_more view absolute bytes lines held next chunk rest behind old new t takes lists = record {
+pub listed_more : (view : View) (marking : Marking) (bytes lines : List ℕ) (held next : HeldTalk) (chunk : Chunk) (rest behind old new : List ℕ) (t : Tracks view marking bytes lines true held rest) → TakesChunk chunk rest behind
+    → ListsChunkTo view t.talk chunk next old new → TracksTo view marking bytes lines true next behind old new
+listed_more view marking bytes lines held next chunk rest behind old new t takes lists = record {
   added = lists.text;
   tracks = record {
     talk = lists.after;
@@ -82,33 +84,33 @@ listed_more view absolute bytes lines held next chunk rest behind old new t take
 
 -- what those so far come to, whatever came before
 abbrev pub Lists : View → (begun opened : Bool) (held now : HeldTalk) (bytes rest old new : List ℕ) → Type 0
-Lists view begun opened held now bytes rest old new = (absolute : Bool) (received lines : List ℕ) → Tracks view absolute received lines begun held bytes → TracksTo view absolute received lines opened now rest old new
+Lists view begun opened held now bytes rest old new = (marking : Marking) (received lines : List ℕ) → Tracks view marking received lines begun held bytes → TracksTo view marking received lines opened now rest old new
 
 pub nothing_listed : (view : View) (begun : Bool) (held : HeldTalk) (bytes old : List ℕ) → Lists view begun begun held held bytes bytes old old
-nothing_listed view begun held bytes old absolute received lines t = record {
+nothing_listed view begun held bytes old marking received lines t = record {
   added = [];
-  tracks = subst (λ l. Tracks view absolute received l begun held bytes) (sym (append-nil lines)) t;
+  tracks = subst (λ l. Tracks view marking received l begun held bytes) (sym (append-nil lines)) t;
   text = sym (append-nil old);
 }
 
 pub and_begun : (view : View) (was opened : Bool) (held now : HeldTalk) (bytes rest behind old new : List ℕ) → Lists view was opened held now bytes rest old new → opened ≡ false → rest ≡ magic ++ behind → Lists view was true held now bytes behind old new
-and_begun view was opened held now bytes rest behind old new so_far fresh is absolute received lines t =
-    let to = so_far absolute received lines t in
+and_begun view was opened held now bytes rest behind old new so_far fresh is marking received lines t =
+    let to = so_far marking received lines t in
     record {
       added = to.added;
-      tracks = begun view absolute received (lines ++ to.added) now rest behind (subst (λ b. Tracks view absolute received (lines ++ to.added) b now rest) fresh to.tracks) is;
+      tracks = begun view marking received (lines ++ to.added) now rest behind (subst (λ b. Tracks view marking received (lines ++ to.added) b now rest) fresh to.tracks) is;
       text = to.text;
     }
 
 pub and_listed : (view : View) (was opened : Bool) (held now next : HeldTalk) (chunk : Chunk) (bytes rest behind old mid new : List ℕ) → Lists view was opened held now bytes rest old mid → opened ≡ true → TakesChunk chunk rest behind
     → ((before : Talk) → Keeps now before → ListsChunkTo view before chunk next mid new) → Lists view was opened held next bytes behind old new
-and_listed view was opened held now next chunk bytes rest behind old mid new so_far opens takes lists absolute received lines t =
-    let to = so_far absolute received lines t in
-    let here = subst (λ b. Tracks view absolute received (lines ++ to.added) b now rest) opens to.tracks in
-    let more = listed_more view absolute received (lines ++ to.added) now next chunk rest behind mid new here takes (lists here.talk here.keeps) in
+and_listed view was opened held now next chunk bytes rest behind old mid new so_far opens takes lists marking received lines t =
+    let to = so_far marking received lines t in
+    let here = subst (λ b. Tracks view marking received (lines ++ to.added) b now rest) opens to.tracks in
+    let more = listed_more view marking received (lines ++ to.added) now next chunk rest behind mid new here takes (lists here.talk here.keeps) in
     record {
       added = to.added ++ more.added;
-      tracks = subst (λ l. Tracks view absolute received l opened next behind) (append_assoc lines to.added more.added) (subst (λ b. Tracks view absolute received (lines ++ to.added ++ more.added) b next behind) (sym opens) more.tracks);
+      tracks = subst (λ l. Tracks view marking received l opened next behind) (append_assoc lines to.added more.added) (subst (λ b. Tracks view marking received (lines ++ to.added ++ more.added) b next behind) (sym opens) more.tracks);
       text = more.text ∙ ap (λ l. l ++ more.added) to.text ∙ append_assoc old to.added more.added;
     }
 
@@ -144,14 +146,14 @@ all_bytes bytes = let none : 0 ≡ length bytes - length bytes = omega arith in 
 
 -- all that are whole were listed
 pub all_listed : (view : View) (was opened stopped : Bool) (held now : HeldTalk) (bytes rest behind old new : List ℕ) → Lists view was opened held now bytes rest old new → Stays opened stopped rest → rest ≡ behind
-    → (absolute : Bool) (received lines : List ℕ) → Tracks view absolute received lines was held bytes → ListsAllChunks view absolute received lines opened stopped now behind old new
-all_listed view was opened stopped held now bytes rest behind old new so_far stays same absolute received lines t =
-    subst (λ l. ListsAllChunks view absolute received lines opened stopped now l old new) same (record { to = so_far absolute received lines t; stays = stays })
+    → (marking : Marking) (received lines : List ℕ) → Tracks view marking received lines was held bytes → ListsAllChunks view marking received lines opened stopped now behind old new
+all_listed view was opened stopped held now bytes rest behind old new so_far stays same marking received lines t =
+    subst (λ l. ListsAllChunks view marking received lines opened stopped now l old new) same (record { to = so_far marking received lines t; stays = stays })
 
 -- ---- a piece at a time
 
-pub received : (view : View) (absolute : Bool) (bytes lines : List ℕ) (opened : Bool) (held : HeldTalk) (rest piece : List ℕ) → Tracks view absolute bytes lines opened held rest → Tracks view absolute (bytes ++ piece) lines opened held (rest ++ piece)
-received view absolute bytes lines opened held rest piece t = record {
+pub received : (view : View) (marking : Marking) (bytes lines : List ℕ) (opened : Bool) (held : HeldTalk) (rest piece : List ℕ) → Tracks view marking bytes lines opened held rest → Tracks view marking (bytes ++ piece) lines opened held (rest ++ piece)
+received view marking bytes lines opened held rest piece t = record {
   talk = t.talk;
   each = record {
     chunks = t.each.chunks;
@@ -167,92 +169,93 @@ received view absolute bytes lines opened held rest piece t = record {
 
 -- what a call listed of a slice of the bytes that are kept
 pub all_there : (view : View) (opened now stopped : Bool) (held next : HeldTalk) (slice items behind before text : List ℕ) (n : ℕ) → slice ≡ items → before ≡ [] → behind ≡ drop n items
-    → ((absolute : Bool) (received lines : List ℕ) → Tracks view absolute received lines opened held slice → ListsAllChunks view absolute received lines now stopped next (drop n slice) before text)
-    → (absolute : Bool) (received lines : List ℕ) → Tracks view absolute received lines opened held items → ListsAllChunks view absolute received lines now stopped next behind [] text
-all_there view opened now stopped held next slice items behind before text n same empty cut all absolute received lines t =
-    subst (λ l. ListsAllChunks view absolute received lines now stopped next l [] text) (sym cut)
-    (subst (λ b. ListsAllChunks view absolute received lines now stopped next (drop n items) b text) empty
-    (subst (λ s. ListsAllChunks view absolute received lines now stopped next (drop n s) before text) same
-    (all absolute received lines (subst (λ s. Tracks view absolute received lines opened held s) (sym same) t))))
+    → ((marking : Marking) (received lines : List ℕ) → Tracks view marking received lines opened held slice → ListsAllChunks view marking received lines now stopped next (drop n slice) before text)
+    → (marking : Marking) (received lines : List ℕ) → Tracks view marking received lines opened held items → ListsAllChunks view marking received lines now stopped next behind [] text
+all_there view opened now stopped held next slice items behind before text n same empty cut all marking received lines t =
+    subst (λ l. ListsAllChunks view marking received lines now stopped next l [] text) (sym cut)
+    (subst (λ b. ListsAllChunks view marking received lines now stopped next (drop n items) b text) empty
+    (subst (λ s. ListsAllChunks view marking received lines now stopped next (drop n s) before text) same
+    (all marking received lines (subst (λ s. Tracks view marking received lines opened held s) (sym same) t))))
 
 -- all that is whole with it was listed, and its lines were written
-pub piece_listed : (view : View) (absolute : Bool) (bytes lines piece : List ℕ) (opened now stopped : Bool) (held next : HeldTalk) (rest items behind text : List ℕ) (old new : Option (List ℕ)) → Tracks view absolute bytes lines opened held rest → items ≡ rest ++ piece
-    → ((received lines : List ℕ) → Tracks view absolute received lines opened held items → ListsAllChunks view absolute received lines now stopped next behind [] text) → Appends old new text
-    → ListsPiece view absolute (bytes ++ piece) lines now stopped next behind old new
-piece_listed view absolute bytes lines piece opened now stopped held next rest items behind text old new t grown all wrote =
-    let here = subst (λ l. Tracks view absolute (bytes ++ piece) lines opened held l) (sym grown) (received view absolute bytes lines opened held rest piece t) in
+pub piece_listed : (view : View) (marking : Marking) (bytes lines piece : List ℕ) (opened now stopped : Bool) (held next : HeldTalk) (rest items behind text : List ℕ) (old new : Option (List ℕ)) → Tracks view marking bytes lines opened held rest → items ≡ rest ++ piece
+    → ((received lines : List ℕ) → Tracks view marking received lines opened held items → ListsAllChunks view marking received lines now stopped next behind [] text) → Appends old new text
+    → ListsPiece view marking (bytes ++ piece) lines now stopped next behind old new
+piece_listed view marking bytes lines piece opened now stopped held next rest items behind text old new t grown all wrote =
+    let here = subst (λ l. Tracks view marking (bytes ++ piece) lines opened held l) (sym grown) (received view marking bytes lines opened held rest piece t) in
     let done = all (bytes ++ piece) lines here in
     record { added = done.to.added; tracks = done.to.tracks; stays = done.stays; written = subst (Appends old new) done.to.text wrote }
 
-pub piece_front : (view : View) (absolute : Bool) (bytes lines piece : List ℕ) (opened now stopped : Bool) (held next : HeldTalk) (rest items behind text : List ℕ) (old new : Option (List ℕ)) → Tracks view absolute bytes lines opened held rest → items ≡ rest ++ piece
-    → ((received lines : List ℕ) → Tracks view absolute received lines opened held items → ListsAllChunks view absolute received lines now stopped next behind [] text) → AppendsFront old new text
-    → ListsSome view absolute (bytes ++ piece) lines old new
-piece_front view absolute bytes lines piece opened now stopped held next rest items behind text old new t grown all taken =
-    let here = subst (λ l. Tracks view absolute (bytes ++ piece) lines opened held l) (sym grown) (received view absolute bytes lines opened held rest piece t) in
+pub piece_front : (view : View) (marking : Marking) (bytes lines piece : List ℕ) (opened now stopped : Bool) (held next : HeldTalk) (rest items behind text : List ℕ) (old new : Option (List ℕ)) → Tracks view marking bytes lines opened held rest → items ≡ rest ++ piece
+    → ((received lines : List ℕ) → Tracks view marking received lines opened held items → ListsAllChunks view marking received lines now stopped next behind [] text) → AppendsFront old new text
+    → ListsSome view marking (bytes ++ piece) lines old new
+piece_front view marking bytes lines piece opened now stopped held next rest items behind text old new t grown all taken =
+    let here = subst (λ l. Tracks view marking (bytes ++ piece) lines opened held l) (sym grown) (received view marking bytes lines opened held rest piece t) in
     let done = all (bytes ++ piece) lines here in
     record { begun = now; rest = behind; talk = done.to.tracks.talk; added = done.to.added; each = done.to.tracks.each; written = subst (AppendsFront old new) done.to.text taken }
 
 -- or nothing of it
-pub piece_lost : (view : View) (absolute : Bool) (bytes lines piece : List ℕ) (opened : Bool) (held : HeldTalk) (rest : List ℕ) (old : Option (List ℕ)) → Tracks view absolute bytes lines opened held rest → ListsSome view absolute (bytes ++ piece) lines old old
-piece_lost view absolute bytes lines piece opened held rest old t =
-    let here = received view absolute bytes lines opened held rest piece t in
+pub piece_lost : (view : View) (marking : Marking) (bytes lines piece : List ℕ) (opened : Bool) (held : HeldTalk) (rest : List ℕ) (old : Option (List ℕ)) → Tracks view marking bytes lines opened held rest → ListsSome view marking (bytes ++ piece) lines old old
+piece_lost view marking bytes lines piece opened held rest old t =
+    let here = received view marking bytes lines opened held rest piece t in
     record {
       begun = opened;
       rest = rest ++ piece;
       talk = here.talk;
       added = [];
-      each = subst (λ l. HasLines view absolute (bytes ++ piece) opened (rest ++ piece) l here.talk) (sym (append-nil lines)) here.each;
+      each = subst (λ l. HasLines view marking (bytes ++ piece) opened (rest ++ piece) l here.talk) (sym (append-nil lines)) here.each;
       written = none_taken old [];
     }
 
 -- ---- the whole recording
 
 -- what came so far was listed
-pub record Follows (view : View) (absolute : Bool) (before after : Streams) (opened : Bool) (held : HeldTalk) (rest : List ℕ) : Type 0 where
+pub record Follows (view : View) (marking : Marking) (before after : Streams) (opened : Bool) (held : HeldTalk) (rest : List ℕ) : Type 0 where
   pub bytes : List ℕ
   pub lines : List ℕ
   pub received : Consumes before.input after.input bytes
-  pub tracks : Tracks view absolute bytes lines opened held rest
+  pub tracks : Tracks view marking bytes lines opened held rest
   pub stays : Stays opened false rest
   pub written : Appends before.output after.output lines
 
-nothing_kept : (absolute : Bool) → Keeps (held_first absolute) (begins absolute)
-nothing_kept absolute = record {
+nothing_kept : (marking : Marking) → Keeps (held_first marking) (begins marking)
+nothing_kept marking = record {
   known = refl;
-  client = record { ending = nothing_ends at_first.client; stopped = refl; count = refl; place = refl; bytes = λ e. refl };
-  server = record { ending = nothing_ends at_first.server; stopped = refl; count = refl; place = refl; bytes = λ e. refl };
+  client = record { ending = nothing_ends (at_first marking.numbered).client; stopped = refl; count = refl; place = refl; bytes = λ e. refl };
+  server = record { ending = nothing_ends (at_first marking.numbered).server; stopped = refl; count = refl; place = refl; bytes = λ e. refl };
   start = refl;
 }
 
 no_magic : (rest more : List ℕ) → rest ≡ [] → rest ≢ magic ++ more
 no_magic rest more none = magic_short rest more (omega (arith, ap length none))
 
-pub follows_start : (view : View) (absolute : Bool) (s : Streams) (opened : Bool) (held : HeldTalk) (rest : List ℕ) → opened ≡ false → held ≡ held_first absolute → rest ≡ [] → Follows view absolute s s opened held rest
-follows_start view absolute s opened held rest fresh first none = record {
+pub follows_start : (view : View) (marking : Marking) (s : Streams) (opened : Bool) (held : HeldTalk) (rest : List ℕ) → opened ≡ false → held ≡ held_first marking → rest ≡ [] → Follows view marking s s opened held rest
+follows_start view marking s opened held rest fresh first none = record {
   bytes = [];
   lines = [];
   received = Consumes-nil s.input;
   tracks = record {
-    talk = begins absolute;
+    talk = begins marking;
     each = record { chunks = []; records = record { whole = sym none ∙ ap (λ b. beginning b ++ [] ++ rest) (sym fresh); each = tt; none = λ e. refl }; each = NoChunkListed };
-    keeps = subst (λ h. Keeps h (begins absolute)) (sym first) (nothing_kept absolute);
+    keeps = subst (λ h. Keeps h (begins marking)) (sym first) (nothing_kept marking);
   };
   stays = subst (λ b. Stays b false rest) (sym fresh) (λ more. no_magic rest more none);
   written = Appends-nil s.output;
 }
 
 -- times are counted so
-pub first_held : (absolute : Bool) (held : HeldTalk) → held ≡ held_first false → record { known = held.known; client = held.client; server = held.server; start = first_start absolute } ≡ held_first absolute
-first_held absolute held e = ap (λ (h : HeldTalk). record { known = h.known; client = h.client; server = h.server; start = first_start absolute }) e
+pub first_held : (marking : Marking) (held : HeldTalk) → held ≡ held_first (record { absolute = false; numbered = marking.numbered })
+    → record { known = held.known; client = held.client; server = held.server; start = first_start marking.absolute } ≡ held_first marking
+first_held marking held e = ap (λ (h : HeldTalk). record { known = h.known; client = h.client; server = h.server; start = first_start marking.absolute }) e
 
-pub follows_same : (view : View) (absolute : Bool) (before after : Streams) (opened : Bool) (held : HeldTalk) (rest : List ℕ) (next : Option (List ℕ)) → Follows view absolute before after opened held rest → Same after.input next
-    → Follows view absolute before (record { input = next; output = after.output }) opened held rest
-follows_same view absolute before after opened held rest next f kept =
+pub follows_same : (view : View) (marking : Marking) (before after : Streams) (opened : Bool) (held : HeldTalk) (rest : List ℕ) (next : Option (List ℕ)) → Follows view marking before after opened held rest → Same after.input next
+    → Follows view marking before (record { input = next; output = after.output }) opened held rest
+follows_same view marking before after opened held rest next f kept =
     record { bytes = f.bytes; lines = f.lines; received = Consumes-kept before.input after.input next f.bytes f.received kept; tracks = f.tracks; stays = f.stays; written = f.written }
 
-pub follows_piece : (view : View) (absolute : Bool) (before after : Streams) (opened now : Bool) (held new : HeldTalk) (rest behind piece : List ℕ) (next output : Option (List ℕ)) (f : Follows view absolute before after opened held rest) → Consumes after.input next piece
-    → ListsPiece view absolute (f.bytes ++ piece) f.lines now false new behind after.output output → Follows view absolute before (record { input = next; output = output }) now new behind
-follows_piece view absolute before after opened now held new rest behind piece next output f came one = record {
+pub follows_piece : (view : View) (marking : Marking) (before after : Streams) (opened now : Bool) (held new : HeldTalk) (rest behind piece : List ℕ) (next output : Option (List ℕ)) (f : Follows view marking before after opened held rest) → Consumes after.input next piece
+    → ListsPiece view marking (f.bytes ++ piece) f.lines now false new behind after.output output → Follows view marking before (record { input = next; output = output }) now new behind
+follows_piece view marking before after opened now held new rest behind piece next output f came one = record {
   bytes = f.bytes ++ piece;
   lines = f.lines ++ one.added;
   received = Consumes-trans before.input after.input next f.bytes piece f.received came;
@@ -266,26 +269,26 @@ awaits true rest s = s
 awaits false rest s = s
 
 -- reading failed
-pub was_listed : (view : View) (absolute : Bool) (before after : Streams) (opened : Bool) (held : HeldTalk) (rest : List ℕ) → Follows view absolute before after opened held rest → WasListed view absolute before after
-was_listed view absolute before after opened held rest f =
+pub was_listed : (view : View) (marking : Marking) (before after : Streams) (opened : Bool) (held : HeldTalk) (rest : List ℕ) → Follows view marking before after opened held rest → WasListed view marking before after
+was_listed view marking before after opened held rest f =
     record { bytes = f.bytes; begun = opened; rest = rest; lines = f.lines; talk = f.tracks.talk; received = f.received; each = f.tracks.each; waits = awaits opened rest f.stays; written = f.written }
 
-pub ready : {R W : Type 0} (remaining : R → Option (List ℕ)) (contents : W → Option (List ℕ)) (Passed : W → Type 0) (view : View) (absolute : Bool) (reader now : R) (writer out : W) (opened : Bool) (held : HeldTalk) (rest : List ℕ)
-    → Follows view absolute (record { input = remaining reader; output = contents writer }) (record { input = remaining now; output = contents out }) opened held rest → Same (contents writer) (contents out) ⊎ Passed out → IsReady remaining contents Passed view absolute reader writer now
-ready remaining contents Passed view absolute reader now writer out opened held rest f p =
-    record { out = out; listed = was_listed view absolute (record { input = remaining reader; output = contents writer }) (record { input = remaining now; output = contents out }) opened held rest f; passed = p }
+pub ready : {R W : Type 0} (remaining : R → Option (List ℕ)) (contents : W → Option (List ℕ)) (Passed : W → Type 0) (view : View) (marking : Marking) (reader now : R) (writer out : W) (opened : Bool) (held : HeldTalk) (rest : List ℕ)
+    → Follows view marking (record { input = remaining reader; output = contents writer }) (record { input = remaining now; output = contents out }) opened held rest → Same (contents writer) (contents out) ⊎ Passed out → IsReady remaining contents Passed view marking reader writer now
+ready remaining contents Passed view marking reader now writer out opened held rest f p =
+    record { out = out; listed = was_listed view marking (record { input = remaining reader; output = contents writer }) (record { input = remaining now; output = contents out }) opened held rest f; passed = p }
 
-pub cut_here : (view : View) (absolute : Bool) (before after : Streams) (opened : Bool) (held : HeldTalk) (rest : List ℕ) → Follows view absolute before after opened held rest → IsCutShort view absolute before after
-cut_here view absolute before after opened held rest f =
+pub cut_here : (view : View) (marking : Marking) (before after : Streams) (opened : Bool) (held : HeldTalk) (rest : List ℕ) → Follows view marking before after opened held rest → IsCutShort view marking before after
+cut_here view marking before after opened held rest f =
     record { bytes = f.bytes; begun = opened; rest = rest; lines = f.lines; talk = f.tracks.talk; text = f.lines; received = f.received; each = f.tracks.each; due = inl refl; written = all_taken before.output after.output f.lines f.written }
 
-pub cut_nothing : (view : View) (absolute : Bool) (s : Streams) → IsCutShort view absolute s s
-cut_nothing view absolute s = cut_here view absolute s s false (held_first absolute) [] (follows_start view absolute s false (held_first absolute) [] refl refl refl)
+pub cut_nothing : (view : View) (marking : Marking) (s : Streams) → IsCutShort view marking s s
+cut_nothing view marking s = cut_here view marking s s false (held_first marking) [] (follows_start view marking s false (held_first marking) [] refl refl refl)
 
 -- a piece was listed in part
-pub cut_piece : (view : View) (absolute : Bool) (before after : Streams) (opened : Bool) (held : HeldTalk) (rest piece : List ℕ) (next output : Option (List ℕ)) (f : Follows view absolute before after opened held rest) → Consumes after.input next piece
-    → ListsSome view absolute (f.bytes ++ piece) f.lines after.output output → IsCutShort view absolute before (record { input = next; output = output })
-cut_piece view absolute before after opened held rest piece next output f came some = record {
+pub cut_piece : (view : View) (marking : Marking) (before after : Streams) (opened : Bool) (held : HeldTalk) (rest piece : List ℕ) (next output : Option (List ℕ)) (f : Follows view marking before after opened held rest) → Consumes after.input next piece
+    → ListsSome view marking (f.bytes ++ piece) f.lines after.output output → IsCutShort view marking before (record { input = next; output = output })
+cut_piece view marking before after opened held rest piece next output f came some = record {
   bytes = f.bytes ++ piece;
   begun = some.begun;
   rest = some.rest;
@@ -321,10 +324,12 @@ read_no_more true rest input = tt
 -- what is kept says how much is left
 last_is : (view : View) (held : HeldTalk) (talk : Talk) → Keeps held talk → held_last view held ≡ last_lines view talk
 last_is view held talk k =
-    ap (λ s. last_of view Client s held.client.left ++ last_of view Server held.server.stopped held.server.left) k.client.stopped
-    ∙ ap (λ n. last_of view Client talk.client.stopped n ++ last_of view Server held.server.stopped held.server.left) k.client.count
-    ∙ ap (λ s. last_of view Client talk.client.stopped (left talk.client) ++ last_of view Server s held.server.left) k.server.stopped
-    ∙ ap (λ n. last_of view Client talk.client.stopped (left talk.client) ++ last_of view Server talk.server.stopped n) k.server.count
+    let told = unnumbered held.known.numbers in
+    ap (λ s. last_of view told Client s held.client.left ++ last_of view told Server held.server.stopped held.server.left) k.client.stopped
+    ∙ ap (λ n. last_of view told Client talk.client.stopped n ++ last_of view told Server held.server.stopped held.server.left) k.client.count
+    ∙ ap (λ s. last_of view told Client talk.client.stopped (left talk.client) ++ last_of view told Server s held.server.left) k.server.stopped
+    ∙ ap (λ n. last_of view told Client talk.client.stopped (left talk.client) ++ last_of view told Server talk.server.stopped n) k.server.count
+    ∙ ap (λ (known : Known). last_of view (unnumbered known.numbers) Client talk.client.stopped (left talk.client) ++ last_of view (unnumbered known.numbers) Server talk.server.stopped (left talk.server)) k.known
 
 hints_are : (held : HeldTalk) (talk : Talk) → Keeps held talk → (hint_of held.known.client held.client.left ≡ hint_of talk.known.client (left talk.client)) × (hint_of held.known.server held.server.left ≡ hint_of talk.known.server (left talk.server))
 hints_are held talk k = (
@@ -333,11 +338,11 @@ hints_are held talk k = (
 )
 
 -- the last lines were written
-pub listing_written : (view : View) (absolute : Bool) (before after : Streams) (opened stopped : Bool) (held : HeldTalk) (rest client server bytes lines : List ℕ) (end : End) (output : Option (List ℕ)) → Consumes before.input after.input bytes
-    → Appends before.output after.output lines → (t : Tracks view absolute bytes lines opened held rest) → Stays opened stopped rest → IsReadTo (end_of opened stopped rest) after.input → end ≡ end_of opened stopped rest
+pub listing_written : (view : View) (marking : Marking) (before after : Streams) (opened stopped : Bool) (held : HeldTalk) (rest client server bytes lines : List ℕ) (end : End) (output : Option (List ℕ)) → Consumes before.input after.input bytes
+    → Appends before.output after.output lines → (t : Tracks view marking bytes lines opened held rest) → Stays opened stopped rest → IsReadTo (end_of opened stopped rest) after.input → end ≡ end_of opened stopped rest
     → client ≡ hint_of held.known.client held.client.left → server ≡ hint_of held.known.server held.server.left → Appends after.output output (held_last view held)
-    → WritesListing view absolute before (record { input = after.input; output = output }) end (client ++ server ++ complaint_of end)
-listing_written view absolute before after opened stopped held rest client server bytes lines end output came written t stays all ended c s last =
+    → WritesListing view marking before (record { input = after.input; output = output }) end (client ++ server ++ complaint_of end)
+listing_written view marking before after opened stopped held rest client server bytes lines end output came written t stays all ended c s last =
     let hints = hints_are held t.talk t.keeps in
     record {
       bytes = bytes;
@@ -350,10 +355,10 @@ listing_written view absolute before after opened stopped held rest client serve
     }
 
 -- or a front of them
-pub last_cut : (view : View) (absolute : Bool) (before after : Streams) (opened stopped : Bool) (held : HeldTalk) (rest bytes lines : List ℕ) (output : Option (List ℕ)) → Consumes before.input after.input bytes
-    → Appends before.output after.output lines → (t : Tracks view absolute bytes lines opened held rest) → Stays opened stopped rest → IsReadTo (end_of opened stopped rest) after.input
-    → AppendsFront after.output output (held_last view held) → IsCutShort view absolute before (record { input = after.input; output = output })
-last_cut view absolute before after opened stopped held rest bytes lines output came written t stays all last = record {
+pub last_cut : (view : View) (marking : Marking) (before after : Streams) (opened stopped : Bool) (held : HeldTalk) (rest bytes lines : List ℕ) (output : Option (List ℕ)) → Consumes before.input after.input bytes
+    → Appends before.output after.output lines → (t : Tracks view marking bytes lines opened held rest) → Stays opened stopped rest → IsReadTo (end_of opened stopped rest) after.input
+    → AppendsFront after.output output (held_last view held) → IsCutShort view marking before (record { input = after.input; output = output })
+last_cut view marking before after opened stopped held rest bytes lines output came written t stays all last = record {
   bytes = bytes;
   begun = opened;
   rest = rest;
@@ -379,18 +384,18 @@ pub read_rest : (opened : Bool) (rest : List ℕ) (input : Option (List ℕ)) �
 read_rest opened rest input = read_no_more opened rest input
 
 module _ {E : Type 0} where
-  pub last_listed : (r : Result Said E) (view : View) (absolute : Bool) (before : Streams) (next middle output : Option (List ℕ)) (opened stopped : Bool) (held : HeldTalk) (rest bytes lines : List ℕ) → Consumes before.input next bytes
-      → Appends before.output middle lines → Tracks view absolute bytes lines opened held rest → Stays opened stopped rest → IsReadTo (end_of opened stopped rest) next
+  pub last_listed : (r : Result Said E) (view : View) (marking : Marking) (before : Streams) (next middle output : Option (List ℕ)) (opened stopped : Bool) (held : HeldTalk) (rest bytes lines : List ℕ) → Consumes before.input next bytes
+      → Appends before.output middle lines → Tracks view marking bytes lines opened held rest → Stays opened stopped rest → IsReadTo (end_of opened stopped rest) next
       → IfOk r (λ said. said.end ≡ end_of opened stopped rest) → IfOk r (λ said. said.client.now ≡ hint_of held.known.client held.client.left) → IfOk r (λ said. said.server.now ≡ hint_of held.known.server held.server.left)
       → OnOk r (Appends middle output (held_last view held))
-      → IfOk r (λ said. WritesListing view absolute before (record { input = next; output = output }) said.end (said.client.now ++ said.server.now ++ complaint_of said.end))
-  last_listed (Err e) view absolute before next middle output opened stopped held rest bytes lines came written t stays all ended client server last = tt
-  last_listed (Ok said) view absolute before next middle output opened stopped held rest bytes lines came written t stays all ended client server last =
-      listing_written view absolute before (record { input = next; output = middle }) opened stopped held rest said.client.now said.server.now bytes lines said.end output came written t stays all ended client server last
+      → IfOk r (λ said. WritesListing view marking before (record { input = next; output = output }) said.end (said.client.now ++ said.server.now ++ complaint_of said.end))
+  last_listed (Err e) view marking before next middle output opened stopped held rest bytes lines came written t stays all ended client server last = tt
+  last_listed (Ok said) view marking before next middle output opened stopped held rest bytes lines came written t stays all ended client server last =
+      listing_written view marking before (record { input = next; output = middle }) opened stopped held rest said.client.now said.server.now bytes lines said.end output came written t stays all ended client server last
 
-  pub last_broken : (r : Result Said E) (view : View) (absolute : Bool) (before : Streams) (next middle output : Option (List ℕ)) (opened stopped : Bool) (held : HeldTalk) (rest bytes lines : List ℕ) → Consumes before.input next bytes
-      → Appends before.output middle lines → Tracks view absolute bytes lines opened held rest → Stays opened stopped rest → IsReadTo (end_of opened stopped rest) next
-      → OnErr r (AppendsFront middle output (held_last view held)) → OnErr r (IsCutShort view absolute before (record { input = next; output = output }))
-  last_broken (Ok said) view absolute before next middle output opened stopped held rest bytes lines came written t stays all last = tt
-  last_broken (Err e) view absolute before next middle output opened stopped held rest bytes lines came written t stays all last =
-      last_cut view absolute before (record { input = next; output = middle }) opened stopped held rest bytes lines output came written t stays all last
+  pub last_broken : (r : Result Said E) (view : View) (marking : Marking) (before : Streams) (next middle output : Option (List ℕ)) (opened stopped : Bool) (held : HeldTalk) (rest bytes lines : List ℕ) → Consumes before.input next bytes
+      → Appends before.output middle lines → Tracks view marking bytes lines opened held rest → Stays opened stopped rest → IsReadTo (end_of opened stopped rest) next
+      → OnErr r (AppendsFront middle output (held_last view held)) → OnErr r (IsCutShort view marking before (record { input = next; output = output }))
+  last_broken (Ok said) view marking before next middle output opened stopped held rest bytes lines came written t stays all last = tt
+  last_broken (Err e) view marking before next middle output opened stopped held rest bytes lines came written t stays all last =
+      last_cut view marking before (record { input = next; output = middle }) opened stopped held rest bytes lines output came written t stays all last

@@ -1,5 +1,5 @@
 -- Private: what options come to.
-use Rattle.std.specs.Prelude.{◌≡◌, ℕ, Bool, ◌||◌, List, ◌++◌, map}
+use Rattle.std.specs.Prelude.{◌≡◌, ℕ, Bool, true, ◌||◌, List, ◌++◌, map}
 use Rattle.std.specs.Borrow.{Bor}
 use Rattle.pgp_frontend_read.specs.declared.message.PasswordKind.{PasswordKind}
 use Rattle.pgp_line.specs.Styles.{style_of}
@@ -8,8 +8,9 @@ use Rattle.pgp_trace.specs.declared.options.Choice.{Choice}
 use Rattle.pgp_trace.specs.declared.options.Options as code
 use Rattle.pgp_trace.specs.Options.{colors_in, is_full, is_json, is_replication, is_resume, is_secrets, kind_in, last_of, only_in}
 use Rattle.pgp_trace.specs.View.{View}
+use Rattle.pgp_conversation.specs.declared.marking.Marking.{Marking}
 use Rattle.pgp_conversation.specs.declared.options.Setting.{Setting}
-use Rattle.pgp_conversation.specs.declared.options.Setting.TheVariants.{Listing, Time}
+use Rattle.pgp_conversation.specs.declared.options.Setting.TheVariants.{Listing, Requests, Time}
 use Rattle.pgp_conversation.specs.declared.options.Settings as code_settings
 use Rattle.pgp_conversation.specs.Settings.{is_absolute}
 
@@ -47,9 +48,10 @@ pub record Chooses (terminal : Bool) (choice : Choice) (old new : Flags) : Type 
   pub colored : new.colored ≡ last_of old.colored (colors_in terminal choice)
   pub kinds : new.kinds ≡ old.kinds ++ kind_in choice
 
-abbrev pub Sets : (terminal : Bool) → Setting → (old new : Flags) (was now : Bool) → Type 0
+abbrev pub Sets : (terminal : Bool) → Setting → (old new : Flags) (was now : Marking) → Type 0
 Sets terminal (Listing choice) old new was now = Chooses terminal choice old new × (now ≡ was)
-Sets terminal (Time clock) old new was now = (new ≡ old) × (now ≡ is_absolute clock)
+Sets terminal (Time clock) old new was now = (new ≡ old) × (now ≡ record { absolute = is_absolute clock; numbered = was.numbered })
+Sets terminal Requests old new was now = (new ≡ old) × (now ≡ record { absolute = was.absolute; numbered = true })
 
 -- how a listing with these options looks
 abbrev pub settings_view : {A : Type 0} → code_settings.Settings A → View

@@ -9,24 +9,25 @@ use Rattle.pgp_trace.specs.Command as trace
 use Rattle.pgp_trace.specs.Command.{complaint_of, usage}
 use Rattle.pgp_trace.specs.View.{View}
 use Rattle.pgp_conversation.specs.declared.ending.End.{End}
+use Rattle.pgp_conversation.specs.declared.marking.Marking.{Marking}
 use Rattle.pgp_conversation.specs.Recording.{status_of}
 use Rattle.pgp_conversation.specs.Session.{BreaksOff, ReadsWhenReady, WritesListing}
 use Rattle.pgp_conversation.specs.Settings.{AreSettings}
 
--- The words ask for the listing of a recording, which looks so where a terminal shows it or not, with times from 1970 on or from the first chunk.
-pub record AsksSession (terminal : Bool) (words : List (List ℕ)) (view : View) (absolute : Bool) : Type 0 where
+-- The words ask for the listing of a recording, which looks so where a terminal shows it or not, with marks that say this.
+pub record AsksSession (terminal : Bool) (words : List (List ℕ)) (view : View) (marking : Marking) : Type 0 where
   pub options : List (List ℕ)
   pub whole : words ≡ codes "session" ∷ options
-  pub read : AreSettings terminal options view absolute
+  pub read : AreSettings terminal options view marking
 
 -- they ask for none
 abbrev pub AsksNoSession : (terminal : Bool) → List (List ℕ) → Type 0
-AsksNoSession terminal words = (view : View) (absolute : Bool) → ¬ AsksSession terminal words view absolute
+AsksNoSession terminal words = (view : View) (marking : Marking) → ¬ AsksSession terminal words view marking
 
 -- It was written and passed on, with this status, and this is to be said on standard error.
-pub record Succeeds (passed : Type 0) (view : View) (absolute : Bool) (before after : Streams) (status : ℕ) (complaint : List ℕ) : Type 0 where
+pub record Succeeds (passed : Type 0) (view : View) (marking : Marking) (before after : Streams) (status : ℕ) (complaint : List ℕ) : Type 0 where
   pub end : End
-  pub does : WritesListing view absolute before after end complaint
+  pub does : WritesListing view marking before after end complaint
   pub passed_on : passed
   pub fine : status ≡ status_of end
 
@@ -34,7 +35,7 @@ pub record Succeeds (passed : Type 0) (view : View) (absolute : Bool) (before af
 module _ {R W : Type 0} (remaining : R → Option (List ℕ)) (contents : W → Option (List ℕ)) (Passed : W → Type 0) (MayRead : R → Type 0) where
   -- where all lines of what came are written and passed on, the reader may be read for the listing that the words ask for, or for what else they ask for
   pub record ReadsForWords (terminal : Bool) (words : List (List ℕ)) (reader : R) (writer : W) : Type 0 where
-    pub session : (view : View) (absolute : Bool) → AsksSession terminal words view absolute → ReadsWhenReady remaining contents Passed MayRead view absolute reader writer
+    pub session : (view : View) (marking : Marking) → AsksSession terminal words view marking → ReadsWhenReady remaining contents Passed MayRead view marking reader writer
     pub other : trace.ReadsForWords remaining contents Passed MayRead terminal words reader writer
 
   abbrev pub ReadsForOwn : (terminal : Bool) → (ℕ → List ℕ → Type 0) → (ℕ → Type 0) → R → W → Type 0
@@ -43,9 +44,9 @@ module _ {R W : Type 0} (remaining : R → Option (List ℕ)) (contents : W → 
 -- Where memory is refused and reads and writes fail so, and what was written is passed on so:
 module _ (lacks read_failed write_failed passed : Type 0) where
   -- a fault was met, and is reported
-  pub record IsFaulty (view : View) (absolute : Bool) (before after : Streams) (status : ℕ) (complaint : List ℕ) : Type 0 where
+  pub record IsFaulty (view : View) (marking : Marking) (before after : Streams) (status : ℕ) (complaint : List ℕ) : Type 0 where
     pub fault : Fault
-    pub stops : BreaksOff passed view absolute fault before after
+    pub stops : BreaksOff passed view marking fault before after
     pub cause : Caused lacks read_failed write_failed fault
     pub reported : complaint ≡ complaint_of fault
     pub failed : status ≡ 1
@@ -55,9 +56,9 @@ module _ (terminal : Bool) (lacks read_failed write_failed passed : Type 0) wher
   -- The recording is listed.
   pub record IsDone (words : List (List ℕ)) (before after : Streams) (status : ℕ) (complaint : List ℕ) : Type 0 where
     pub view : View
-    pub absolute : Bool
-    pub asks : AsksSession terminal words view absolute
-    pub does : Succeeds passed view absolute before after status complaint ⊎ IsFaulty lacks read_failed write_failed passed view absolute before after status complaint
+    pub marking : Marking
+    pub asks : AsksSession terminal words view marking
+    pub does : Succeeds passed view marking before after status complaint ⊎ IsFaulty lacks read_failed write_failed passed view marking before after status complaint
 
   -- Or what else the words ask for is done; or there is no memory to read them.
   abbrev pub Obeys : List (List ℕ) → Streams → Streams → ℕ → List ℕ → Type 0

@@ -17,24 +17,28 @@ use Rattle.pgp_trace.specs.declared.side.Phase.TheVariants.{Beginning, Messages,
 use Rattle.pgp_trace.specs.View.{View, shown}
 use Rattle.pgp_conversation.specs.declared.chunk.Sender.{Sender}
 use Rattle.pgp_conversation.specs.declared.chunk.Sender.TheVariants.{Client, Server}
+use Rattle.pgp_conversation.specs.declared.marking.Marking.{Marking}
 use Rattle.pgp_conversation.specs.declared.noted.Encryption.{Encryption}
 use Rattle.pgp_conversation.specs.declared.noted.Encryption.TheVariants.{Tls, Gss}
 use Rattle.pgp_conversation.specs.declared.noted.Noted.{Noted}
 use Rattle.pgp_conversation.specs.declared.noted.Noted.TheVariants.{Asks, Requests, Answers, Nothing}
 use Rattle.pgp_conversation.specs.Recording.{Chunk}
-use Rattle.pgp_conversation.specs.Marks.{last_mark, mark, marked, since}
+use Rattle.pgp_conversation.specs.declared.told.Told.{Told}
+use Rattle.pgp_conversation.specs.Marks.{last_mark, mark, marked, since, word}
+use Rattle.pgp_conversation.specs.Requests.{Numbers, at_time, first_numbers, role_in, told_in, unnumbered}
 
 -- ---- what is known of both sides
 
--- What is known of either, and the client's requests for encryption that the server hasn't answered.
+-- What is known of either, the client's requests for encryption that the server hasn't answered, and, where requests are numbered, what is known of all.
 pub record Known : Type 0 where
   pub client : Side
   pub server : Side
   pub requests : List Encryption
+  pub numbers : Option Numbers
 
 -- before the first byte of a connection
-abbrev pub at_first : Known
-at_first = record { client = side.Client false [] false; server = side.Server Beginning; requests = [] }
+abbrev pub at_first : (numbered : Bool) → Known
+at_first numbered = record { client = side.Client false [] false; server = side.Server Beginning; requests = []; numbers = first_numbers numbered }
 
 abbrev pub side_in : Sender → Known → Side
 side_in Client known = known.client
@@ -56,8 +60,15 @@ as_standby replicating (side.Client opened kinds was) = side.Client opened kinds
 as_standby replicating (side.Server phase) = side.Server phase
 
 abbrev pub with_side : Sender → Known → Side → Known
-with_side Client known to = record { client = to; server = known.server; requests = known.requests }
-with_side Server known to = record { client = as_standby (replicates_in to) known.client; server = to; requests = known.requests }
+with_side Client known to = record { client = to; server = known.server; requests = known.requests; numbers = known.numbers }
+with_side Server known to = record { client = as_standby (replicates_in to) known.client; server = to; requests = known.requests; numbers = known.numbers }
+
+abbrev pub with_numbers : Option Numbers → Known → Known
+with_numbers numbers known = record { client = known.client; server = known.server; requests = known.requests; numbers = numbers }
+
+-- a chunk comes at this time
+abbrev pub now_at : ℕ → Known → Known
+now_at micros known = with_numbers (at_time micros known.numbers) known
 
 -- the message of tag `p` that a server asks for
 abbrev pub asks : Message → Noted
@@ -100,9 +111,9 @@ with_kind (side.Server phase) kind = side.Server phase
 
 -- what is known after it
 abbrev pub note : Noted → Known → Known
-note (Asks kind) known = record { client = with_kind known.client kind; server = known.server; requests = known.requests }
-note (Requests encryption) known = record { client = known.client; server = known.server; requests = known.requests ++ encryption ∷ [] }
-note Answers known = record { client = known.client; server = known.server; requests = drop 1 known.requests }
+note (Asks kind) known = record { client = with_kind known.client kind; server = known.server; requests = known.requests; numbers = known.numbers }
+note (Requests encryption) known = record { client = known.client; server = known.server; requests = known.requests ++ encryption ∷ []; numbers = known.numbers }
+note Answers known = record { client = known.client; server = known.server; requests = drop 1 known.requests; numbers = known.numbers }
 note Nothing known = known
 
 -- ---- answers of one byte
@@ -141,13 +152,17 @@ relined style place (first ∷ more) name line = relined_after style place first
 abbrev pub text_of : View → (mark : List ℕ) (place : ℕ) → List Encryption → (name line : List ℕ) → List ℕ
 text_of view mark place waiting name line = shown view (called waiting name) (marked view.style.form mark (relined view.style place waiting name line))
 
--- A frame that this side sent has the line that a listing of that side has, with the mark; and what is known after it.
+-- A frame that this side sent has the line that a listing of that side has, with the mark, and with what that says of requests where they are numbered; and
+-- what is known after it.
 pub record ListsFrame (view : View) (mark : List ℕ) (sender : Sender) (place : ℕ) (here : Known) (frame text : List ℕ) (to : Known) : Type 0 where
   pub line : List ℕ
   pub after : Side
+  pub told : Option Told
+  pub numbers : Option Numbers
   pub reported : LineOf view.style place (side_in sender here) frame line after
-  pub is : text ≡ text_of view mark place here.requests (name_in view.style place (side_in sender here) frame line after reported) line
-  pub behind : to ≡ note (noted_in view.style place (side_in sender here) frame line after reported) (with_side sender here after)
+  pub numbered : told_in (role_in view.style place (side_in sender here) frame line after reported) here.numbers ≡ (told, numbers)
+  pub is : text ≡ text_of view (mark ++ word view.style.form told) place here.requests (name_in view.style place (side_in sender here) frame line after reported) line
+  pub behind : to ≡ note (noted_in view.style place (side_in sender here) frame line after reported) (with_numbers numbers (with_side sender here after))
 
 -- These bytes, after so many others, are complete frames of this side, and each has its line, in order.
 pub data ListsFrames (view : View) (mark : List ℕ) (sender : Sender) (start : ℕ) (from : Known) : List ℕ → List ℕ → Known → Type 0 where
@@ -178,8 +193,8 @@ abbrev pub first_start : (absolute : Bool) → Option ℕ
 first_start absolute = if absolute then Some 0 else None
 
 -- before the first chunk
-abbrev pub begins : (absolute : Bool) → Talk
-begins absolute = record { known = at_first; client = nothing; server = nothing; start = first_start absolute }
+abbrev pub begins : Marking → Talk
+begins marking = record { known = at_first marking.numbered; client = nothing; server = nothing; start = first_start marking.absolute }
 
 abbrev pub half_in : Sender → Talk → Half
 half_in Client talk = talk.client
@@ -193,11 +208,11 @@ abbrev pub first_time : Option ℕ → ℕ → ℕ
 first_time None micros = micros
 first_time (Some start) micros = start
 
--- The frames of its side that are complete with a chunk have their lines, with the chunk's mark; of the other side nothing has come.
+-- The frames of its side that are complete with a chunk have their lines, with the chunk's mark, and come at its time; of the other side nothing has come.
 pub record ListsChunk (view : View) (before : Talk) (chunk : Chunk) (text : List ℕ) (after : Talk) : Type 0 where
   pub front : List ℕ
   pub whole : (half_in chunk.sender before).rest ++ chunk.bytes ≡ front ++ (half_in chunk.sender after).rest
-  pub each : ListsFrames view (mark view.style.form chunk.sender (since (first_time before.start chunk.micros) chunk.micros)) chunk.sender (half_in chunk.sender before).passed before.known front text after.known
+  pub each : ListsFrames view (mark view.style.form chunk.sender (since (first_time before.start chunk.micros) chunk.micros)) chunk.sender (half_in chunk.sender before).passed (now_at chunk.micros before.known) front text after.known
   pub ending : Ends (side_in chunk.sender after.known) (half_in chunk.sender after).stopped (half_in chunk.sender after).rest
   pub passed : (half_in chunk.sender after).passed ≡ (half_in chunk.sender before).passed + length front
   pub same : half_in (other chunk.sender) after ≡ half_in (other chunk.sender) before
@@ -211,12 +226,12 @@ pub data ListsChunks (view : View) (from : Talk) : List Chunk → List ℕ → T
 
 -- ---- what is left
 
--- the last line of a side, where so many bytes of it are left
-abbrev pub last_of : View → Sender → (stopped : Bool) → ℕ → List ℕ
-last_of view sender stopped n = if n == 0 then [] else marked view.style.form (last_mark view.style.form sender) (last_line view stopped n)
+-- the last line of a side, where so many bytes of it are left, with a mark that says this of requests
+abbrev pub last_of : View → Option Told → Sender → (stopped : Bool) → ℕ → List ℕ
+last_of view told sender stopped n = if n == 0 then [] else marked view.style.form (last_mark view.style.form sender ++ word view.style.form told) (last_line view stopped n)
 
 abbrev pub left : Half → ℕ
 left half = place_behind (length half.rest)
 
 abbrev pub last_lines : View → Talk → List ℕ
-last_lines view talk = last_of view Client talk.client.stopped (left talk.client) ++ last_of view Server talk.server.stopped (left talk.server)
+last_lines view talk = last_of view (unnumbered talk.known.numbers) Client talk.client.stopped (left talk.client) ++ last_of view (unnumbered talk.known.numbers) Server talk.server.stopped (left talk.server)

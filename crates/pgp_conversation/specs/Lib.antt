@@ -1,10 +1,13 @@
 pub mod Recording
 pub mod Marks
+pub mod Requests
+pub mod Roles
 pub mod Conversation
 pub mod Steps
 pub mod Hints
 pub mod Session
 pub mod Order
+pub mod Turns
 pub mod Pieces
 pub mod Settings
 pub mod Chosen

@@ -1,10 +1,12 @@
--- The mark of a line: when its message was whole, and who sent it.
-use Rattle.std.specs.Prelude.{ℕ, ◌-◌, ◌/◌, ◌%◌, nat_lt, ◌==◌, if◌then◌else◌, List, [], ◌∷◌, ◌++◌, length, codes, decimal}
+-- The mark of a line: when its message was whole, who sent it, and which request it is or belongs to.
+use Rattle.std.specs.Prelude.{ℕ, ◌-◌, ◌/◌, ◌%◌, nat_lt, ◌==◌, if◌then◌else◌, List, [], ◌∷◌, ◌++◌, length, Option, None, Some, codes, decimal}
 use Rattle.pgp_line.specs.Line.{blanks}
 use Rattle.pgp_line.specs.declared.style.Form.{Form}
 use Rattle.pgp_line.specs.declared.style.Form.TheVariants.{Columns, Json}
 use Rattle.pgp_conversation.specs.declared.chunk.Sender.{Sender}
 use Rattle.pgp_conversation.specs.declared.chunk.Sender.TheVariants.{Client, Server}
+use Rattle.pgp_conversation.specs.declared.told.Told.{Told}
+use Rattle.pgp_conversation.specs.declared.told.Told.TheVariants.{Number, Answer, Lost, Nothing}
 use Rattle.pgp_conversation.specs.Recording.{arrow}
 
 -- so many microseconds as seconds, with six digits after the point
@@ -31,6 +33,45 @@ mark Json sender time = codes "\"time\":" ++ time ++ member sender
 abbrev pub last_mark : Form → Sender → List ℕ
 last_mark Columns sender = mark Columns sender []
 last_mark Json sender = mark Json sender (codes "null")
+
+-- ---- what it says of requests
+
+-- so many microseconds as milliseconds, with three digits after the point
+unfoldable pub millis : ℕ → List ℕ
+millis n = decimal (n / 1000) ++ codes "." ++ decimal (n / 100 % 10) ++ decimal (n / 10 % 10) ++ decimal (n % 10)
+
+-- the milliseconds from one time to another, with their sign, since a clock may be set back
+abbrev pub later : (sent now : ℕ) → List ℕ
+later sent now = if nat_lt now sent then 45 ∷ millis (sent - now) else 43 ∷ millis (now - sent)
+
+-- a request's number; that of the one which is answered, and how much later; or that there is no place for the message
+abbrev pub says : Told → List ℕ
+says (Number number) = codes "#" ++ decimal number
+says (Answer number sent now) = codes "#" ++ decimal number ++ codes " " ++ later sent now
+says Lost = codes "#?"
+says Nothing = []
+
+-- with blanks after it, up to 16 characters
+abbrev pub padded : List ℕ → List ℕ
+padded text = text ++ blanks (16 - length text)
+
+-- the same as members of an object, the time in seconds
+abbrev pub members : Told → List ℕ
+members (Number number) = codes "\"request\":" ++ decimal number ++ codes ","
+members (Answer number sent now) = codes "\"request\":" ++ decimal number ++ codes ",\"after\":" ++ since sent now ++ codes ","
+members Lost = codes "\"request\":\"?\","
+members Nothing = []
+
+abbrev pub stamped : Form → Told → List ℕ
+stamped Columns told = padded (says told)
+stamped Json told = members told
+
+-- what stands in a mark, where requests are numbered
+abbrev pub word : Form → Option Told → List ℕ
+word form None = []
+word form (Some told) = stamped form told
+
+-- ---- lines
 
 -- A line with its mark: before it, or as the first members of its object. (What is no object has it before it.)
 abbrev pub marked : Form → (mark line : List ℕ) → List ℕ

@@ -4,15 +4,17 @@ use Rattle.std.specs.Io.KnownBytes.{Appends}
 use Rattle.pgp_program.specs.Taken.{AppendsFront}
 use Rattle.pgp_trace.specs.View.{View}
 use Rattle.pgp_conversation.specs.declared.chunk.Sender.TheVariants.{Client, Server}
+use Rattle.pgp_conversation.specs.declared.marking.Marking.{Marking}
+use Rattle.pgp_conversation.specs.Requests.{unnumbered}
 use Rattle.pgp_conversation.specs.Conversation.{Talk, at_first, first_start, last_of}
 use Rattle.pgp_conversation.specs.Recording.{IsNoChunk, IsPartial, magic}
 use Rattle.pgp_conversation.specs.Session.{HasLines}
 use Rattle.pgp_conversation.specs.Steps.{HeldHalf, HeldTalk, Keeps}
 
 -- what came was listed, but for this rest, and this is kept of both sides
-pub record Tracks (view : View) (absolute : Bool) (bytes lines : List ℕ) (begun : Bool) (held : HeldTalk) (rest : List ℕ) : Type 0 where
+pub record Tracks (view : View) (marking : Marking) (bytes lines : List ℕ) (begun : Bool) (held : HeldTalk) (rest : List ℕ) : Type 0 where
   pub talk : Talk
-  pub each : HasLines view absolute bytes begun rest lines talk
+  pub each : HasLines view marking bytes begun rest lines talk
   pub keeps : Keeps held talk
 
 -- no chunk is whole in the rest; or no chunk comes there
@@ -22,39 +24,39 @@ Stays true true rest = IsNoChunk rest
 Stays false stopped rest = (more : List ℕ) → rest ≢ magic ++ more
 
 -- some chunks more were listed, and their lines stand after the old ones
-pub record TracksTo (view : View) (absolute : Bool) (bytes lines : List ℕ) (begun : Bool) (held : HeldTalk) (rest old new : List ℕ) : Type 0 where
+pub record TracksTo (view : View) (marking : Marking) (bytes lines : List ℕ) (begun : Bool) (held : HeldTalk) (rest old new : List ℕ) : Type 0 where
   pub added : List ℕ
-  pub tracks : Tracks view absolute bytes (lines ++ added) begun held rest
+  pub tracks : Tracks view marking bytes (lines ++ added) begun held rest
   pub text : new ≡ old ++ added
 
 -- all that are whole were
-pub record ListsAllChunks (view : View) (absolute : Bool) (bytes lines : List ℕ) (begun stopped : Bool) (held : HeldTalk) (rest old new : List ℕ) : Type 0 where
-  pub to : TracksTo view absolute bytes lines begun held rest old new
+pub record ListsAllChunks (view : View) (marking : Marking) (bytes lines : List ℕ) (begun stopped : Bool) (held : HeldTalk) (rest old new : List ℕ) : Type 0 where
+  pub to : TracksTo view marking bytes lines begun held rest old new
   pub stays : Stays begun stopped rest
 
 -- A piece came, and all chunks that are whole with it were listed.
-pub record ListsPiece (view : View) (absolute : Bool) (bytes lines : List ℕ) (begun stopped : Bool) (held : HeldTalk) (rest : List ℕ) (old new : Option (List ℕ)) : Type 0 where
+pub record ListsPiece (view : View) (marking : Marking) (bytes lines : List ℕ) (begun stopped : Bool) (held : HeldTalk) (rest : List ℕ) (old new : Option (List ℕ)) : Type 0 where
   pub added : List ℕ
-  pub tracks : Tracks view absolute bytes (lines ++ added) begun held rest
+  pub tracks : Tracks view marking bytes (lines ++ added) begun held rest
   pub stays : Stays begun stopped rest
   pub written : Appends old new added
 
 -- Some of them were, or of the last line a front alone.
-pub record ListsSome (view : View) (absolute : Bool) (bytes lines : List ℕ) (old new : Option (List ℕ)) : Type 0 where
+pub record ListsSome (view : View) (marking : Marking) (bytes lines : List ℕ) (old new : Option (List ℕ)) : Type 0 where
   pub begun : Bool
   pub rest : List ℕ
   pub talk : Talk
   pub added : List ℕ
-  pub each : HasLines view absolute bytes begun rest (lines ++ added) talk
+  pub each : HasLines view marking bytes begun rest (lines ++ added) talk
   pub written : AppendsFront old new added
 
 -- before the first chunk
 abbrev pub held_nothing : HeldHalf
 held_nothing = record { bytes = []; place = 0; stopped = false; left = 0 }
 
-abbrev pub held_first : (absolute : Bool) → HeldTalk
-held_first absolute = record { known = at_first; client = held_nothing; server = held_nothing; start = first_start absolute }
+abbrev pub held_first : Marking → HeldTalk
+held_first marking = record { known = at_first marking.numbered; client = held_nothing; server = held_nothing; start = first_start marking.absolute }
 
 -- the last lines, by what is kept of both sides
 abbrev pub held_last : View → HeldTalk → List ℕ
-held_last view held = last_of view Client held.client.stopped held.client.left ++ last_of view Server held.server.stopped held.server.left
+held_last view held = last_of view (unnumbered held.known.numbers) Client held.client.stopped held.client.left ++ last_of view (unnumbered held.known.numbers) Server held.server.stopped held.server.left

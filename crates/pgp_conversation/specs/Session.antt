@@ -9,22 +9,23 @@ use Rattle.pgp_conversation.specs.Hints.{hint_of}
 use Rattle.pgp_trace.specs.View.{View}
 use Rattle.pgp_conversation.specs.declared.ending.End.{End}
 use Rattle.pgp_conversation.specs.declared.ending.End.TheVariants.{Whole, Cut, NoChunk, NoRecording}
+use Rattle.pgp_conversation.specs.declared.marking.Marking.{Marking}
 use Rattle.pgp_conversation.specs.Conversation.{ListsChunks, Talk, begins, last_lines, left}
 use Rattle.pgp_conversation.specs.Recording.{Chunk, EndsBy, IsPartial, Records, complaint_of, magic}
 
 -- These bytes are the beginning of a recording, the chunks, and a rest; and these are the lines of the chunks.
-pub record HasLines (view : View) (absolute : Bool) (bytes : List ℕ) (begun : Bool) (rest lines : List ℕ) (talk : Talk) : Type 0 where
+pub record HasLines (view : View) (marking : Marking) (bytes : List ℕ) (begun : Bool) (rest lines : List ℕ) (talk : Talk) : Type 0 where
   pub chunks : List Chunk
   pub records : Records bytes begun chunks rest
-  pub each : ListsChunks view (begins absolute) chunks lines talk
+  pub each : ListsChunks view (begins marking) chunks lines talk
 
 -- The listing of a recording that ends so: the lines of its chunks, and a last line for each side of which bytes are left.
-pub record IsListing (view : View) (absolute : Bool) (bytes : List ℕ) (end : End) (output : List ℕ) : Type 0 where
+pub record IsListing (view : View) (marking : Marking) (bytes : List ℕ) (end : End) (output : List ℕ) : Type 0 where
   pub begun : Bool
   pub rest : List ℕ
   pub lines : List ℕ
   pub talk : Talk
-  pub each : HasLines view absolute bytes begun rest lines talk
+  pub each : HasLines view marking bytes begun rest lines talk
   pub ending : EndsBy begun rest end
   pub text : output ≡ lines ++ last_lines view talk
 
@@ -40,12 +41,12 @@ IsReadTo NoChunk input = ⊤
 IsReadTo NoRecording input = ⊤
 
 -- The recording was read to its end, its listing was written, and nothing else; and this is to be said.
-pub record WritesListing (view : View) (absolute : Bool) (before after : Streams) (end : End) (said : List ℕ) : Type 0 where
+pub record WritesListing (view : View) (marking : Marking) (before after : Streams) (end : End) (said : List ℕ) : Type 0 where
   pub bytes : List ℕ
   pub output : List ℕ
   pub received : Consumes before.input after.input bytes
   pub all : IsReadTo end after.input
-  pub is : IsListing view absolute bytes end output
+  pub is : IsListing view marking bytes end output
   pub written : Appends before.output after.output output
   pub why : said ≡ said_of is.talk end
 
@@ -55,14 +56,14 @@ Awaits false rest = (more : List ℕ) → rest ≢ magic ++ more
 Awaits true rest = IsPartial rest
 
 -- All lines of what came so far were written.
-pub record WasListed (view : View) (absolute : Bool) (before after : Streams) : Type 0 where
+pub record WasListed (view : View) (marking : Marking) (before after : Streams) : Type 0 where
   pub bytes : List ℕ
   pub begun : Bool
   pub rest : List ℕ
   pub lines : List ℕ
   pub talk : Talk
   pub received : Consumes before.input after.input bytes
-  pub each : HasLines view absolute bytes begun rest lines talk
+  pub each : HasLines view marking bytes begun rest lines talk
   pub waits : Awaits begun rest
   pub written : Appends before.output after.output lines
 
@@ -74,7 +75,7 @@ pub record EndsWith (view : View) (begun : Bool) (rest lines : List ℕ) (talk :
   pub is : text ≡ lines ++ last_lines view talk
 
 -- A front of the lines of what came was written, and of the last ones where they are due.
-pub record IsCutShort (view : View) (absolute : Bool) (before after : Streams) : Type 0 where
+pub record IsCutShort (view : View) (marking : Marking) (before after : Streams) : Type 0 where
   pub bytes : List ℕ
   pub begun : Bool
   pub rest : List ℕ
@@ -82,20 +83,20 @@ pub record IsCutShort (view : View) (absolute : Bool) (before after : Streams) :
   pub talk : Talk
   pub text : List ℕ
   pub received : Consumes before.input after.input bytes
-  pub each : HasLines view absolute bytes begun rest lines talk
+  pub each : HasLines view marking bytes begun rest lines talk
   pub due : (text ≡ lines) ⊎ EndsWith view begun rest lines talk after.input text
   pub written : AppendsFront before.output after.output text
 
 -- A front of the listing was written; and where a read failed, nothing of what came is held back: its lines were written and passed on.
-abbrev pub BreaksOff : Type 0 → View → (absolute : Bool) → Fault → Streams → Streams → Type 0
-BreaksOff passed view absolute Read before after = WasListed view absolute before after × (Keeps before.output after.output ⊎ passed)
-BreaksOff passed view absolute fault before after = IsCutShort view absolute before after
+abbrev pub BreaksOff : Type 0 → View → (marking : Marking) → Fault → Streams → Streams → Type 0
+BreaksOff passed view marking Read before after = WasListed view marking before after × (Keeps before.output after.output ⊎ passed)
+BreaksOff passed view marking fault before after = IsCutShort view marking before after
 
 -- All lines of what came from such a reader stand in the writer, and are passed on, so that it may be read again.
-pub record IsReady {R W : Type 0} (remaining : R → Option (List ℕ)) (contents : W → Option (List ℕ)) (Passed : W → Type 0) (view : View) (absolute : Bool) (reader : R) (writer : W) (now : R) : Type 0 where
+pub record IsReady {R W : Type 0} (remaining : R → Option (List ℕ)) (contents : W → Option (List ℕ)) (Passed : W → Type 0) (view : View) (marking : Marking) (reader : R) (writer : W) (now : R) : Type 0 where
   pub out : W
-  pub listed : WasListed view absolute (record { input = remaining reader; output = contents writer }) (record { input = remaining now; output = contents out })
+  pub listed : WasListed view marking (record { input = remaining reader; output = contents writer }) (record { input = remaining now; output = contents out })
   pub passed : Keeps (contents writer) (contents out) ⊎ Passed out
 
-abbrev pub ReadsWhenReady : {R W : Type 0} → (R → Option (List ℕ)) → (W → Option (List ℕ)) → (W → Type 0) → (R → Type 0) → View → (absolute : Bool) → R → W → Type 0
-ReadsWhenReady {R} remaining contents Passed MayRead view absolute reader writer = (now : R) → IsReady remaining contents Passed view absolute reader writer now → MayRead now
+abbrev pub ReadsWhenReady : {R W : Type 0} → (R → Option (List ℕ)) → (W → Option (List ℕ)) → (W → Type 0) → (R → Type 0) → View → (marking : Marking) → R → W → Type 0
+ReadsWhenReady {R} remaining contents Passed MayRead view marking reader writer = (now : R) → IsReady remaining contents Passed view marking reader writer now → MayRead now

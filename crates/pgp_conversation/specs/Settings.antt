@@ -1,14 +1,15 @@
 -- The options of `session`, as words spell them.
 use Rattle.std.specs.Prelude.{◌≡◌, ◌≢◌, ⊤, ℕ, Bool, true, false, List, [], ◌∷◌, ◌++◌, get_or, codes}
-use Rattle.std.specs.List.{flat_map, AllByRecursion}
+use Rattle.std.specs.List.{flat_map, list_any, AllByRecursion}
 use Rattle.pgp_trace.specs.declared.options.Choice.{Choice}
 use Rattle.pgp_trace.specs.declared.options.Choice.TheVariants.{AsJson, Full, Secrets, Resume, Replication, Only, Color, Kind}
 use Rattle.pgp_trace.specs.Options.{AreOptions, last_of, spelled}
 use Rattle.pgp_trace.specs.View.{View}
+use Rattle.pgp_conversation.specs.declared.marking.Marking.{Marking}
 use Rattle.pgp_conversation.specs.declared.options.Clock.{Clock}
 use Rattle.pgp_conversation.specs.declared.options.Clock.TheVariants.{Absolute, Relative}
 use Rattle.pgp_conversation.specs.declared.options.Setting.{Setting}
-use Rattle.pgp_conversation.specs.declared.options.Setting.TheVariants.{Listing, Time}
+use Rattle.pgp_conversation.specs.declared.options.Setting.TheVariants.{Listing, Requests, Time}
 
 abbrev pub clock_word : Clock → List ℕ
 clock_word Absolute = codes "absolute"
@@ -18,6 +19,7 @@ clock_word Relative = codes "relative"
 abbrev pub spelled_by : Setting → List (List ℕ)
 spelled_by (Listing choice) = spelled choice
 spelled_by (Time clock) = codes "--time" ∷ clock_word clock ∷ []
+spelled_by Requests = codes "--requests" ∷ []
 
 -- A recording begins with its connection, and the server says in it which a client's messages of tag `p` are, and whether the stream is one of replication.
 abbrev pub IsCommon : Choice → Type 0
@@ -33,11 +35,13 @@ IsCommon (Kind kind) = ⊥
 abbrev pub IsSetting : Setting → Type 0
 IsSetting (Listing choice) = IsCommon choice
 IsSetting (Time clock) = ⊤
+IsSetting Requests = ⊤
 
 -- those that a listing of one side has too
 abbrev pub listing_in : Setting → List Choice
 listing_in (Listing choice) = choice ∷ []
 listing_in (Time clock) = []
+listing_in Requests = []
 
 abbrev pub is_absolute : Clock → Bool
 is_absolute Absolute = true
@@ -46,15 +50,22 @@ is_absolute Relative = false
 abbrev pub clock_in : Setting → List Bool
 clock_in (Listing choice) = []
 clock_in (Time clock) = is_absolute clock ∷ []
+clock_in Requests = []
 
--- The words are options, one after another, in any order. Those of a listing ask for one that looks so, and of those of times the last counts, which
--- says whether they are counted from 1970 on.
-pub record AreSettings (terminal : Bool) (words : List (List ℕ)) (view : View) (absolute : Bool) : Type 0 where
+abbrev pub is_requests : Setting → Bool
+is_requests (Listing choice) = false
+is_requests (Time clock) = false
+is_requests Requests = true
+
+-- The words are options, one after another, in any order. Those of a listing ask for one that looks so, of those of times the last counts, which says
+-- whether they are counted from 1970 on, and requests are numbered where one of them asks for it.
+pub record AreSettings (terminal : Bool) (words : List (List ℕ)) (view : View) (marking : Marking) : Type 0 where
   pub settings : List Setting
   pub spelling : words ≡ flat_map spelled_by settings
   pub each : AllByRecursion IsSetting settings
   pub listing : AreOptions terminal (flat_map spelled (flat_map listing_in settings)) view [] false false
-  pub clock : absolute ≡ last_of false (flat_map clock_in settings)
+  pub clock : marking.absolute ≡ last_of false (flat_map clock_in settings)
+  pub requests : marking.numbered ≡ list_any is_requests settings
 
 -- the words are no options
 abbrev pub AreNoSettings : List (List ℕ) → Type 0

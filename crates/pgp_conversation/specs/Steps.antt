@@ -1,6 +1,9 @@
 -- Private: a part of a recording and a frame at a time.
 use Rattle.std.specs.Prelude.{◌≡◌, ◌≢◌, ◌⊎◌, ℕ, ◌<◌, ◌+◌, Bool, true, false, ◌==◌, if◌then◌else◌, List, [], ◌∷◌, ◌++◌, length, Option, None, Some, bytes_eq, codes}
 use Rattle.pgp_frontend_read.specs.declared.message.PasswordKind.TheVariants.{Password, Initial, Response}
+use Rattle.pgp_client.specs.Talk as dialogue
+use Rattle.pgp_client.specs.Talk.{Kept}
+use Rattle.pgp_client.specs.declared.request.Asked.{Asked}
 use Rattle.pgp_line.specs.declared.style.Style.{Style}
 use Rattle.pgp_trace.specs.declared.frame.Next.{Next}
 use Rattle.pgp_trace.specs.declared.frame.Next.TheVariants as next
@@ -19,11 +22,14 @@ use Rattle.pgp_conversation.specs.declared.ending.End.TheVariants.{Whole, Cut, N
 use Rattle.pgp_conversation.specs.declared.talk.Half as code_half
 use Rattle.pgp_conversation.specs.declared.talk.Talk as code_talk
 use Rattle.pgp_conversation.specs.declared.known.Known as code_known
+use Rattle.pgp_conversation.specs.declared.numbers.Numbers as code_numbers
 use Rattle.pgp_conversation.specs.declared.noted.Encryption.TheVariants.{Tls, Gss}
 use Rattle.pgp_conversation.specs.declared.noted.Noted.{Noted}
 use Rattle.pgp_conversation.specs.declared.noted.Noted.TheVariants.{Asks, Requests, Answers, Nothing}
 use Rattle.std.specs.Borrow.{Bor}
+use Rattle.std.specs.declared.collections.VecDeque.{VecDeque}
 use Rattle.pgp_conversation.specs.Conversation.{Half, ListsChunk, Known, Talk, ListsFrame, ListsFrames, is_replicating, side_in, with_side}
+use Rattle.pgp_conversation.specs.Requests.{Numbers}
 use Rattle.pgp_conversation.specs.Recording.{Chunk, IsChunk, IsNoChunk, IsPartial, IsShort, arrow, chunk_bytes, magic}
 
 -- ---- parts of a recording
@@ -81,8 +87,19 @@ noted_by name =
 
 -- ---- what is kept
 
+abbrev pub talk_in : {A : Type 0} → Option (Kept (VecDeque Asked A)) → Option dialogue.Talk
+talk_in None = None
+talk_in (Some kept) = Some (dialogue.shown (λ q. q.items) kept)
+
+abbrev pub numbers_of : {A : Type 0} → code_numbers.Numbers A → Numbers
+numbers_of numbers = record { dialogue = talk_in numbers.dialogue; sent = numbers.sent.items; now = numbers.now }
+
+abbrev pub numbers_in : {A : Type 0} → Option (code_numbers.Numbers A) → Option Numbers
+numbers_in None = None
+numbers_in (Some numbers) = Some (numbers_of numbers)
+
 abbrev pub known_of : {A : Type 0} → code_known.Known A → Known
-known_of known = record { client = side.Client known.opened known.kinds.items (is_replicating known.phase); server = side.Server known.phase; requests = known.requests.items }
+known_of known = record { client = side.Client known.opened known.kinds.items (is_replicating known.phase); server = side.Server known.phase; requests = known.requests.items; numbers = numbers_in known.numbers }
 
 -- the line of the next frame of a side; of the other one the same is known
 pub record KnowsNext (style : Style) (sender : Sender) (place : ℕ) (old : Known) (bytes behind line : List ℕ) (new : Known) (next : Next) : Type 0 where

@@ -3,16 +3,20 @@
 ghost use Rattle.std.specs.Prelude.{◌≡◌, ◌++◌, ◌≤◌, [], drop, length, take, IfOk, OnErr, OnOk, string_bytes};
 ghost use Rattle.pgp_trace.specs.Steps.{view_of};
 ghost use Rattle.pgp_conversation.specs.Conversation.{answer_line, answer_to, called, called_after, relined, relined_after, text_of};
+ghost use Rattle.pgp_conversation.specs.Marks.{word};
 ghost use Rattle.pgp_conversation.specs.Steps.{ListsAllFrames, ListsNextFrame, known_of};
 
 use crate::chunk::Sender;
 use crate::known::{Known, next_line, note};
 use crate::mark::put_marked;
 use crate::noted::{Encryption, note_of};
+use crate::numbers::tell_frame;
+use crate::told::Told;
+use crate::word::put_stamp;
 use pgp_base::Memory;
 use pgp_line::line::{put_called, put_end};
 use pgp_line::style::Style;
-use pgp_trace::frame::{Next, begin_line};
+use pgp_trace::frame::{Next, begin_line, front_of};
 use pgp_trace::view::{View, add_shown};
 use std::alloc::AllocError;
 
@@ -23,6 +27,9 @@ pub struct Texts<A: Memory> {
     pub time: String<A>,
     /// The mark of its messages.
     pub mark: String<A>,
+    /// What a mark says of requests, and the mark with it.
+    pub word: String<A>,
+    pub stamp: String<A>,
     /// The line of a message, and the same with the mark.
     pub line: String<A>,
     pub marked: String<A>,
@@ -34,6 +41,8 @@ pub struct Texts<A: Memory> {
 pub fn no_texts<A: Memory>(alloc: A) -> Texts<A>
     ensures time { string_bytes result.time ≡ [] }
     ensures mark { string_bytes result.mark ≡ [] }
+    ensures word { string_bytes result.word ≡ [] }
+    ensures stamp { string_bytes result.stamp ≡ [] }
     ensures line { string_bytes result.line ≡ [] }
     ensures marked { string_bytes result.marked ≡ [] }
     ensures lines { string_bytes result.lines ≡ [] }
@@ -41,6 +50,8 @@ pub fn no_texts<A: Memory>(alloc: A) -> Texts<A>
     Texts {
         time: String::new(alloc),
         mark: String::new(alloc),
+        word: String::new(alloc),
+        stamp: String::new(alloc),
         line: String::new(alloc),
         marked: String::new(alloc),
         lines: String::new(alloc),
@@ -92,10 +103,13 @@ fn list_next<'b, A: Memory>(
     ensures mark { OnOk result (string_bytes texts.new.mark ≡ string_bytes texts.old.mark) }
     ensures lacks { OnErr result A.Lacks }
 {
+    let opened = known.opened;
     let (next, behind) = next_line(view.style, sender, place, bytes, known, &mut texts.line)?;
     match next {
         Next::Line(name) => {
-            list_line(view, place, name, known.requests.as_slice(), texts)?;
+            let frame = front_of(bytes, behind);
+            let told = tell_frame(sender, opened, name, frame, &mut known.numbers)?;
+            list_line(view, place, name, told, known.requests.as_slice(), texts)?;
             note(note_of(name), known)?;
             Ok((next, behind))
         }
@@ -104,22 +118,30 @@ fn list_next<'b, A: Memory>(
     }
 }
 
-/// Adds a line with this name, an answer under the name of the request that it belongs to.
+/// Adds a line with this name, whose mark says this of requests; an answer under the name of the request for encryption that it belongs to.
 fn list_line<A: Memory>(
     view: View<'_>,
     place: u64,
     name: &str,
+    told: Option<Told>,
     requests: &[Encryption],
     texts: &mut Texts<A>,
 ) -> Result<(), AllocError>
-    ensures text { OnOk result (string_bytes texts.new.lines ≡ string_bytes texts.old.lines ++ text_of (view_of view.entry) (string_bytes texts.old.mark) place requests.now name.now (string_bytes texts.old.line)) }
+    ensures text { OnOk result (string_bytes texts.new.lines ≡ string_bytes texts.old.lines ++ text_of (view_of view.entry) (string_bytes texts.old.mark ++ word (view_of view.entry).style.form told) place requests.now name.now (string_bytes texts.old.line)) }
     ensures mark { OnOk result (string_bytes texts.new.mark ≡ string_bytes texts.old.mark) }
     ensures lacks { OnErr result A.Lacks }
 {
     reline(view.style, place, requests, name, &mut texts.line)?;
-    put_marked(
+    put_stamp(
         view.style.form,
         texts.mark.as_str(),
+        told,
+        &mut texts.word,
+        &mut texts.stamp,
+    )?;
+    put_marked(
+        view.style.form,
+        texts.stamp.as_str(),
         texts.line.as_str(),
         &mut texts.marked,
     )?;

@@ -7,6 +7,7 @@ ghost use Rattle.pgp_conversation.specs.Conversation.{at_first, is_replicating, 
 
 use crate::chunk::Sender;
 use crate::noted::{Encryption, Noted};
+use crate::numbers::{Numbers, first_numbers};
 use pgp_base::Memory;
 use pgp_frontend_read::PasswordKind;
 use pgp_line::style::Style;
@@ -28,17 +29,20 @@ pub struct Known<A: Memory> {
     pub phase: Phase,
     /// The requests for encryption that aren't answered.
     pub requests: Vec<Encryption, A>,
+    /// What is known of all requests, where they are numbered.
+    pub numbers: Option<Numbers<A>>,
 }
 
-/// Before a connection's first byte.
-pub fn at_first<A: Memory>(alloc: A) -> Known<A>
-    ensures { known_of result ≡ at_first }
+/// Before a connection's first byte, where requests are numbered or not.
+pub fn at_first<A: Memory>(alloc: A, numbered: bool) -> Known<A>
+    ensures { known_of result ≡ at_first numbered }
 {
     Known {
         opened: false,
         kinds: Vec::new(alloc),
         phase: Phase::Beginning,
         requests: Vec::new(alloc),
+        numbers: first_numbers(alloc, numbered),
     }
 }
 

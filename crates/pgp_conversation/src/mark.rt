@@ -36,7 +36,11 @@ pub fn put_mark<A: Memory>(
 }
 
 /// Adds the seconds from one time to another.
-fn put_since<A: Memory>(start: u64, micros: u64, text: &mut String<A>) -> Result<(), AllocError>
+///
+/// # Errors
+///
+/// Returns `AllocError` if there is no memory for them.
+pub fn put_since<A: Memory>(start: u64, micros: u64, text: &mut String<A>) -> Result<(), AllocError>
     ensures text { OnOk result (string_bytes text.new ≡ string_bytes text.old ++ since start micros) }
     ensures lacks { OnErr result A.Lacks }
 {
@@ -129,7 +133,11 @@ fn member_of(sender: Sender) -> &'static str
 }
 
 /// Adds so many blanks.
-fn put_blanks<A: Memory>(len: usize, text: &mut String<A>) -> Result<(), AllocError>
+///
+/// # Errors
+///
+/// Returns `AllocError` if there is no memory for them.
+pub fn put_blanks<A: Memory>(len: usize, text: &mut String<A>) -> Result<(), AllocError>
     ensures text { OnOk result (string_bytes text.new ≡ string_bytes text.old ++ blanks len) }
     ensures lacks { OnErr result A.Lacks }
 {

@@ -4,6 +4,7 @@ ghost use Rattle.std.specs.Prelude.{◌≡◌, ◌≢◌, ◌++◌, ◌∷◌, c
 ghost use Rattle.pgp_conversation.specs.Settings.{AreNoSettings, AreSettings, BeginsWithNoSetting, IsSetting, SaysNoClock, clock_word, first_of, is_absolute, spelled_by};
 ghost use Rattle.pgp_conversation.specs.Chosen.{Sets, flags_of, settings_view};
 
+use crate::marking::Marking;
 use pgp_base::Memory;
 use pgp_trace::options::{Choice, Options, choose, first_choice, len};
 use std::alloc::AllocError;
@@ -23,14 +24,16 @@ pub enum Setting<'a> {
     /// One that a listing of one side has too.
     Listing(Choice<'a>),
     Time(Clock),
+    /// Requests are numbered.
+    Requests,
 }
 
 /// What the options come to.
 #[derive(Drop)]
 pub struct Settings<'a, A: Memory> {
     pub options: Options<'a, A>,
-    /// Whether times are counted from 1970 on.
-    pub absolute: bool,
+    /// What the marks of the listing say.
+    pub marking: Marking,
 }
 
 /// Reads the options, which a terminal shows or not, or returns nothing where the words are no such.
@@ -43,7 +46,7 @@ pub fn settings_of<'a, A: Memory>(
     terminal: bool,
     words: &[&'a str],
 ) -> Result<Option<Settings<'a, A>>, AllocError>
-    ensures known { IfOk result (λ r. IfSome r (λ settings. AreSettings terminal (map (λ word. word.now) words.now) (settings_view settings) settings.absolute)) }
+    ensures known { IfOk result (λ r. IfSome r (λ settings. AreSettings terminal (map (λ word. word.now) words.now) (settings_view settings) settings.marking)) }
     ensures other { IfOk result (λ r. IfNone r (AreNoSettings (map (λ word. word.now) words.now))) }
     ensures lacks { OnErr result A.Lacks }
 {
@@ -58,7 +61,10 @@ pub fn settings_of<'a, A: Memory>(
             colored: terminal,
             kinds: Vec::new(alloc),
         },
-        absolute: false,
+        marking: Marking {
+            absolute: false,
+            numbered: false,
+        },
     };
     let mut at = 0;
     'each: while at < words.len() {
@@ -77,13 +83,17 @@ fn set<'a, A: Memory>(
     setting: Setting<'a>,
     settings: &mut Settings<'a, A>,
 ) -> Result<(), AllocError>
-    ensures set { OnOk result (Sets terminal setting.entry (flags_of settings.old.options) (flags_of settings.new.options) settings.old.absolute settings.new.absolute) }
+    ensures set { OnOk result (Sets terminal setting.entry (flags_of settings.old.options) (flags_of settings.new.options) settings.old.marking settings.new.marking) }
     ensures lacks { OnErr result A.Lacks }
 {
     match setting {
         Setting::Listing(choice) => choose(terminal, choice, &mut settings.options),
         Setting::Time(clock) => {
-            settings.absolute = is_absolute(clock);
+            settings.marking.absolute = is_absolute(clock);
+            Ok(())
+        }
+        Setting::Requests => {
+            settings.marking.numbered = true;
             Ok(())
         }
     }
@@ -106,6 +116,7 @@ fn long(setting: Setting<'_>) -> usize
     match setting {
         Setting::Listing(choice) => len(choice),
         Setting::Time(_) => 2,
+        Setting::Requests => 1,
     }
 }
 
@@ -120,6 +131,7 @@ fn first_setting<'a>(words: &[&'a str]) -> Option<Setting<'a>>
     };
     match *word {
         "--time" => first_clock(rest),
+        "--requests" => Some(Setting::Requests),
         "--resume" => None,
         "--replication" => None,
         "--password-kind" => None,
@@ -134,6 +146,7 @@ fn first_listing<'a>(words: &[&'a str]) -> Option<Setting<'a>>
     requires replication { first_of (map (λ word. word.now) words.now) ≢ codes "--replication" }
     requires kind { first_of (map (λ word. word.now) words.now) ≢ codes "--password-kind" }
     requires time { first_of (map (λ word. word.now) words.now) ≢ codes "--time" }
+    requires requests { first_of (map (λ word. word.now) words.now) ≢ codes "--requests" }
     ensures some { IfSome result (λ setting. IsSetting setting × (map (λ word. word.now) words.now ≡ spelled_by setting ++ map (λ word. word.now) (drop (length (spelled_by setting)) words.now))) }
     ensures none { IfNone result (BeginsWithNoSetting (map (λ word. word.now) words.now)) }
 {

@@ -13,6 +13,7 @@ ghost use Rattle.pgp_conversation.specs.Session.{BreaksOff, ReadsWhenReady, Writ
 ghost use Rattle.pgp_conversation.specs.Chosen.{settings_view};
 
 use crate::ending::{complaint_of, status_of};
+use crate::marking::Marking;
 use crate::options::{Settings, settings_of};
 use crate::outcome::{Ended, of_outcome, tell};
 use crate::session::{Said, list_session};
@@ -34,7 +35,7 @@ fn session_of<'a, A: Memory>(
     terminal: bool,
     words: &[&'a str],
 ) -> Result<Option<Settings<'a, A>>, AllocError>
-    ensures known { IfOk result (λ r. IfSome r (λ settings. AsksSession terminal (map (λ word. word.now) words.now) (settings_view settings) settings.absolute)) }
+    ensures known { IfOk result (λ r. IfSome r (λ settings. AsksSession terminal (map (λ word. word.now) words.now) (settings_view settings) settings.marking)) }
     ensures other { IfOk result (λ r. IfNone r (AsksNoSession terminal (map (λ word. word.now) words.now))) }
     ensures lacks { OnErr result A.Lacks }
 {
@@ -51,21 +52,21 @@ fn session_of<'a, A: Memory>(
 fn list<A: Memory, R: Input, W: Output>(
     alloc: A,
     view: View<'_>,
-    absolute: bool,
+    marking: Marking,
     input: &mut R,
     output: &mut W,
 ) -> Result<Said, Fault>
-    requires live { ReadsWhenReady R.remaining W.contents W.Passed R.MayRead (view_of view) absolute input.old output.old }
-    ensures listed { IfOk result (λ said. WritesListing (view_of view.entry) absolute
+    requires live { ReadsWhenReady R.remaining W.contents W.Passed R.MayRead (view_of view) marking input.old output.old }
+    ensures listed { IfOk result (λ said. WritesListing (view_of view.entry) marking
         (record { input = R.remaining input.old; output = W.contents output.old })
         (record { input = R.remaining input.new; output = W.contents output.new }) said.end (said.client.now ++ said.server.now ++ complaint_of said.end)) }
     ensures passed { OnOk result (W.Passed output.new) }
-    ensures stops { IfErr result (λ fault. BreaksOff (W.Passed output.new) (view_of view.entry) absolute fault
+    ensures stops { IfErr result (λ fault. BreaksOff (W.Passed output.new) (view_of view.entry) marking fault
         (record { input = R.remaining input.old; output = W.contents output.old })
         (record { input = R.remaining input.new; output = W.contents output.new })) }
     ensures cause { IfErr result (Caused A.Lacks (GivesUp R.Fails R.Called) (GivesUp W.Fails W.Interrupted)) }
 {
-    list_session(alloc, view, absolute, input, output)
+    list_session(alloc, view, marking, input, output)
 }
 
 /// Lists a recording, and says how that ended.
@@ -75,12 +76,12 @@ fn perform<A: Memory, R: Input, W: Output>(
     input: &mut R,
     output: &mut W,
 ) -> Ended
-    requires live { ReadsWhenReady R.remaining W.contents W.Passed R.MayRead (settings_view settings.now) settings.now.absolute input.old output.old }
-    ensures { Succeeds (W.Passed output.new) (settings_view settings.now) settings.now.absolute
+    requires live { ReadsWhenReady R.remaining W.contents W.Passed R.MayRead (settings_view settings.now) settings.now.marking input.old output.old }
+    ensures { Succeeds (W.Passed output.new) (settings_view settings.now) settings.now.marking
         (record { input = R.remaining input.old; output = W.contents output.old })
         (record { input = R.remaining input.new; output = W.contents output.new })
         result.status (result.first.now ++ result.second.now ++ result.third.now)
-        ⊎ IsFaulty A.Lacks (GivesUp R.Fails R.Called) (GivesUp W.Fails W.Interrupted) (W.Passed output.new) (settings_view settings.now) settings.now.absolute
+        ⊎ IsFaulty A.Lacks (GivesUp R.Fails R.Called) (GivesUp W.Fails W.Interrupted) (W.Passed output.new) (settings_view settings.now) settings.now.marking
         (record { input = R.remaining input.old; output = W.contents output.old })
         (record { input = R.remaining input.new; output = W.contents output.new })
         result.status (result.first.now ++ result.second.now ++ result.third.now) }
@@ -91,7 +92,7 @@ fn perform<A: Memory, R: Input, W: Output>(
         only: options.only.as_slice(),
         colored: options.colored,
     };
-    match list(alloc, view, settings.absolute, input, output) {
+    match list(alloc, view, settings.marking, input, output) {
         Ok(said) => Ended {
             status: status_of(said.end),
             first: said.client,

@@ -7,6 +7,7 @@ ghost use Rattle.pgp_program.specs.Run.{Caused};
 ghost use Rattle.pgp_program.specs.Taken.{AppendsFront};
 ghost use Rattle.pgp_conversation.specs.Hints.{hint_of};
 ghost use Rattle.pgp_trace.specs.Steps.{view_of};
+ghost use Rattle.pgp_conversation.specs.declared.marking.Marking.{Marking as Marks};
 ghost use Rattle.pgp_conversation.specs.Conversation.{first_start};
 ghost use Rattle.pgp_conversation.specs.Pieces.{ListsAllChunks, ListsPiece, ListsSome, Tracks, held_first, held_last, held_nothing};
 ghost use Rattle.pgp_conversation.specs.Recording.{complaint_of};
@@ -19,6 +20,8 @@ use crate::frames::{Texts, no_texts};
 use crate::hint::hint_of;
 use crate::known::{at_first, is_replicating};
 use crate::last::add_last;
+use crate::marking::Marking;
+use crate::numbers::unnumbered;
 use crate::talk::{Half, Talk, list_chunk};
 use bytes::{Buf, BytesMut};
 use pgp_base::Memory;
@@ -62,29 +65,29 @@ pub struct Said {
 pub fn list_session<A: Memory, R: Input, W: Output>(
     alloc: A,
     view: View<'_>,
-    absolute: bool,
+    marking: Marking,
     input: &mut R,
     output: &mut W,
 ) -> Result<Said, Fault>
-    requires live { ReadsWhenReady R.remaining W.contents W.Passed R.MayRead (view_of view) absolute input.old output.old }
-    ensures listed { IfOk result (λ said. WritesListing (view_of view.entry) absolute
+    requires live { ReadsWhenReady R.remaining W.contents W.Passed R.MayRead (view_of view) marking input.old output.old }
+    ensures listed { IfOk result (λ said. WritesListing (view_of view.entry) marking
         (record { input = R.remaining input.old; output = W.contents output.old })
         (record { input = R.remaining input.new; output = W.contents output.new }) said.end (said.client.now ++ said.server.now ++ complaint_of said.end)) }
-    ensures live { IfErr result (λ fault. fault ≡ Fault.Read → WasListed (view_of view.entry) absolute
+    ensures live { IfErr result (λ fault. fault ≡ Fault.Read → WasListed (view_of view.entry) marking
         (record { input = R.remaining input.old; output = W.contents output.old })
         (record { input = R.remaining input.new; output = W.contents output.new })) }
     ensures passed { IfErr result (λ fault. fault ≡ Fault.Read → Keeps (W.contents output.old) (W.contents output.new) ⊎ W.Passed output.new) }
     ensures done { OnOk result (W.Passed output.new) }
-    ensures cut { OnErr result (IsCutShort (view_of view.entry) absolute
+    ensures cut { OnErr result (IsCutShort (view_of view.entry) marking
         (record { input = R.remaining input.old; output = W.contents output.old })
         (record { input = R.remaining input.new; output = W.contents output.new })) }
     ensures cause { IfErr result (Caused A.Lacks (GivesUp R.Fails R.Called) (GivesUp W.Fails W.Interrupted)) }
 {
     let mut piece = A::list_filled(alloc, 0, PIECE)?;
-    let mut held = held_at_first(alloc);
+    let mut held = held_at_first(alloc, marking.numbered);
     list_pieces(
         view,
-        absolute,
+        marking,
         input,
         piece.as_mut_slice(),
         &mut held,
@@ -92,26 +95,26 @@ pub fn list_session<A: Memory, R: Input, W: Output>(
     )
 }
 
-/// Before the first byte of a recording.
-fn held_at_first<A: Memory>(alloc: A) -> Held<A>
+/// Before the first byte of a recording, whose requests are numbered or not.
+fn held_at_first<A: Memory>(alloc: A, numbered: bool) -> Held<A>
     ensures begun { result.begun ≡ false }
-    ensures talk { kept_of result.talk ≡ held_first false }
+    ensures talk { kept_of result.talk ≡ held_first (record { absolute = false; numbered = numbered }) }
     ensures bytes { result.bytes.items ≡ [] }
 {
     Held {
         begun: false,
-        talk: talk_at_first(alloc),
+        talk: talk_at_first(alloc, numbered),
         bytes: BytesMut::new(alloc),
         texts: no_texts(alloc),
     }
 }
 
 /// Before the first chunk.
-fn talk_at_first<A: Memory>(alloc: A) -> Talk<A>
-    ensures { kept_of result ≡ held_first false }
+fn talk_at_first<A: Memory>(alloc: A, numbered: bool) -> Talk<A>
+    ensures { kept_of result ≡ held_first (record { absolute = false; numbered = numbered }) }
 {
     Talk {
-        known: at_first(alloc),
+        known: at_first(alloc, numbered),
         client: half_at_first(alloc),
         server: half_at_first(alloc),
         start: None,
@@ -139,7 +142,7 @@ fn first_start(absolute: bool) -> Option<u64>
 /// Lists a recording, a piece at a time.
 fn list_pieces<A: Memory, R: Input, W: Output>(
     view: View<'_>,
-    absolute: bool,
+    marking: Marking,
     input: &mut R,
     piece: &mut [u8],
     held: &mut Held<A>,
@@ -147,23 +150,23 @@ fn list_pieces<A: Memory, R: Input, W: Output>(
 ) -> Result<Said, Fault>
     requires some { 0 < length piece.old }
     requires begun { held.old.begun ≡ false }
-    requires talk { kept_of held.old.talk ≡ held_first false }
+    requires talk { kept_of held.old.talk ≡ held_first (record { absolute = false; numbered = marking.numbered }) }
     requires bytes { held.old.bytes.items ≡ [] }
-    requires live { ReadsWhenReady R.remaining W.contents W.Passed R.MayRead (view_of view) absolute input.old output.old }
-    ensures listed { IfOk result (λ said. WritesListing (view_of view.entry) absolute
+    requires live { ReadsWhenReady R.remaining W.contents W.Passed R.MayRead (view_of view) marking input.old output.old }
+    ensures listed { IfOk result (λ said. WritesListing (view_of view.entry) marking
         (record { input = R.remaining input.old; output = W.contents output.old })
         (record { input = R.remaining input.new; output = W.contents output.new }) said.end (said.client.now ++ said.server.now ++ complaint_of said.end)) }
-    ensures live { IfErr result (λ fault. fault ≡ Fault.Read → WasListed (view_of view.entry) absolute
+    ensures live { IfErr result (λ fault. fault ≡ Fault.Read → WasListed (view_of view.entry) marking
         (record { input = R.remaining input.old; output = W.contents output.old })
         (record { input = R.remaining input.new; output = W.contents output.new })) }
     ensures passed { IfErr result (λ fault. fault ≡ Fault.Read → Keeps (W.contents output.old) (W.contents output.new) ⊎ W.Passed output.new) }
     ensures done { OnOk result (W.Passed output.new) }
-    ensures cut { OnErr result (IsCutShort (view_of view.entry) absolute
+    ensures cut { OnErr result (IsCutShort (view_of view.entry) marking
         (record { input = R.remaining input.old; output = W.contents output.old })
         (record { input = R.remaining input.new; output = W.contents output.new })) }
     ensures cause { IfErr result (Caused A.Lacks (GivesUp R.Fails R.Called) (GivesUp W.Fails W.Interrupted)) }
 {
-    held.talk.start = first_start(absolute);
+    held.talk.start = first_start(marking.absolute);
     // Bounded, since each function has to end, and a reader may give pieces or be interrupted forever.
     'pieces: for _ in 0..u64::MAX {
         match input.read_some(piece) {
@@ -190,11 +193,11 @@ fn list_piece<A: Memory, W: Output>(
     held: &mut Held<A>,
     output: &mut W,
 ) -> Result<bool, Fault>
-    ensures all { IfOk result (λ stopped. (absolute : Bool) (bytes lines : List ℕ) → Tracks (view_of view.entry) absolute bytes lines held.old.begun (kept_of held.old.talk) held.old.bytes.items →
-        ListsPiece (view_of view.entry) absolute (bytes ++ piece.now) lines held.new.begun stopped (kept_of held.new.talk) held.new.bytes.items (W.contents output.old) (W.contents output.new)) }
+    ensures all { IfOk result (λ stopped. (marking : Marks) (bytes lines : List ℕ) → Tracks (view_of view.entry) marking bytes lines held.old.begun (kept_of held.old.talk) held.old.bytes.items →
+        ListsPiece (view_of view.entry) marking (bytes ++ piece.now) lines held.new.begun stopped (kept_of held.new.talk) held.new.bytes.items (W.contents output.old) (W.contents output.new)) }
     ensures passed { OnOk result (W.Passed output.new) }
-    ensures some { OnErr result ((absolute : Bool) (bytes lines : List ℕ) → Tracks (view_of view.entry) absolute bytes lines held.old.begun (kept_of held.old.talk) held.old.bytes.items →
-        ListsSome (view_of view.entry) absolute (bytes ++ piece.now) lines (W.contents output.old) (W.contents output.new)) }
+    ensures some { OnErr result ((marking : Marks) (bytes lines : List ℕ) → Tracks (view_of view.entry) marking bytes lines held.old.begun (kept_of held.old.talk) held.old.bytes.items →
+        ListsSome (view_of view.entry) marking (bytes ++ piece.now) lines (W.contents output.old) (W.contents output.new)) }
     ensures cause { IfErr result (Caused A.Lacks ⊥ (GivesUp W.Fails W.Interrupted)) }
 {
     A::append(&mut held.bytes, piece)?;
@@ -222,8 +225,8 @@ fn list_chunks<A: Memory>(
     texts: &mut Texts<A>,
 ) -> Result<(bool, usize, bool), AllocError>
     ensures within { IfOk result (λ x. x.1 ≤ length bytes.now) }
-    ensures all { IfOk result (λ x. (absolute : Bool) (received lines : List ℕ) → Tracks (view_of view.entry) absolute received lines begun (kept_of talk.old) bytes.now →
-        ListsAllChunks (view_of view.entry) absolute received lines x.0 x.2 (kept_of talk.new) (drop x.1 bytes.now) (string_bytes texts.old.lines) (string_bytes texts.new.lines)) }
+    ensures all { IfOk result (λ x. (marking : Marks) (received lines : List ℕ) → Tracks (view_of view.entry) marking received lines begun (kept_of talk.old) bytes.now →
+        ListsAllChunks (view_of view.entry) marking received lines x.0 x.2 (kept_of talk.new) (drop x.1 bytes.now) (string_bytes texts.old.lines) (string_bytes texts.new.lines)) }
     ensures lacks { OnErr result A.Lacks }
 {
     let mut opened = begun;
@@ -272,8 +275,21 @@ fn list_last<A: Memory, W: Output>(
     ensures cause { IfErr result (Caused A.Lacks ⊥ (GivesUp W.Fails W.Interrupted)) }
 {
     held.texts.lines.clear();
-    add_last(view, Sender::Client, &held.talk.client, &mut held.texts)?;
-    add_last(view, Sender::Server, &held.talk.server, &mut held.texts)?;
+    let told = unnumbered(&held.talk.known.numbers);
+    add_last(
+        view,
+        told,
+        Sender::Client,
+        &held.talk.client,
+        &mut held.texts,
+    )?;
+    add_last(
+        view,
+        told,
+        Sender::Server,
+        &held.talk.server,
+        &mut held.texts,
+    )?;
     put_lines(held.texts.lines.as_str(), output)?;
     let known = &held.talk.known;
     let client = Side::Client {

@@ -10,6 +10,7 @@ use crate::chunk::{Chunk, Sender};
 use crate::frames::{Texts, list_frames};
 use crate::known::Known;
 use crate::mark::put_mark;
+use crate::numbers::set_time;
 use bytes::{Buf, BytesMut};
 use pgp_base::Memory;
 use pgp_trace::view::View;
@@ -62,6 +63,7 @@ pub fn list_chunk<A: Memory>(
         &mut texts.mark,
     )?;
     talk.start = Some(start);
+    set_time(chunk.micros, &mut talk.known.numbers);
     match chunk.sender {
         Sender::Client => list_bytes(
             view,

@@ -78,7 +78,7 @@ const OBJECTS: &str =
     "{\"time\":0.000312,\"from\":\"server\",\"offset\":0,\"length\":1,\"tag\":\"N\",\"name\":\"SSLResponse\"}\n{\"time\":-0.000001,\"from\":\"client\",\"offset\":24,\"length\":8,\"tag\":\"p\",\"name\":\"PasswordMessage\",\"password\":{\"bytes\":2}}\n{\"time\":null,\"from\":\"server\",\"rest\":1,\"stopped\":false}\n";
 
 const USAGE: &str =
-    "usage: pgtrace server [--json] [--full] [--secrets] [--resume] [--only NAME[,NAME]..] [--color auto|always|never] | client [--json] [--full] [--secrets] [--resume] [--only NAME[,NAME]..] [--color auto|always|never] [--password-kind password|initial|response].. [--replication] | session [--json] [--full] [--secrets] [--time absolute|relative] [--only NAME[,NAME]..] [--color auto|always|never] | --help | --version\n";
+    "usage: pgtrace server [--json] [--full] [--secrets] [--resume] [--only NAME[,NAME]..] [--color auto|always|never] | client [--json] [--full] [--secrets] [--resume] [--only NAME[,NAME]..] [--color auto|always|never] [--password-kind password|initial|response].. [--replication] | session [--json] [--full] [--secrets] [--requests] [--time absolute|relative] [--only NAME[,NAME]..] [--color auto|always|never] | --help | --version\n";
 
 /// A standby logs in and asks for a replication stream. The chunks have a StartupMessage; an AuthenticationOk and a CopyBothResponse; a
 /// StandbyStatusUpdate; a CopyDone; and a CopyData again, with the letter of a StandbyStatusUpdate alone. All came at second 1.
@@ -102,6 +102,56 @@ fn a_standbys_messages_are_listed(rt: HostRuntime) {
     };
     let mut input = STANDBY;
     comes_to(&rt, rt.alloc(), &["session"], &mut input, &wanted);
+}
+
+/// A log-in; a Query, and a Sync whose body is malformed; the answer to the Query, by a clock that was set back; a ReadyForQuery that ends the answer to the
+/// Sync, and one that has no place, with a ParameterStatus; and a Sync again. The chunks came 0, 412, 1,000, 999, 2,000 and 2,001 microseconds after a second.
+const NUMBERED: &[u8] = b"pgtrace recording 1\n\
+    >\0\0\0\0\0\x0f\x42\x40\0\0\0\x10\0\0\0\x10\0\x03\0\0user\0a\0\0\
+    <\0\0\0\0\0\x0f\x43\xdc\0\0\0\x18R\0\0\0\x08\0\0\0\0S\0\0\0\x08a\0b\0Z\0\0\0\x05I\
+    >\0\0\0\0\0\x0f\x46\x28\0\0\0\x0dQ\0\0\0\x06x\0S\0\0\0\x05\0\
+    <\0\0\0\0\0\x0f\x46\x27\0\0\0\x0bI\0\0\0\x04Z\0\0\0\x05I\
+    <\0\0\0\0\0\x0f\x4a\x10\0\0\0\x15Z\0\0\0\x05IZ\0\0\0\x05IS\0\0\0\x08a\0b\0\
+    >\0\0\0\0\0\x0f\x4a\x11\0\0\0\x05S\0\0\0\x04";
+
+/// A ParameterStatus belongs to no request, until the first message that has no place: from then on there is none for any of the server's.
+const NUMBERED_LINES: &str =
+    "    0.000000 > #1                       0       16 - StartupMessage       version 196608 parameters \"user\" \"a\"\n    0.000412 < #1 +0.412                0        9 R AuthenticationOk\n    0.000412 <                          9        9 S ParameterStatus      name \"a\" value \"b\"\n    0.000412 < #1 +0.412               18        6 Z ReadyForQuery        idle\n    0.001000 > #2                      16        7 Q Query                query \"x\"\n    0.001000 > #3                      23        6 S fault 8 NotDrained\n    0.000999 < #2 -0.001               24        5 I EmptyQueryResponse\n    0.000999 < #2 -0.001               29        6 Z ReadyForQuery        idle\n    0.002000 < #3 +1.000               35        6 Z ReadyForQuery        idle\n    0.002000 < #?                      41        6 Z ReadyForQuery        idle\n    0.002000 < #?                      47        9 S ParameterStatus      name \"a\" value \"b\"\n    0.002001 > #4                      29        5 S Sync\n";
+
+const NUMBERED_OBJECTS: &str =
+    "{\"time\":0.000412,\"from\":\"server\",\"offset\":9,\"length\":9,\"tag\":\"S\",\"name\":\"ParameterStatus\",\"parameter\":\"a\",\"value\":\"b\"}\n{\"time\":0.001000,\"from\":\"client\",\"request\":3,\"offset\":23,\"length\":6,\"tag\":\"S\",\"fault\":{\"number\":8,\"name\":\"NotDrained\"}}\n{\"time\":0.000999,\"from\":\"server\",\"request\":2,\"after\":-0.000001,\"offset\":24,\"length\":5,\"tag\":\"I\",\"name\":\"EmptyQueryResponse\"}\n{\"time\":0.002000,\"from\":\"server\",\"request\":\"?\",\"offset\":47,\"length\":9,\"tag\":\"S\",\"name\":\"ParameterStatus\",\"parameter\":\"a\",\"value\":\"b\"}\n{\"time\":0.002001,\"from\":\"client\",\"request\":4,\"offset\":29,\"length\":5,\"tag\":\"S\",\"name\":\"Sync\"}\n";
+
+/// That of the other recording.
+const LOG_IN: &str =
+    "    0.000000 >                          0        8 - SSLRequest\n    0.000312 <                          0        1 N SSLResponse\n    0.100000 > #1                       8       16 - StartupMessage       version 196608 parameters \"user\" \"a\"\n    0.200000 < #1 +100.000              1        9 R AuthenticationCleartextPassword\n   -0.000001 >                         24        8 p PasswordMessage      password (2 bytes)\n    0.300001 < #1 +200.001             10        9 R AuthenticationOk\n             <                 rest 1\n";
+
+/// Each request has its number, and each message of the server that of the request which it answers.
+#[test]
+fn requests_are_numbered(rt: HostRuntime) {
+    let runs: [(&[u8], &[&str], &str); 3] = [
+        (RECORDING, &["session", "--requests"], LOG_IN),
+        (NUMBERED, &["session", "--requests"], NUMBERED_LINES),
+        (
+            NUMBERED,
+            &[
+                "session",
+                "--only",
+                "ParameterStatus,EmptyQueryResponse,Sync,fault",
+                "--requests",
+                "--json",
+            ],
+            NUMBERED_OBJECTS,
+        ),
+    ];
+    for (bytes, words, written) in runs {
+        let wanted = Outcome {
+            status: 0,
+            written,
+            reported: "",
+        };
+        let mut input = bytes;
+        comes_to(&rt, rt.alloc(), words, &mut input, &wanted);
+    }
 }
 
 #[test]

@@ -51,7 +51,7 @@ const OPEN: &str =
     "         0        1 N SSLResponse or GSSENCResponse\n         1        9 R AuthenticationOk\n        10        9 S ParameterStatus      name \"n\" value \"\\x0a\"\n        19        6 Z ReadyForQuery        idle\n        25       13 K BackendKeyData       process 1 key \"abcd\"\nrest 2\n";
 
 const USAGE: &str =
-    "usage: pgtrace server [--json] [--full] [--secrets] [--resume] [--only NAME[,NAME]..] [--color auto|always|never] | client [--json] [--full] [--secrets] [--resume] [--only NAME[,NAME]..] [--color auto|always|never] [--password-kind password|initial|response].. [--replication] | session [--json] [--full] [--secrets] [--time absolute|relative] [--only NAME[,NAME]..] [--color auto|always|never] | --help | --version\n";
+    "usage: pgtrace server [--json] [--full] [--secrets] [--resume] [--only NAME[,NAME]..] [--color auto|always|never] | client [--json] [--full] [--secrets] [--resume] [--only NAME[,NAME]..] [--color auto|always|never] [--password-kind password|initial|response].. [--replication] | session [--json] [--full] [--secrets] [--requests] [--time absolute|relative] [--only NAME[,NAME]..] [--color auto|always|never] | --help | --version\n";
 
 #[test]
 fn words_decide_what_runs(rt: HostRuntime) {

@@ -1,11 +1,20 @@
-use Rattle.std.proofs.Common.{◌≡◌, ◌++◌, ◌∙◌, ap, rules}
+use Rattle.std.proofs.Common.{◌≡◌, ◌++◌, ◌∙◌, Option, ap, rules}
 use Rattle.std.specs.Prelude.{string_bytes}
 use Rattle.pgp_trace.specs.Steps.{view_of}
 use Rattle.pgp_trace.specs.declared.frame.Next.TheVariants.{Line}
-use Rattle.pgp_conversation.specs.Conversation.{note, text_of}
-use Rattle.pgp_conversation.specs.Steps.{KnowsNext, known_of, noted_by}
-use Rattle.pgp_conversation.proofs.FrameLists.{lists_one}
+use Rattle.pgp_conversation.specs.declared.told.Told.{Told}
+use Rattle.pgp_conversation.specs.Conversation.{note, text_of, with_numbers}
+use Rattle.pgp_conversation.specs.Marks.{word}
+use Rattle.pgp_conversation.specs.Requests.{told_in}
+use Rattle.pgp_conversation.specs.Roles.{role_by}
+use Rattle.pgp_conversation.specs.Steps.{KnowsNext, known_of, noted_by, numbers_in}
+use Rattle.pgp_conversation.proofs.FrameLists.{front_is, front_long, lists_one, role_side}
 use Rattle.pgp_conversation.proofs.frames.list_next.Goals as goal
+
+pub front_of-frame-requires : goal.front_of-frame-requires
+front_of-frame-requires g c =
+    let knows : KnowsNext c.args.view.style c.args.sender c.args.place (known_of c.args.known.now) c.args.bytes.now c.in_ok-next.behind.now (string_bytes c.next_line.new.line) (known_of c.next_line.new.known) (Line c.in-Line.name) = search rules in
+    front_long c.args.bytes.now knows.listed.frame c.in_ok-next.behind.now knows.listed.whole
 
 pub returns-in_ok-note-in-Line-clause-each : goal.returns-in_ok-note-in-Line-clause-each
 returns-in_ok-note-in-Line-clause-each g c =
@@ -15,11 +24,18 @@ returns-in_ok-note-in-Line-clause-each g c =
     let old = known_of c.args.known.now in
     let mid = known_of c.next_line.new.known in
     let new = known_of c.note.new.known in
+    let numbers = numbers_in c.tell_frame.new.numbers in
+    let told : Option Told = c.in_ok-told-in-Line.told in
     let name = c.in-Line.name.now in
+    let frame = c.front_of-frame.result.now in
     let before = string_bytes c.args.texts.now.lines in
     let after = string_bytes c.list_line.new.texts.lines in
+    let role = role_by c.args.sender c.args.known.now.opened name frame in
     let knows : KnowsNext c.args.view.style c.args.sender c.args.place old c.args.bytes.now c.in_ok-next.behind.now line mid (Line c.in-Line.name) = search rules in
-    let grown : after ≡ before ++ text_of view mark c.args.place c.as_slice.result.now name line = c.in_ok-list_line-in-Line.ensures.text in
-    let noted : new ≡ note (noted_by name) mid = c.in_ok-note-in-Line.ensures.noted ∙ ap (λ n. note n mid) c.note_of.ensures in
-    rw c.in-Line.is (lists_one view mark c.args.sender c.args.place old mid new c.args.bytes.now c.in_ok-next.behind.now line name before after knows.listed knows.same
-    (grown ∙ ap (λ r. before ++ text_of view mark c.args.place r name line) c.as_slice.ensures.value) noted)
+    let has = knows.listed in
+    let grown : after ≡ before ++ text_of view (mark ++ word view.style.form told) c.args.place c.as_slice.result.now name line = c.in_ok-list_line-in-Line.ensures.text in
+    let noted : new ≡ note (noted_by name) (with_numbers numbers mid) = c.in_ok-note-in-Line.ensures.noted ∙ ap (λ n. note n (with_numbers numbers mid)) c.note_of.ensures in
+    let tells : told_in role mid.numbers ≡ (told, numbers) = c.in_ok-told-in-Line.ensures.told in
+    rw c.in-Line.is (lists_one view mark c.args.sender c.args.place old mid new role told numbers c.args.bytes.now c.in_ok-next.behind.now line name before after has knows.same
+    (role_side c.args.sender c.args.known.now name frame has.frame (c.front_of-frame.ensures ∙ front_is c.args.bytes.now has.frame c.in_ok-next.behind.now has.whole)) tells
+    (grown ∙ ap (λ r. before ++ text_of view (mark ++ word view.style.form told) c.args.place r name line) c.as_slice.ensures.value) noted)

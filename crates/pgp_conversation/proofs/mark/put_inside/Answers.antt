@@ -1,5 +1,5 @@
 use Rattle.std.proofs.Common.{string_bytes}
-use Rattle.pgp_conversation.proofs.Marking.{put_before}
+use Rattle.pgp_conversation.proofs.Marked.{put_before}
 use Rattle.pgp_conversation.proofs.mark.put_inside.Goals as goal
 
 pub returns-in_default-clause-text : goal.returns-in_default-clause-text

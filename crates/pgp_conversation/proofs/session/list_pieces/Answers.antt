@@ -13,15 +13,15 @@ use Rattle.pgp_conversation.proofs.session.list_pieces.Goals.{in-Ok+in_ok-list_p
 
 pub pieces-init : goal.pieces-init
 pieces-init g c = (
-  follows_start (view_of c.args.view) c.args.absolute (record { input = g.R.Read.remaining c.args.input.now; output = g.W.Write.contents c.args.output.now }) c.args.held.now.begun _ c.args.held.now.bytes.items
-      c.requires.begun (rw c.first_start-held.ensures (first_held c.args.absolute (kept_of c.args.held.now.talk) c.requires.talk)) c.requires.bytes,
+  follows_start (view_of c.args.view) c.args.marking (record { input = g.R.Read.remaining c.args.input.now; output = g.W.Write.contents c.args.output.now }) c.args.held.now.begun _ c.args.held.now.bytes.items
+      c.requires.begun (rw c.first_start-held.ensures (first_held c.args.marking (kept_of c.args.held.now.talk) c.requires.talk)) c.requires.bytes,
   inl (Keeps-refl (g.W.Write.contents c.args.output.now)),
   inl refl,
 )
 
 pub read_some-requires : goal.read_some-requires
 read_some-requires g c =
-    c.requires.live c.pieces.input (ready g.R.Read.remaining g.W.Write.contents g.W.Output.Passed (view_of c.args.view) c.args.absolute c.args.input.now c.pieces.input c.args.output.now c.pieces.output
+    c.requires.live c.pieces.input (ready g.R.Read.remaining g.W.Write.contents g.W.Output.Passed (view_of c.args.view) c.args.marking c.args.input.now c.pieces.input c.args.output.now c.pieces.output
     c.pieces.held.begun (kept_of c.pieces.held.talk) c.pieces.held.bytes.items c.pieces.invariant.0 c.pieces.invariant.1)
 
 pub returns-in-Ok-eq0-clause-listed : goal.returns-in-Ok-eq0-clause-listed
@@ -32,7 +32,7 @@ returns-in-Ok-eq0-clause-listed g c =
     let f = c.pieces.invariant.0 in
     let none = subst (λ k. Consumes now next (take k c.read_some.new.piece)) c.in-Ok-eq0.field-0-test c.in-Ok-eq0.ensures.bytes.0 in
     let end = c.in-Ok-eq0.ensures.bytes.1 c.in-Ok-eq0.field-0-test (omega (arith, c.requires.some, c.pieces.auto.piece, c.read_some.auto.piece)) in
-    last_listed c.list_last.result (view_of c.args.view) c.args.absolute (record { input = g.R.Read.remaining c.args.input.now; output = g.W.Write.contents c.args.output.now }) next (g.W.Write.contents c.pieces.output) (g.W.Write.contents c.list_last.new.output)
+    last_listed c.list_last.result (view_of c.args.view) c.args.marking (record { input = g.R.Read.remaining c.args.input.now; output = g.W.Write.contents c.args.output.now }) next (g.W.Write.contents c.pieces.output) (g.W.Write.contents c.list_last.new.output)
     held.begun false (kept_of held.talk) held.bytes.items f.bytes f.lines (none_came (g.R.Read.remaining c.args.input.now) now next f.bytes f.received none) f.written f.tracks f.stays (read_all held.begun held.bytes.items next end)
     c.list_last.ensures.end c.list_last.ensures.client c.list_last.ensures.server c.list_last.ensures.all
 
@@ -44,7 +44,7 @@ returns-in-Ok-eq0-clause-cut g c =
     let f = c.pieces.invariant.0 in
     let none = subst (λ k. Consumes now next (take k c.read_some.new.piece)) c.in-Ok-eq0.field-0-test c.in-Ok-eq0.ensures.bytes.0 in
     let end = c.in-Ok-eq0.ensures.bytes.1 c.in-Ok-eq0.field-0-test (omega (arith, c.requires.some, c.pieces.auto.piece, c.read_some.auto.piece)) in
-    last_broken c.list_last.result (view_of c.args.view) c.args.absolute (record { input = g.R.Read.remaining c.args.input.now; output = g.W.Write.contents c.args.output.now }) next (g.W.Write.contents c.pieces.output) (g.W.Write.contents c.list_last.new.output)
+    last_broken c.list_last.result (view_of c.args.view) c.args.marking (record { input = g.R.Read.remaining c.args.input.now; output = g.W.Write.contents c.args.output.now }) next (g.W.Write.contents c.pieces.output) (g.W.Write.contents c.list_last.new.output)
     held.begun false (kept_of held.talk) held.bytes.items f.bytes f.lines (none_came (g.R.Read.remaining c.args.input.now) now next f.bytes f.received none) f.written f.tracks f.stays (read_all held.begun held.bytes.items next end)
     c.list_last.ensures.some
 
@@ -52,9 +52,9 @@ pub returns-in_err-list_piece-in-Ok-clause-cut : goal.returns-in_err-list_piece-
 returns-in_err-list_piece-in-Ok-clause-cut g c =
     let f = c.pieces.invariant.0 in
     let held = c.pieces.held in
-    on_err c.from_residual.result _ (cut_piece (view_of c.args.view) c.args.absolute (record { input = g.R.Read.remaining c.args.input.now; output = g.W.Write.contents c.args.output.now })
+    on_err c.from_residual.result _ (cut_piece (view_of c.args.view) c.args.marking (record { input = g.R.Read.remaining c.args.input.now; output = g.W.Write.contents c.args.output.now })
     (record { input = g.R.Read.remaining c.pieces.input; output = g.W.Write.contents c.pieces.output }) held.begun (kept_of held.talk) held.bytes.items (take c.in-Ok.n c.read_some.new.piece) (g.R.Read.remaining c.read_some.new.self) (g.W.Write.contents c.list_piece.new.output)
-    f c.in-Ok.ensures.bytes.0 (c.in_err-list_piece-in-Ok.ensures.some c.args.absolute f.bytes f.lines f.tracks))
+    f c.in-Ok.ensures.bytes.0 (c.in_err-list_piece-in-Ok.ensures.some c.args.marking f.bytes f.lines f.tracks))
 
 pub returns-then-branch-clause-listed : goal.returns-then-branch-clause-listed
 returns-then-branch-clause-listed g c =
@@ -64,9 +64,9 @@ returns-then-branch-clause-listed g c =
     let held = c.list_piece.new.held in
     let f = c.pieces.invariant.0 in
     let piece = take c.in-Ok.n c.read_some.new.piece in
-    let one : ListsPiece (view_of c.args.view) c.args.absolute (f.bytes ++ piece) f.lines held.begun true (kept_of held.talk) held.bytes.items (g.W.Write.contents c.pieces.output) middle =
-    subst (λ s. ListsPiece (view_of c.args.view) c.args.absolute (f.bytes ++ piece) f.lines held.begun s (kept_of held.talk) held.bytes.items (g.W.Write.contents c.pieces.output) middle) c.if-branch.true (c.in_ok-list_piece-in-Ok.ensures.all c.args.absolute f.bytes f.lines f.tracks) in
-    last_listed c.list_last-then-branch.result (view_of c.args.view) c.args.absolute (record { input = g.R.Read.remaining c.args.input.now; output = g.W.Write.contents c.args.output.now }) next middle (g.W.Write.contents c.list_last-then-branch.new.output)
+    let one : ListsPiece (view_of c.args.view) c.args.marking (f.bytes ++ piece) f.lines held.begun true (kept_of held.talk) held.bytes.items (g.W.Write.contents c.pieces.output) middle =
+    subst (λ s. ListsPiece (view_of c.args.view) c.args.marking (f.bytes ++ piece) f.lines held.begun s (kept_of held.talk) held.bytes.items (g.W.Write.contents c.pieces.output) middle) c.if-branch.true (c.in_ok-list_piece-in-Ok.ensures.all c.args.marking f.bytes f.lines f.tracks) in
+    last_listed c.list_last-then-branch.result (view_of c.args.view) c.args.marking (record { input = g.R.Read.remaining c.args.input.now; output = g.W.Write.contents c.args.output.now }) next middle (g.W.Write.contents c.list_last-then-branch.new.output)
     held.begun true (kept_of held.talk) held.bytes.items (f.bytes ++ piece) (f.lines ++ one.added) (Consumes-trans (g.R.Read.remaining c.args.input.now) now next f.bytes piece f.received c.in-Ok.ensures.bytes.0)
     (Appends-trans (g.W.Write.contents c.args.output.now) (g.W.Write.contents c.pieces.output) middle f.lines one.added f.written one.written) one.tracks one.stays (read_rest held.begun held.bytes.items next)
     c.list_last-then-branch.ensures.end c.list_last-then-branch.ensures.client c.list_last-then-branch.ensures.server c.list_last-then-branch.ensures.all
@@ -79,9 +79,9 @@ returns-then-branch-clause-cut g c =
     let held = c.list_piece.new.held in
     let f = c.pieces.invariant.0 in
     let piece = take c.in-Ok.n c.read_some.new.piece in
-    let one : ListsPiece (view_of c.args.view) c.args.absolute (f.bytes ++ piece) f.lines held.begun true (kept_of held.talk) held.bytes.items (g.W.Write.contents c.pieces.output) middle =
-    subst (λ s. ListsPiece (view_of c.args.view) c.args.absolute (f.bytes ++ piece) f.lines held.begun s (kept_of held.talk) held.bytes.items (g.W.Write.contents c.pieces.output) middle) c.if-branch.true (c.in_ok-list_piece-in-Ok.ensures.all c.args.absolute f.bytes f.lines f.tracks) in
-    last_broken c.list_last-then-branch.result (view_of c.args.view) c.args.absolute (record { input = g.R.Read.remaining c.args.input.now; output = g.W.Write.contents c.args.output.now }) next middle (g.W.Write.contents c.list_last-then-branch.new.output)
+    let one : ListsPiece (view_of c.args.view) c.args.marking (f.bytes ++ piece) f.lines held.begun true (kept_of held.talk) held.bytes.items (g.W.Write.contents c.pieces.output) middle =
+    subst (λ s. ListsPiece (view_of c.args.view) c.args.marking (f.bytes ++ piece) f.lines held.begun s (kept_of held.talk) held.bytes.items (g.W.Write.contents c.pieces.output) middle) c.if-branch.true (c.in_ok-list_piece-in-Ok.ensures.all c.args.marking f.bytes f.lines f.tracks) in
+    last_broken c.list_last-then-branch.result (view_of c.args.view) c.args.marking (record { input = g.R.Read.remaining c.args.input.now; output = g.W.Write.contents c.args.output.now }) next middle (g.W.Write.contents c.list_last-then-branch.new.output)
     held.begun true (kept_of held.talk) held.bytes.items (f.bytes ++ piece) (f.lines ++ one.added) (Consumes-trans (g.R.Read.remaining c.args.input.now) now next f.bytes piece f.received c.in-Ok.ensures.bytes.0)
     (Appends-trans (g.W.Write.contents c.args.output.now) (g.W.Write.contents c.pieces.output) middle f.lines one.added f.written one.written) one.tracks one.stays (read_rest held.begun held.bytes.items next)
     c.list_last-then-branch.ensures.some
@@ -92,8 +92,8 @@ returns-in-OutOfMemory-clause-cut g c =
     let out = g.W.Write.contents c.pieces.output in
     let held = c.pieces.held in
     let before : Streams = record { input = g.R.Read.remaining c.args.input.now; output = g.W.Write.contents c.args.output.now } in
-    cut_here (view_of c.args.view) c.args.absolute before (record { input = next; output = out }) held.begun (kept_of held.talk) held.bytes.items
-    (follows_same (view_of c.args.view) c.args.absolute before (record { input = g.R.Read.remaining c.pieces.input; output = out }) held.begun (kept_of held.talk) held.bytes.items next c.pieces.invariant.0 c.in-Err.ensures.bytes)
+    cut_here (view_of c.args.view) c.args.marking before (record { input = next; output = out }) held.begun (kept_of held.talk) held.bytes.items
+    (follows_same (view_of c.args.view) c.args.marking before (record { input = g.R.Read.remaining c.pieces.input; output = out }) held.begun (kept_of held.talk) held.bytes.items next c.pieces.invariant.0 c.in-Err.ensures.bytes)
 
 pub returns-in_default : goal.returns-in_default
 returns-in_default g c =
@@ -101,14 +101,14 @@ returns-in_default g c =
     let out = g.W.Write.contents c.pieces.output in
     let held = c.pieces.held in
     let before : Streams = record { input = g.R.Read.remaining c.args.input.now; output = g.W.Write.contents c.args.output.now } in
-    let f = follows_same (view_of c.args.view) c.args.absolute before (record { input = g.R.Read.remaining c.pieces.input; output = out }) held.begun (kept_of held.talk) held.bytes.items next c.pieces.invariant.0 c.in-Err.ensures.bytes in
+    let f = follows_same (view_of c.args.view) c.args.marking before (record { input = g.R.Read.remaining c.pieces.input; output = out }) held.begun (kept_of held.talk) held.bytes.items next c.pieces.invariant.0 c.in-Err.ensures.bytes in
     let fails : g.R.Input.Fails = search rules in
     record {
       listed = tt;
-      live = λ e. was_listed (view_of c.args.view) c.args.absolute before (record { input = next; output = out }) held.begun (kept_of held.talk) held.bytes.items f;
+      live = λ e. was_listed (view_of c.args.view) c.args.marking before (record { input = next; output = out }) held.begun (kept_of held.talk) held.bytes.items f;
       passed = λ e. c.pieces.invariant.1;
       done = tt;
-      cut = cut_here (view_of c.args.view) c.args.absolute before (record { input = next; output = out }) held.begun (kept_of held.talk) held.bytes.items f;
+      cut = cut_here (view_of c.args.view) c.args.marking before (record { input = next; output = out }) held.begun (kept_of held.talk) held.bytes.items f;
       cause = inl fails;
     }
 
@@ -125,13 +125,13 @@ pieces-preserved g c =
       | in-Ok+in_ok-list_piece-in-Ok+else-branch w ↦ rw (w.output-is, w.held-is) (
         let new = w.list_piece.new.held in
             let piece = take w.in-Ok.n c.read_some.new.piece in
-            follows_piece (view_of c.args.view) c.args.absolute before (record { input = now; output = out }) held.begun new.begun (kept_of held.talk) (kept_of new.talk) held.bytes.items new.bytes.items piece next (g.W.Write.contents w.list_piece.new.output) f w.in-Ok.ensures.bytes.0
-            (subst (λ s. ListsPiece (view_of c.args.view) c.args.absolute (f.bytes ++ piece) f.lines new.begun s (kept_of new.talk) new.bytes.items out (g.W.Write.contents w.list_piece.new.output)) w.if-branch.false (w.in_ok-list_piece-in-Ok.ensures.all c.args.absolute f.bytes f.lines f.tracks)),
+            follows_piece (view_of c.args.view) c.args.marking before (record { input = now; output = out }) held.begun new.begun (kept_of held.talk) (kept_of new.talk) held.bytes.items new.bytes.items piece next (g.W.Write.contents w.list_piece.new.output) f w.in-Ok.ensures.bytes.0
+            (subst (λ s. ListsPiece (view_of c.args.view) c.args.marking (f.bytes ++ piece) f.lines new.begun s (kept_of new.talk) new.bytes.items out (g.W.Write.contents w.list_piece.new.output)) w.if-branch.false (w.in_ok-list_piece-in-Ok.ensures.all c.args.marking f.bytes f.lines f.tracks)),
         inr w.in_ok-list_piece-in-Ok.ensures.passed,
         counted,
       )
       | in-Err+in-Interrupted w ↦ rw (w.output-is, w.held-is) (
-        follows_same (view_of c.args.view) c.args.absolute before (record { input = now; output = out }) held.begun (kept_of held.talk) held.bytes.items next f w.in-Err.ensures.bytes,
+        follows_same (view_of c.args.view) c.args.marking before (record { input = now; output = out }) held.begun (kept_of held.talk) held.bytes.items next f w.in-Err.ensures.bytes,
         c.pieces.invariant.1,
         counted,
       )
@@ -139,5 +139,5 @@ pieces-preserved g c =
 
 pub returns-clause-cut : goal.returns-clause-cut
 returns-clause-cut g c =
-    cut_here (view_of c.args.view) c.args.absolute (record { input = g.R.Read.remaining c.args.input.now; output = g.W.Write.contents c.args.output.now }) (record { input = g.R.Read.remaining c.pieces.input; output = g.W.Write.contents c.pieces.output })
+    cut_here (view_of c.args.view) c.args.marking (record { input = g.R.Read.remaining c.args.input.now; output = g.W.Write.contents c.args.output.now }) (record { input = g.R.Read.remaining c.pieces.input; output = g.W.Write.contents c.pieces.output })
     c.pieces.held.begun (kept_of c.pieces.held.talk) c.pieces.held.bytes.items c.pieces.invariant.0

@@ -8,7 +8,7 @@ use Rattle.pgp_conversation.proofs.session.list_pieces.Given as goal
 
 abbrev pub invariant-pieces : goal.invariant-pieces
 invariant-pieces g l =
-    Follows (view_of l.view) l.absolute (record { input = g.R.Read.remaining l.fn.input; output = g.W.Write.contents l.fn.output })
+    Follows (view_of l.view) l.fn.marking (record { input = g.R.Read.remaining l.fn.input; output = g.W.Write.contents l.fn.output })
     (record { input = g.R.Read.remaining l.input; output = g.W.Write.contents l.output })
     l.held.begun (kept_of l.held.talk) l.held.bytes.items
     × (Keeps (g.W.Write.contents l.fn.output) (g.W.Write.contents l.output) ⊎ g.W.Output.Passed l.output)

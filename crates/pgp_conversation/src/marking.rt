@@ -1,0 +1,10 @@
+//! What marks say.
+
+/// What the marks of a listing say.
+#[derive(Debug, Clone, Copy)]
+pub struct Marking {
+    /// Whether times are counted from 1970 on.
+    pub absolute: bool,
+    /// Whether requests are numbered.
+    pub numbered: bool,
+}

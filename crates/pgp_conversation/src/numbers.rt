@@ -1,0 +1,194 @@
+//! The client's requests, and to which of them a message of the server belongs.
+
+ghost use Rattle.std.specs.Prelude.{◌≡◌, ◌-◌, get_or, IfOk, OnErr, OnOk};
+ghost use Rattle.pgp_client.specs.Telling.{start};
+ghost use Rattle.pgp_conversation.specs.Requests.{asks, at_time, first_numbers, no_numbers, place, tell, told_in, told_of, unnumbered};
+ghost use Rattle.pgp_conversation.specs.Roles.{role_by};
+ghost use Rattle.pgp_conversation.specs.Steps.{numbers_in, numbers_of, talk_in};
+
+use crate::chunk::Sender;
+use crate::role::{Role, role_of};
+use crate::told::Told;
+use pgp_base::Memory;
+use pgp_client::{Asked, Dialogue, Event, Kind, Request};
+use std::alloc::AllocError;
+use std::collections::VecDeque;
+
+/// What is known of the client's requests.
+#[derive(Drop)]
+pub struct Numbers<A: Memory> {
+    /// Which of the server's messages belongs to which of them; nothing from the first message on that has no place there.
+    pub dialogue: Option<Dialogue<VecDeque<Asked, A>>>,
+    /// When each was sent, in microseconds: 8 bytes a request, as long as the recording is read.
+    pub sent: Vec<u64, A>,
+    /// When the present chunk came.
+    pub now: u64,
+}
+
+/// Before the first request, where requests are numbered.
+pub fn first_numbers<A: Memory>(alloc: A, numbered: bool) -> Option<Numbers<A>>
+    ensures { numbers_in result ≡ first_numbers numbered }
+{
+    if numbered {
+        Some(no_numbers(alloc))
+    } else {
+        None
+    }
+}
+
+/// Before the first request.
+fn no_numbers<A: Memory>(alloc: A) -> Numbers<A>
+    ensures { numbers_of result ≡ no_numbers }
+{
+    Numbers {
+        dialogue: Some(Dialogue::new(alloc)),
+        sent: Vec::new(alloc),
+        now: 0,
+    }
+}
+
+/// A chunk came at this time.
+pub fn set_time<A: Memory>(micros: u64, numbers: &mut Option<Numbers<A>>)
+    ensures { numbers_in numbers.new ≡ at_time micros (numbers_in numbers.old) }
+{
+    match numbers {
+        Some(numbers) => numbers.now = micros,
+        None => {}
+    }
+}
+
+/// What the mark of a line says of requests that is no message's: nothing, where requests are numbered.
+pub fn unnumbered<A: Memory>(numbers: &Option<Numbers<A>>) -> Option<Told>
+    ensures { result ≡ unnumbered (numbers_in numbers.now) }
+{
+    match numbers {
+        Some(_) => Some(Told::Nothing),
+        None => None,
+    }
+}
+
+/// Takes note of a frame of this side, which has this name, where the client's startup packet came before it or not. Returns what its mark says of
+/// requests, where they are numbered.
+///
+/// # Errors
+///
+/// Returns `AllocError` if there is no memory for one more request.
+pub fn tell_frame<A: Memory>(
+    sender: Sender,
+    opened: bool,
+    name: &str,
+    frame: &[u8],
+    numbers: &mut Option<Numbers<A>>,
+) -> Result<Option<Told>, AllocError>
+    ensures told { IfOk result (λ told. told_in (role_by sender opened name.now frame.now) (numbers_in numbers.old) ≡ (told, numbers_in numbers.new)) }
+    ensures lacks { OnErr result A.Lacks }
+{
+    match numbers {
+        Some(numbers) => {
+            let told = tell(role_of(sender, opened, name, frame), numbers)?;
+            Ok(Some(told))
+        }
+        None => Ok(None),
+    }
+}
+
+/// Takes note of a frame. Returns what its mark says of requests.
+fn tell<A: Memory>(role: Role, numbers: &mut Numbers<A>) -> Result<Told, AllocError>
+    ensures told { IfOk result (λ told. tell role (numbers_of numbers.old) ≡ (told, numbers_of numbers.new)) }
+    ensures lacks { OnErr result A.Lacks }
+{
+    match role {
+        Role::Request(request) => ask(request, numbers),
+        Role::Message(kind) => Ok(hear(kind, numbers)),
+        Role::Fault => {
+            numbers.dialogue = None;
+            Ok(Told::Lost)
+        }
+        Role::Other => Ok(Told::Nothing),
+    }
+}
+
+/// Takes note of a request, under the next number.
+fn ask<A: Memory>(request: Request, numbers: &mut Numbers<A>) -> Result<Told, AllocError>
+    ensures told { IfOk result (λ told. tell (Role.Request request) (numbers_of numbers.old) ≡ (told, numbers_of numbers.new)) }
+    ensures lacks { OnErr result A.Lacks }
+{
+    let number = numbers.sent.len() as u64 + 1;
+    let now = numbers.now;
+    A::push(&mut numbers.sent, now)?;
+    put_asked(request, number, &mut numbers.dialogue)?;
+    Ok(Told::Number(number))
+}
+
+/// Has the dialogue take note of a request, as long as there is one.
+fn put_asked<A: Memory>(
+    request: Request,
+    number: u64,
+    dialogue: &mut Option<Dialogue<VecDeque<Asked, A>>>,
+) -> Result<(), AllocError>
+    ensures asked { OnOk result (talk_in dialogue.new ≡ asks (record { request = request; name = number }) (talk_in dialogue.old)) }
+    ensures lacks { OnErr result A.Lacks }
+{
+    match dialogue {
+        Some(open) => match open.ask(request, number) {
+            Ok(()) => Ok(()),
+            Err(_) => Err(AllocError),
+        },
+        None => Ok(()),
+    }
+}
+
+/// Takes a server's message of this kind. Returns what its mark says of requests.
+fn hear<A: Memory>(kind: Kind, numbers: &mut Numbers<A>) -> Told
+    ensures { tell (Role.Message kind) (numbers_of numbers.old) ≡ (result, numbers_of numbers.new) }
+{
+    let event = take(kind, &mut numbers.dialogue);
+    told_of(event, numbers.sent.as_slice(), numbers.now)
+}
+
+/// To which request a message of this kind belongs, as long as each has its place.
+fn take<A: Memory>(kind: Kind, dialogue: &mut Option<Dialogue<VecDeque<Asked, A>>>) -> Option<Event>
+    ensures { place kind (talk_in dialogue.old) ≡ (result, talk_in dialogue.new) }
+{
+    match dialogue {
+        Some(open) => match open.take(kind) {
+            Ok(event) => Some(event),
+            Err(_) => {
+                *dialogue = None;
+                None
+            }
+        },
+        None => None,
+    }
+}
+
+/// What the mark of a message says that is this to the requests, which were sent at these times, and that came at this one.
+fn told_of(event: Option<Event>, sent: &[u64], now: u64) -> Told
+    ensures { result ≡ told_of sent.now now event }
+{
+    match event {
+        Some(Event::Part(number)) => Told::Answer {
+            number,
+            sent: sent_at(number, sent),
+            now,
+        },
+        Some(Event::Last(number)) => Told::Answer {
+            number,
+            sent: sent_at(number, sent),
+            now,
+        },
+        Some(Event::Aside) => Told::Nothing,
+        Some(Event::Ended) => Told::Nothing,
+        None => Told::Lost,
+    }
+}
+
+/// When the request of this number was sent.
+fn sent_at(number: u64, sent: &[u64]) -> u64
+    ensures { result ≡ get_or sent.now (number - 1) 0 }
+{
+    match sent.get(number.saturating_sub(1) as usize) {
+        Some(at) => *at,
+        None => 0,
+    }
+}
