@@ -10,5 +10,7 @@ pub mod OneSession
 pub mod EachSide
 pub mod Turns
 pub mod PrintedMarks
+pub mod PrintedObjects
+pub mod Secrets
 pub mod SettingLemmas
 pub mod Endings

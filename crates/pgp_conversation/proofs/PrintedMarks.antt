@@ -1,20 +1,17 @@
 -- Marks are printable.
-use Rattle.std.proofs.Common.{◌≡◌, ℕ, ◌-◌, Bool, true, false, List, [], ◌∷◌, ◌++◌, length, Option, Some, None, refl, sym, ap, ◌∙◌, append_assoc}
+use Rattle.std.proofs.Common.{◌≡◌, ℕ, ◌-◌, Bool, true, false, List, [], ◌∷◌, ◌++◌, length, Option, Some, None, refl}
 use Rattle.std.specs.Prelude.{◌/◌, ◌%◌, nat_lt, if◌then◌else◌, codes, decimal}
 use Rattle.pgp_line.specs.Line.{blanks}
 use Rattle.std.specs.List.{list_all}
 use Rattle.pgp_line.specs.Quoting.{IsPrinted, is_visible}
 use Rattle.pgp_line.specs.declared.style.Form.{Form}
 use Rattle.pgp_line.specs.declared.style.Form.TheVariants.{Columns, Json}
-use Rattle.pgp_line.specs.declared.style.Style.{Style}
-use Rattle.pgp_trace.specs.Listing.{LineOf}
-use Rattle.pgp_trace.specs.Sides.{Side}
-use Rattle.pgp_trace.proofs.Printable.{blank, join, line_printable, plain, plain_join, plain_number}
+use Rattle.pgp_trace.proofs.Printable.{blank, plain, plain_join, plain_number}
 use Rattle.pgp_conversation.specs.declared.chunk.Sender.{Sender}
 use Rattle.pgp_conversation.specs.declared.chunk.Sender.TheVariants.{Client, Server}
 use Rattle.pgp_conversation.specs.declared.told.Told.{Told}
 use Rattle.pgp_conversation.specs.declared.told.Told.TheVariants.{Number, Answer, Lost, Nothing}
-use Rattle.pgp_conversation.specs.Marks.{between, last_mark, later, mark, marked, member, members, millis, number, says, since, word}
+use Rattle.pgp_conversation.specs.Marks.{between, last_mark, later, mark, member, members, millis, number, says, since, word}
 
 abbrev Plain : List ℕ → Type 0
 Plain text = list_all is_visible text ≡ true
@@ -112,10 +109,3 @@ mark_printable form who start micros told = with_word form (mark form who (since
 pub last_printable : (form : Form) (who : Sender) (told : Option Told) → IsPrinted (last_mark form who ++ word form told)
 last_printable Columns who told = with_word Columns (mark Columns who []) told (around Columns who [] refl)
 last_printable Json who told = with_word Json (mark Json who (codes "null")) told (around Json who (codes "null") refl)
-
-pub marked_printable : (style : Style) (place : ℕ) (from to : Side) (frame line : List ℕ) (who : Sender) (start micros : ℕ) (told : Option Told) → LineOf style place from frame line to
-    → (text : List ℕ) × (marked Columns (mark Columns who (since start micros) ++ word Columns told) line ≡ text ++ 10 ∷ []) × IsPrinted text
-marked_printable style place from to frame line who start micros told is =
-    let one = line_printable style place from to frame line is in
-    let m = mark Columns who (since start micros) ++ word Columns told in
-    (m ++ one.0, ap (λ l. m ++ l) one.1 ∙ sym (append_assoc m one.0 (10 ∷ [])), join m one.0 (mark_printable Columns who start micros told) one.2)

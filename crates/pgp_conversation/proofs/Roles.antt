@@ -36,7 +36,7 @@ unread_by true b = refl
 unread_by false true = refl
 unread_by false false = refl
 
-server_named : (tag : ℕ) (r : Result Message Error) → server_role (server_name tag r) ≡ heard_as (kind_by tag r)
+pub server_named : (tag : ℕ) (r : Result Message Error) → server_role (server_name tag r) ≡ heard_as (kind_by tag r)
 server_named tag (Ok m) = message_role m
 server_named tag (Err e) = unread_by (tag == 86) (tag == 87)
 

@@ -6,6 +6,7 @@ pub mod Conversation
 pub mod Steps
 pub mod Hints
 pub mod Session
+pub mod Secrets
 pub mod Order
 pub mod Turns
 pub mod Pieces

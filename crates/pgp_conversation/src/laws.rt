@@ -8,17 +8,19 @@ ghost use Rattle.pgp_line.specs.declared.style.Form.{Form};
 ghost use Rattle.pgp_line.specs.declared.style.Form.TheVariants.{Columns};
 ghost use Rattle.pgp_line.specs.declared.style.Style.{Style};
 ghost use Rattle.pgp_trace.specs.Listing.{LineOf};
+ghost use Rattle.pgp_trace.specs.Secrets.{quietly};
 ghost use Rattle.pgp_trace.specs.Sides.{Side};
 ghost use Rattle.pgp_trace.specs.View.{View};
 ghost use Rattle.pgp_conversation.specs.declared.chunk.Sender.{Sender};
 ghost use Rattle.pgp_conversation.specs.declared.ending.End.{End};
 ghost use Rattle.pgp_conversation.specs.declared.marking.Marking.{Marking};
 ghost use Rattle.pgp_conversation.specs.declared.told.Told.{Told};
-ghost use Rattle.pgp_conversation.specs.Conversation.{ListsChunks, Talk, begins};
+ghost use Rattle.pgp_conversation.specs.Conversation.{Known, ListsChunks, ListsFrame, Talk, begins, side_in};
 ghost use Rattle.pgp_conversation.specs.Marks.{last_mark, mark, marked, since, word};
 ghost use Rattle.pgp_conversation.specs.Order.{IsSplit};
 ghost use Rattle.pgp_conversation.specs.Recording.{Chunk};
 ghost use Rattle.pgp_conversation.specs.Requests.{Numbers};
+ghost use Rattle.pgp_conversation.specs.Secrets.{AlikeIn};
 ghost use Rattle.pgp_conversation.specs.Session.{IsListing};
 ghost use Rattle.pgp_conversation.specs.Turns.{AreTrue, turns_in};
 
@@ -40,10 +42,18 @@ pub fn numbers_say_where_messages_belong()
         → talk.known.numbers ≡ Some numbers → numbers.dialogue ≡ Some dialogue → dialogue.stage ≢ Over → AreTrue (turns_in view (begins marking) chunks lines talk listed) }
 {}
 
-/// A mark has characters alone that a terminal prints, whatever it says of requests, and so has a line of text with its mark, before its newline.
+/// A mark has characters alone that a terminal prints, whatever it says of requests, and so has a line with its mark, as text or as an object, before
+/// its newline.
 pub fn marked_lines_are_printable()
-    ensures lines { (style : Style) (place : ℕ) (from to : Side) (frame line : List ℕ) (who : Sender) (start micros : ℕ) (told : Option Told) → LineOf style place from frame line to →
-        (text : List ℕ) × (marked Columns (mark Columns who (since start micros) ++ word Columns told) line ≡ text ++ 10 ∷ []) × IsPrinted text }
+    ensures lines { (style : Style) (place : ℕ) (from to : Side) (frame line : List ℕ) (form : Form) (who : Sender) (start micros : ℕ) (told : Option Told) → LineOf style place from frame line to →
+        (text : List ℕ) × (marked form (mark form who (since start micros) ++ word form told) line ≡ text ++ 10 ∷ []) × IsPrinted text }
     ensures marks { (form : Form) (who : Sender) (start micros : ℕ) (told : Option Told) → IsPrinted (mark form who (since start micros) ++ word form told) }
     ensures last { (form : Form) (who : Sender) (told : Option Told) → IsPrinted (last_mark form who ++ word form told) }
+{}
+
+/// A frame that differs from another one of its side in its secrets alone has the same text in a listing, and the same is known after it, unless secrets are
+/// asked for.
+pub fn secrets_are_hidden()
+    ensures { (view : View) (mark : List ℕ) (who : Sender) (place : ℕ) (here to : Known) (frame other text : List ℕ) → AlikeIn (side_in who here) frame other
+        → ListsFrame (quietly view) mark who place here frame text to → ListsFrame (quietly view) mark who place here other text to }
 {}

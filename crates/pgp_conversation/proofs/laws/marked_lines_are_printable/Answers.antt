@@ -1,4 +1,5 @@
-use Rattle.pgp_conversation.proofs.PrintedMarks.{last_printable, mark_printable, marked_printable}
+use Rattle.pgp_conversation.proofs.PrintedMarks.{last_printable, mark_printable}
+use Rattle.pgp_conversation.proofs.PrintedObjects.{marked_printable}
 use Rattle.pgp_conversation.proofs.laws.marked_lines_are_printable.Goals as goal
 
 pub returns : goal.returns
