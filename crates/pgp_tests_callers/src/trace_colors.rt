@@ -1,6 +1,6 @@
 //! Which lines have colours. Expected lines are after the message formats of the PostgreSQL manual, with the sequences of ECMA-48 (SGR) around them.
 
-use crate::trace_words::{Outcome, comes_on};
+use crate::trace_words::{Outcome, USAGE, comes_on};
 
 /// An error, a notice, a row, a frame of no tag, and the state.
 const ANSWER: &[u8] =
@@ -11,9 +11,6 @@ const PLAIN: &str =
 
 const COLORED: &str =
     "\x1b[31m         0       13 E ErrorResponse        severity \"ERROR\"\x1b[0m\n\x1b[33m        13       12 N NoticeResponse       severity \"NOTE\"\x1b[0m\n        25       12 D DataRow              values 1 \"e\"\n\x1b[31m        37        5 ? fault 5 UnknownTag\x1b[0m\n        42        6 Z ReadyForQuery        idle\nrest 0\n";
-
-const USAGE: &str =
-    "usage: pgtrace server [--json] [--full] [--secrets] [--resume] [--only NAME[,NAME]..] [--color auto|always|never] | client [--json] [--full] [--secrets] [--resume] [--only NAME[,NAME]..] [--color auto|always|never] [--password-kind password|initial|response].. [--replication] | session [--json] [--full] [--secrets] [--requests] [--time absolute|relative] [--only NAME[,NAME]..] [--color auto|always|never] | --help | --version\n";
 
 #[test]
 fn errors_and_notices_have_colors(rt: HostRuntime) {

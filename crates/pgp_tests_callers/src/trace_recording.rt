@@ -2,35 +2,10 @@
 
 use crate::checks::{holds, same};
 use crate::failing::{FailingReader, PieceReader};
+use crate::trace_words::{Outcome, USAGE, comes_to};
 use pgp_conversation::run::run;
-use std::alloc::Global;
 use std::io::{self, Read};
-use std::process::Abort;
 use std::test::Fail;
-
-/// What a run comes to: its status, what it writes, and what it says on standard error.
-#[derive(Clone, Copy)]
-struct Outcome<'a> {
-    status: u8,
-    written: &'a str,
-    reported: &'a str,
-}
-
-/// The program on these words and this input comes to this, where no terminal shows it.
-fn comes_to<R: Read>(
-    rt: &impl Abort,
-    alloc: Global,
-    words: &[&str],
-    input: &mut R,
-    wanted: &Outcome<'_>,
-) {
-    let mut output = Vec::new(alloc);
-    let mut errors = Vec::new(alloc);
-    let status = run(alloc, false, words, input, &mut output, &mut errors);
-    same(rt, status, wanted.status);
-    holds(rt, output.as_slice() == wanted.written.as_bytes());
-    holds(rt, errors.as_slice() == wanted.reported.as_bytes());
-}
 
 /// A client asks for TLS, which the server refuses; logs in with a password, by a clock that was set back; and the first byte of a message comes. The
 /// chunks came 0, 312, 100,000, 200,000, -1 and 300,001 microseconds after a second.
@@ -76,9 +51,6 @@ const OPEN: &str =
 
 const OBJECTS: &str =
     "{\"time\":0.000312,\"from\":\"server\",\"offset\":0,\"length\":1,\"tag\":\"N\",\"name\":\"SSLResponse\"}\n{\"time\":-0.000001,\"from\":\"client\",\"offset\":24,\"length\":8,\"tag\":\"p\",\"name\":\"PasswordMessage\",\"password\":{\"bytes\":2}}\n{\"time\":null,\"from\":\"server\",\"rest\":1,\"stopped\":false}\n";
-
-const USAGE: &str =
-    "usage: pgtrace server [--json] [--full] [--secrets] [--resume] [--only NAME[,NAME]..] [--color auto|always|never] | client [--json] [--full] [--secrets] [--resume] [--only NAME[,NAME]..] [--color auto|always|never] [--password-kind password|initial|response].. [--replication] | session [--json] [--full] [--secrets] [--requests] [--time absolute|relative] [--only NAME[,NAME]..] [--color auto|always|never] | --help | --version\n";
 
 /// A standby logs in and asks for a replication stream. The chunks have a StartupMessage; an AuthenticationOk and a CopyBothResponse; a
 /// StandbyStatusUpdate; a CopyDone; and a CopyData again, with the letter of a StandbyStatusUpdate alone. All came at second 1.

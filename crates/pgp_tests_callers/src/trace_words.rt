@@ -6,7 +6,7 @@ use crate::trace_objects::{
     ANSWER_OBJECTS, ANSWERS, GSS_OBJECTS, OBJECTS, OPEN_OBJECTS, TLS_OBJECTS,
 };
 use crate::trace_session::{LATER, LATER_LINES, LINES, OPEN_LINES, OTHER, OTHER_LINES, SESSION};
-use pgp_trace::run::run;
+use pgp_conversation::run::run;
 use std::alloc::Global;
 use std::io::Read;
 use std::process::Abort;
@@ -50,7 +50,8 @@ pub fn comes_on<R: Read>(
 const OPEN: &str =
     "         0        1 N SSLResponse or GSSENCResponse\n         1        9 R AuthenticationOk\n        10        9 S ParameterStatus      name \"n\" value \"\\x0a\"\n        19        6 Z ReadyForQuery        idle\n        25       13 K BackendKeyData       process 1 key \"abcd\"\nrest 2\n";
 
-const USAGE: &str =
+/// What `--help` writes, and what is said on standard error of other words.
+pub const USAGE: &str =
     "usage: pgtrace server [--json] [--full] [--secrets] [--resume] [--only NAME[,NAME]..] [--color auto|always|never] | client [--json] [--full] [--secrets] [--resume] [--only NAME[,NAME]..] [--color auto|always|never] [--password-kind password|initial|response].. [--replication] | session [--json] [--full] [--secrets] [--requests] [--time absolute|relative] [--only NAME[,NAME]..] [--color auto|always|never] | --help | --version\n";
 
 #[test]
