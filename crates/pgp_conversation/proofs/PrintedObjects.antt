@@ -59,8 +59,7 @@ inside_by : (m rest : List ℕ) (c : ℕ) (is : Bool) → (c == 123) ≡ is → 
     → (out : List ℕ) × ((if is then 123 ∷ m ++ (rest ++ 10 ∷ []) else m ++ c ∷ (rest ++ 10 ∷ [])) ≡ out ++ 10 ∷ []) × IsPrinted out
 inside_by m rest c true e pm pt =
     let here : c ≡ 123 = eqb-true c 123 e in
-    let p : IsPrinted (123 ∷ rest) = rw here at pt in
-    (
+    let p : IsPrinted (123 ∷ rest) = rw here at pt in (
       123 ∷ m ++ rest,
       ap (λ l. 123 ∷ l) (sym (append_assoc m rest (10 ∷ []))),
       join (123 ∷ []) (m ++ rest) (plain (123 ∷ []) refl) (join m rest pm (behind_brace rest p.characters p.scalars p.printed p.spelled)),
