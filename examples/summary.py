@@ -28,7 +28,7 @@ class Statements:
         self.rows, self.times = collections.Counter(), collections.defaultdict(list)
 
     def ask(self, message):
-        name = message["name"]
+        name = message.get("name")
         query, statement, portal = (text_of(message.get(key, {})) for key in ("query", "statement", "portal"))
         if name == "Parse":
             self.statements[statement] = query

@@ -244,8 +244,7 @@ follows_start view marking s opened held rest fresh first none = record {
 }
 
 -- times are counted so
-pub first_held : (marking : Marking) (held : HeldTalk) → held ≡ held_first (record { absolute = false; numbered = marking.numbered })
-    → record { known = held.known; client = held.client; server = held.server; start = first_start marking.absolute } ≡ held_first marking
+pub first_held : (marking : Marking) (held : HeldTalk) → held ≡ held_first (record { absolute = false; numbered = marking.numbered }) → record { known = held.known; client = held.client; server = held.server; start = first_start marking.absolute } ≡ held_first marking
 first_held marking held e = ap (λ (h : HeldTalk). record { known = h.known; client = h.client; server = h.server; start = first_start marking.absolute }) e
 
 pub follows_same : (view : View) (marking : Marking) (before after : Streams) (opened : Bool) (held : HeldTalk) (rest : List ℕ) (next : Option (List ℕ)) → Follows view marking before after opened held rest → Same after.input next
