@@ -1,15 +1,17 @@
 //! What is answered to a statement.
 
 use crate::asked::{Refusal, put_error, put_notice, refuse};
-use crate::binary::{Unwritten, binary_of};
-use crate::bound::{Bound, rows_for};
+use crate::binary::{Unwritten, value_in};
+use crate::bound::{Bound, is_sent};
 use crate::copy::put_copy_out;
 use crate::extended::are_formats;
-use crate::fault::Fault;
+use crate::list::push;
+use crate::outbox::Outbox;
 use crate::script::{Column, End, Row, Statement};
+use crate::types::Type;
 use bytes::BytesMut;
 use pgp_message_write as reply;
-use std::alloc::{AllocError, Global};
+use std::alloc::Global;
 
 /// How an answer goes on.
 #[derive(Clone, Copy, PartialEq, Eq)]
@@ -31,158 +33,148 @@ pub(crate) fn format_of(formats: &[i16], place: usize) -> i16 {
     }
 }
 
-/// Appends the description of rows with these columns, or that there are none.
-pub(crate) fn describe(
-    alloc: Global,
-    columns: &[Column],
-    formats: &[i16],
-    out: &mut BytesMut,
-) -> Result<(), Fault> {
-    if columns.is_empty() {
-        return Ok(reply::no_data(out)?);
+/// A column of this name and type in the description of rows.
+fn described(name: &[u8], kind: Type, format: i16) -> reply::Column<'_> {
+    reply::Column {
+        name,
+        table_oid: 0,
+        column_id: 0,
+        type_oid: kind.oid,
+        type_size: kind.size,
+        type_modifier: -1,
+        format,
     }
-    let columns = described(alloc, columns, formats)?;
-    Ok(reply::row_description(&columns, out)?)
 }
 
-fn described<'c>(
-    alloc: Global,
+/// Appends the description of rows with one column.
+pub(crate) fn describe_one(name: &[u8], kind: Type, formats: &[i16], out: &mut Outbox) {
+    let column = described(name, kind, format_of(formats, 0));
+    let put = reply::row_description(&[column], &mut out.bytes);
+    out.put(put);
+}
+
+/// Appends that there are no rows.
+pub(crate) fn describe_none(out: &mut Outbox) {
+    let put = reply::no_data(&mut out.bytes);
+    out.put(put);
+}
+
+/// Appends the description of rows with these columns, or that there are none.
+pub(crate) fn describe(columns: &[Column], formats: &[i16], out: &mut Outbox) {
+    if columns.is_empty() {
+        return describe_none(out);
+    }
+    let columns = all_described(columns, formats, out);
+    let put = reply::row_description(&columns, &mut out.bytes);
+    out.put(put);
+}
+
+fn all_described<'c>(
     columns: &'c [Column],
     formats: &[i16],
-) -> Result<Vec<reply::Column<'c>>, AllocError> {
-    let mut list = Vec::new(alloc);
+    out: &mut Outbox,
+) -> Vec<reply::Column<'c>> {
+    let mut list = Vec::new(out.alloc);
     for column in columns {
-        list.push(reply::Column {
-            name: column.name.as_slice(),
-            table_oid: 0,
-            column_id: 0,
-            type_oid: column.kind.oid,
-            type_size: column.kind.size,
-            type_modifier: -1,
-            format: format_of(formats, list.len()),
-        })?;
+        let format = format_of(formats, list.len());
+        out.add(&mut list, described(&column.name, column.kind, format));
     }
-    Ok(list)
+    list
 }
 
-/// A value in the format that is wanted; `None` where this server doesn't write it.
-fn value_in(
-    alloc: Global,
-    column: &Column,
-    format: i16,
-    text: &[u8],
-) -> Result<Option<Vec<u8>>, AllocError> {
-    if format == 0 {
-        return Ok(Some(Vec::from_slice(alloc, text)?));
-    }
-    match binary_of(alloc, column.kind.oid, text) {
-        Ok(bytes) => Ok(Some(Vec::from_slice(alloc, &bytes)?)),
-        Err(Unwritten::Memory) => Err(AllocError),
-        Err(_) => Ok(None),
-    }
-}
-
-/// Adds a value in the format that is wanted, or returns that this server doesn't write it.
-fn add_value(
-    alloc: Global,
-    column: &Column,
-    format: i16,
-    value: &Option<Vec<u8>>,
-    values: &mut Vec<Option<Vec<u8>>>,
-) -> Result<bool, AllocError> {
-    let Some(text) = value else {
-        values.push(None)?;
-        return Ok(true);
-    };
-    match value_in(alloc, column, format, text)? {
-        Some(bytes) => values.push(Some(bytes))?,
-        None => return Ok(false),
-    }
-    Ok(true)
-}
-
-/// Adds the values of a row in the formats that are wanted, or returns that this server doesn't write one of them.
+/// Adds the values of a row in the formats that are wanted.
+///
+/// # Errors
+///
+/// Returns `NoFormat` and `NotOfType` if this server doesn't write one of them so.
 fn add_values(
     alloc: Global,
     columns: &[Column],
     formats: &[i16],
     row: &[Option<Vec<u8>>],
-    values: &mut Vec<Option<Vec<u8>>>,
-) -> Result<bool, AllocError> {
+    values: &mut Vec<Option<BytesMut>>,
+) -> Result<(), Unwritten> {
     for (column, value) in columns.iter().zip(row) {
         let format = format_of(formats, values.len());
-        if !add_value(alloc, column, format, value, values)? {
-            return Ok(false);
-        }
+        let shown = match value {
+            Some(text) => Some(value_in(alloc, format, column.kind.oid, text)?),
+            None => None,
+        };
+        push(values, shown)?;
     }
-    Ok(true)
+    Ok(())
 }
 
-fn slice_of(value: &Option<Vec<u8>>) -> Option<&[u8]> {
+fn slice_of(value: &Option<BytesMut>) -> Option<&[u8]> {
     match value {
-        Some(bytes) => Some(bytes.as_slice()),
+        Some(bytes) => Some(bytes),
         None => None,
     }
 }
 
 /// The values, lent out.
-fn lent(alloc: Global, values: &[Option<Vec<u8>>]) -> Result<Vec<Option<&[u8]>>, AllocError> {
-    let mut list = Vec::new(alloc);
+fn lent<'v>(values: &'v [Option<BytesMut>], out: &mut Outbox) -> Vec<Option<&'v [u8]>> {
+    let mut list = Vec::new(out.alloc);
     for value in values {
-        list.push(slice_of(value))?;
+        out.add(&mut list, slice_of(value));
     }
-    Ok(list)
+    list
 }
 
 /// Appends a row of these values.
-fn put_values(alloc: Global, values: &[Option<Vec<u8>>], out: &mut BytesMut) -> Result<(), Fault> {
-    Ok(reply::data_row(&lent(alloc, values)?, out)?)
+fn put_values(values: &[Option<BytesMut>], out: &mut Outbox) {
+    let values = lent(values, out);
+    let put = reply::data_row(&values, &mut out.bytes);
+    out.put(put);
 }
 
-/// Appends a row, or returns that this server doesn't write one of its values.
-fn put_row(
-    alloc: Global,
-    statement: &Statement,
+/// Appends a row, or returns why it can't be sent.
+fn put_row<'r>(
+    columns: &[Column],
     formats: &[i16],
     row: &[Option<Vec<u8>>],
-    out: &mut BytesMut,
-) -> Result<bool, Fault> {
-    let mut values = Vec::new(alloc);
-    if !add_values(alloc, &statement.columns, formats, row, &mut values)? {
-        return Ok(false);
+    out: &mut Outbox,
+) -> Result<(), Refusal<'r>> {
+    if !are_formats(formats) {
+        return Err(Refusal::BadFormat);
     }
-    put_values(alloc, &values, out)?;
-    Ok(true)
+    let mut values = Vec::new(out.alloc);
+    match add_values(out.alloc, columns, formats, row, &mut values) {
+        Ok(()) => put_values(&values, out),
+        Err(Unwritten::Memory) => out.lack(),
+        Err(_) => return Err(Refusal::NotSupported),
+    }
+    Ok(())
 }
 
-/// Appends those of the rows from this place on, at most so many, and returns the place after them; or why a row can't be sent.
+/// Appends those of the rows from this place on, at most so many, and returns how many there were; or why a row can't be sent.
 fn put_rows<'r>(
-    alloc: Global,
     statement: &Statement,
-    rows: &[&Row],
-    formats: &[i16],
-    range: (usize, usize),
-    out: &mut BytesMut,
-) -> Result<Result<usize, Refusal<'r>>, Fault> {
-    let mut at = range.0;
-    for row in rows.iter().skip(range.0).take(range.1) {
-        if !are_formats(formats) {
-            return Ok(Err(Refusal::BadFormat));
+    bound: Bound<'_>,
+    from: usize,
+    most: usize,
+    out: &mut Outbox,
+) -> Result<usize, Refusal<'r>> {
+    let (mut before, mut sent) = (0usize, 0usize);
+    for row in &statement.rows {
+        if sent == most || !is_sent(row, bound.values, out) {
+            continue;
         }
-        if !put_row(alloc, statement, formats, &row.values, out)? {
-            return Ok(Err(Refusal::NotSupported));
+        if before < from {
+            before = before.saturating_add(1);
+            continue;
         }
-        at = at.saturating_add(1);
+        put_row(&statement.columns, bound.formats, &row.values, out)?;
+        sent = sent.saturating_add(1);
     }
-    Ok(Ok(at))
+    Ok(sent)
 }
 
 /// Appends the notices.
-fn put_notices(alloc: Global, statement: &Statement, out: &mut BytesMut) -> Result<(), Fault> {
+fn put_notices(statement: &Statement, out: &mut Outbox) {
     for report in &statement.notices {
-        put_notice(alloc, report, out)?;
+        put_notice(report, out);
     }
-    Ok(())
 }
 
 /// Whether it is a number.
@@ -190,50 +182,50 @@ fn is_count(word: &str) -> bool {
     word.parse::<u64>().is_ok()
 }
 
-/// The tag of a part of the rows: where it ends with a number, the number of rows stands there.
-fn counted(alloc: Global, tag: &[u8], rows: usize) -> Result<Vec<u8>, AllocError> {
-    let text = str::from_utf8(tag).unwrap_or("");
-    match text.rsplit_once(' ') {
-        Some((front, count)) if is_count(count) => {
-            Ok(format!(in alloc; "{front} {rows}")?.into_bytes())
-        }
-        _ => Vec::from_slice(alloc, tag),
+/// What stands before the number at the end of a tag, if there is one.
+fn uncounted(tag: &[u8]) -> Option<&str> {
+    match str::from_utf8(tag).unwrap_or("").rsplit_once(' ') {
+        Some((front, count)) if is_count(count) => Some(front),
+        _ => None,
+    }
+}
+
+/// Appends that a command was carried out.
+pub(crate) fn complete(tag: &[u8], out: &mut Outbox) {
+    let put = reply::command_complete(tag, &mut out.bytes);
+    out.put(put);
+}
+
+/// Appends the tag of a part of the rows: where it ends with a number, the number of rows stands there.
+fn complete_part(tag: &[u8], rows: usize, out: &mut Outbox) {
+    let Some(front) = uncounted(tag) else {
+        return complete(tag, out);
+    };
+    match format!(in out.alloc; "{front} {rows}") {
+        Ok(tag) => complete(tag.as_bytes(), out),
+        Err(_) => out.lack(),
     }
 }
 
 /// Appends how the answer ends, which is the answer of one run, or of one that followed another and sent so many rows.
-fn put_end(
-    alloc: Global,
-    statement: &Statement,
-    part: Option<usize>,
-    out: &mut BytesMut,
-) -> Result<Went, Fault> {
+fn put_end(statement: &Statement, part: Option<usize>, out: &mut Outbox) -> Went {
     match &statement.end {
-        End::Error(report) => {
-            put_error(alloc, report, out)?;
-            Ok(Went::Wrong)
-        }
+        End::Error(report) => put_error(report, out),
+        End::Open => refuse(Refusal::NotScripted(&statement.text), out),
         End::Tag(tag) => {
             match part {
-                Some(rows) => reply::command_complete(&counted(alloc, tag, rows)?, out)?,
-                None => reply::command_complete(tag, out)?,
+                Some(rows) => complete_part(tag, rows, out),
+                None => complete(tag, out),
             }
-            Ok(Went::Well)
-        }
-        End::Open => {
-            refuse(alloc, Refusal::NotScripted(&statement.text), out)?;
-            Ok(Went::Wrong)
+            return Went::Well;
         }
     }
+    Went::Wrong
 }
 
 /// Appends how the answer ends that is no part.
-pub(crate) fn put_tag(
-    alloc: Global,
-    statement: &Statement,
-    out: &mut BytesMut,
-) -> Result<Went, Fault> {
-    put_end(alloc, statement, None, out)
+pub(crate) fn put_tag(statement: &Statement, out: &mut Outbox) -> Went {
+    put_end(statement, None, out)
 }
 
 /// How far the rows of a portal are sent.
@@ -247,55 +239,48 @@ pub(crate) struct Progress {
 /// Appends the rows after those that were sent, at most so many (0: all), and the end of the answer; or, where so many were sent, that
 /// there may be more. Notices stand before the first row.
 pub(crate) fn execute(
-    alloc: Global,
     statement: &Statement,
     bound: Bound<'_>,
     before: Option<usize>,
     most: usize,
-    out: &mut BytesMut,
-) -> Result<Progress, Fault> {
+    out: &mut Outbox,
+) -> Progress {
     if before.is_none() {
-        put_notices(alloc, statement, out)?;
+        put_notices(statement, out);
     }
     if let Some(copy) = &statement.copy {
-        put_copy_out(alloc, copy, out)?;
+        put_copy_out(copy, out);
     }
     let from = before.unwrap_or(0);
     let limit = if most == 0 { usize::MAX } else { most };
-    let rows = rows_for(alloc, statement, bound.values)?;
-    let sent = match put_rows(alloc, statement, &rows, bound.formats, (from, limit), out)? {
-        Ok(sent) => sent,
+    match put_rows(statement, bound, from, limit, out) {
+        Ok(rows) => Progress {
+            sent: from.saturating_add(rows),
+            went: ended(statement, before.is_some(), rows, most, out),
+        },
         Err(refusal) => {
-            refuse(alloc, refusal, out)?;
-            return Ok(Progress {
+            refuse(refusal, out);
+            Progress {
                 sent: from,
                 went: Went::Wrong,
-            });
+            }
         }
-    };
-    let went = ended(
-        alloc,
-        statement,
-        before,
-        (sent.saturating_sub(from), most),
-        out,
-    )?;
-    Ok(Progress { sent, went })
+    }
 }
 
-/// Appends the end of the answer after so many rows, of so many that were asked for (0: all).
+/// Appends the end of the answer after so many rows, of so many that were asked for (0: all); they may follow others.
 fn ended(
-    alloc: Global,
     statement: &Statement,
-    before: Option<usize>,
-    rows: (usize, usize),
-    out: &mut BytesMut,
-) -> Result<Went, Fault> {
-    if rows.0 == rows.1 && rows.1 != 0 {
-        reply::portal_suspended(out)?;
-        return Ok(Went::Suspended);
+    is_later: bool,
+    rows: usize,
+    most: usize,
+    out: &mut Outbox,
+) -> Went {
+    if rows == most && most != 0 {
+        let put = reply::portal_suspended(&mut out.bytes);
+        out.put(put);
+        return Went::Suspended;
     }
-    let is_counted = before.is_some() || statement.has_conditions();
-    let part = if is_counted { Some(rows.0) } else { None };
-    put_end(alloc, statement, part, out)
+    let is_counted = is_later || statement.has_conditions();
+    put_end(statement, if is_counted { Some(rows) } else { None }, out)
 }

@@ -2,7 +2,9 @@
 //!
 //! PostgreSQL manual, "Arrays", "Array Input and Output Syntax".
 
-use std::alloc::{AllocError, Global};
+use crate::binary::Unwritten;
+use crate::list::push;
+use std::alloc::Global;
 
 /// An element that is read.
 #[derive(Drop)]
@@ -28,81 +30,111 @@ impl Element {
         }
     }
 
-    /// Takes a byte, and returns whether it has its place there.
-    fn take(&mut self, byte: u8) -> Result<bool, AllocError> {
+    fn add(&mut self, byte: u8) -> Result<(), Unwritten> {
+        match self.bytes.push(byte) {
+            Ok(()) => Ok(()),
+            Err(_) => Err(Unwritten::Memory),
+        }
+    }
+
+    /// Takes a byte, which may have no place there.
+    fn take(&mut self, byte: u8) -> Result<(), Unwritten> {
         if self.is_escaped {
             self.is_escaped = false;
-            self.bytes.push(byte)?;
-            return Ok(true);
+            return self.add(byte);
         }
         match byte {
-            b'\\' => self.is_escaped = true,
-            b'"' => return Ok(self.quote()),
-            _ if self.is_closed => return Ok(false),
-            b'{' | b'}' if !self.is_inside => return Ok(false),
-            _ => self.bytes.push(byte)?,
+            b'\\' => {
+                self.is_escaped = true;
+                Ok(())
+            }
+            b'"' => self.quote(),
+            _ if self.is_closed => Err(Unwritten::NotOfType),
+            b'{' | b'}' if !self.is_inside => Err(Unwritten::NotOfType),
+            _ => self.add(byte),
         }
-        Ok(true)
     }
 
     /// Takes a quotation mark.
-    fn quote(&mut self) -> bool {
+    fn quote(&mut self) -> Result<(), Unwritten> {
         if self.is_inside {
             self.is_inside = false;
             self.is_closed = true;
-            return true;
+            return Ok(());
         }
         let is_first = !self.is_quoted && self.bytes.is_empty();
         self.is_quoted = true;
         self.is_inside = true;
-        is_first
+        if is_first {
+            Ok(())
+        } else {
+            Err(Unwritten::NotOfType)
+        }
     }
 
-    /// Adds the element to the others, and returns whether it is one.
-    fn end(self, elements: &mut Vec<Option<Vec<u8>>>) -> Result<bool, AllocError> {
-        if self.is_inside || self.is_escaped || (self.bytes.is_empty() && !self.is_quoted) {
-            return Ok(false);
+    /// Whether a comma ends it.
+    fn may_end(&self) -> bool {
+        !self.is_inside && !self.is_escaped
+    }
+
+    /// Whether it is an element.
+    fn is_whole(&self) -> bool {
+        self.may_end() && (self.is_quoted || !self.bytes.is_empty())
+    }
+
+    fn is_null(&self) -> bool {
+        !self.is_quoted && self.bytes.as_slice().eq_ignore_ascii_case(b"null")
+    }
+
+    /// Adds the element to the others.
+    fn end(self, elements: &mut Vec<Option<Vec<u8>>>) -> Result<(), Unwritten> {
+        if !self.is_whole() {
+            return Err(Unwritten::NotOfType);
         }
-        let is_null = !self.is_quoted && self.bytes.as_slice().eq_ignore_ascii_case(b"null");
-        elements.push(if is_null { None } else { Some(self.bytes) })?;
-        Ok(true)
+        let value = if self.is_null() {
+            None
+        } else {
+            Some(self.bytes)
+        };
+        Ok(push(elements, value)?)
     }
 }
 
-/// Adds the elements of the text between the braces, and returns whether it has such a form.
+/// Adds the elements of the text between the braces.
 fn add_elements(
     alloc: Global,
     inside: &[u8],
     elements: &mut Vec<Option<Vec<u8>>>,
-) -> Result<bool, AllocError> {
+) -> Result<(), Unwritten> {
     let mut element = Element::new(alloc);
     for byte in inside {
-        if *byte == b',' && !element.is_inside && !element.is_escaped {
+        if *byte == b',' && element.may_end() {
             let whole = std::mem::replace(&mut element, Element::new(alloc));
-            if !whole.end(elements)? {
-                return Ok(false);
-            }
-        } else if !element.take(*byte)? {
-            return Ok(false);
+            whole.end(elements)?;
+        } else {
+            element.take(*byte)?;
         }
     }
     element.end(elements)
 }
 
-/// The elements of `{1,NULL,"a b"}`, a null as `None`; `None` of another text.
-pub(crate) fn elements_of(
-    alloc: Global,
-    text: &str,
-) -> Result<Option<Vec<Option<Vec<u8>>>>, AllocError> {
-    let Some(inside) = text.strip_prefix('{') else {
-        return Ok(None);
-    };
-    let Some(inside) = inside.strip_suffix('}') else {
-        return Ok(None);
+/// What stands between the braces.
+fn inside_of(text: &str) -> Option<&str> {
+    text.strip_prefix('{')?.strip_suffix('}')
+}
+
+/// The elements of `{1,NULL,"a b"}`, a null as `None`.
+///
+/// # Errors
+///
+/// Returns `NotOfType` of another text, and `Memory`.
+pub(crate) fn elements_of(alloc: Global, text: &str) -> Result<Vec<Option<Vec<u8>>>, Unwritten> {
+    let Some(inside) = inside_of(text) else {
+        return Err(Unwritten::NotOfType);
     };
     let mut elements = Vec::new(alloc);
-    if inside.is_empty() || add_elements(alloc, inside.as_bytes(), &mut elements)? {
-        return Ok(Some(elements));
+    if !inside.is_empty() {
+        add_elements(alloc, inside.as_bytes(), &mut elements)?;
     }
-    Ok(None)
+    Ok(elements)
 }

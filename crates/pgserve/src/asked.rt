@@ -1,11 +1,9 @@
 //! Errors that no script says.
 
-use crate::fault::Fault;
+use crate::outbox::Outbox;
 use crate::script::Report;
 use crate::transaction::Warning;
-use bytes::BytesMut;
 use pgp_message_write::{self as reply, ErrorField};
-use std::alloc::{AllocError, Global};
 
 /// Why a request gets an error, by its SQLSTATE (PostgreSQL manual, appendix "PostgreSQL Error Codes").
 #[derive(Clone, Copy)]
@@ -141,56 +139,61 @@ fn fields<'a>(severity: &'a [u8], code: &'a [u8], message: &'a [u8]) -> [ErrorFi
 }
 
 /// Appends an error.
-fn error(code: &[u8], message: &[u8], out: &mut BytesMut) -> Result<(), Fault> {
-    Ok(reply::error_response(&fields(b"ERROR", code, message), out)?)
+fn error(code: &[u8], message: &[u8], out: &mut Outbox) {
+    let put = reply::error_response(&fields(b"ERROR", code, message), &mut out.bytes);
+    out.put(put);
 }
 
 /// Appends the error that ends a session in which it isn't known where the next message begins.
-pub(crate) fn end_session(out: &mut BytesMut) -> Result<(), Fault> {
+pub(crate) fn end_session(out: &mut Outbox) {
     let message = b"terminating connection because protocol sync was lost";
-    Ok(reply::error_response(&fields(b"FATAL", b"08P01", message), out)?)
+    let put = reply::error_response(&fields(b"FATAL", b"08P01", message), &mut out.bytes);
+    out.put(put);
 }
 
 /// Appends a warning.
-pub(crate) fn warn(warning: Warning, out: &mut BytesMut) -> Result<(), Fault> {
+pub(crate) fn warn(warning: Warning, out: &mut Outbox) {
     let fields = fields(b"WARNING", warning.code(), warning.message());
-    Ok(reply::notice_response(&fields, out)?)
+    let put = reply::notice_response(&fields, &mut out.bytes);
+    out.put(put);
 }
 
 /// All fields of a report of the script.
-fn fields_of(alloc: Global, report: &Report) -> Result<Vec<ErrorField<'_>>, AllocError> {
-    let mut all = Vec::new(alloc);
+fn fields_of<'r>(report: &'r Report, out: &mut Outbox) -> Vec<ErrorField<'r>> {
     let severity = report.severity.as_bytes();
-    for field in fields(severity, &report.code, &report.message) {
-        all.push(field)?;
-    }
+    let mut all = out.copy(&fields(severity, &report.code, &report.message));
     for detail in &report.details {
-        all.push(field(detail.code, &detail.value))?;
+        out.add(&mut all, field(detail.code, &detail.value));
     }
-    Ok(all)
+    all
 }
 
 /// Appends a notice of the script.
-pub(crate) fn put_notice(alloc: Global, report: &Report, out: &mut BytesMut) -> Result<(), Fault> {
-    Ok(reply::notice_response(&fields_of(alloc, report)?, out)?)
+pub(crate) fn put_notice(report: &Report, out: &mut Outbox) {
+    let fields = fields_of(report, out);
+    let put = reply::notice_response(&fields, &mut out.bytes);
+    out.put(put);
 }
 
 /// Appends an error of the script.
-pub(crate) fn put_error(alloc: Global, report: &Report, out: &mut BytesMut) -> Result<(), Fault> {
-    Ok(reply::error_response(&fields_of(alloc, report)?, out)?)
-}
-
-/// The message with its name after a colon.
-fn message_of(alloc: Global, refusal: Refusal<'_>) -> Result<Vec<u8>, AllocError> {
-    let mut message = Vec::from_slice(alloc, refusal.message())?;
-    if let Some(name) = refusal.name() {
-        message.extend_from_slice(b": ")?;
-        message.extend_from_slice(name)?;
-    }
-    Ok(message)
+pub(crate) fn put_error(report: &Report, out: &mut Outbox) {
+    let fields = fields_of(report, out);
+    let put = reply::error_response(&fields, &mut out.bytes);
+    out.put(put);
 }
 
 /// Appends the error.
-pub(crate) fn refuse(alloc: Global, refusal: Refusal<'_>, out: &mut BytesMut) -> Result<(), Fault> {
-    error(refusal.code(), &message_of(alloc, refusal)?, out)
+pub(crate) fn refuse(refusal: Refusal<'_>, out: &mut Outbox) {
+    match refusal.name() {
+        Some(name) => refuse_name(refusal, name, out),
+        None => error(refusal.code(), refusal.message(), out),
+    }
+}
+
+/// Appends the error, with this name at the end of its message.
+fn refuse_name(refusal: Refusal<'_>, name: &[u8], out: &mut Outbox) {
+    let mut message = out.copy(refusal.message());
+    out.keep(message.extend_from_slice(b": "));
+    out.keep(message.extend_from_slice(name));
+    error(refusal.code(), &message, out);
 }

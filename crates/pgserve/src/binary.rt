@@ -39,53 +39,77 @@ impl From<AllocError> for Unwritten {
     }
 }
 
+/// What became of bytes that were to be appended.
+fn written(put: Result<(), Error>) -> Result<(), Unwritten> {
+    match put {
+        Ok(()) => Ok(()),
+        Err(why) => Err(Unwritten::from(why)),
+    }
+}
+
 /// Appends a number without a fraction.
 fn put_integer(oid: Oid, word: &str, out: &mut BytesMut) -> Result<(), Unwritten> {
     match oid {
         INT8 => match word.parse() {
-            Ok(number) => Ok(types::int8_to_sql(number, out)?),
+            Ok(number) => written(types::int8_to_sql(number, out)),
             Err(_) => Err(Unwritten::NotOfType),
         },
         INT2 => match word.parse() {
-            Ok(number) => Ok(types::int2_to_sql(number, out)?),
+            Ok(number) => written(types::int2_to_sql(number, out)),
             Err(_) => Err(Unwritten::NotOfType),
         },
         INT4 => match word.parse() {
-            Ok(number) => Ok(types::int4_to_sql(number, out)?),
+            Ok(number) => written(types::int4_to_sql(number, out)),
             Err(_) => Err(Unwritten::NotOfType),
         },
         _ => match word.parse() {
-            Ok(number) => Ok(types::oid_to_sql(number, out)?),
+            Ok(number) => written(types::oid_to_sql(number, out)),
             Err(_) => Err(Unwritten::NotOfType),
         },
     }
 }
 
-/// What a server sends for `NaN`.
-const NAN4: u32 = 0x7fc0_0000;
+/// The bits of a number, and of `NaN` those that a server sends.
+fn bits4(number: f32) -> u32 {
+    if number.is_nan() {
+        0x7fc0_0000
+    } else {
+        number.to_bits()
+    }
+}
 
-const NAN8: u64 = 0x7ff8_0000_0000_0000;
+fn bits8(number: f64) -> u64 {
+    if number.is_nan() {
+        0x7ff8_0000_0000_0000
+    } else {
+        number.to_bits()
+    }
+}
 
-/// Appends a number with a fraction, or a `bool`.
+/// Appends a number with a fraction.
 fn put_number(oid: Oid, word: &str, out: &mut BytesMut) -> Result<(), Unwritten> {
     match oid {
-        FLOAT4 => match word.parse::<f32>() {
-            Ok(value) if value.is_nan() => Ok(types::float4_to_sql(NAN4, out)?),
-            Ok(value) => Ok(types::float4_to_sql(value.to_bits(), out)?),
+        FLOAT4 => match word.parse() {
+            Ok(number) => written(types::float4_to_sql(bits4(number), out)),
             Err(_) => Err(Unwritten::NotOfType),
         },
-        FLOAT8 => match word.parse::<f64>() {
-            Ok(value) if value.is_nan() => Ok(types::float8_to_sql(NAN8, out)?),
-            Ok(value) => Ok(types::float8_to_sql(value.to_bits(), out)?),
+        FLOAT8 => match word.parse() {
+            Ok(number) => written(types::float8_to_sql(bits8(number), out)),
             Err(_) => Err(Unwritten::NotOfType),
         },
-        NUMERIC => match values::numeric_text_to_sql(word, out) {
+        _ => match values::numeric_text_to_sql(word, out) {
             Ok(()) => Ok(()),
             Err(NumericError::OutOfMemory) => Err(Unwritten::Memory),
             Err(_) => Err(Unwritten::NotOfType),
         },
-        _ if word == "t" => Ok(types::bool_to_sql(true, out)?),
-        _ if word == "f" => Ok(types::bool_to_sql(false, out)?),
+    }
+}
+
+/// Appends a `bool`.
+fn put_bool(word: &str, out: &mut BytesMut) -> Result<(), Unwritten> {
+    match word {
+        "t" => written(types::bool_to_sql(true, out)),
+        "f" => written(types::bool_to_sql(false, out)),
         _ => Err(Unwritten::NotOfType),
     }
 }
@@ -94,15 +118,15 @@ fn put_number(oid: Oid, word: &str, out: &mut BytesMut) -> Result<(), Unwritten>
 fn put_moment(oid: Oid, word: &str, out: &mut BytesMut) -> Result<(), Unwritten> {
     match oid {
         DATE => match date_of(word) {
-            Some(days) => Ok(values::date_value_to_sql(days, out)?),
+            Some(days) => written(values::date_value_to_sql(days, out)),
             None => Err(Unwritten::NotOfType),
         },
         TIME => match clock_of(word) {
-            Some(since_midnight) => Ok(types::time_to_sql(since_midnight, out)?),
+            Some(since_midnight) => written(types::time_to_sql(since_midnight, out)),
             None => Err(Unwritten::NotOfType),
         },
         INTERVAL => match interval_of(word) {
-            Some(interval) => Ok(values::interval_to_sql(interval, out)?),
+            Some(interval) => written(values::interval_to_sql(interval, out)),
             None => Err(Unwritten::NotOfType),
         },
         TIMESTAMP => put_timestamp(timestamp_of(word), out),
@@ -112,7 +136,7 @@ fn put_moment(oid: Oid, word: &str, out: &mut BytesMut) -> Result<(), Unwritten>
 
 fn put_timestamp(moment: Option<Moment<i64>>, out: &mut BytesMut) -> Result<(), Unwritten> {
     match moment {
-        Some(moment) => Ok(values::timestamp_value_to_sql(moment, out)?),
+        Some(moment) => written(values::timestamp_value_to_sql(moment, out)),
         None => Err(Unwritten::NotOfType),
     }
 }
@@ -123,7 +147,7 @@ fn put_bytea(alloc: Global, word: &str, out: &mut BytesMut) -> Result<(), Unwrit
         return Err(Unwritten::NotOfType);
     };
     match hex::decode(alloc, digits) {
-        Ok(bytes) => Ok(types::bytea_to_sql(&bytes, out)?),
+        Ok(bytes) => written(types::bytea_to_sql(&bytes, out)),
         Err(hex::FromHexError::OutOfMemory) => Err(Unwritten::Memory),
         Err(_) => Err(Unwritten::NotOfType),
     }
@@ -132,7 +156,7 @@ fn put_bytea(alloc: Global, word: &str, out: &mut BytesMut) -> Result<(), Unwrit
 /// Appends a `uuid`.
 fn put_uuid(word: &str, out: &mut BytesMut) -> Result<(), Unwritten> {
     match Uuid::parse_str(word) {
-        Ok(id) => Ok(types::uuid_to_sql(id.into_bytes(), out)?),
+        Ok(id) => written(types::uuid_to_sql(id.into_bytes(), out)),
         Err(_) => Err(Unwritten::NotOfType),
     }
 }
@@ -141,57 +165,82 @@ fn put_uuid(word: &str, out: &mut BytesMut) -> Result<(), Unwritten> {
 fn put_scalar(alloc: Global, oid: Oid, text: &str, out: &mut BytesMut) -> Result<(), Unwritten> {
     match oid {
         INT8 | INT2 | INT4 | OID => put_integer(oid, text, out),
-        BOOL | FLOAT4 | FLOAT8 | NUMERIC => put_number(oid, text, out),
+        BOOL => put_bool(text, out),
+        FLOAT4 | FLOAT8 | NUMERIC => put_number(oid, text, out),
         DATE | TIME | TIMESTAMP | TIMESTAMPTZ | INTERVAL => put_moment(oid, text, out),
         BYTEA => put_bytea(alloc, text, out),
         UUID => put_uuid(text, out),
-        JSONB => Ok(values::jsonb_to_sql(text, out)?),
-        NAME | TEXT | JSON | BPCHAR | VARCHAR => Ok(types::text_to_sql(text, out)?),
+        JSONB => written(values::jsonb_to_sql(text, out)),
+        NAME | TEXT | JSON | BPCHAR | VARCHAR => written(types::text_to_sql(text, out)),
         _ => Err(Unwritten::NoFormat),
     }
 }
 
 /// The bytes of a value that is no array.
 fn scalar_of(alloc: Global, oid: Oid, text: &[u8]) -> Result<BytesMut, Unwritten> {
+    let Ok(text) = str::from_utf8(text) else {
+        return Err(Unwritten::NotOfType);
+    };
     let mut out = BytesMut::new(alloc);
-    match str::from_utf8(text) {
-        Ok(text) => put_scalar(alloc, oid, text, &mut out)?,
-        Err(_) => return Err(Unwritten::NotOfType),
-    }
+    put_scalar(alloc, oid, text, &mut out)?;
     Ok(out)
 }
 
 /// Appends an array of one dimension, as `{1,NULL}`, with elements of this type.
 fn put_array(alloc: Global, element: Oid, word: &str, out: &mut BytesMut) -> Result<(), Unwritten> {
-    let Some(texts) = elements_of(alloc, word)? else {
-        return Err(Unwritten::NotOfType);
-    };
+    match elements_of(alloc, word) {
+        Ok(texts) => put_texts(alloc, element, &texts, out),
+        Err(why) => Err(why),
+    }
+}
+
+/// Appends an array of elements with these texts.
+fn put_texts(
+    alloc: Global,
+    element: Oid,
+    texts: &[Option<Vec<u8>>],
+    out: &mut BytesMut,
+) -> Result<(), Unwritten> {
     let mut elements = Vec::new(alloc);
-    for text in &texts {
+    add_elements(alloc, element, texts, &mut elements)?;
+    put_elements(element, &elements, out)
+}
+
+fn add_elements(
+    alloc: Global,
+    element: Oid,
+    texts: &[Option<Vec<u8>>],
+    elements: &mut Vec<Option<BytesMut>>,
+) -> Result<(), Unwritten> {
+    for text in texts {
         let value = match text {
             Some(text) => Some(scalar_of(alloc, element, text)?),
             None => None,
         };
-        push(&mut elements, value)?;
+        push(elements, value)?;
     }
-    let len = i32::try_from(elements.len()).unwrap_or(i32::MAX);
-    let dimension = ArrayDimension {
-        len,
+    Ok(())
+}
+
+/// The dimension of so many elements; none of an array that is empty.
+fn dimension_of(count: usize) -> Option<ArrayDimension> {
+    if count == 0 {
+        return None;
+    }
+    Some(ArrayDimension {
+        len: i32::try_from(count).unwrap_or(i32::MAX),
         lower_bound: 1,
-    };
-    let dimensions = if len == 0 { None } else { Some(dimension) };
-    put_elements(dimensions, element, &elements, out)
+    })
 }
 
 /// Appends an array of these elements.
 fn put_elements(
-    dimensions: Option<ArrayDimension>,
     element: Oid,
     elements: &[Option<BytesMut>],
     out: &mut BytesMut,
 ) -> Result<(), Unwritten> {
     let put = types::array_to_sql(
-        dimensions,
+        dimension_of(elements.len()),
         element,
         elements,
         |value: &Option<BytesMut>, out: &mut BytesMut| -> Result<IsNull, Error> {
@@ -214,19 +263,39 @@ fn put_elements(
     }
 }
 
-/// The same value in binary format.
+/// Appends a value in this format.
+fn put_value(
+    alloc: Global,
+    format: i16,
+    oid: Oid,
+    text: &[u8],
+    out: &mut BytesMut,
+) -> Result<(), Unwritten> {
+    if format == 0 {
+        return written(types::bytea_to_sql(text, out));
+    }
+    let Ok(text) = str::from_utf8(text) else {
+        return Err(Unwritten::NotOfType);
+    };
+    match element_of(oid) {
+        Some(element) => put_array(alloc, element, text, out),
+        None => put_scalar(alloc, oid, text, out),
+    }
+}
+
+/// A value of a script in this format.
 ///
 /// # Errors
 ///
-/// Returns `NotOfType` if its text is none of its type, `NoFormat` for another type than those of docs/PGSERVE.md, and `Memory`.
-pub(crate) fn binary_of(alloc: Global, oid: Oid, text: &[u8]) -> Result<BytesMut, Unwritten> {
-    let Some(element) = element_of(oid) else {
-        return scalar_of(alloc, oid, text);
-    };
+/// Returns `NotOfType` if its text is none of its type, `NoFormat` for another type than those of docs/PGSERVE.md, and `Memory`; of text
+/// format `Memory` alone.
+pub(crate) fn value_in(
+    alloc: Global,
+    format: i16,
+    oid: Oid,
+    text: &[u8],
+) -> Result<BytesMut, Unwritten> {
     let mut out = BytesMut::new(alloc);
-    match str::from_utf8(text) {
-        Ok(text) => put_array(alloc, element, text, &mut out)?,
-        Err(_) => return Err(Unwritten::NotOfType),
-    }
+    put_value(alloc, format, oid, text, &mut out)?;
     Ok(out)
 }

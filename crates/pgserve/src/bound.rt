@@ -1,10 +1,10 @@
 //! What a portal was bound to, and the rows that are sent for it.
 
 use crate::answer::format_of;
-use crate::binary::{Unwritten, binary_of};
-use crate::script::{Condition, Row, Statement};
+use crate::binary::{Unwritten, value_in};
+use crate::outbox::Outbox;
+use crate::script::{Condition, Row};
 use pgp_base::Oid;
-use std::alloc::{AllocError, Global};
 
 /// The value of a parameter: its bytes, none of a null, its format and its type.
 #[derive(Drop)]
@@ -21,69 +21,58 @@ pub(crate) struct Bound<'b> {
     pub(crate) formats: &'b [i16],
 }
 
-fn copied(alloc: Global, value: Option<&[u8]>) -> Result<Option<Vec<u8>>, AllocError> {
+fn copied(value: Option<&[u8]>, out: &mut Outbox) -> Option<Vec<u8>> {
     match value {
-        Some(bytes) => Ok(Some(Vec::from_slice(alloc, bytes)?)),
-        None => Ok(None),
+        Some(bytes) => Some(out.copy(bytes)),
+        None => None,
     }
 }
 
 /// The values of parameters of these types, which came in these formats.
 pub(crate) fn given_of(
-    alloc: Global,
     types: &[Oid],
     formats: &[i16],
     values: &[Option<&[u8]>],
-) -> Result<Vec<Given>, AllocError> {
-    let mut given = Vec::new(alloc);
+    out: &mut Outbox,
+) -> Vec<Given> {
+    let mut given = Vec::new(out.alloc);
     for (oid, value) in types.iter().zip(values) {
-        let format = format_of(formats, given.len());
-        given.push(Given {
-            bytes: copied(alloc, *value)?,
-            format,
+        let one = Given {
+            bytes: copied(*value, out),
+            format: format_of(formats, given.len()),
             oid: *oid,
-        })?;
+        };
+        out.add(&mut given, one);
     }
-    Ok(given)
+    given
 }
 
 /// Whether the value is that of the text, in its format.
-fn is_value(alloc: Global, given: &Given, text: &[u8]) -> Result<bool, AllocError> {
+fn is_value(given: &Given, text: &[u8], out: &mut Outbox) -> bool {
     let Some(bytes) = &given.bytes else {
-        return Ok(false);
+        return false;
     };
-    if given.format == 0 {
-        return Ok(bytes.as_slice() == text);
-    }
-    match binary_of(alloc, given.oid, text) {
-        Ok(binary) => Ok(binary.as_slice() == bytes.as_slice()),
-        Err(Unwritten::Memory) => Err(AllocError),
-        Err(_) => Ok(false),
-    }
-}
-
-fn is_met(alloc: Global, condition: &Condition, values: &[Given]) -> Result<bool, AllocError> {
-    match values.get(condition.place) {
-        Some(given) => is_value(alloc, given, &condition.value),
-        None => Ok(false),
-    }
-}
-
-/// The rows that are sent for these values.
-pub(crate) fn rows_for<'s>(
-    alloc: Global,
-    statement: &'s Statement,
-    values: &[Given],
-) -> Result<Vec<&'s Row>, AllocError> {
-    let mut rows = Vec::new(alloc);
-    for row in &statement.rows {
-        let is_sent = match &row.condition {
-            Some(condition) => is_met(alloc, condition, values)?,
-            None => true,
-        };
-        if is_sent {
-            rows.push(row)?;
+    match value_in(out.alloc, given.format, given.oid, text) {
+        Ok(value) => value.as_slice() == bytes.as_slice(),
+        Err(Unwritten::Memory) => {
+            out.lack();
+            false
         }
+        Err(_) => false,
     }
-    Ok(rows)
+}
+
+fn is_met(condition: &Condition, values: &[Given], out: &mut Outbox) -> bool {
+    match values.get(condition.place) {
+        Some(given) => is_value(given, &condition.value, out),
+        None => false,
+    }
+}
+
+/// Whether the row is sent for these values.
+pub(crate) fn is_sent(row: &Row, values: &[Given], out: &mut Outbox) -> bool {
+    match &row.condition {
+        Some(condition) => is_met(condition, values, out),
+        None => true,
+    }
 }

@@ -3,8 +3,6 @@
 //! PostgreSQL manual, "BEGIN", "COMMIT", "ROLLBACK", "SAVEPOINT", "RELEASE SAVEPOINT", "ROLLBACK TO SAVEPOINT", "SET", "RESET", "SHOW",
 //! "DEALLOCATE", "DISCARD".
 
-use std::alloc::{AllocError, Global};
-
 /// A command, whose names are in small letters.
 #[derive(Clone, Copy)]
 pub(crate) enum Command<'w> {
@@ -35,118 +33,137 @@ impl Command<'_> {
     }
 }
 
-/// Whether these words say that the next transaction begins at once.
-fn chains(words: &[&str]) -> bool {
-    matches!(words, [.., "and", "chain"])
+/// What the first word of a command says.
+#[derive(Clone, Copy)]
+enum Verb {
+    Begin,
+    Start,
+    Commit,
+    Rollback,
+    Savepoint,
+    Release,
+    Set,
+    Reset,
+    Show,
+    Deallocate,
+    Discard,
 }
 
-/// Whether they begin with this word.
-fn begins(words: &[&str], word: &str) -> bool {
-    match words {
-        [first, ..] => *first == word,
-        [] => false,
-    }
+static VERBS: [(&str, Verb); 13] = [
+    ("begin", Verb::Begin),
+    ("start", Verb::Start),
+    ("commit", Verb::Commit),
+    ("end", Verb::Commit),
+    ("rollback", Verb::Rollback),
+    ("abort", Verb::Rollback),
+    ("savepoint", Verb::Savepoint),
+    ("release", Verb::Release),
+    ("set", Verb::Set),
+    ("reset", Verb::Reset),
+    ("show", Verb::Show),
+    ("deallocate", Verb::Deallocate),
+    ("discard", Verb::Discard),
+];
+
+/// The first of these words, and those after it.
+fn split(words: &str) -> (&str, &str) {
+    words.split_once(' ').unwrap_or((words, ""))
+}
+
+/// Whether a command of these words has the next transaction begin at once.
+fn chains(words: &str) -> bool {
+    words.ends_with(" and chain")
 }
 
 /// The one name that these words are, which may stand after this word.
-fn name_of<'w>(words: &[&'w str], word: &str) -> Option<&'w str> {
-    match words {
-        [name] => Some(name),
-        [first, name] if *first == word => Some(name),
+fn name_of<'w>(words: &'w str, word: &str) -> Option<&'w str> {
+    match split(words) {
+        ("", _) => None,
+        (name, "") => Some(name),
+        (first, name) if first == word && !name.contains(' ') => Some(name),
         _ => None,
     }
 }
 
-/// The words after one that may be left out, as `WORK`, where `TO` follows it.
-fn after_work<'s, 'w>(words: &'s [&'w str]) -> &'s [&'w str] {
-    match words {
-        [_, rest @ ..] if begins(rest, "to") => rest,
-        _ => words,
+/// The words after the `TO` of a `ROLLBACK`, which may stand after a word such as `WORK`.
+fn after_to(words: &str) -> Option<&str> {
+    let (first, rest) = split(words);
+    match split(rest) {
+        ("to", names) => Some(names),
+        _ if first == "to" => Some(rest),
+        _ => None,
     }
 }
 
-/// What the words after `ROLLBACK` ask for.
-fn rollback<'w>(words: &[&'w str]) -> Command<'w> {
-    match after_work(words) {
-        [first, rest @ ..] if *first == "to" => match name_of(rest, "savepoint") {
+/// The command that a `ROLLBACK` of these words is, the first among them, by those after it.
+fn rollback<'w>(words: &str, rest: &'w str) -> Command<'w> {
+    match after_to(rest) {
+        Some(names) => match name_of(names, "savepoint") {
             Some(name) => Command::RollbackTo(name),
             None => Command::Rollback { chains: false },
         },
-        _ => Command::Rollback {
+        None => Command::Rollback {
             chains: chains(words),
         },
     }
 }
 
-/// The command on a transaction of this first word, with these after it.
-fn transaction_of<'w>(first: &str, rest: &[&'w str]) -> Option<Command<'w>> {
-    match first {
-        "begin" => Some(Command::Begin("BEGIN")),
-        "start" if begins(rest, "transaction") => Some(Command::Begin("START TRANSACTION")),
-        "commit" | "end" if !begins(rest, "prepared") => Some(Command::Commit {
-            chains: chains(rest),
-        }),
-        "rollback" | "abort" if !begins(rest, "prepared") => Some(rollback(rest)),
-        "set" if begins(rest, "transaction") => Some(Command::SetTransaction),
-        _ => savepoint_of(first, rest),
-    }
-}
-
-/// The command on a savepoint of this first word, with these after it.
-fn savepoint_of<'w>(first: &str, rest: &[&'w str]) -> Option<Command<'w>> {
-    match first {
-        "savepoint" => Some(Command::Savepoint(name_of(rest, "")?)),
-        "release" => Some(Command::Release(name_of(rest, "savepoint")?)),
-        _ => None,
-    }
-}
-
 /// The setting that these words of a `SHOW` name.
-fn shown<'w>(words: &[&'w str]) -> Option<&'w str> {
+fn shown(words: &str) -> Option<&str> {
     match words {
-        [name] => Some(name),
-        ["time", "zone"] => Some("timezone"),
-        ["transaction", "isolation", "level"] => Some("transaction_isolation"),
+        "time zone" => Some("timezone"),
+        "transaction isolation level" => Some("transaction_isolation"),
+        _ => name_of(words, ""),
+    }
+}
+
+/// The command of this first word and this name.
+fn named(verb: Verb, name: &str) -> Option<Command<'_>> {
+    match verb {
+        Verb::Savepoint => Some(Command::Savepoint(name)),
+        Verb::Release => Some(Command::Release(name)),
+        Verb::Reset => Some(Command::Reset(name)),
+        Verb::Show => Some(Command::Show(name)),
+        Verb::Deallocate => Some(Command::Deallocate(name)),
+        Verb::Discard if name == "all" => Some(Command::DiscardAll),
         _ => None,
     }
 }
 
-/// The command on settings or prepared statements of this first word, with these after it.
-fn setting_of<'w>(first: &str, rest: &[&'w str]) -> Option<Command<'w>> {
-    match first {
-        "set" if !rest.is_empty() => Some(Command::Set),
-        "show" => Some(Command::Show(shown(rest)?)),
-        "reset" => Some(Command::Reset(name_of(rest, "")?)),
-        "deallocate" => Some(Command::Deallocate(name_of(rest, "prepare")?)),
-        "discard" if rest.len() == 1 && begins(rest, "all") => Some(Command::DiscardAll),
-        _ => None,
+/// The name that stands after this first word of a command.
+fn name_after(verb: Verb, rest: &str) -> Option<&str> {
+    match verb {
+        Verb::Release => name_of(rest, "savepoint"),
+        Verb::Deallocate => name_of(rest, "prepare"),
+        Verb::Show => shown(rest),
+        _ => name_of(rest, ""),
     }
 }
 
-/// The command that these words are, if they are one.
-pub(crate) fn command_of<'w>(words: &[&'w str]) -> Option<Command<'w>> {
-    let [first, rest @ ..] = words else {
-        return None;
-    };
-    match transaction_of(first, rest) {
-        Some(command) => Some(command),
-        None => setting_of(first, rest),
+/// The command of this first word, with these words after it, or among all of these.
+fn command_by<'w>(verb: Verb, rest: &'w str, words: &str) -> Option<Command<'w>> {
+    let (second, _) = split(rest);
+    match (verb, second) {
+        (Verb::Begin, _) => Some(Command::Begin("BEGIN")),
+        (Verb::Start, "transaction") => Some(Command::Begin("START TRANSACTION")),
+        (Verb::Commit | Verb::Rollback, "prepared") | (Verb::Set, "") => None,
+        (Verb::Commit, _) => Some(Command::Commit {
+            chains: chains(words),
+        }),
+        (Verb::Rollback, _) => Some(rollback(words, rest)),
+        (Verb::Set, "transaction") => Some(Command::SetTransaction),
+        (Verb::Set, _) => Some(Command::Set),
+        _ => named(verb, name_after(verb, rest)?),
     }
 }
 
-/// A statement's text in small letters; empty where it isn't UTF-8.
-pub(crate) fn lowered(alloc: Global, statement: &[u8]) -> Result<String, AllocError> {
-    match str::from_utf8(statement) {
-        Ok(text) => text.to_ascii_lowercase(alloc),
-        Err(_) => Ok(String::new(alloc)),
+/// The command that these words are, if they are one: in small letters, with a blank between two.
+pub(crate) fn command_of(words: &str) -> Option<Command<'_>> {
+    let (first, rest) = split(words);
+    for (word, verb) in &VERBS {
+        if *word == first {
+            return command_by(*verb, rest, words);
+        }
     }
-}
-
-/// The words of a text.
-pub(crate) fn words_of(alloc: Global, text: &str) -> Result<Vec<&str>, AllocError> {
-    let mut words = Vec::new(alloc);
-    for word in text.split_ascii_whitespace() {
-        words.push(word)?;
-    }
-    Ok(words)
+    None
 }

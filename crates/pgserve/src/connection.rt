@@ -4,12 +4,11 @@ ghost use Rattle.pgp_frontend_read.specs.Pieces.{IsWhole};
 
 use crate::fault::Fault;
 use crate::host::{Host, SCRAM_PLUS};
-use crate::log::{Form, line_of};
-use crate::log_json::object_of;
+use crate::log::line_of;
 use crate::opening::{Opening, opening_of, spoken};
+use crate::outbox::Outbox;
 use crate::pause::Pause;
 use crate::session::Session;
-use bytes::BytesMut;
 use pgp_auth::authentication::sasl::SCRAM_SHA_256;
 use pgp_base::Error;
 use pgp_client::Request;
@@ -42,16 +41,17 @@ pub(crate) struct Connection<'h> {
 }
 
 impl<'h> Connection<'h> {
-    pub(crate) fn new(alloc: Global, host: &'h Host<'h>) -> Result<Connection<'h>, AllocError> {
-        Ok(Connection {
+    pub(crate) fn new(host: &'h Host<'h>, out: &mut Outbox) -> Connection<'h> {
+        let alloc = out.alloc;
+        Connection {
             alloc,
             host,
             serving: Serving::new(),
-            session: Session::new(alloc, host.script)?,
+            session: Session::new(host.script, out),
             monitor: Monitor::new(alloc),
             pauses: Vec::new(alloc),
             log: String::new(alloc),
-        })
+        }
     }
 
     /// Whether the session is over, once all bytes are sent.
@@ -59,71 +59,60 @@ impl<'h> Connection<'h> {
         self.serving.phase == ServingPhase::Over
     }
 
-    /// Says the client that what it sent is no message here, and ends the session.
-    fn reject(&mut self, out: &mut BytesMut) -> Result<(), Fault> {
-        Ok(self.serving.deny(Denial::Violation, out)?)
+    /// Says the client why the session ends.
+    fn deny(&mut self, denial: Denial, out: &mut Outbox) {
+        let put = self.serving.deny(denial, &mut out.bytes);
+        out.put(put);
     }
 
-    /// The same, where it isn't known where the next message begins.
-    fn stop(&mut self, out: &mut BytesMut) -> Result<(), Fault> {
+    /// Says the client that what it sent is no message here, where it isn't known where the next begins, and ends the session.
+    fn stop(&mut self, out: &mut Outbox) -> Result<(), Fault> {
         out.clear();
-        self.reject(out)?;
+        self.deny(Denial::Violation, out);
         self.let_through(out)
     }
 
     /// Takes what the startup packet asks for, and asks the user for the proof.
-    fn ask(
-        &mut self,
-        message: &mut ClientMessage<'_>,
-        minor: u16,
-        out: &mut BytesMut,
-    ) -> Result<(), Fault> {
-        let opening = opening_of(self.alloc, message)?;
-        let Some(user) = opening.user else {
-            return Ok(self.serving.deny(Denial::NotAllowed, out)?);
-        };
-        self.begin(user, &opening, minor, out)
+    fn ask(&mut self, message: &mut ClientMessage<'_>, minor: u16, out: &mut Outbox) {
+        let opening = opening_of(message, out);
+        match opening.user {
+            Some(user) => self.begin(user, &opening, minor, out),
+            None => self.deny(Denial::NotAllowed, out),
+        }
     }
 
     /// The same for this user.
-    fn begin(
-        &mut self,
-        user: &[u8],
-        opening: &Opening<'_>,
-        minor: u16,
-        out: &mut BytesMut,
-    ) -> Result<(), Fault> {
-        opening.negotiate(minor, out)?;
-        self.set(user, opening)?;
+    fn begin(&mut self, user: &[u8], opening: &Opening<'_>, minor: u16, out: &mut Outbox) {
+        opening.negotiate(minor, out);
+        self.set(user, opening, out);
         let host = self.host;
-        host.ask(self.alloc, user, &mut self.serving, out)?;
+        host.ask(user, &mut self.serving, out);
         if self.serving.phase == ServingPhase::Open {
-            return self.session.welcome(out);
+            self.session.welcome(out);
         }
-        Ok(())
     }
 
     /// Takes from the first message of an exchange whether the client is bound to the certificate, where that is offered.
-    fn choose_by(&mut self, message: &mut ClientMessage<'_>) -> Result<(), Fault> {
+    fn choose_by(&mut self, message: &mut ClientMessage<'_>, out: &mut Outbox) {
         if self.serving.phase != ServingPhase::AwaitsFirst {
-            return Ok(());
+            return;
         }
-        match message {
-            ClientMessage::SaslInitialResponse { mechanism, .. } => {
-                *mechanism = self.choose(mechanism)?;
-                Ok(())
+        if let ClientMessage::SaslInitialResponse { mechanism, .. } = message {
+            match self.choose(mechanism) {
+                Ok(chosen) => *mechanism = chosen,
+                Err(fault) => out.fail(fault),
             }
-            _ => Ok(()),
         }
     }
 
     /// Begins the exchange by this mechanism, where the user has the choice; the mechanism without its binding.
     fn choose<'m>(&mut self, mechanism: &'m [u8]) -> Result<&'m [u8], Fault> {
         let is_bound = mechanism == SCRAM_PLUS;
-        let Some(method) = self.method(is_bound)? else {
-            return Ok(mechanism);
-        };
-        self.serving.method = method;
+        match self.method(is_bound) {
+            Ok(Some(method)) => self.serving.method = method,
+            Ok(None) => return Ok(mechanism),
+            Err(fault) => return Err(fault),
+        }
         Ok(if is_bound {
             SCRAM_SHA_256.as_bytes()
         } else {
@@ -134,53 +123,62 @@ impl<'h> Connection<'h> {
     /// The method of a user who has the choice, bound to the certificate or not.
     fn method(&self, is_bound: bool) -> Result<Option<Method>, Fault> {
         match self.session.settings.find(b"session_authorization") {
-            Some(user) if self.host.may_bind(&user.value) => {
-                Ok(Some(self.host.method(self.alloc, &user.value, is_bound)?))
-            }
-            _ => Ok(None),
+            Some(user) => self.host.method(self.alloc, &user.value, is_bound),
+            None => Ok(None),
         }
     }
 
     /// The settings that the startup packet says.
-    fn set(&mut self, user: &[u8], opening: &Opening<'_>) -> Result<(), AllocError> {
+    fn set(&mut self, user: &[u8], opening: &Opening<'_>, out: &mut Outbox) {
         let settings = &mut self.session.settings;
-        settings.begin(b"session_authorization", user)?;
+        settings.begin(b"session_authorization", user, out);
         for (name, value) in &opening.settings {
-            settings.begin(name, value)?;
+            settings.begin(name, value, out);
         }
-        Ok(())
     }
 
     /// Takes note of what a message asks, and appends what is answered; returns the request's name.
-    fn take(
-        &mut self,
-        message: &mut ClientMessage<'_>,
-        out: &mut BytesMut,
-    ) -> Result<Option<u64>, Fault> {
-        let name = self.note(Request::of(message))?;
+    fn take(&mut self, message: &mut ClientMessage<'_>, out: &mut Outbox) -> Option<u64> {
+        let name = self.note(Request::of(message), out);
         let minor = spoken(message);
-        self.choose_by(message)?;
-        match self.serving.step(message, out)? {
-            ServingEvent::Named => self.ask(message, minor, out)?,
-            ServingEvent::Requested => self.session.answer(message, out)?,
-            ServingEvent::LoggedIn => self.session.welcome(out)?,
+        self.choose_by(message, out);
+        match self.serving.step(message, &mut out.bytes) {
+            Ok(event) => self.follow(event, message, minor, out),
+            Err(why) => out.fail(Fault::from(why)),
+        }
+        name
+    }
+
+    /// Does what a message leads to.
+    fn follow(
+        &mut self,
+        event: ServingEvent,
+        message: &mut ClientMessage<'_>,
+        minor: u16,
+        out: &mut Outbox,
+    ) {
+        match event {
+            ServingEvent::Named => self.ask(message, minor, out),
+            ServingEvent::Requested => self.session.answer(message, out),
+            ServingEvent::LoggedIn => self.session.welcome(out),
             ServingEvent::Unencrypted => {
                 out.clear();
-                self.monitor.decline_encryption()?;
+                if let Err(why) = self.monitor.decline_encryption() {
+                    out.fail(Fault::from(why));
+                }
             }
             _ => {}
         }
-        Ok(name)
     }
 
     /// Takes the bytes of a message, and lets through what is answered.
-    fn take_frame(&mut self, frame: ClientFrame<'_>, out: &mut BytesMut) -> Result<(), Fault>
+    fn take_frame(&mut self, frame: ClientFrame<'_>, out: &mut Outbox) -> Result<(), Fault>
         requires { IsWhole frame.opened frame.bytes.now }
     {
         let (bytes, is_open) = (frame.bytes(), self.is_tagged());
         let start = self.monitor.to_send().len();
         out.clear();
-        let name = self.answer_frame(frame, out)?;
+        let name = self.answer_frame(frame, out);
         self.let_through(out)?;
         self.take_pauses(start)?;
         if let Some(end) = self.session.end_at {
@@ -200,34 +198,34 @@ impl<'h> Connection<'h> {
     }
 
     /// Takes note of what the bytes of a message ask, and appends what is answered; returns the request's name.
-    fn answer_frame(
-        &mut self,
-        frame: ClientFrame<'_>,
-        out: &mut BytesMut,
-    ) -> Result<Option<u64>, Fault>
+    fn answer_frame(&mut self, frame: ClientFrame<'_>, out: &mut Outbox) -> Option<u64>
         requires { IsWhole frame.opened frame.bytes.now }
     {
         match frame.message(self.serving.kind()) {
             Ok(message) => {
                 let mut message = message;
-                let taken = self.take(&mut message, out);
+                let name = self.take(&mut message, out);
                 drop(message);
-                taken
+                name
             }
             Err(e) => self.take_malformed(frame.bytes(), e, out),
         }
     }
 
     /// Takes note of a request, if it is one, and returns its name.
-    fn note(&mut self, request: Option<Request>) -> Result<Option<u64>, AllocError> {
-        match request {
-            Some(request) => self.monitor.note(request),
-            None => Ok(None),
+    fn note(&mut self, request: Option<Request>, out: &mut Outbox) -> Option<u64> {
+        match self.monitor.note(request?) {
+            Ok(name) => name,
+            Err(_) => {
+                out.lack();
+                None
+            }
         }
     }
 
     /// Lets through what is answered, a message after another.
-    fn let_through(&mut self, answer: &[u8]) -> Result<(), Fault> {
+    fn let_through(&mut self, out: &Outbox) -> Result<(), Fault> {
+        let answer = out.end()?;
         let mut rest = answer;
         for _ in 0..answer.len() {
             if rest.is_empty() {
@@ -255,12 +253,11 @@ impl<'h> Connection<'h> {
         let Some(form) = self.host.log else {
             return Ok(());
         };
-        let answer = Vec::from_slice(self.alloc, self.answered(start))?;
-        let line = match form {
-            Form::Plain => line_of(self.alloc, is_open, message, &answer)?,
-            Form::Json => object_of(self.alloc, is_open, message, name, &answer)?,
-        };
-        self.log.push_str(&line)
+        let answer = self.answered(start);
+        match line_of(self.alloc, form, is_open, message, name, answer) {
+            Ok(line) => self.log.push_str(&line),
+            Err(why) => Err(why),
+        }
     }
 
     /// What stands from this place on among what is to be sent.
@@ -278,30 +275,22 @@ impl<'h> Connection<'h> {
     }
 
     /// Takes a message whose bytes aren't those of its type, as `take` does.
-    fn take_malformed(
-        &mut self,
-        bytes: &[u8],
-        why: ClientError,
-        out: &mut BytesMut,
-    ) -> Result<Option<u64>, Fault> {
-        let name = self.note(self.malformed_request(bytes))?;
+    fn take_malformed(&mut self, bytes: &[u8], why: ClientError, out: &mut Outbox) -> Option<u64> {
+        let name = self.note(self.malformed_request(bytes), out);
         let is_unknown = matches!(why, ClientError::Reading(Error::UnknownTag(_)));
         if is_unknown || self.serving.phase != ServingPhase::Open {
-            self.reject(out)?;
+            self.deny(Denial::Violation, out);
         } else {
-            self.answer_malformed(first_of(bytes), out)?;
+            self.answer_malformed(first_of(bytes), out);
         }
-        Ok(name)
+        name
     }
 
     /// In an open session such a message gets an error. A Terminate ends it all the same.
-    fn answer_malformed(&mut self, tag: u8, out: &mut BytesMut) -> Result<(), Fault> {
+    fn answer_malformed(&mut self, tag: u8, out: &mut Outbox) {
         match tag {
-            b'p' => self.reject(out),
-            b'X' => {
-                self.serving.phase = ServingPhase::Over;
-                Ok(())
-            }
+            b'p' => self.deny(Denial::Violation, out),
+            b'X' => self.serving.phase = ServingPhase::Over,
             _ => self.session.answer_malformed(tag, out),
         }
     }
@@ -317,7 +306,7 @@ pub(crate) fn take_piece(
     parser: &mut ClientParser<Global>,
     connection: &mut Connection<'_>,
     piece: &[u8],
-    out: &mut BytesMut,
+    out: &mut Outbox,
 ) -> Result<(), Fault> {
     let mut rest = piece;
     // Each message takes a byte of the piece at least.

@@ -4,13 +4,11 @@
 
 use crate::answer::{Went, put_tag};
 use crate::asked::{Refusal, end_session, refuse};
-use crate::fault::Fault;
+use crate::outbox::Outbox;
 use crate::script::{Copy, Statement};
 use crate::session::Session;
-use bytes::BytesMut;
 use pgp_frontend_read::ClientMessage;
 use pgp_message_write as reply;
-use std::alloc::{AllocError, Global};
 
 /// A copy to the server that is under way.
 #[derive(Clone, Copy)]
@@ -21,21 +19,34 @@ pub(crate) struct CopyIn<'h> {
 }
 
 /// The formats of the columns, which are that of the whole.
-fn formats_of(alloc: Global, copy: &Copy) -> Result<Vec<u16>, AllocError> {
-    let mut formats = Vec::new(alloc);
+fn formats_of(copy: &Copy, out: &mut Outbox) -> Vec<u16> {
+    let mut formats = Vec::new(out.alloc);
     for _ in 0..copy.columns {
-        formats.push(u16::from(copy.format))?;
+        out.add(&mut formats, u16::from(copy.format));
     }
-    Ok(formats)
+    formats
+}
+
+/// Appends that a copy begins.
+fn put_begin(copy: &Copy, out: &mut Outbox) {
+    let formats = formats_of(copy, out);
+    let put = if copy.is_in {
+        reply::copy_in_response(copy.format, &formats, &mut out.bytes)
+    } else {
+        reply::copy_out_response(copy.format, &formats, &mut out.bytes)
+    };
+    out.put(put);
 }
 
 /// Appends all data of a copy from the server.
-pub(crate) fn put_copy_out(alloc: Global, copy: &Copy, out: &mut BytesMut) -> Result<(), Fault> {
-    reply::copy_out_response(copy.format, &formats_of(alloc, copy)?, out)?;
+pub(crate) fn put_copy_out(copy: &Copy, out: &mut Outbox) {
+    put_begin(copy, out);
     for chunk in &copy.chunks {
-        reply::copy_data(chunk, out)?;
+        let put = reply::copy_data(chunk, &mut out.bytes);
+        out.put(put);
     }
-    Ok(reply::copy_done(out)?)
+    let put = reply::copy_done(&mut out.bytes);
+    out.put(put);
 }
 
 impl<'h> Session<'h> {
@@ -45,61 +56,49 @@ impl<'h> Session<'h> {
         statement: &'h Statement,
         copy: &Copy,
         is_simple: bool,
-        out: &mut BytesMut,
-    ) -> Result<(), Fault> {
+        out: &mut Outbox,
+    ) {
         self.copying = Some(CopyIn {
             statement,
             is_simple,
         });
-        Ok(reply::copy_in_response(copy.format, &formats_of(self.alloc, copy)?, out)?)
+        put_begin(copy, out);
     }
 
     /// Ends a copy to the server with an error.
-    fn fail_copy(
-        &mut self,
-        copy: CopyIn<'h>,
-        refusal: Refusal<'_>,
-        out: &mut BytesMut,
-    ) -> Result<(), Fault> {
+    fn fail_copy(&mut self, copy: CopyIn<'h>, refusal: Refusal<'_>, out: &mut Outbox) {
         self.copying = None;
         if copy.is_simple {
-            self.stop_alone(refusal, out)
+            self.stop_alone(refusal, out);
         } else {
-            self.fail(refusal, out)
+            self.fail(refusal, out);
         }
     }
 
     /// Ends the session after a message that has no place in a copy.
-    fn lose_sync(&mut self, out: &mut BytesMut) -> Result<(), Fault> {
-        refuse(self.alloc, Refusal::NoCopyData, out)?;
-        end_session(out)?;
+    fn lose_sync(&mut self, out: &mut Outbox) {
+        refuse(Refusal::NoCopyData, out);
+        end_session(out);
         self.end_at = Some(out.len());
-        Ok(())
     }
 
     /// Ends a copy to the server, whose data are complete.
-    fn end_copy(&mut self, copy: CopyIn<'h>, out: &mut BytesMut) -> Result<(), Fault> {
+    fn end_copy(&mut self, copy: CopyIn<'h>, out: &mut Outbox) {
         self.copying = None;
         let start = out.len();
-        let went = put_tag(self.alloc, copy.statement, out)?;
-        self.leave(copy.statement, went, (start, out.len()))?;
+        let went = put_tag(copy.statement, out);
+        self.leave(copy.statement, went, start, out);
         self.is_skipping = !copy.is_simple && went == Went::Wrong;
         if copy.is_simple {
-            return self.end_query(out);
+            self.end_query(out);
         }
-        Ok(())
     }
 
     /// Answers a message whose bytes aren't those of its type, while the data of a copy are awaited: a server looks at the text of a
     /// CopyFail alone.
-    pub(crate) fn malformed_in_copy(
-        &mut self,
-        copy: CopyIn<'h>,
-        tag: u8,
-        out: &mut BytesMut,
-    ) -> Result<(), Fault> {
+    pub(crate) fn malformed_in_copy(&mut self, copy: CopyIn<'h>, tag: u8, out: &mut Outbox) {
         match tag {
-            b'd' | b'H' | b'S' => Ok(()),
+            b'd' | b'H' | b'S' => {}
             b'c' => self.end_copy(copy, out),
             b'f' => self.fail_copy(copy, Refusal::Malformed, out),
             _ => self.lose_sync(out),
@@ -111,10 +110,10 @@ impl<'h> Session<'h> {
         &mut self,
         copy: CopyIn<'h>,
         message: &ClientMessage<'_>,
-        out: &mut BytesMut,
-    ) -> Result<(), Fault> {
+        out: &mut Outbox,
+    ) {
         match message {
-            ClientMessage::CopyData(_) | ClientMessage::Flush | ClientMessage::Sync => Ok(()),
+            ClientMessage::CopyData(_) | ClientMessage::Flush | ClientMessage::Sync => {}
             ClientMessage::CopyDone => self.end_copy(copy, out),
             ClientMessage::CopyFail(why) => self.fail_copy(copy, Refusal::CopyFailed(why), out),
             _ => self.lose_sync(out),

@@ -2,20 +2,20 @@
 //!
 //! PostgreSQL manual, "Message Flow", "Extended Query".
 
-use crate::answer::{Went, describe, execute};
+use crate::answer::{Went, describe, describe_none, describe_one, execute};
 use crate::asked::{Refusal, put_error};
 use crate::bound::{Bound, given_of};
-use crate::fault::Fault;
+use crate::outbox::Outbox;
 use crate::portals::{Plan, Portal};
 use crate::script::Statement;
 use crate::session::{Asks, Session};
 use crate::text::{only_of, trimmed};
 use crate::transaction::Status;
-use bytes::BytesMut;
+use crate::types::PLAIN_TEXT;
+use crate::wording::Wording;
 use pgp_base::Oid;
 use pgp_frontend_read::ClientMessage;
 use pgp_message_write as reply;
-use std::alloc::{AllocError, Global};
 
 /// What a Bind says.
 #[derive(Clone, Copy)]
@@ -36,19 +36,12 @@ fn type_at(named: &[Oid], scripted: &[Oid], place: usize) -> Option<Oid> {
 }
 
 /// The types of all parameters; `None` where one has none.
-fn types_of(
-    alloc: Global,
-    named: &[Oid],
-    scripted: &[Oid],
-) -> Result<Option<Vec<Oid>>, AllocError> {
-    let mut types = Vec::new(alloc);
+fn types_of(named: &[Oid], scripted: &[Oid], out: &mut Outbox) -> Option<Vec<Oid>> {
+    let mut types = Vec::new(out.alloc);
     for place in 0..named.len().max(scripted.len()) {
-        let Some(oid) = type_at(named, scripted, place) else {
-            return Ok(None);
-        };
-        types.push(oid)?;
+        out.add(&mut types, type_at(named, scripted, place)?);
     }
-    Ok(Some(types))
+    Some(types)
 }
 
 /// Whether each is text or binary.
@@ -62,23 +55,18 @@ pub(crate) fn are_formats(formats: &[i16]) -> bool {
 }
 
 /// The portal that a binding of a statement opens, where so many savepoints are.
-fn portal_of(
-    alloc: Global,
-    plan: &Plan,
-    binding: &Binding<'_>,
-    depth: usize,
-) -> Result<Portal, AllocError> {
-    Ok(Portal {
-        text: Vec::from_slice(alloc, &plan.text)?,
-        formats: Vec::from_slice(alloc, binding.results)?,
-        values: given_of(alloc, &plan.types, binding.formats, binding.values)?,
+fn portal_of(plan: &Plan, binding: &Binding<'_>, depth: usize, out: &mut Outbox) -> Portal {
+    Portal {
+        statement: Wording::new(&plan.statement.text, out),
+        formats: out.copy(binding.results),
+        values: given_of(&plan.types, binding.formats, binding.values, out),
         sent: None,
         depth,
-    })
+    }
 }
 
 /// The types of a scripted statement's parameters.
-fn scripted_types<'h>(asks: Asks<'h>) -> &'h [Oid] {
+fn scripted_types<'h>(asks: Asks<'h, '_>) -> &'h [Oid] {
     match asks {
         Asks::Scripted(statement) => &statement.parameters,
         _ => &[],
@@ -87,197 +75,227 @@ fn scripted_types<'h>(asks: Asks<'h>) -> &'h [Oid] {
 
 impl<'h> Session<'h> {
     /// The one statement of a Parse; `None` where it has more.
-    fn only<'q>(&self, query: &'q [u8]) -> Result<Option<&'q [u8]>, AllocError> {
-        match self.script.find(self.alloc, query)? {
-            Some(_) => Ok(Some(trimmed(query))),
-            None => Ok(only_of(query)),
+    fn only<'q>(&self, query: &'q [u8], out: &mut Outbox) -> Option<&'q [u8]> {
+        match self.script.find(out.alloc, query) {
+            Ok(Some(_)) => Some(trimmed(query)),
+            Ok(None) => only_of(query),
+            Err(_) => {
+                out.lack();
+                None
+            }
         }
     }
 
     /// Why the statement can't be prepared, if it can't.
-    fn rejects<'q>(
-        &self,
-        asks: Asks<'h>,
-        statement: &'q [u8],
-    ) -> Result<Option<Refusal<'q>>, AllocError> {
-        if !statement.is_empty() && self.is_aborted(statement)? {
-            return Ok(Some(Refusal::Aborted));
+    fn rejects<'q>(&self, asks: Asks<'h, '_>, statement: &'q Wording) -> Option<Refusal<'q>> {
+        if !statement.text.is_empty() && self.is_aborted(statement) {
+            return Some(Refusal::Aborted);
         }
         match asks {
-            Asks::Unknown => Ok(Some(Refusal::NotScripted(statement))),
-            _ => Ok(None),
+            Asks::Unknown => Some(Refusal::NotScripted(&statement.text)),
+            _ => None,
         }
     }
 
     /// Prepares a statement.
-    pub(crate) fn parse(
-        &mut self,
-        name: &[u8],
-        query: &[u8],
-        named: &[Oid],
-        out: &mut BytesMut,
-    ) -> Result<(), Fault> {
+    pub(crate) fn parse(&mut self, name: &[u8], query: &[u8], named: &[Oid], out: &mut Outbox) {
         if name.is_empty() {
             self.prepared.remove(name);
         }
-        let Some(statement) = self.only(query)? else {
-            return self.fail(Refusal::Several, out);
-        };
-        let asks = self.asks(statement)?;
-        if let Some(refusal) = self.rejects(asks, statement)? {
-            return self.fail(refusal, out);
+        match self.only(query, out) {
+            Some(statement) => self.parse_only(name, statement, named, out),
+            None => self.fail(Refusal::Several, out),
         }
-        if let Asks::Scripted(statement) = asks {
-            if let Some(report) = statement.early_error() {
-                self.is_skipping = true;
-                let start = out.len();
-                put_error(self.alloc, report, out)?;
-                return Ok(self.leave(statement, Went::Wrong, (start, out.len()))?);
-            }
+    }
+
+    fn parse_only(&mut self, name: &[u8], statement: &[u8], named: &[Oid], out: &mut Outbox) {
+        let statement = Wording::new(statement, out);
+        if let Some(types) = self.parameters(&statement, named, out) {
+            self.prepare(name, Plan { statement, types }, out);
         }
-        let Some(types) = types_of(self.alloc, named, scripted_types(asks))? else {
-            return self.fail(Refusal::NoType, out);
+    }
+
+    /// The types of the parameters of a statement that can be prepared. The error of another one is appended.
+    fn parameters(
+        &mut self,
+        statement: &Wording,
+        named: &[Oid],
+        out: &mut Outbox,
+    ) -> Option<Vec<Oid>> {
+        let asks = self.asks(statement, out);
+        if let Some(refusal) = self.rejects(asks, statement) {
+            self.fail(refusal, out);
+            return None;
+        }
+        if self.errs_early(asks, out) {
+            return None;
+        }
+        let types = types_of(named, scripted_types(asks), out);
+        if types.is_none() {
+            self.fail(Refusal::NoType, out);
+        }
+        types
+    }
+
+    /// Appends the error that a server finds when it prepares the statement, if there is one, and returns whether there is.
+    fn errs_early(&mut self, asks: Asks<'h, '_>, out: &mut Outbox) -> bool {
+        let Asks::Scripted(statement) = asks else {
+            return false;
         };
-        self.prepare(name, statement, types, out)
+        let Some(report) = statement.early_error() else {
+            return false;
+        };
+        self.is_skipping = true;
+        let start = out.len();
+        put_error(report, out);
+        self.leave(statement, Went::Wrong, start, out);
+        true
     }
 
     /// Keeps a statement under its name.
-    fn prepare(
-        &mut self,
-        name: &[u8],
-        statement: &[u8],
-        types: Vec<Oid>,
-        out: &mut BytesMut,
-    ) -> Result<(), Fault> {
+    fn prepare(&mut self, name: &[u8], plan: Plan, out: &mut Outbox) {
         if self.prepared.find(name).is_some() {
             return self.fail(Refusal::StatementThere(name), out);
         }
-        let text = Vec::from_slice(self.alloc, statement)?;
-        self.prepared.put(name, Plan { text, types })?;
-        Ok(reply::parse_complete(out)?)
+        self.prepared.put(name, plan, out);
+        let put = reply::parse_complete(&mut out.bytes);
+        out.put(put);
     }
 
     /// How many columns the rows of a statement have; 0 where it has no rows.
-    fn width(&self, text: &[u8]) -> Result<usize, AllocError> {
-        match self.asks(text)? {
-            Asks::Scripted(statement) => Ok(statement.columns.len()),
-            Asks::Command => Ok(self.command_columns(text)?.len()),
-            _ => Ok(0),
+    fn width(&self, statement: &Wording, out: &mut Outbox) -> usize {
+        match self.asks(statement, out) {
+            Asks::Scripted(statement) => statement.columns.len(),
+            Asks::Command(command) if self.shown(command).is_some() => 1,
+            _ => 0,
         }
     }
 
-    /// Why a statement of this text can't be bound to this portal, if it can't.
+    /// Why a statement can't be bound to this portal, if it can't.
     fn rejects_portal<'q>(
         &self,
         portal: &'q [u8],
-        text: &[u8],
-        results: &[i16],
-    ) -> Result<Option<Refusal<'q>>, AllocError> {
-        if self.is_aborted(text)? {
-            return Ok(Some(Refusal::Aborted));
+        statement: &Wording,
+        results: usize,
+        out: &mut Outbox,
+    ) -> Option<Refusal<'q>> {
+        if self.is_aborted(statement) {
+            return Some(Refusal::Aborted);
         }
         if !portal.is_empty() && self.portals.find(portal).is_some() {
-            return Ok(Some(Refusal::PortalThere(portal)));
+            return Some(Refusal::PortalThere(portal));
         }
-        let width = self.width(text)?;
-        if results.len() > 1 && width != 0 && results.len() != width {
-            return Ok(Some(Refusal::WrongResultFormats));
+        let width = self.width(statement, out);
+        if results > 1 && width != 0 && results != width {
+            return Some(Refusal::WrongResultFormats);
         }
-        Ok(None)
+        None
     }
 
     /// Binds a statement to so many values, which have these formats.
-    pub(crate) fn bind(&mut self, binding: &Binding<'_>, out: &mut BytesMut) -> Result<(), Fault> {
-        if let Some(refusal) = self.rejects_binding(binding)? {
-            return self.fail(refusal, out);
+    pub(crate) fn bind(&mut self, binding: &Binding<'_>, out: &mut Outbox) {
+        match self.rejects_binding(binding, out) {
+            Some(refusal) => self.fail(refusal, out),
+            None => self.open_portal(binding, out),
         }
+    }
+
+    fn open_portal(&mut self, binding: &Binding<'_>, out: &mut Outbox) {
         if let Some(plan) = self.prepared.find(binding.statement) {
-            let portal = portal_of(self.alloc, plan, binding, self.transaction.depth())?;
-            self.portals.put(binding.portal, portal)?;
+            let portal = portal_of(plan, binding, self.transaction.depth(), out);
+            self.portals.put(binding.portal, portal, out);
         }
-        Ok(reply::bind_complete(out)?)
+        let put = reply::bind_complete(&mut out.bytes);
+        out.put(put);
     }
 
     /// Why this can't be bound, if it can't.
-    fn rejects_binding<'m>(
-        &self,
-        binding: &Binding<'m>,
-    ) -> Result<Option<Refusal<'m>>, AllocError> {
+    fn rejects_binding<'m>(&self, binding: &Binding<'m>, out: &mut Outbox) -> Option<Refusal<'m>> {
         let Some(plan) = self.prepared.find(binding.statement) else {
-            return Ok(Some(Refusal::NoStatement(binding.statement)));
+            return Some(Refusal::NoStatement(binding.statement));
         };
         let (formats, count) = (binding.formats, binding.values.len());
         if formats.len() > 1 && formats.len() != count {
-            return Ok(Some(Refusal::WrongFormats));
+            return Some(Refusal::WrongFormats);
         }
         if plan.types.len() != count {
-            return Ok(Some(Refusal::WrongCount));
+            return Some(Refusal::WrongCount);
         }
-        if let Some(refusal) = self.rejects_portal(binding.portal, &plan.text, binding.results)? {
-            return Ok(Some(refusal));
+        let results = binding.results.len();
+        match self.rejects_portal(binding.portal, &plan.statement, results, out) {
+            None if count != 0 && !are_formats(formats) => Some(Refusal::BadFormat),
+            refusal => refusal,
         }
-        if count != 0 && !are_formats(formats) {
-            return Ok(Some(Refusal::BadFormat));
-        }
-        Ok(None)
     }
 
     /// Whether the transaction failed, and the statement has rows, which then aren't described.
-    fn hides(&self, text: &[u8]) -> Result<bool, AllocError> {
-        Ok(self.transaction.status == Status::Failed && self.width(text)? != 0)
+    fn hides(&self, statement: &Wording, out: &mut Outbox) -> bool {
+        self.transaction.status == Status::Failed && self.width(statement, out) != 0
     }
 
     /// Appends the description of a statement's rows.
-    fn describe_rows(&self, text: &[u8], formats: &[i16], out: &mut BytesMut) -> Result<(), Fault> {
-        match self.asks(text)? {
-            Asks::Scripted(statement) => describe(self.alloc, &statement.columns, formats, out),
-            Asks::Command => describe(self.alloc, &self.command_columns(text)?, formats, out),
-            _ => Ok(reply::no_data(out)?),
+    fn describe_rows(&self, statement: &Wording, formats: &[i16], out: &mut Outbox) {
+        match self.asks(statement, out) {
+            Asks::Scripted(statement) => describe(&statement.columns, formats, out),
+            Asks::Command(command) => match self.shown(command) {
+                Some(setting) => describe_one(&setting.name, PLAIN_TEXT, formats, out),
+                None => describe_none(out),
+            },
+            _ => describe_none(out),
         }
     }
 
     /// Describes a prepared statement: its parameters, and its rows.
-    fn describe_statement(&mut self, name: &[u8], out: &mut BytesMut) -> Result<(), Fault> {
+    fn describe_statement(&mut self, name: &[u8], out: &mut Outbox) {
         let Some(plan) = self.prepared.find(name) else {
             return self.fail(Refusal::NoStatement(name), out);
         };
-        if self.hides(&plan.text)? {
+        if self.hides(&plan.statement, out) {
             return self.fail(Refusal::Aborted, out);
         }
-        reply::parameter_description(&plan.types, out)?;
-        self.describe_rows(&plan.text, &[], out)
+        let put = reply::parameter_description(&plan.types, &mut out.bytes);
+        out.put(put);
+        self.describe_rows(&plan.statement, &[], out);
     }
 
     /// Describes a portal's rows.
-    fn describe_portal(&mut self, name: &[u8], out: &mut BytesMut) -> Result<(), Fault> {
+    fn describe_portal(&mut self, name: &[u8], out: &mut Outbox) {
         let Some(portal) = self.portals.find(name) else {
             return self.fail(Refusal::NoPortal(name), out);
         };
-        if self.hides(&portal.text)? {
+        if self.hides(&portal.statement, out) {
             return self.fail(Refusal::Aborted, out);
         }
-        self.describe_rows(&portal.text, &portal.formats, out)
+        self.describe_rows(&portal.statement, &portal.formats, out);
     }
 
     /// Runs a portal, for so many rows at most; 0 and less are no limit.
-    fn execute(&mut self, name: &[u8], max_rows: i32, out: &mut BytesMut) -> Result<(), Fault> {
+    fn execute(&mut self, name: &[u8], max_rows: i32, out: &mut Outbox) {
         let Some(portal) = self.portals.find(name) else {
             return self.fail(Refusal::NoPortal(name), out);
         };
-        let text = Vec::from_slice(self.alloc, &portal.text)?;
-        let asks = self.asks(&text)?;
-        if matches!(asks, Asks::Nothing) {
-            return Ok(reply::empty_query_response(out)?);
-        }
-        if self.is_aborted(&text)? {
-            return self.fail(Refusal::Aborted, out);
-        }
-        match asks {
-            Asks::Scripted(statement) => {
-                let most = usize::try_from(max_rows).unwrap_or(0);
-                self.execute_scripted(name, statement, most, out)
+        let statement = Wording::new(&portal.statement.text, out);
+        self.execute_statement(name, &statement, max_rows, out);
+    }
+
+    fn execute_statement(
+        &mut self,
+        name: &[u8],
+        statement: &Wording,
+        max_rows: i32,
+        out: &mut Outbox,
+    ) {
+        match self.asks(statement, out) {
+            Asks::Nothing => {
+                let put = reply::empty_query_response(&mut out.bytes);
+                out.put(put);
             }
-            _ => self.execute_command(name, &text, out),
+            _ if self.is_aborted(statement) => self.fail(Refusal::Aborted, out),
+            Asks::Scripted(scripted) => {
+                let most = usize::try_from(max_rows).unwrap_or(0);
+                self.execute_scripted(name, scripted, most, out);
+            }
+            Asks::Command(_) | Asks::Unknown => self.execute_command(name, statement, out),
         }
     }
 
@@ -287,11 +305,11 @@ impl<'h> Session<'h> {
         name: &[u8],
         statement: &'h Statement,
         most: usize,
-        out: &mut BytesMut,
-    ) -> Result<(), Fault> {
+        out: &mut Outbox,
+    ) {
         let start = out.len();
         let Some(portal) = self.portals.find_mut(name) else {
-            return Ok(());
+            return;
         };
         if portal.sent.is_some() && statement.columns.is_empty() {
             return self.fail(Refusal::WasRun(name), out);
@@ -304,10 +322,10 @@ impl<'h> Session<'h> {
             values: &portal.values,
             formats: &portal.formats,
         };
-        let progress = execute(self.alloc, statement, bound, portal.sent, most, out)?;
+        let progress = execute(statement, bound, portal.sent, most, out);
         portal.sent = Some(progress.sent);
         self.is_skipping = progress.went == Went::Wrong;
-        self.leave_portal(statement, progress.went, (start, out.len()))
+        self.leave_portal(statement, progress.went, start, out);
     }
 
     /// What a statement of the script leaves, and the end of the portals where it ends a transaction.
@@ -315,47 +333,41 @@ impl<'h> Session<'h> {
         &mut self,
         statement: &'h Statement,
         went: Went,
-        answer: (usize, usize),
-    ) -> Result<(), Fault> {
+        start: usize,
+        out: &mut Outbox,
+    ) {
         let before = self.transaction.status;
-        self.leave(statement, went, answer)?;
+        self.leave(statement, went, start, out);
         if before != Status::Idle {
             self.end_portals();
         }
-        Ok(())
     }
 
     /// Runs a portal of a command, which is run once.
-    fn execute_command(
-        &mut self,
-        name: &[u8],
-        text: &[u8],
-        out: &mut BytesMut,
-    ) -> Result<(), Fault> {
+    fn execute_command(&mut self, name: &[u8], statement: &Wording, out: &mut Outbox) {
         match self.portals.find_mut(name) {
             Some(portal) if portal.sent.is_none() => portal.sent = Some(0),
             _ => return self.fail(Refusal::WasRun(name), out),
         }
-        self.is_skipping = self.command(text, out)? == Went::Wrong;
-        Ok(())
+        self.is_skipping = match statement.command() {
+            Some(command) => self.command(command, &statement.text, out) == Went::Wrong,
+            None => false,
+        };
     }
 
     /// Closes a statement or a portal; it needn't be there.
-    fn close(&mut self, variant: u8, name: &[u8], out: &mut BytesMut) -> Result<(), Fault> {
+    fn close(&mut self, variant: u8, name: &[u8], out: &mut Outbox) {
         match variant {
             b'S' => self.prepared.remove(name),
             b'P' => self.portals.remove(name),
             _ => return self.fail(Refusal::WrongClose, out),
         }
-        Ok(reply::close_complete(out)?)
+        let put = reply::close_complete(&mut out.bytes);
+        out.put(put);
     }
 
     /// Answers a request of an extended query that is no Parse and no Bind.
-    pub(crate) fn extended(
-        &mut self,
-        message: &ClientMessage<'_>,
-        out: &mut BytesMut,
-    ) -> Result<(), Fault> {
+    pub(crate) fn extended(&mut self, message: &ClientMessage<'_>, out: &mut Outbox) {
         match message {
             ClientMessage::Describe {
                 variant: b'S',
@@ -369,7 +381,7 @@ impl<'h> Session<'h> {
             ClientMessage::Execute { portal, max_rows } => self.execute(portal, *max_rows, out),
             ClientMessage::Close { variant, name } => self.close(*variant, name, out),
             // What belongs to a copy is passed over, as PostgreSQL does outside of one.
-            _ => Ok(()),
+            _ => {}
         }
     }
 }

@@ -6,7 +6,7 @@ use pgp_monitor::Stop;
 use std::alloc::AllocError;
 
 /// Why the program stops short.
-#[derive(Drop)]
+#[derive(Clone, Copy)]
 pub(crate) enum Fault {
     Memory,
     Read,
@@ -31,13 +31,11 @@ pub(crate) enum Fault {
     Nonce,
     /// The hash of the certificate isn't one.
     Certificate,
-    /// The words ask for nothing that there is, or for help.
-    Words(clap::Error),
 }
 
 impl Fault {
     /// What is said of it on standard error.
-    pub(crate) fn complaint(&self) -> &'static str {
+    pub(crate) fn complaint(self) -> &'static str {
         match self {
             Fault::Memory => "out of memory",
             Fault::Read => "read failed",
@@ -53,7 +51,6 @@ impl Fault {
                 "the verifier is no text of the method's: SCRAM-SHA-256$.., or md5..",
             Fault::Nonce => "the nonce has to be printable ASCII without a comma",
             Fault::Certificate => "the hash of the certificate has to be hexadecimal digits",
-            Fault::Words(_) => "the words",
         }
     }
 }
@@ -79,11 +76,5 @@ impl From<Stop> for Fault {
             Stop::OutOfMemory => Fault::Memory,
             _ => Fault::Misplaced,
         }
-    }
-}
-
-impl From<clap::Error> for Fault {
-    fn from(refusal: clap::Error) -> Fault {
-        Fault::Words(refusal)
     }
 }

@@ -2,10 +2,10 @@
 
 use crate::fault::Fault;
 use crate::log::Form;
+use crate::outbox::Outbox;
 use crate::script::Script;
 use crate::user::{Auth, verifier_of};
 use crate::words::Words;
-use bytes::BytesMut;
 use pgp_auth::authentication::sasl::{
     ChannelOffer, SCRAM_SHA_256, ScramServer, StoredVerifier, is_nonce,
 };
@@ -129,37 +129,31 @@ impl<'h> Host<'h> {
     }
 
     /// Asks a user of this name for what has to be shown.
-    ///
-    /// # Errors
-    ///
-    /// Returns `Verifier` and `Nonce` if the words have another form, and `Memory`.
-    pub(crate) fn ask(
-        &self,
-        alloc: Global,
-        user: &[u8],
-        serving: &mut Serving,
-        out: &mut BytesMut,
-    ) -> Result<(), Fault> {
-        if serving.phase != ServingPhase::Named {
-            return Ok(());
-        }
-        let account = self.account(user);
-        match account.auth {
-            Auth::Trust => Ok(serving.trust(out)?),
-            Auth::Password => Ok(serving.ask_password(account.stored(alloc, user)?, out)?),
-            Auth::Md5 => Ok(serving.ask_md5(SALT, account.md5(alloc)?, out)?),
-            Auth::Scram => Ok(serving.ask_scram(self.unbound(alloc, user)?, out)?),
-            Auth::ScramPlus => {
-                serving.phase = ServingPhase::AwaitsFirst;
-                let mechanisms = [SCRAM_PLUS, SCRAM_SHA_256.as_bytes()];
-                Ok(reply::authentication_sasl(&mechanisms, out)?)
-            }
+    pub(crate) fn ask(&self, user: &[u8], serving: &mut Serving, out: &mut Outbox) {
+        if let Err(fault) = self.demand(user, serving, out) {
+            out.fail(fault);
         }
     }
 
-    /// Whether a user of this name may be bound to the certificate.
-    pub(crate) fn may_bind(&self, user: &[u8]) -> bool {
-        self.account(user).auth == Auth::ScramPlus
+    /// The same; a fault is returned.
+    fn demand(&self, user: &[u8], serving: &mut Serving, out: &mut Outbox) -> Result<(), Fault> {
+        if serving.phase != ServingPhase::Named {
+            return Ok(());
+        }
+        let (account, alloc) = (self.account(user), out.alloc);
+        let put = match account.auth {
+            Auth::Trust => serving.trust(&mut out.bytes),
+            Auth::Password => serving.ask_password(account.stored(alloc, user)?, &mut out.bytes),
+            Auth::Md5 => serving.ask_md5(SALT, account.md5(alloc)?, &mut out.bytes),
+            Auth::Scram => serving.ask_scram(self.unbound(alloc, user)?, &mut out.bytes),
+            Auth::ScramPlus => {
+                serving.phase = ServingPhase::AwaitsFirst;
+                let mechanisms = [SCRAM_PLUS, SCRAM_SHA_256.as_bytes()];
+                reply::authentication_sasl(&mechanisms, &mut out.bytes)
+            }
+        };
+        out.put(put);
+        Ok(())
     }
 
     /// An exchange of a server that offers no binding.
@@ -178,14 +172,20 @@ impl<'h> Host<'h> {
         self.with_offer(alloc, user, ChannelOffer::Chosen(hash))
     }
 
-    /// The method by which a user is logged in who chose the binding, or didn't.
+    /// The method by which a user is logged in who has the choice and chose the binding, or didn't; `None` of another.
     pub(crate) fn method(
         &self,
         alloc: Global,
         user: &[u8],
         is_bound: bool,
-    ) -> Result<Method, Fault> {
-        Ok(Method::Exchange(self.exchange(alloc, user, is_bound)?))
+    ) -> Result<Option<Method>, Fault> {
+        if self.account(user).auth != Auth::ScramPlus {
+            return Ok(None);
+        }
+        match self.exchange(alloc, user, is_bound) {
+            Ok(exchange) => Ok(Some(Method::Exchange(exchange))),
+            Err(fault) => Err(fault),
+        }
     }
 
     /// The certificate's hash; `None` where the words have another form.

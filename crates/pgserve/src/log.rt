@@ -1,5 +1,7 @@
 //! One line for each request, with what it was answered.
 
+use crate::line::Line;
+use crate::log_json::add_object;
 use std::alloc::{AllocError, Global};
 
 /// How requests are reported.
@@ -67,22 +69,6 @@ fn answered_rarely(tag: u8) -> &'static str {
     }
 }
 
-/// How many bytes of a message's body are shown.
-const SHOWN: usize = 200;
-
-/// Adds the body's bytes that are printable ASCII; a point stands for another.
-pub(crate) fn add_body(body: &[u8], line: &mut String) -> Result<(), AllocError> {
-    for byte in body.iter().take(SHOWN) {
-        let shown = if byte.is_ascii_graphic() || *byte == b' ' {
-            char::from(*byte)
-        } else {
-            '.'
-        };
-        line.push(shown)?;
-    }
-    Ok(())
-}
-
 /// Whether the body of an answer of this tag says something in a line.
 pub(crate) fn is_telling(tag: u8) -> bool {
     matches!(tag, b'C' | b'E' | b'N' | b'S' | b'Z')
@@ -101,43 +87,58 @@ pub(crate) fn front(bytes: &[u8]) -> Option<(u8, &[u8], &[u8])> {
 }
 
 /// Adds what was answered.
-fn add_answer(answer: &[u8], line: &mut String) -> Result<(), AllocError> {
+fn add_answer(answer: &[u8], line: &mut Line) {
     let mut rest = answer;
     for _ in 0..answer.len() {
         let Some((tag, body, behind)) = front(rest) else {
-            return Ok(());
+            return;
         };
-        line.push_str(", ")?;
-        line.push_str(answered(tag))?;
+        line.add(", ");
+        line.add(answered(tag));
         if is_telling(tag) {
-            line.push(' ')?;
-            add_body(body, line)?;
+            line.add(" ");
+            line.add_body(body);
         }
         rest = behind;
     }
-    Ok(())
 }
 
-/// The line of a message and its answer. Of a password only the name is shown.
-pub(crate) fn line_of(
-    alloc: Global,
-    is_open: bool,
-    message: &[u8],
-    answer: &[u8],
-) -> Result<String, AllocError> {
-    let mut line = String::from_str(alloc, "pgserve: ")?;
+/// Adds a message of the client. Of a password only the name is shown.
+fn add_request(is_open: bool, message: &[u8], line: &mut Line) {
     match front(message) {
         Some((tag, body, _)) if is_open => {
-            line.push_str(asked(tag))?;
+            line.add(asked(tag));
             if tag != b'p' && !body.is_empty() {
-                line.push(' ')?;
-                add_body(body, &mut line)?;
+                line.add(" ");
+                line.add_body(body);
             }
         }
-        _ => line.push_str(asked(0))?,
+        _ => line.add(asked(0)),
     }
-    line.push_str(" ->")?;
-    add_answer(answer, &mut line)?;
-    line.push('\n')?;
-    Ok(line)
+}
+
+/// Adds a message and its answer.
+fn add_plain(is_open: bool, message: &[u8], answer: &[u8], line: &mut Line) {
+    line.add("pgserve: ");
+    add_request(is_open, message, line);
+    line.add(" ->");
+    add_answer(answer, line);
+    line.add("\n");
+}
+
+/// The line of a message, its name as a request and its answer.
+pub(crate) fn line_of(
+    alloc: Global,
+    form: Form,
+    is_open: bool,
+    message: &[u8],
+    name: Option<u64>,
+    answer: &[u8],
+) -> Result<String, AllocError> {
+    let mut line = Line::new(alloc);
+    match form {
+        Form::Plain => add_plain(is_open, message, answer, &mut line),
+        Form::Json => add_object(is_open, message, name, answer, &mut line),
+    }
+    line.end()
 }

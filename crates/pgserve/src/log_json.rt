@@ -1,90 +1,63 @@
 //! The same as objects of JSON.
 
-use crate::log::{add_body, answered, asked, front, is_telling};
-use std::alloc::{AllocError, Global};
-
-/// Adds a text in double quotes.
-fn add_quoted(text: &str, line: &mut String) -> Result<(), AllocError> {
-    line.push('"')?;
-    for c in text.chars() {
-        if c == '"' || c == '\\' {
-            line.push('\\')?;
-        }
-        line.push(c)?;
-    }
-    line.push('"')
-}
-
-/// Adds what a body says in a line.
-fn add_text(alloc: Global, body: &[u8], line: &mut String) -> Result<(), AllocError> {
-    let mut text = String::new(alloc);
-    add_body(body, &mut text)?;
-    line.push_str(", \"text\": ")?;
-    add_quoted(&text, line)
-}
+use crate::line::Line;
+use crate::log::{answered, asked, front, is_telling};
 
 /// Adds a message of the server.
-fn add_message(alloc: Global, tag: u8, body: &[u8], line: &mut String) -> Result<(), AllocError> {
-    line.push_str("{\"message\": ")?;
-    add_quoted(answered(tag), line)?;
+fn add_message(tag: u8, body: &[u8], line: &mut Line) {
+    line.add("{\"message\": ");
+    line.add_quoted(answered(tag).as_bytes());
     if is_telling(tag) {
-        add_text(alloc, body, line)?;
+        line.add(", \"text\": ");
+        line.add_quoted(body);
     }
-    line.push('}')
+    line.add("}");
 }
 
 /// Adds what was answered.
-fn add_answer(alloc: Global, answer: &[u8], line: &mut String) -> Result<(), AllocError> {
+fn add_answer(answer: &[u8], line: &mut Line) {
     let mut rest = answer;
     for _ in 0..answer.len() {
         let Some((tag, body, behind)) = front(rest) else {
-            return Ok(());
+            return;
         };
-        add_message(alloc, tag, body, line)?;
+        add_message(tag, body, line);
         if !behind.is_empty() {
-            line.push_str(", ")?;
+            line.add(", ");
         }
         rest = behind;
     }
-    Ok(())
 }
 
 /// Adds a message of the client. Of a password only the name is shown.
-fn add_request(
-    alloc: Global,
-    is_open: bool,
-    message: &[u8],
-    line: &mut String,
-) -> Result<(), AllocError> {
-    line.push_str("{\"request\": ")?;
+fn add_request(is_open: bool, message: &[u8], line: &mut Line) {
     match front(message) {
         Some((tag, body, _)) if is_open => {
-            add_quoted(asked(tag), line)?;
+            line.add_quoted(asked(tag).as_bytes());
             if tag != b'p' && !body.is_empty() {
-                add_text(alloc, body, line)?;
+                line.add(", \"text\": ");
+                line.add_quoted(body);
             }
-            Ok(())
         }
-        _ => add_quoted(asked(0), line),
+        _ => line.add_quoted(asked(0).as_bytes()),
     }
 }
 
-/// The object of a message, its name as a request and its answer.
-pub(crate) fn object_of(
-    alloc: Global,
+/// Adds the object of a message, its name as a request and its answer.
+pub(crate) fn add_object(
     is_open: bool,
     message: &[u8],
     name: Option<u64>,
     answer: &[u8],
-) -> Result<String, AllocError> {
-    let mut line = String::new(alloc);
-    add_request(alloc, is_open, message, &mut line)?;
+    line: &mut Line,
+) {
+    line.add("{\"request\": ");
+    add_request(is_open, message, line);
     if let Some(name) = name {
-        let number = format!(in alloc; ", \"number\": {name}")?;
-        line.push_str(&number)?;
+        line.add(", \"number\": ");
+        line.add_number(name);
     }
-    line.push_str(", \"answer\": [")?;
-    add_answer(alloc, answer, &mut line)?;
-    line.push_str("]}\n")?;
-    Ok(line)
+    line.add(", \"answer\": [");
+    add_answer(answer, line);
+    line.add("]}\n");
 }

@@ -14,15 +14,19 @@ mod copy;
 mod extended;
 mod fault;
 mod host;
+mod line;
 mod list;
 mod log;
 mod log_json;
 mod moment_text;
 mod opening;
+mod outbox;
+mod part;
 mod parts;
 mod pattern;
 mod pause;
 mod portals;
+mod reader;
 mod reading;
 mod row_text;
 mod script;
@@ -33,6 +37,7 @@ mod text;
 mod transaction;
 mod types;
 mod user;
+mod wording;
 mod words;
 mod wrong;
 
@@ -58,8 +63,10 @@ fn read_script(rt: &HostRuntime, path: &str) -> Result<Script, Fault> {
 
 /// Serves the client that is connected.
 fn serve(rt: &HostRuntime, words: &Words<'_>) -> Result<(), Fault> {
-    let script = read_script(rt, words.script)?;
-    serve_script(rt, words, &script)
+    match read_script(rt, words.script) {
+        Ok(script) => serve_script(rt, words, &script),
+        Err(fault) => Err(fault),
+    }
 }
 
 /// The same with this script.
@@ -71,7 +78,7 @@ fn serve_script(rt: &HostRuntime, words: &Words<'_>, script: &Script) -> Result<
 }
 
 /// Says why there is no more.
-fn complain(rt: &HostRuntime, path: &str, fault: &Fault) -> io::Result<()> {
+fn complain(rt: &HostRuntime, path: &str, fault: Fault) -> io::Result<()> {
     match fault {
         Fault::Script(place) => {
             let (line, column) = (place.line, place.column);
@@ -84,31 +91,35 @@ fn complain(rt: &HostRuntime, path: &str, fault: &Fault) -> io::Result<()> {
     }
 }
 
-/// Says what is wrong with the words, or the help that they ask for, and returns the status.
-fn explain(rt: &HostRuntime, fault: Fault) -> io::Result<u8> {
-    match fault {
-        Fault::Words(refusal) => {
-            refusal.print(rt)?;
-            Ok(if refusal.use_stderr() { 2 } else { 0 })
-        }
-        other => {
-            complain(rt, "", &other)?;
+/// Serves as the words say, and returns the status.
+fn obey(rt: &HostRuntime, words: &Words<'_>) -> io::Result<u8> {
+    match serve(rt, words) {
+        Ok(()) => Ok(0),
+        Err(fault) => {
+            complain(rt, words.script, fault)?;
             Ok(1)
         }
     }
 }
 
+/// Says what is wrong with the words, or the help that they ask for, and returns the status.
+fn explain(rt: &HostRuntime, refusal: &clap::Error) -> io::Result<u8> {
+    refusal.print(rt)?;
+    Ok(if refusal.use_stderr() { 2 } else { 0 })
+}
+
+fn run(rt: &HostRuntime, args: &[String]) -> io::Result<u8> {
+    let Ok(command) = words::command(rt.alloc()) else {
+        complain(rt, "", Fault::Memory)?;
+        return Ok(1);
+    };
+    match command.try_get_matches_from(args) {
+        Ok(matches) => obey(rt, &words::words_of(&matches)),
+        Err(refusal) => explain(rt, &refusal),
+    }
+}
+
 fn main(rt: HostRuntime) -> io::Result<ExitCode> {
     let args: Vec<String> = std::env::args(&rt)?.collect(rt.alloc())?;
-    let words = match words::words_of(rt.alloc(), &args) {
-        Ok(words) => words,
-        Err(fault) => return Ok(ExitCode::from(explain(&rt, fault)?)),
-    };
-    match serve(&rt, &words) {
-        Ok(()) => Ok(ExitCode::SUCCESS),
-        Err(fault) => {
-            complain(&rt, words.script, &fault)?;
-            Ok(ExitCode::from(1))
-        }
-    }
+    Ok(ExitCode::from(run(&rt, &args)?))
 }

@@ -84,7 +84,6 @@ fn number_of(digits: &str) -> Option<i64> {
 
 /// The microseconds of the digits after a point, six at most.
 fn fraction_of(digits: &str) -> Option<i64> {
-    let number = number_of(digits)?;
     let scale = match digits.len() {
         1 => 100_000,
         2 => 10_000,
@@ -94,7 +93,10 @@ fn fraction_of(digits: &str) -> Option<i64> {
         6 => 1,
         _ => return None,
     };
-    Some(number.saturating_mul(scale))
+    match number_of(digits) {
+        Some(number) => Some(number.saturating_mul(scale)),
+        None => None,
+    }
 }
 
 /// The microseconds of `SS` or `SS.ffffff`.
@@ -115,13 +117,17 @@ fn seconds_of(text: &str) -> Option<i64> {
 fn span_of(text: &str) -> Option<i64> {
     let (hours, rest) = text.split_once(':')?;
     let (minutes, seconds) = rest.split_once(':')?;
-    let (hours, minutes) = (number_of(hours)?, number_of(minutes)?);
-    if minutes > 59 {
-        return None;
+    match (number_of(hours), number_of(minutes), seconds_of(seconds)) {
+        (Some(hours), Some(minutes), Some(since_minute)) if minutes <= 59 => {
+            let minutes = hours.saturating_mul(60).saturating_add(minutes);
+            Some(
+                minutes
+                    .saturating_mul(60 * SECOND)
+                    .saturating_add(since_minute),
+            )
+        }
+        _ => None,
     }
-    let minutes = hours.saturating_mul(60).saturating_add(minutes);
-    let whole = minutes.saturating_mul(60 * SECOND);
-    Some(whole.saturating_add(seconds_of(seconds)?))
 }
 
 /// A `time`, as `10:20:30.5`, up to `24:00:00`.

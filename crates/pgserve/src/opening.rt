@@ -3,11 +3,10 @@
 //! PostgreSQL manual, "Message Flow", "Start-up"; NegotiateProtocolVersion of "Message Formats".
 
 use crate::fault::Fault;
-use bytes::BytesMut;
+use crate::outbox::Outbox;
 use pgp_base::FallibleIterator;
 use pgp_frontend_read::{ClientMessage, StartupParameters};
 use pgp_message_write as reply;
-use std::alloc::{AllocError, Global};
 
 /// What a startup packet asks for.
 #[derive(Drop)]
@@ -40,55 +39,51 @@ pub(crate) fn spoken(message: &mut ClientMessage<'_>) -> u16 {
 
 impl<'m> Opening<'m> {
     /// Adds what a name and its value say.
-    fn add(&mut self, name: &'m [u8], value: &'m [u8]) -> Result<(), AllocError> {
+    fn add(&mut self, name: &'m [u8], value: &'m [u8], out: &mut Outbox) {
         if name.starts_with(b"_pq_.") {
-            self.unknown.push(name)?;
+            out.add(&mut self.unknown, name);
         } else if name == b"user".as_slice() {
             self.user = Some(value);
         } else if !IS_NO_SETTING.contains(&name) {
-            self.settings.push((name, value))?;
+            out.add(&mut self.settings, (name, value));
         }
-        Ok(())
     }
 
     /// Adds what all names and values say.
-    fn add_all(&mut self, parameters: &mut StartupParameters<'m>) -> Result<(), Fault> {
+    fn add_all(&mut self, parameters: &mut StartupParameters<'m>, out: &mut Outbox) {
         for _ in 0..u64::MAX {
-            match parameters.next()? {
-                Some((name, value)) => self.add(name, value)?,
-                None => return Ok(()),
+            match parameters.next() {
+                Ok(Some((name, value))) => self.add(name, value, out),
+                Ok(None) => return,
+                Err(why) => return out.fail(Fault::from(why)),
             }
         }
-        Ok(())
     }
 
     /// Appends which version of the protocol is spoken, and which options aren't known, unless the client has what it asks for.
-    pub(crate) fn negotiate(&self, minor: u16, out: &mut BytesMut) -> Result<(), Fault> {
+    pub(crate) fn negotiate(&self, minor: u16, out: &mut Outbox) {
         let spoken = spoken_minor(minor);
         if spoken == minor && self.unknown.is_empty() {
-            return Ok(());
+            return;
         }
         let version = VERSION.saturating_add(i32::from(spoken));
-        Ok(reply::negotiate_protocol_version(version, &self.unknown, out)?)
+        let put = reply::negotiate_protocol_version(version, &self.unknown, &mut out.bytes);
+        out.put(put);
     }
 }
 
 /// Names in a startup packet that are no settings, beside the user's.
-const IS_NO_SETTING: [&[u8]; 3] = [b"database", b"options", b"replication"];
+static IS_NO_SETTING: [&[u8]; 3] = [b"database", b"options", b"replication"];
 
 /// What the startup packet asks for; nothing of another message.
-pub(crate) fn opening_of<'m>(
-    alloc: Global,
-    message: &mut ClientMessage<'m>,
-) -> Result<Opening<'m>, Fault> {
+pub(crate) fn opening_of<'m>(message: &mut ClientMessage<'m>, out: &mut Outbox) -> Opening<'m> {
     let mut opening = Opening {
         user: None,
-        settings: Vec::new(alloc),
-        unknown: Vec::new(alloc),
+        settings: Vec::new(out.alloc),
+        unknown: Vec::new(out.alloc),
     };
-    match message {
-        ClientMessage::Startup { parameters, .. } => opening.add_all(parameters)?,
-        _ => {}
+    if let ClientMessage::Startup { parameters, .. } = message {
+        opening.add_all(parameters, out);
     }
-    Ok(opening)
+    opening
 }

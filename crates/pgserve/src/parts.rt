@@ -1,10 +1,9 @@
 //! The parts of a Bind and a Parse.
 
 use crate::fault::Fault;
-use crate::list::push;
+use crate::outbox::Outbox;
 use pgp_base::{FallibleIterator, Oid};
 use pgp_frontend_read::ClientMessage;
-use std::alloc::Global;
 
 /// The names of the portal and the statement of a Bind.
 pub(crate) fn bound_of<'m>(message: &ClientMessage<'m>) -> Option<(&'m [u8], &'m [u8])> {
@@ -27,57 +26,55 @@ pub(crate) fn prepared_of<'m>(message: &ClientMessage<'m>) -> Option<(&'m [u8], 
 }
 
 /// The formats of a Bind's values.
-pub(crate) fn formats_of(
-    alloc: Global,
-    message: &mut ClientMessage<'_>,
-) -> Result<Vec<i16>, Fault> {
+pub(crate) fn formats_of(message: &mut ClientMessage<'_>, out: &mut Outbox) -> Vec<i16> {
     match message {
-        ClientMessage::Bind { formats, .. } => listed(alloc, formats),
-        _ => Ok(Vec::new(alloc)),
+        ClientMessage::Bind { formats, .. } => listed(formats, out),
+        _ => Vec::new(out.alloc),
     }
 }
 
 /// The values of a Bind.
 pub(crate) fn values_of<'m>(
-    alloc: Global,
     message: &mut ClientMessage<'m>,
-) -> Result<Vec<Option<&'m [u8]>>, Fault> {
+    out: &mut Outbox,
+) -> Vec<Option<&'m [u8]>> {
     match message {
-        ClientMessage::Bind { values, .. } => listed(alloc, values),
-        _ => Ok(Vec::new(alloc)),
+        ClientMessage::Bind { values, .. } => listed(values, out),
+        _ => Vec::new(out.alloc),
     }
 }
 
 /// The formats of a Bind's results.
-pub(crate) fn results_of(
-    alloc: Global,
-    message: &mut ClientMessage<'_>,
-) -> Result<Vec<i16>, Fault> {
+pub(crate) fn results_of(message: &mut ClientMessage<'_>, out: &mut Outbox) -> Vec<i16> {
     match message {
-        ClientMessage::Bind { result_formats, .. } => listed(alloc, result_formats),
-        _ => Ok(Vec::new(alloc)),
+        ClientMessage::Bind { result_formats, .. } => listed(result_formats, out),
+        _ => Vec::new(out.alloc),
     }
 }
 
 /// The types that a Parse names.
-pub(crate) fn types_of(alloc: Global, message: &mut ClientMessage<'_>) -> Result<Vec<Oid>, Fault> {
+pub(crate) fn types_of(message: &mut ClientMessage<'_>, out: &mut Outbox) -> Vec<Oid> {
     match message {
-        ClientMessage::Parse { param_types, .. } => listed(alloc, param_types),
-        _ => Ok(Vec::new(alloc)),
+        ClientMessage::Parse { param_types, .. } => listed(param_types, out),
+        _ => Vec::new(out.alloc),
     }
 }
 
-/// All items.
-fn listed<I: FallibleIterator>(alloc: Global, items: &mut I) -> Result<Vec<I::Item>, Fault>
+/// All items, or those up to a fault.
+fn listed<I: FallibleIterator>(items: &mut I, out: &mut Outbox) -> Vec<I::Item>
 where
     I::Item: Drop,
 {
-    let mut list = Vec::new(alloc);
+    let mut list = Vec::new(out.alloc);
     for _ in 0..u64::MAX {
-        match items.next()? {
-            Some(item) => push(&mut list, item)?,
-            None => return Ok(list),
+        match items.next() {
+            Ok(Some(item)) => out.add(&mut list, item),
+            Ok(None) => return list,
+            Err(why) => {
+                out.fail(Fault::from(why));
+                return list;
+            }
         }
     }
-    Ok(list)
+    list
 }

@@ -1,13 +1,15 @@
 //! Prepared statements and portals, by their names.
 
 use crate::bound::Given;
+use crate::outbox::Outbox;
+use crate::wording::Wording;
 use pgp_base::Oid;
-use std::alloc::{AllocError, Global};
+use std::alloc::Global;
 
 /// A prepared statement.
 #[derive(Drop)]
 pub(crate) struct Plan {
-    pub(crate) text: Vec<u8>,
+    pub(crate) statement: Wording,
     /// The types of its parameters.
     pub(crate) types: Vec<Oid>,
 }
@@ -15,7 +17,7 @@ pub(crate) struct Plan {
 /// A statement that is bound.
 #[derive(Drop)]
 pub(crate) struct Portal {
-    pub(crate) text: Vec<u8>,
+    pub(crate) statement: Wording,
     pub(crate) formats: Vec<i16>,
     /// The values of its parameters.
     pub(crate) values: Vec<Given>,
@@ -35,14 +37,12 @@ pub(crate) struct Entry<T> {
 /// What stands under names.
 #[derive(Drop)]
 pub(crate) struct Names<T> {
-    alloc: Global,
     entries: Vec<Entry<T>>,
 }
 
 impl<T: Drop> Names<T> {
     pub(crate) fn new(alloc: Global) -> Names<T> {
         Names {
-            alloc,
             entries: Vec::new(alloc),
         }
     }
@@ -77,11 +77,10 @@ impl<T: Drop> Names<T> {
     }
 
     /// Puts the value under the name, in the place of what stood there.
-    pub(crate) fn put(&mut self, name: &[u8], value: T) -> Result<(), AllocError> {
+    pub(crate) fn put(&mut self, name: &[u8], value: T, out: &mut Outbox) {
         self.remove(name);
-        let name = Vec::from_slice(self.alloc, name)?;
-        self.entries.push(Entry { name, value })?;
-        Ok(())
+        let name = out.copy(name);
+        out.add(&mut self.entries, Entry { name, value });
     }
 
     /// Forgets all.

@@ -1,72 +1,76 @@
 //! Rows of a script, read from their lines.
 
-use crate::binary::{Unwritten, binary_of};
-use crate::list::push;
+use crate::binary::{Unwritten, value_in};
+use crate::reader::Reader;
 use crate::script::{Column, Condition, Row};
-use crate::text::unescaped;
 use crate::types::Type;
-use crate::wrong::{Stop, Wrong};
-use std::alloc::Global;
+use crate::wrong::Wrong;
 
-/// A text without its escapes.
-pub(crate) fn plain(alloc: Global, text: &str) -> Result<Vec<u8>, Stop> {
-    match unescaped(alloc, text)? {
-        Some(text) => Ok(text),
-        None => Err(Stop::At(Wrong::Escape)),
+/// Takes note of a value that is none of the type.
+fn test_value(kind: Type, value: &[u8], reader: &mut Reader) {
+    match value_in(reader.alloc, 1, kind.oid, value) {
+        Ok(bytes) => drop(bytes),
+        Err(Unwritten::NoFormat) => {}
+        Err(Unwritten::NotOfType) => reader.wrong(Wrong::Value),
+        Err(Unwritten::Memory) => reader.lack(),
     }
 }
 
 /// The value of this text, which is one of the type; `\N` is a null.
-fn value_of(alloc: Global, kind: Type, text: &str) -> Result<Option<Vec<u8>>, Stop> {
-    if text == "\\N" {
-        return Ok(None);
-    }
-    let value = plain(alloc, text)?;
-    match binary_of(alloc, kind.oid, &value) {
-        Ok(bytes) => drop(bytes),
-        Err(Unwritten::NoFormat) => {}
-        Err(Unwritten::NotOfType) => return Err(Stop::At(Wrong::Value)),
-        Err(Unwritten::Memory) => return Err(Stop::Memory),
-    }
-    Ok(Some(value))
-}
-
-/// A fault that stands so many bytes further on.
-fn further(stop: Stop, by: usize) -> Stop {
-    match stop {
-        Stop::At(wrong) => Stop::In(wrong, by),
-        Stop::In(wrong, at) => Stop::In(wrong, at.saturating_add(by)),
-        Stop::Memory => Stop::Memory,
+fn value_of(kind: Type, text: &str, reader: &mut Reader) -> Option<Vec<u8>> {
+    match text {
+        "\\N" => None,
+        _ => {
+            let value = reader.text(text);
+            test_value(kind, &value, reader);
+            Some(value)
+        }
     }
 }
 
-/// The values of this line, between which tabs stand, one for each column.
-fn values_of(alloc: Global, columns: &[Column], line: &str) -> Result<Vec<Option<Vec<u8>>>, Stop> {
-    let (mut values, mut at) = (Vec::new(alloc), 0usize);
+/// Adds the values of this line, between which tabs stand, one for each column.
+fn add_values(
+    columns: &[Column],
+    line: &str,
+    reader: &mut Reader,
+    values: &mut Vec<Option<Vec<u8>>>,
+) {
     for text in line.split('\t') {
         let Some(column) = columns.get(values.len()) else {
-            return Err(Stop::In(Wrong::Width, at));
+            return reader.wrong(Wrong::Width);
         };
-        match value_of(alloc, column.kind, text) {
-            Ok(value) => push(&mut values, value)?,
-            Err(stop) => return Err(further(stop, at)),
-        }
-        at = at.saturating_add(text.len()).saturating_add(1);
+        let value = value_of(column.kind, text, reader);
+        reader.add(values, value);
+        reader.base = reader.base.saturating_add(text.len()).saturating_add(1);
     }
-    if values.len() != columns.len() {
-        return Err(Stop::At(Wrong::Width));
-    }
-    Ok(values)
 }
 
-/// The number of a parameter, and what stands in its quotes.
-fn condition_of(alloc: Global, number: &str, text: &str) -> Result<Condition, Stop> {
+/// The values of this line, which begins so many bytes after the first word and its blank.
+fn values_of(
+    columns: &[Column],
+    line: &str,
+    base: usize,
+    reader: &mut Reader,
+) -> Vec<Option<Vec<u8>>> {
+    let mut values = Vec::new(reader.alloc);
+    reader.base = base;
+    add_values(columns, line, reader, &mut values);
+    reader.base = base;
+    if values.len() != columns.len() {
+        reader.wrong(Wrong::Width);
+    }
+    reader.base = 0;
+    values
+}
+
+/// The place of the parameter of this number.
+fn place_of(number: &str, reader: &mut Reader) -> usize {
     match number.parse::<u16>() {
-        Ok(number) if number != 0 => Ok(Condition {
-            place: usize::from(number).saturating_sub(1),
-            value: plain(alloc, text)?,
-        }),
-        _ => Err(Stop::In(Wrong::Condition, 6)),
+        Ok(number) if number != 0 => usize::from(number).saturating_sub(1),
+        _ => {
+            reader.wrong_at(Wrong::Condition, 6);
+            0
+        }
     }
 }
 
@@ -77,23 +81,30 @@ fn split_condition(line: &str) -> Option<(&str, &str, &str)> {
     Some((number, text, values))
 }
 
+/// A row with a condition, of this line after its first seven letters, and the whole line's length.
+fn row_with_condition(columns: &[Column], rest: &str, len: usize, reader: &mut Reader) -> Row {
+    let parts = split_condition(rest);
+    if parts.is_none() {
+        reader.wrong_at(Wrong::Condition, 5);
+    }
+    let (number, text, values) = parts.unwrap_or(("", "", ""));
+    let condition = Condition {
+        place: place_of(number, reader),
+        value: reader.text(text),
+    };
+    Row {
+        condition: Some(condition),
+        values: values_of(columns, values, len.saturating_sub(values.len()), reader),
+    }
+}
+
 /// The row of this line: its values, after the condition on a parameter if it has one.
-pub(crate) fn row_of(alloc: Global, columns: &[Column], line: &str) -> Result<Row, Stop> {
-    let Some(rest) = line.strip_prefix("when $") else {
-        return Ok(Row {
+pub(crate) fn row_of(columns: &[Column], line: &str, reader: &mut Reader) -> Row {
+    match line.strip_prefix("when $") {
+        Some(rest) => row_with_condition(columns, rest, line.len(), reader),
+        None => Row {
             condition: None,
-            values: values_of(alloc, columns, line)?,
-        });
-    };
-    let Some((number, text, values)) = split_condition(rest) else {
-        return Err(Stop::In(Wrong::Condition, 5));
-    };
-    let condition = condition_of(alloc, number, text)?;
-    match values_of(alloc, columns, values) {
-        Ok(values) => Ok(Row {
-            condition: Some(condition),
-            values,
-        }),
-        Err(stop) => Err(further(stop, line.len().saturating_sub(values.len()))),
+            values: values_of(columns, line, 0, reader),
+        },
     }
 }

@@ -186,30 +186,34 @@ impl Script {
         }
     }
 
-    /// The place of the statement that is written so, as a text or as a pattern.
-    pub(crate) fn place(&self, text: &[u8], is_pattern: bool) -> Option<usize> {
-        for (place, statement) in self.statements.iter().enumerate() {
+    /// The statement that is written so, as a text or as a pattern.
+    pub(crate) fn written(&self, text: &[u8], is_pattern: bool) -> Option<&Statement> {
+        for statement in &self.statements {
             if statement.is_pattern == is_pattern && statement.text.as_slice() == text {
-                return Some(place);
+                return Some(statement);
             }
         }
         None
     }
 
-    /// The place of the statement of this text, or else of the first pattern that matches it.
-    pub(crate) fn find(&self, alloc: Global, text: &[u8]) -> Result<Option<usize>, AllocError> {
+    /// The statement of this text, or else the first pattern that matches it.
+    pub(crate) fn find(
+        &self,
+        alloc: Global,
+        text: &[u8],
+    ) -> Result<Option<&Statement>, AllocError> {
         let text = trimmed(text);
-        match self.place(text, false) {
-            Some(place) => Ok(Some(place)),
+        match self.written(text, false) {
+            Some(statement) => Ok(Some(statement)),
             None => self.matching(alloc, str::from_utf8(text).unwrap_or("")),
         }
     }
 
-    /// The place of the first pattern that matches the text.
-    fn matching(&self, alloc: Global, text: &str) -> Result<Option<usize>, AllocError> {
-        for (place, statement) in self.statements.iter().enumerate() {
+    /// The first pattern that matches the text.
+    fn matching(&self, alloc: Global, text: &str) -> Result<Option<&Statement>, AllocError> {
+        for statement in &self.statements {
             if statement.is_pattern && statement.matches(alloc, text)? {
-                return Ok(Some(place));
+                return Ok(Some(statement));
             }
         }
         Ok(None)
@@ -225,8 +229,13 @@ impl Script {
         None
     }
 
-    pub(crate) fn add_setting(&mut self, setting: Pair) -> Result<(), AllocError> {
-        self.settings.push(setting)?;
-        Ok(())
+    /// Whether a user of this name stands there.
+    pub(crate) fn has_user(&self, name: &[u8]) -> bool {
+        for user in &self.users {
+            if user.name.as_slice() == name {
+                return true;
+            }
+        }
+        false
     }
 }

@@ -8,10 +8,10 @@ ghost use Rattle.std.specs.Prelude.{◌≡◌, ◌≢◌, true, false};
 use crate::answer::{Went, describe, execute};
 use crate::asked::{Refusal, refuse};
 use crate::bound::Bound;
-use crate::command::{command_of, lowered, words_of};
+use crate::command::{Command, command_of};
 use crate::copy::CopyIn;
 use crate::extended::Binding;
-use crate::fault::Fault;
+use crate::outbox::Outbox;
 use crate::parts::{bound_of, formats_of, prepared_of, results_of, types_of, values_of};
 use crate::pause::Pause;
 use crate::portals::{Names, Plan, Portal};
@@ -19,19 +19,18 @@ use crate::script::{Pair, Script, Statement};
 use crate::settings::Settings;
 use crate::text::{first_of, trimmed};
 use crate::transaction::{Status, Transaction};
-use bytes::BytesMut;
+use crate::wording::{Wording, words_of};
 use pgp_frontend_read::ClientMessage;
 use pgp_message_write as reply;
-use std::alloc::{AllocError, Global};
 
-/// What the text of a statement asks for.
+/// What a statement asks for.
 #[derive(Clone, Copy)]
-pub(crate) enum Asks<'h> {
+pub(crate) enum Asks<'h, 'w> {
     /// There is no statement in it.
     Nothing,
     Scripted(&'h Statement),
     /// A command that needs no script.
-    Command,
+    Command(Command<'w>),
     Unknown,
 }
 
@@ -46,7 +45,6 @@ fn is_barred(status: Status, ends_failure: bool) -> bool
 /// A session.
 #[derive(Drop)]
 pub(crate) struct Session<'h> {
-    pub(crate) alloc: Global,
     pub(crate) script: &'h Script,
     pub(crate) prepared: Names<Plan>,
     pub(crate) portals: Names<Portal>,
@@ -64,13 +62,13 @@ pub(crate) struct Session<'h> {
 }
 
 impl<'h> Session<'h> {
-    pub(crate) fn new(alloc: Global, script: &'h Script) -> Result<Session<'h>, AllocError> {
-        let mut settings = Settings::new(alloc)?;
+    pub(crate) fn new(script: &'h Script, out: &mut Outbox) -> Session<'h> {
+        let alloc = out.alloc;
+        let mut settings = Settings::new(out);
         for setting in &script.settings {
-            settings.begin(&setting.name, &setting.value)?;
+            settings.begin(&setting.name, &setting.value, out);
         }
-        Ok(Session {
-            alloc,
+        Session {
             script,
             prepared: Names::new(alloc),
             portals: Names::new(alloc),
@@ -81,66 +79,65 @@ impl<'h> Session<'h> {
             copying: None,
             end_at: None,
             pauses: Vec::new(alloc),
-        })
+        }
     }
 
     /// Appends what a server says after the log-in.
-    pub(crate) fn welcome(&mut self, out: &mut BytesMut) -> Result<(), Fault> {
-        self.settings.report(out)?;
-        reply::backend_key_data(1, &[0, 0, 0, 1], out)?;
-        self.ready(out)
+    pub(crate) fn welcome(&mut self, out: &mut Outbox) {
+        self.settings.report(out);
+        let put = reply::backend_key_data(1, &[0, 0, 0, 1], &mut out.bytes);
+        out.put(put);
+        self.ready(out);
     }
 
     /// Appends which settings changed, the notifications, and that the server is ready.
-    fn ready(&mut self, out: &mut BytesMut) -> Result<(), Fault>
+    fn ready(&mut self, out: &mut Outbox)
         ensures { self.new.portals ≡ self.old.portals }
     {
-        self.settings.report(out)?;
-        for pair in &self.notifications {
-            reply::notification_response(1, &pair.name, &pair.value, out)?;
-        }
+        self.settings.report(out);
+        put_notifications(&self.notifications, out);
         self.notifications.clear();
-        Ok(reply::ready_for_query(self.transaction.status.letter(), out)?)
+        let put = reply::ready_for_query(self.transaction.status.letter(), &mut out.bytes);
+        out.put(put);
     }
 
-    /// What the text asks for.
-    pub(crate) fn asks(&self, text: &[u8]) -> Result<Asks<'h>, AllocError> {
-        if trimmed(text).is_empty() {
-            return Ok(Asks::Nothing);
+    /// What the statement asks for.
+    pub(crate) fn asks<'w>(&self, statement: &'w Wording, out: &mut Outbox) -> Asks<'h, 'w> {
+        if trimmed(&statement.text).is_empty() {
+            return Asks::Nothing;
         }
-        let script = self.script;
-        if let Some(place) = script.find(self.alloc, text)? {
-            if let Some(statement) = script.statements.get(place) {
-                return Ok(Asks::Scripted(statement));
+        match self.script.find(out.alloc, &statement.text) {
+            Ok(Some(scripted)) => Asks::Scripted(scripted),
+            Ok(None) => match statement.command() {
+                Some(command) => Asks::Command(command),
+                None => Asks::Unknown,
+            },
+            Err(_) => {
+                out.lack();
+                Asks::Nothing
             }
-        }
-        let text = lowered(self.alloc, trimmed(text))?;
-        match command_of(&words_of(self.alloc, &text)?) {
-            Some(_) => Ok(Asks::Command),
-            None => Ok(Asks::Unknown),
         }
     }
 
     /// Whether the transaction failed, and this statement doesn't end that.
-    pub(crate) fn is_aborted(&self, text: &[u8]) -> Result<bool, AllocError> {
-        let text = lowered(self.alloc, trimmed(text))?;
-        let ends_failure = match command_of(&words_of(self.alloc, &text)?) {
+    pub(crate) fn is_aborted(&self, statement: &Wording) -> bool {
+        let ends_failure = match statement.command() {
             Some(command) => command.ends_failure(),
             None => false,
         };
-        Ok(is_barred(self.transaction.status, ends_failure))
+        is_barred(self.transaction.status, ends_failure)
     }
 
     /// Appends the error of a request that stands alone.
-    pub(crate) fn stop(&mut self, refusal: Refusal<'_>, out: &mut BytesMut) -> Result<(), Fault> {
+    pub(crate) fn stop(&mut self, refusal: Refusal<'_>, out: &mut Outbox) {
         self.transaction.fail();
-        refuse(self.alloc, refusal, out)
+        refuse(refusal, out);
     }
 
     /// Appends the error of a request of an extended query: what follows is passed over.
-    pub(crate) fn fail(&mut self, refusal: Refusal<'_>, out: &mut BytesMut) -> Result<(), Fault> {
+    pub(crate) fn fail(&mut self, refusal: Refusal<'_>, out: &mut Outbox) {
         self.is_skipping = true;
-        self.stop(refusal, out)
+        self.stop(refusal, out);
     }
 
     /// Portals end with their transaction, which is also one where none was begun.
@@ -153,90 +150,93 @@ impl<'h> Session<'h> {
     }
 
     /// What a statement of the script leaves: the status that it says, or that of its command, or of its error; its notifications; its
-    /// pauses; and the end of the connection. Its answer stands between these places.
+    /// pauses; and the end of the connection. Its answer begins at this place, and is all that follows.
     pub(crate) fn leave(
         &mut self,
         statement: &'h Statement,
         went: Went,
-        answer: (usize, usize),
-    ) -> Result<(), AllocError> {
+        start: usize,
+        out: &mut Outbox,
+    ) {
         for pause in &statement.pauses {
-            self.pauses.push(pause.shifted(answer.0))?;
+            out.add(&mut self.pauses, pause.shifted(start));
         }
         if went == Went::Suspended {
-            return Ok(());
+            return;
         }
         match statement.status {
             Some(status) => self.transaction.set(status),
-            None => self.follow(&statement.text, went)?,
+            None => self.follow(&statement.text, went, out),
         }
-        for pair in &statement.notifications {
-            self.notifications.push(pair)?;
-        }
+        self.add_notifications(&statement.notifications, out);
         if statement.is_fatal() {
-            self.end_at = Some(answer.1);
+            self.end_at = Some(out.len());
         }
         if let Some(bytes) = statement.cut {
-            self.end_at = Some(answer.0.saturating_add(bytes));
+            self.end_at = Some(start.saturating_add(bytes));
         }
-        Ok(())
+    }
+
+    fn add_notifications(&mut self, notifications: &'h [Pair], out: &mut Outbox) {
+        for pair in notifications {
+            out.add(&mut self.notifications, pair);
+        }
     }
 
     /// What the text does to the transaction by itself.
-    fn follow(&mut self, text: &[u8], went: Went) -> Result<(), AllocError> {
+    fn follow(&mut self, text: &[u8], went: Went, out: &mut Outbox) {
         if went == Went::Wrong {
-            self.transaction.fail();
-            return Ok(());
+            return self.transaction.fail();
         }
-        let text = lowered(self.alloc, text)?;
-        if let Some(command) = command_of(&words_of(self.alloc, &text)?) {
-            drop(self.transaction.take(command)?);
+        let words = words_of(text, out);
+        if let Some(command) = command_of(&words) {
+            self.transaction.take(command, out);
         }
-        Ok(())
     }
 
     /// Answers a statement of a simple query, and returns how it went.
-    fn simple(&mut self, text: &[u8], out: &mut BytesMut) -> Result<Went, Fault> {
-        if self.is_aborted(text)? {
-            self.stop(Refusal::Aborted, out)?;
-            return Ok(Went::Wrong);
+    fn simple(&mut self, text: &[u8], out: &mut Outbox) -> Went {
+        let statement = Wording::new(text, out);
+        self.simple_statement(&statement, out)
+    }
+
+    fn simple_statement(&mut self, statement: &Wording, out: &mut Outbox) -> Went {
+        if self.is_aborted(statement) {
+            self.stop(Refusal::Aborted, out);
+            return Went::Wrong;
         }
         self.portals.remove(b"");
-        match self.asks(text)? {
-            Asks::Scripted(statement) => self.simple_scripted(statement, out),
-            Asks::Command => self.simple_command(text, out),
-            Asks::Nothing => Ok(Went::Well),
+        match self.asks(statement, out) {
+            Asks::Scripted(scripted) => self.simple_scripted(scripted, out),
+            Asks::Command(command) => self.simple_command(command, &statement.text, out),
+            Asks::Nothing => Went::Well,
             Asks::Unknown => {
-                self.stop(Refusal::NotScripted(text.trim_ascii()), out)?;
-                Ok(Went::Wrong)
+                self.stop(Refusal::NotScripted(statement.text.trim_ascii()), out);
+                Went::Wrong
             }
         }
     }
 
-    fn simple_scripted(
-        &mut self,
-        statement: &'h Statement,
-        out: &mut BytesMut,
-    ) -> Result<Went, Fault> {
+    fn simple_scripted(&mut self, statement: &'h Statement, out: &mut Outbox) -> Went {
         if let Some(copy) = statement.copy_in() {
-            self.begin_copy(statement, copy, true, out)?;
-            return Ok(Went::Suspended);
+            self.begin_copy(statement, copy, true, out);
+            return Went::Suspended;
         }
         let start = out.len();
         if !statement.columns.is_empty() {
-            describe(self.alloc, &statement.columns, &[], out)?;
+            describe(&statement.columns, &[], out);
         }
         let unbound = Bound {
             values: &[],
             formats: &[],
         };
-        let progress = execute(self.alloc, statement, unbound, None, 0, out)?;
-        self.leave(statement, progress.went, (start, out.len()))?;
-        Ok(progress.went)
+        let progress = execute(statement, unbound, None, 0, out);
+        self.leave(statement, progress.went, start, out);
+        progress.went
     }
 
     /// Answers the statements of a query up to the first that goes wrong; returns whether there was one.
-    fn statements(&mut self, query: &[u8], out: &mut BytesMut) -> Result<bool, Fault> {
+    fn statements(&mut self, query: &[u8], out: &mut Outbox) -> bool {
         let (mut rest, mut is_some) = (query, false);
         for _ in 0..=query.len() {
             let (first, behind) = first_of(rest);
@@ -245,89 +245,84 @@ impl<'h> Session<'h> {
                 continue;
             }
             is_some = true;
-            if self.simple(first, out)? != Went::Well {
-                return Ok(true);
+            if self.simple(first, out) != Went::Well {
+                return true;
             }
         }
-        Ok(is_some)
+        is_some
+    }
+
+    /// Answers a query that the script has as a whole, or its statements; returns whether there was one.
+    fn whole_or_parts(&mut self, query: &[u8], out: &mut Outbox) -> bool {
+        match self.script.find(out.alloc, query) {
+            Ok(Some(_)) => {
+                self.simple(query, out);
+                true
+            }
+            Ok(None) => self.statements(query, out),
+            Err(_) => {
+                out.lack();
+                false
+            }
+        }
     }
 
     /// Answers a simple query.
-    fn query(&mut self, query: &[u8], out: &mut BytesMut) -> Result<(), Fault> {
+    fn query(&mut self, query: &[u8], out: &mut Outbox) {
         self.prepared.remove(b"");
-        let is_some = match self.script.find(self.alloc, query)? {
-            Some(_) => {
-                self.simple(query, out)?;
-                true
-            }
-            None => self.statements(query, out)?,
-        };
-        if !is_some {
-            reply::empty_query_response(out)?;
+        if !self.whole_or_parts(query, out) {
+            let put = reply::empty_query_response(&mut out.bytes);
+            out.put(put);
         }
-        if self.copying.is_some() {
-            return Ok(());
+        if self.copying.is_none() {
+            self.end_query(out);
         }
-        self.end_query(out)
     }
 
     /// Ends a simple query.
-    pub(crate) fn end_query(&mut self, out: &mut BytesMut) -> Result<(), Fault> {
+    pub(crate) fn end_query(&mut self, out: &mut Outbox) {
         self.end_portals();
-        self.ready(out)
+        self.ready(out);
     }
 
     /// Ends an extended query. Where a transaction was begun, portals live on.
-    fn sync(&mut self, out: &mut BytesMut) -> Result<(), Fault>
+    fn sync(&mut self, out: &mut Outbox)
         ensures { self.old.transaction.status ≢ Status.Idle → self.new.portals ≡ self.old.portals }
     {
         self.is_skipping = false;
         self.end_portals();
-        self.ready(out)
+        self.ready(out);
     }
 
     /// Answers a request that stands alone with an error.
-    pub(crate) fn stop_alone(
-        &mut self,
-        refusal: Refusal<'_>,
-        out: &mut BytesMut,
-    ) -> Result<(), Fault> {
-        self.stop(refusal, out)?;
-        self.end_portals();
-        self.ready(out)
+    pub(crate) fn stop_alone(&mut self, refusal: Refusal<'_>, out: &mut Outbox) {
+        self.stop(refusal, out);
+        self.end_query(out);
     }
 
     /// Answers a message whose bytes aren't those of its type.
-    ///
-    /// # Errors
-    ///
-    /// Returns `Memory`.
-    pub(crate) fn answer_malformed(&mut self, tag: u8, out: &mut BytesMut) -> Result<(), Fault> {
+    pub(crate) fn answer_malformed(&mut self, tag: u8, out: &mut Outbox) {
         if let Some(copy) = self.copying {
             return self.malformed_in_copy(copy, tag, out);
         }
         match tag {
             b'S' => {
                 self.is_skipping = false;
-                self.stop_alone(Refusal::Malformed, out)
+                self.stop_alone(Refusal::Malformed, out);
             }
-            _ if self.is_skipping => Ok(()),
+            _ if self.is_skipping => {}
             b'Q' | b'F' => self.stop_alone(Refusal::Malformed, out),
             // What belongs to a copy is passed over.
-            b'd' | b'c' | b'f' => Ok(()),
+            b'd' | b'c' | b'f' => {}
             _ => self.fail(Refusal::Malformed, out),
         }
     }
 
     /// Appends what is answered to a request that is no Bind and no Parse, or is passed over.
-    fn answer_in_place(
-        &mut self,
-        message: &ClientMessage<'_>,
-        out: &mut BytesMut,
-    ) -> Result<(), Fault> {
+    fn answer_in_place(&mut self, message: &ClientMessage<'_>, out: &mut Outbox) {
         match message {
             ClientMessage::Sync => self.sync(out),
-            _ if self.is_skipping => Ok(()),
+            _ if self.is_skipping => {}
             ClientMessage::Query(text) => self.query(text, out),
             ClientMessage::FunctionCall { .. } => self.stop_alone(Refusal::NotSupported, out),
             message => self.extended(message, out),
@@ -335,26 +330,14 @@ impl<'h> Session<'h> {
     }
 
     /// Appends what is answered to a request.
-    ///
-    /// # Errors
-    ///
-    /// Returns `Memory`, and `TooLong` if an answer of the script doesn't fit a message.
-    pub(crate) fn answer(
-        &mut self,
-        message: &mut ClientMessage<'_>,
-        out: &mut BytesMut,
-    ) -> Result<(), Fault> {
+    pub(crate) fn answer(&mut self, message: &mut ClientMessage<'_>, out: &mut Outbox) {
         match self.copying {
             Some(copy) => self.answer_copy(copy, message, out),
             None => self.answer_next(message, out),
         }
     }
 
-    fn answer_next(
-        &mut self,
-        message: &mut ClientMessage<'_>,
-        out: &mut BytesMut,
-    ) -> Result<(), Fault> {
+    fn answer_next(&mut self, message: &mut ClientMessage<'_>, out: &mut Outbox) {
         if self.is_skipping {
             return self.answer_in_place(message, out);
         }
@@ -365,36 +348,34 @@ impl<'h> Session<'h> {
         }
     }
 
-    fn answer_bind(
-        &mut self,
-        message: &mut ClientMessage<'_>,
-        out: &mut BytesMut,
-    ) -> Result<(), Fault> {
-        let formats = formats_of(self.alloc, message)?;
-        let values = values_of(self.alloc, message)?;
-        let results = results_of(self.alloc, message)?;
-        let Some((portal, statement)) = bound_of(message) else {
-            return Ok(());
-        };
-        let binding = Binding {
-            portal,
-            statement,
-            formats: &formats,
-            values: &values,
-            results: &results,
-        };
-        self.bind(&binding, out)
+    fn answer_bind(&mut self, message: &mut ClientMessage<'_>, out: &mut Outbox) {
+        let formats = formats_of(message, out);
+        let values = values_of(message, out);
+        let results = results_of(message, out);
+        if let Some((portal, statement)) = bound_of(message) {
+            let binding = Binding {
+                portal,
+                statement,
+                formats: &formats,
+                values: &values,
+                results: &results,
+            };
+            self.bind(&binding, out);
+        }
     }
 
-    fn answer_parse(
-        &mut self,
-        message: &mut ClientMessage<'_>,
-        out: &mut BytesMut,
-    ) -> Result<(), Fault> {
-        let types = types_of(self.alloc, message)?;
-        match prepared_of(message) {
-            Some((name, query)) => self.parse(name, query, &types, out),
-            None => Ok(()),
+    fn answer_parse(&mut self, message: &mut ClientMessage<'_>, out: &mut Outbox) {
+        let types = types_of(message, out);
+        if let Some((name, query)) = prepared_of(message) {
+            self.parse(name, query, &types, out);
         }
+    }
+}
+
+/// Appends the notifications.
+fn put_notifications(notifications: &[&Pair], out: &mut Outbox) {
+    for pair in notifications {
+        let put = reply::notification_response(1, &pair.name, &pair.value, &mut out.bytes);
+        out.put(put);
     }
 }

@@ -2,10 +2,8 @@
 //!
 //! PostgreSQL manual, "SET", "SHOW", and "Asynchronous Operations" of the protocol.
 
-use crate::fault::Fault;
-use bytes::BytesMut;
+use crate::outbox::Outbox;
 use pgp_message_write as reply;
-use std::alloc::{AllocError, Global};
 
 /// A setting.
 #[derive(Drop)]
@@ -22,29 +20,35 @@ pub(crate) struct Setting {
 
 impl Setting {
     /// Takes a value.
-    fn set(&mut self, alloc: Global, value: &[u8]) -> Result<(), AllocError> {
+    fn set(&mut self, value: &[u8], out: &mut Outbox) {
         let value = shown(&self.name, value);
         if self.value.as_slice() != value {
-            self.value = Vec::from_slice(alloc, value)?;
+            self.value = out.copy(value);
             self.is_news = self.is_reported;
         }
-        Ok(())
+    }
+
+    /// Takes the value that it had at first.
+    fn reset(&mut self, out: &mut Outbox) {
+        let first = out.copy(&self.first);
+        self.set(&first, out);
+    }
+
+    /// Has the value that it has as the one at first.
+    fn settle(&mut self, out: &mut Outbox) {
+        self.first = out.copy(&self.value);
     }
 }
 
 /// All settings that are known.
 #[derive(Drop)]
 pub(crate) struct Settings {
-    alloc: Global,
     list: Vec<Setting>,
 }
 
 /// The value as a server shows it.
 fn shown<'v>(name: &[u8], value: &'v [u8]) -> &'v [u8] {
-    let is_utf8 = value.eq_ignore_ascii_case(b"utf8")
-        || value.eq_ignore_ascii_case(b"utf-8")
-        || value.eq_ignore_ascii_case(b"unicode");
-    if name == b"client_encoding".as_slice() && is_utf8 {
+    if name == b"client_encoding".as_slice() && is_utf8(value) {
         return b"UTF8";
     }
     if name == b"DateStyle".as_slice() && value.eq_ignore_ascii_case(b"iso") {
@@ -53,32 +57,44 @@ fn shown<'v>(name: &[u8], value: &'v [u8]) -> &'v [u8] {
     value
 }
 
+/// Whether it is a name of UTF-8.
+fn is_utf8(name: &[u8]) -> bool {
+    name.eq_ignore_ascii_case(b"utf8")
+        || name.eq_ignore_ascii_case(b"utf-8")
+        || name.eq_ignore_ascii_case(b"unicode")
+}
+
 impl Settings {
     /// The settings of a server of version 15.
-    pub(crate) fn new(alloc: Global) -> Result<Settings, AllocError> {
+    pub(crate) fn new(out: &mut Outbox) -> Settings {
         let mut settings = Settings {
-            alloc,
-            list: Vec::new(alloc),
+            list: Vec::new(out.alloc),
         };
-        for (name, value) in &REPORTED {
-            settings.add(name, value, true)?;
-        }
-        for (name, value) in &OTHERS {
-            settings.add(name, value, false)?;
-        }
-        Ok(settings)
+        settings.add_all(&REPORTED, true, out);
+        settings.add_all(&OTHERS, false, out);
+        settings
     }
 
-    fn add(&mut self, name: &[u8], value: &[u8], is_reported: bool) -> Result<(), AllocError> {
+    fn add_all(
+        &mut self,
+        values: &[(&'static [u8], &'static [u8])],
+        is_reported: bool,
+        out: &mut Outbox,
+    ) {
+        for (name, value) in values {
+            self.add(name, value, is_reported, out);
+        }
+    }
+
+    fn add(&mut self, name: &[u8], value: &[u8], is_reported: bool, out: &mut Outbox) {
         let setting = Setting {
-            name: Vec::from_slice(self.alloc, name)?,
-            value: Vec::from_slice(self.alloc, value)?,
-            first: Vec::from_slice(self.alloc, value)?,
+            name: out.copy(name),
+            value: out.copy(value),
+            first: out.copy(value),
             is_reported,
             is_news: is_reported,
         };
-        self.list.push(setting)?;
-        Ok(())
+        out.add(&mut self.list, setting);
     }
 
     fn place(&self, name: &[u8]) -> Option<usize> {
@@ -94,50 +110,46 @@ impl Settings {
         self.list.get(self.place(name)?)
     }
 
+    fn find_mut(&mut self, name: &[u8]) -> Option<&mut Setting> {
+        let place = self.place(name)?;
+        self.list.get_mut(place)
+    }
+
     /// What a script or a startup packet says of a setting at first.
-    pub(crate) fn begin(&mut self, name: &[u8], value: &[u8]) -> Result<(), AllocError> {
-        self.set(name, value)?;
-        let Some(place) = self.place(name) else {
-            return Ok(());
-        };
-        if let Some(setting) = self.list.get_mut(place) {
-            setting.first = Vec::from_slice(self.alloc, &setting.value)?;
+    pub(crate) fn begin(&mut self, name: &[u8], value: &[u8], out: &mut Outbox) {
+        self.set(name, value, out);
+        if let Some(setting) = self.find_mut(name) {
+            setting.settle(out);
         }
-        Ok(())
     }
 
     /// Sets a setting. One that isn't known is from then on.
-    pub(crate) fn set(&mut self, name: &[u8], value: &[u8]) -> Result<(), AllocError> {
-        let Some(place) = self.place(name) else {
-            return self.add(name, value, false);
-        };
-        match self.list.get_mut(place) {
-            Some(setting) => setting.set(self.alloc, value),
-            None => Ok(()),
+    pub(crate) fn set(&mut self, name: &[u8], value: &[u8], out: &mut Outbox) {
+        match self.find_mut(name) {
+            Some(setting) => setting.set(value, out),
+            None => self.add(name, value, false, out),
         }
     }
 
     /// Sets a setting, or all, to what it was at first.
-    pub(crate) fn reset(&mut self, name: &[u8]) -> Result<(), AllocError> {
+    pub(crate) fn reset(&mut self, name: &[u8], out: &mut Outbox) {
         let is_all = name == b"all".as_slice();
         for setting in self.list.iter_mut() {
             if is_all || setting.name.as_slice().eq_ignore_ascii_case(name) {
-                let first = Vec::from_slice(self.alloc, &setting.first)?;
-                setting.set(self.alloc, &first)?;
+                setting.reset(out);
             }
         }
-        Ok(())
     }
 
     /// Appends a ParameterStatus for each value of which the client wasn't informed.
-    pub(crate) fn report(&mut self, out: &mut BytesMut) -> Result<(), Fault> {
+    pub(crate) fn report(&mut self, out: &mut Outbox) {
         for setting in self.list.iter_mut() {
             if setting.is_news {
-                reply::parameter_status(&setting.name, &setting.value, out)?;
+                let put = reply::parameter_status(&setting.name, &setting.value, &mut out.bytes);
+                out.put(put);
                 setting.is_news = false;
             }
         }
-        Ok(())
     }
 }
 
@@ -193,7 +205,7 @@ pub(crate) fn assignment_of(statement: &[u8]) -> Option<(&str, &str)> {
 }
 
 /// What a server of version 15 reports after a log-in, in its order.
-const REPORTED: [(&[u8], &[u8]); 13] = [
+static REPORTED: [(&[u8], &[u8]); 13] = [
     (b"application_name", b""),
     (b"client_encoding", b"UTF8"),
     (b"DateStyle", b"ISO, MDY"),
@@ -210,7 +222,7 @@ const REPORTED: [(&[u8], &[u8]); 13] = [
 ];
 
 /// More that drivers ask for.
-const OTHERS: [(&[u8], &[u8]); 6] = [
+static OTHERS: [(&[u8], &[u8]); 6] = [
     (b"extra_float_digits", b"1"),
     (b"max_identifier_length", b"63"),
     (b"search_path", b"\"$user\", public"),

@@ -3,8 +3,8 @@
 use crate::connection::{Connection, parser, take_piece};
 use crate::fault::Fault;
 use crate::host::Host;
+use crate::outbox::Outbox;
 use crate::pause::Pause;
-use bytes::BytesMut;
 use pgp_frontend_read::ClientParser;
 use std::alloc::Global;
 use std::io::{ErrorKind, Read, Write};
@@ -77,8 +77,8 @@ pub(crate) fn run<R: Read, W: Write>(
 ) -> Result<(), Fault> {
     let alloc = rt.alloc();
     let mut parser = parser(alloc);
-    let mut connection = Connection::new(alloc, host)?;
-    let mut out = BytesMut::new(alloc);
+    let mut out = Outbox::new(alloc);
+    let mut connection = Connection::new(host, &mut out);
     pass(rt, &mut parser, &mut connection, &mut out, input, output)
 }
 
@@ -96,10 +96,11 @@ fn pass<R: Read, W: Write>(
     rt: &HostRuntime,
     parser: &mut ClientParser<Global>,
     connection: &mut Connection<'_>,
-    out: &mut BytesMut,
+    out: &mut Outbox,
     input: &mut R,
     output: &mut W,
 ) -> Result<(), Fault> {
+    out.end()?;
     let mut piece = [0u8; PIECE];
     for _ in 0..u64::MAX {
         let n = read(input, &mut piece)?;

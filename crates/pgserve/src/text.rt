@@ -1,6 +1,6 @@
 //! Texts of a script, and of statements.
 
-use std::alloc::{AllocError, Global};
+use std::alloc::AllocError;
 
 /// What a letter after a backslash stands for.
 fn escape_of(letter: u8) -> Option<u8> {
@@ -13,16 +13,9 @@ fn escape_of(letter: u8) -> Option<u8> {
     }
 }
 
-/// A text without its escapes, which are `\\`, `\n`, `\r` and `\t`, as in the text format of PostgreSQL's `COPY`; `None` where another
-/// stands in it, or a byte 0, which no text of a message has.
-pub(crate) fn unescaped(alloc: Global, text: &str) -> Result<Option<Vec<u8>>, AllocError> {
-    let mut bytes = Vec::new(alloc);
-    let is_one = add_unescaped(text, &mut bytes)?;
-    Ok(if is_one { Some(bytes) } else { None })
-}
-
-/// Adds a text without its escapes, and returns whether it is one.
-fn add_unescaped(text: &str, bytes: &mut Vec<u8>) -> Result<bool, AllocError> {
+/// Adds a text without its escapes, which are `\\`, `\n`, `\r` and `\t`, as in the text format of PostgreSQL's `COPY`. Returns whether it is
+/// one: no other stands in it, and no byte 0, which no text of a message has.
+pub(crate) fn add_unescaped(text: &str, bytes: &mut Vec<u8>) -> Result<bool, AllocError> {
     let mut is_escaped = false;
     for byte in text.bytes() {
         let meant = if is_escaped {

@@ -4,7 +4,8 @@ ghost use Rattle.std.specs.Prelude.{◌≡◌};
 
 use crate::asked::Refusal;
 use crate::command::Command;
-use std::alloc::{AllocError, Global};
+use crate::outbox::Outbox;
+use std::alloc::Global;
 
 /// What a ReadyForQuery says of the transaction.
 #[derive(Clone, Copy, PartialEq, Eq)]
@@ -49,28 +50,20 @@ impl Warning {
     }
 }
 
-/// What a command comes to that was carried out.
+/// What a command on a transaction comes to.
 #[derive(Clone, Copy)]
-pub(crate) struct Done {
-    pub(crate) tag: &'static str,
-    pub(crate) warning: Option<Warning>,
-}
-
-fn finished<'c>(tag: &'static str) -> Result<Done, Refusal<'c>> {
-    Ok(Done { tag, warning: None })
-}
-
-fn warned<'c>(tag: &'static str, warning: Warning) -> Result<Done, Refusal<'c>> {
-    Ok(Done {
-        tag,
-        warning: Some(warning),
-    })
+pub(crate) enum Taken<'c> {
+    /// It was carried out, and this is its tag.
+    Done(&'static str),
+    Warned(&'static str, Warning),
+    Refused(Refusal<'c>),
+    /// It is another command.
+    Other,
 }
 
 /// The transaction in which a session is.
 #[derive(Drop)]
 pub(crate) struct Transaction {
-    alloc: Global,
     pub(crate) status: Status,
     savepoints: Vec<Vec<u8>>,
 }
@@ -78,7 +71,6 @@ pub(crate) struct Transaction {
 impl Transaction {
     pub(crate) fn new(alloc: Global) -> Transaction {
         Transaction {
-            alloc,
             status: Status::Idle,
             savepoints: Vec::new(alloc),
         }
@@ -106,12 +98,12 @@ impl Transaction {
         }
     }
 
-    fn begin<'c>(&mut self, tag: &'static str) -> Result<Done, Refusal<'c>> {
+    fn begin<'c>(&mut self, tag: &'static str) -> Taken<'c> {
         if self.status != Status::Idle {
-            return warned(tag, Warning::InTransaction);
+            return Taken::Warned(tag, Warning::InTransaction);
         }
         self.status = Status::Open;
-        finished(tag)
+        Taken::Done(tag)
     }
 
     /// The end of a transaction; where it chains, the next begins.
@@ -120,31 +112,30 @@ impl Transaction {
         self.status = if chains { Status::Open } else { Status::Idle };
     }
 
-    fn commit<'c>(&mut self, chains: bool) -> Result<Done, Refusal<'c>> {
-        let status = self.status;
-        match status {
-            Status::Idle if chains => Err(Refusal::NoTransaction(b"COMMIT AND CHAIN")),
-            Status::Idle => warned("COMMIT", Warning::NoTransaction),
+    fn commit<'c>(&mut self, chains: bool) -> Taken<'c> {
+        match self.status {
+            Status::Idle if chains => Taken::Refused(Refusal::NoTransaction(b"COMMIT AND CHAIN")),
+            Status::Idle => Taken::Warned("COMMIT", Warning::NoTransaction),
             Status::Open => {
                 self.end(chains);
-                finished("COMMIT")
+                Taken::Done("COMMIT")
             }
             Status::Failed => {
                 self.end(chains);
-                finished("ROLLBACK")
+                Taken::Done("ROLLBACK")
             }
         }
     }
 
-    fn rollback<'c>(&mut self, chains: bool) -> Result<Done, Refusal<'c>> {
-        if self.status != Status::Idle {
-            self.end(chains);
-            return finished("ROLLBACK");
+    fn rollback<'c>(&mut self, chains: bool) -> Taken<'c> {
+        match self.status {
+            Status::Idle if chains => Taken::Refused(Refusal::NoTransaction(b"ROLLBACK AND CHAIN")),
+            Status::Idle => Taken::Warned("ROLLBACK", Warning::NoTransaction),
+            _ => {
+                self.end(chains);
+                Taken::Done("ROLLBACK")
+            }
         }
-        if chains {
-            return Err(Refusal::NoTransaction(b"ROLLBACK AND CHAIN"));
-        }
-        warned("ROLLBACK", Warning::NoTransaction)
     }
 
     /// The place of the newest savepoint of this name.
@@ -158,59 +149,60 @@ impl Transaction {
         found
     }
 
-    fn savepoint<'c>(&mut self, name: &'c str) -> Result<Result<Done, Refusal<'c>>, AllocError> {
+    fn savepoint<'c>(&mut self, name: &str, out: &mut Outbox) -> Taken<'c> {
         if self.status == Status::Idle {
-            return Ok(Err(Refusal::NoTransaction(b"SAVEPOINT")));
+            return Taken::Refused(Refusal::NoTransaction(b"SAVEPOINT"));
         }
-        let name = Vec::from_slice(self.alloc, name.as_bytes())?;
-        self.savepoints.push(name)?;
-        Ok(finished("SAVEPOINT"))
+        let name = out.copy(name.as_bytes());
+        out.add(&mut self.savepoints, name);
+        Taken::Done("SAVEPOINT")
     }
 
-    fn release<'c>(&mut self, name: &'c str) -> Result<Done, Refusal<'c>> {
+    fn release<'c>(&mut self, name: &'c str) -> Taken<'c> {
         if self.status == Status::Idle {
-            return Err(Refusal::NoTransaction(b"RELEASE SAVEPOINT"));
+            return Taken::Refused(Refusal::NoTransaction(b"RELEASE SAVEPOINT"));
         }
         match self.place(name) {
             Some(place) => {
                 self.savepoints.truncate(place);
-                finished("RELEASE")
+                Taken::Done("RELEASE")
             }
-            None => Err(Refusal::NoSavepoint(name.as_bytes())),
+            None => Taken::Refused(Refusal::NoSavepoint(name.as_bytes())),
         }
     }
 
-    fn rollback_to<'c>(&mut self, name: &'c str) -> Result<Done, Refusal<'c>> {
+    fn rollback_to<'c>(&mut self, name: &'c str) -> Taken<'c> {
         if self.status == Status::Idle {
-            return Err(Refusal::NoTransaction(b"ROLLBACK TO SAVEPOINT"));
+            return Taken::Refused(Refusal::NoTransaction(b"ROLLBACK TO SAVEPOINT"));
         }
         match self.place(name) {
             Some(place) => {
                 self.savepoints.truncate(place.saturating_add(1));
                 self.status = Status::Open;
-                finished("ROLLBACK")
+                Taken::Done("ROLLBACK")
             }
-            None => Err(Refusal::NoSavepoint(name.as_bytes())),
+            None => Taken::Refused(Refusal::NoSavepoint(name.as_bytes())),
         }
     }
 
-    /// Carries out a command on the transaction; `None` of another command.
-    pub(crate) fn take<'c>(
-        &mut self,
-        command: Command<'c>,
-    ) -> Result<Option<Result<Done, Refusal<'c>>>, AllocError> {
-        Ok(Some(match command {
+    fn set_transaction<'c>(&self) -> Taken<'c> {
+        if self.status == Status::Idle {
+            return Taken::Warned("SET", Warning::NoTransaction);
+        }
+        Taken::Done("SET")
+    }
+
+    /// Carries out a command on the transaction.
+    pub(crate) fn take<'c>(&mut self, command: Command<'c>, out: &mut Outbox) -> Taken<'c> {
+        match command {
             Command::Begin(tag) => self.begin(tag),
             Command::Commit { chains } => self.commit(chains),
             Command::Rollback { chains } => self.rollback(chains),
-            Command::Savepoint(name) => self.savepoint(name)?,
+            Command::Savepoint(name) => self.savepoint(name, out),
             Command::Release(name) => self.release(name),
             Command::RollbackTo(name) => self.rollback_to(name),
-            Command::SetTransaction if self.status == Status::Idle => {
-                warned("SET", Warning::NoTransaction)
-            }
-            Command::SetTransaction => finished("SET"),
-            _ => return Ok(None),
-        }))
+            Command::SetTransaction => self.set_transaction(),
+            _ => Taken::Other,
+        }
     }
 }

@@ -59,7 +59,7 @@ pub(crate) const UUID: Oid = 2950;
 pub(crate) const JSONB: Oid = 3802;
 
 /// Names, object identifiers, sizes, and the identifiers of the arrays, of PostgreSQL's catalog `pg_type`.
-const TYPES: [(&str, Oid, i16, Oid); 21] = [
+static TYPES: [(&str, Oid, i16, Oid); 21] = [
     ("bool", BOOL, 1, 1000),
     ("bytea", BYTEA, -1, 1001),
     ("name", NAME, 64, 1003),

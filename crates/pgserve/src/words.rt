@@ -1,8 +1,7 @@
 //! The program's words.
 
-use crate::fault::Fault;
 use crate::log::Form;
-use clap::{Arg, ArgAction, Command};
+use clap::{Arg, ArgAction, ArgMatches, Command};
 use std::alloc::{AllocError, Global};
 
 /// What the program was started with.
@@ -24,57 +23,83 @@ pub(crate) struct Words<'a> {
     pub(crate) script: &'a str,
 }
 
-/// A word that stands after `--NAME`.
-fn option<'a>(alloc: Global, name: &'a str, help: &'a str) -> Arg<'a> {
-    Arg::new(alloc, name)
-        .long(name)
+/// What stands after a word `--NAME`.
+#[derive(Clone, Copy)]
+enum Kind {
+    Text,
+    /// A text; the word has to be there.
+    NeededText,
+    Nothing,
+}
+
+/// The words `--NAME` with what they say.
+static OPTIONS: [(&str, Kind, &str); 7] = [
+    ("user", Kind::NeededText, "The one user that there is"),
+    (
+        "auth",
+        Kind::Text,
+        "What a client has to show: trust, password, md5, scram, which is the default, or scram-plus",
+    ),
+    (
+        "verifier",
+        Kind::Text,
+        "What a server stores of the password: SCRAM-SHA-256$.., for md5 md5..",
+    ),
+    (
+        "nonce",
+        Kind::Text,
+        "The server's part of the nonce of scram",
+    ),
+    (
+        "certificate",
+        Kind::Text,
+        "The hash of the server's certificate for scram-plus, in hexadecimal digits",
+    ),
+    (
+        "log",
+        Kind::Nothing,
+        "Reports each request and its answer on standard error",
+    ),
+    (
+        "log-json",
+        Kind::Nothing,
+        "The same as an object of JSON a line",
+    ),
+];
+
+fn option(alloc: Global, name: &'static str, kind: Kind, help: &'static str) -> Arg<'static> {
+    let option = Arg::new(alloc, name).long(name).help(help);
+    match kind {
+        Kind::Text => option.action(ArgAction::Set),
+        Kind::NeededText => option.action(ArgAction::Set).required(true),
+        Kind::Nothing => option.action(ArgAction::SetTrue),
+    }
+}
+
+fn script(alloc: Global) -> Arg<'static> {
+    Arg::new(alloc, "script")
+        .required(true)
         .action(ArgAction::Set)
-        .help(help)
+        .help("The script's path")
 }
 
-/// A word without another after it.
-fn flag<'a>(alloc: Global, name: &'a str, help: &'a str) -> Arg<'a> {
-    Arg::new(alloc, name)
-        .long(name)
-        .action(ArgAction::SetTrue)
-        .help(help)
+fn with_options<'a>(alloc: Global, bare: Command<'a>) -> Result<Command<'a>, AllocError> {
+    let mut command = bare;
+    for (name, kind, help) in &OPTIONS {
+        command = command.arg(option(alloc, name, *kind, help))?;
+    }
+    Ok(command)
 }
 
-fn command<'a>(alloc: Global) -> Result<Command<'a>, AllocError> {
-    Command::new(alloc, "pgserve")
-        .version("0.1.0")
-        .about(
-            "Logs one client in, and answers the statements of a script. Standard input and output are the connection.",
-        )
-        .arg(option(alloc, "user", "The one user that there is").required(true))?
-        .arg(option(
-            alloc,
-            "auth",
-            "What a client has to show: trust, password, md5, scram, which is the default, or scram-plus",
-        ))?
-        .arg(option(
-            alloc,
-            "verifier",
-            "What a server stores of the password: SCRAM-SHA-256$.., for md5 md5..",
-        ))?
-        .arg(option(alloc, "nonce", "The server's part of the nonce of scram"))?
-        .arg(option(
-            alloc,
-            "certificate",
-            "The hash of the server's certificate for scram-plus, in hexadecimal digits",
-        ))?
-        .arg(flag(
-            alloc,
-            "log",
-            "Reports each request and its answer on standard error",
-        ))?
-        .arg(flag(alloc, "log-json", "The same as an object of JSON a line"))?
-        .arg(
-            Arg::new(alloc, "script")
-                .required(true)
-                .action(ArgAction::Set)
-                .help("The script's path"),
-        )
+/// The words that there are.
+pub(crate) fn command<'a>(alloc: Global) -> Result<Command<'a>, AllocError> {
+    let bare = Command::new(alloc, "pgserve").version("0.1.0").about(
+        "Logs one client in, and answers the statements of a script. Standard input and output are the connection.",
+    );
+    match with_options(alloc, bare) {
+        Ok(command) => command.arg(script(alloc)),
+        Err(why) => Err(why),
+    }
 }
 
 /// How requests are reported, by the two flags.
@@ -85,20 +110,20 @@ fn form_of(is_plain: bool, is_json: bool) -> Option<Form> {
     if is_plain { Some(Form::Plain) } else { None }
 }
 
-/// What the words say, the program's name among them.
-///
-/// # Errors
-///
-/// What is wrong with them, or the help that they ask for.
-pub(crate) fn words_of<'a>(alloc: Global, words: &'a [String]) -> Result<Words<'a>, Fault> {
-    let matches = command(alloc)?.try_get_matches_from(words)?;
-    Ok(Words {
-        user: matches.get_str("user").unwrap_or(""),
-        verifier: matches.get_str("verifier").unwrap_or(""),
-        nonce: matches.get_str("nonce").unwrap_or(""),
+/// A word, empty where it isn't there.
+fn word_of<'a>(matches: &ArgMatches<'a>, name: &str) -> &'a str {
+    matches.get_str(name).unwrap_or("")
+}
+
+/// What the words say.
+pub(crate) fn words_of<'a>(matches: &ArgMatches<'a>) -> Words<'a> {
+    Words {
+        user: word_of(matches, "user"),
+        verifier: word_of(matches, "verifier"),
+        nonce: word_of(matches, "nonce"),
         auth: matches.get_str("auth").unwrap_or("scram"),
-        certificate: matches.get_str("certificate").unwrap_or(""),
+        certificate: word_of(matches, "certificate"),
         log: form_of(matches.get_flag("log"), matches.get_flag("log-json")),
-        script: matches.get_str("script").unwrap_or(""),
-    })
+        script: word_of(matches, "script"),
+    }
 }

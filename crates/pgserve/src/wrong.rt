@@ -1,7 +1,5 @@
 //! Faults of a script.
 
-use std::alloc::AllocError;
-
 /// Why a line of a script has no meaning.
 #[derive(Clone, Copy)]
 pub(crate) enum Wrong {
@@ -75,16 +73,10 @@ impl Wrong {
 #[derive(Clone, Copy)]
 pub(crate) enum Stop {
     Memory,
-    /// By what stands after the first word.
-    At(Wrong),
-    /// By what stands so many bytes further on.
+    /// By its first word.
+    First(Wrong),
+    /// By what stands so many bytes after that word and its blank.
     In(Wrong, usize),
-}
-
-impl From<AllocError> for Stop {
-    fn from(_: AllocError) -> Stop {
-        Stop::Memory
-    }
 }
 
 /// A fault, and where it stands.
@@ -102,9 +94,7 @@ pub(crate) fn place_of(number: usize, line: &str, stop: Stop) -> Option<Place> {
     let rest = word.len().saturating_add(2);
     let (wrong, column) = match stop {
         Stop::Memory => return None,
-        Stop::At(Wrong::Word) => (Wrong::Word, 1),
-        Stop::At(Wrong::NoStatement) => (Wrong::NoStatement, 1),
-        Stop::At(wrong) => (wrong, rest),
+        Stop::First(wrong) => (wrong, 1),
         Stop::In(wrong, further) => (wrong, rest.saturating_add(further)),
     };
     Some(Place {

@@ -1,0 +1,86 @@
+//! What is answered to a message.
+
+use crate::fault::Fault;
+use crate::list::push;
+use bytes::BytesMut;
+use pgp_base::Error;
+use std::alloc::{AllocError, Global};
+
+/// What is answered to a message, and the first reason why it can't be, such as a lack of memory. Once there is one nothing of it is sent
+/// and the program stops, so that what answers goes on without a look at it.
+#[derive(Drop)]
+pub(crate) struct Outbox {
+    pub(crate) alloc: Global,
+    pub(crate) bytes: BytesMut,
+    fault: Option<Fault>,
+}
+
+impl Outbox {
+    pub(crate) fn new(alloc: Global) -> Outbox {
+        Outbox {
+            alloc,
+            bytes: BytesMut::new(alloc),
+            fault: None,
+        }
+    }
+
+    /// How many bytes were appended.
+    pub(crate) fn len(&self) -> usize {
+        self.bytes.len()
+    }
+
+    /// Forgets what was appended.
+    pub(crate) fn clear(&mut self) {
+        self.bytes.clear();
+    }
+
+    /// Takes note of a fault, of which the first counts.
+    pub(crate) fn fail(&mut self, fault: Fault) {
+        if self.fault.is_none() {
+            self.fault = Some(fault);
+        }
+    }
+
+    /// Takes note that memory was lacking.
+    pub(crate) fn lack(&mut self) {
+        self.fail(Fault::Memory);
+    }
+
+    /// Takes note of what became of a message that was to be appended.
+    pub(crate) fn put(&mut self, message: Result<(), Error>) {
+        if let Err(why) = message {
+            self.fail(Fault::from(why));
+        }
+    }
+
+    /// Takes note of what became of a thing for which memory was asked.
+    pub(crate) fn keep(&mut self, kept: Result<(), AllocError>) {
+        if kept.is_err() {
+            self.lack();
+        }
+    }
+
+    /// Appends an item to a list.
+    pub(crate) fn add<T: Drop>(&mut self, list: &mut Vec<T>, item: T) {
+        self.keep(push(list, item));
+    }
+
+    /// The same items in memory of their own.
+    pub(crate) fn copy<T: Copy>(&mut self, items: &[T]) -> Vec<T> {
+        let mut list = Vec::new(self.alloc);
+        self.keep(list.extend_from_slice(items));
+        list
+    }
+
+    /// The whole answer.
+    ///
+    /// # Errors
+    ///
+    /// The first fault, if there was one.
+    pub(crate) fn end(&self) -> Result<&[u8], Fault> {
+        match self.fault {
+            Some(fault) => Err(fault),
+            None => Ok(&self.bytes),
+        }
+    }
+}
