@@ -14,6 +14,7 @@ fn main(rt: HostRuntime) -> ExitCode {
         &rt,
         &mut pipe.source(&mut rt.reader()),
         &mut pipe.sink(&mut io::writer(&rt)),
-        &mut rt.stderr(),
+        // who went away isn't told why the listing ends
+        &mut pipe.sink(&mut rt.stderr()),
     ))
 }
