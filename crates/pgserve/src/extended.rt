@@ -10,12 +10,12 @@ use crate::portals::{Plan, Portal};
 use crate::script::Statement;
 use crate::session::{Asks, Session};
 use crate::text::{only_of, trimmed};
-use crate::transaction::Status;
 use crate::types::PLAIN_TEXT;
 use crate::wording::Wording;
 use pgp_base::Oid;
 use pgp_frontend_read::ClientMessage;
 use pgp_message_write as reply;
+use pgp_monitor::Status;
 
 /// What a Bind says.
 #[derive(Clone, Copy)]

@@ -5,10 +5,10 @@ use crate::reader::Reader;
 use crate::reading::pair_of;
 use crate::row_text::row_of;
 use crate::script::{Column, Copy, Detail, End, Report, Statement};
-use crate::transaction::Status;
 use crate::types::{PLAIN_TEXT, Type, type_of};
 use crate::wrong::Wrong;
 use pgp_base::Oid;
+use pgp_monitor::Status;
 use std::time::Duration;
 
 /// What a line says, by its first word.

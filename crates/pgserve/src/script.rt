@@ -3,10 +3,10 @@
 use crate::pattern::matches;
 use crate::pause::Pause;
 use crate::text::trimmed;
-use crate::transaction::Status;
 use crate::types::Type;
 use crate::user::User;
 use pgp_base::Oid;
+use pgp_monitor::Status;
 use std::alloc::{AllocError, Global};
 
 /// A column of the rows.

@@ -3,7 +3,8 @@
 //!
 //! PostgreSQL manual, "Message Flow": "Simple Query", "Extended Query", "Function Call".
 
-ghost use Rattle.std.specs.Prelude.{◌≡◌, ◌≢◌, true, false};
+ghost use Rattle.std.specs.Prelude.{◌≡◌, false};
+ghost use Rattle.pgp_monitor.specs.Transaction.{ends_portals};
 
 use crate::answer::{Went, describe, execute};
 use crate::asked::{Refusal, refuse};
@@ -18,7 +19,7 @@ use crate::portals::{Names, Plan, Portal};
 use crate::script::{Pair, Script, Statement};
 use crate::settings::Settings;
 use crate::text::{first_of, trimmed};
-use crate::transaction::{Status, Transaction};
+use crate::transaction::Transaction;
 use crate::wording::{Wording, words_of};
 use pgp_frontend_read::ClientMessage;
 use pgp_message_write as reply;
@@ -32,14 +33,6 @@ pub(crate) enum Asks<'h, 'w> {
     /// A command that needs no script.
     Command(Command<'w>),
     Unknown,
-}
-
-/// Whether a transaction of this status doesn't take a statement that ends the failure of one, or doesn't.
-fn is_barred(status: Status, ends_failure: bool) -> bool
-    ensures failed { status ≡ Status.Failed → ends_failure ≡ false → result ≡ true }
-    ensures sound { status ≢ Status.Failed → result ≡ false }
-{
-    status == Status::Failed && !ends_failure
 }
 
 /// A session.
@@ -125,7 +118,7 @@ impl<'h> Session<'h> {
             Some(command) => command.ends_failure(),
             None => false,
         };
-        is_barred(self.transaction.status, ends_failure)
+        self.transaction.status.rejects(ends_failure)
     }
 
     /// Appends the error of a request that stands alone.
@@ -142,9 +135,9 @@ impl<'h> Session<'h> {
 
     /// Portals end with their transaction, which is also one where none was begun.
     pub(crate) fn end_portals(&mut self)
-        ensures { self.old.transaction.status ≢ Status.Idle → self.new.portals ≡ self.old.portals }
+        ensures { ends_portals self.old.transaction.status ≡ false → self.new.portals ≡ self.old.portals }
     {
-        if self.transaction.status == Status::Idle {
+        if self.transaction.status.ends_portals() {
             self.portals.clear();
         }
     }
@@ -287,7 +280,7 @@ impl<'h> Session<'h> {
 
     /// Ends an extended query. Where a transaction was begun, portals live on.
     fn sync(&mut self, out: &mut Outbox)
-        ensures { self.old.transaction.status ≢ Status.Idle → self.new.portals ≡ self.old.portals }
+        ensures { ends_portals self.old.transaction.status ≡ false → self.new.portals ≡ self.old.portals }
     {
         self.is_skipping = false;
         self.end_portals();

@@ -1,29 +1,13 @@
 //! The transaction in which a session is.
 
 ghost use Rattle.std.specs.Prelude.{◌≡◌};
+ghost use Rattle.pgp_monitor.specs.Transaction.{after_error};
 
 use crate::asked::Refusal;
 use crate::command::Command;
 use crate::outbox::Outbox;
+use pgp_monitor::Status;
 use std::alloc::Global;
-
-/// What a ReadyForQuery says of the transaction.
-#[derive(Clone, Copy, PartialEq, Eq)]
-pub(crate) enum Status {
-    Idle,
-    Open,
-    Failed,
-}
-
-impl Status {
-    pub(crate) fn letter(self) -> u8 {
-        match self {
-            Status::Idle => b'I',
-            Status::Open => b'T',
-            Status::Failed => b'E',
-        }
-    }
-}
 
 /// A warning of a command that changes nothing.
 #[derive(Clone, Copy)]
@@ -83,11 +67,9 @@ impl Transaction {
 
     /// An error: a transaction that is open has failed.
     pub(crate) fn fail(&mut self)
-        ensures { self.old.status ≡ Status.Open → self.new.status ≡ Status.Failed }
+        ensures { self.new.status ≡ after_error self.old.status }
     {
-        if self.status == Status::Open {
-            self.status = Status::Failed;
-        }
+        self.status = self.status.after_error();
     }
 
     /// What a script says of the transaction.
@@ -116,13 +98,13 @@ impl Transaction {
         match self.status {
             Status::Idle if chains => Taken::Refused(Refusal::NoTransaction(b"COMMIT AND CHAIN")),
             Status::Idle => Taken::Warned("COMMIT", Warning::NoTransaction),
-            Status::Open => {
+            status => {
                 self.end(chains);
-                Taken::Done("COMMIT")
-            }
-            Status::Failed => {
-                self.end(chains);
-                Taken::Done("ROLLBACK")
+                Taken::Done(if status.commits() {
+                    "COMMIT"
+                } else {
+                    "ROLLBACK"
+                })
             }
         }
     }
