@@ -1,17 +1,56 @@
--- Each type has one form.
-use Rattle.std.proofs.Common.{◌≡◌, ℕ, List}
+-- A value of each format has one text.
+use Rattle.std.proofs.Common.{◌≡◌, ℕ, ℤ, List, Option, Some, None, Ok, refl, sym, ap, ◌∙◌, subst}
+use Rattle.std.specs.Prelude.{IfOk}
 use Rattle.std.specs.Fmt.{decimal, signed_decimal}
-use Rattle.pgp_types.specs.Scalar.{bool, int2, int4, int8, oid}
+use Rattle.uuid.specs.Text.{hyphenated_text, lower}
+use Rattle.pgp_types.specs.Network.{uuid}
+use Rattle.pgp_types.specs.Scalar.{bool, int2, int4, int8, oid, lsn}
+use Rattle.pgp_types.specs.Time.{time}
 use Rattle.pgp_types.proofs.Spelling.{fixed_sound}
-use Rattle.pgp_types.proofs.Numbers.{int16_spelling, int32_spelling, int64_spelling, uint32_spelling}
-use Rattle.pgp_types.proofs.Readings.{bool_sound}
-use Rattle.pgp_value_text.specs.ValueText.{Form, as_bool, as_int2, as_int4, as_int8, as_oid, unshown, bool_text, IsShownAs}
-use Rattle.pgp_value_text.proofs.Texts.{one_shown}
+use Rattle.pgp_types.proofs.Numbers.{int16_spelling, int32_spelling, int64_spelling, uint32_spelling, uint64_spelling}
+use Rattle.pgp_types.proofs.Readings.{bool_sound, label_sound, whole_sound}
+use Rattle.pgp_values.specs.declared.formats.BinaryFormat.{BinaryFormat}
+use Rattle.pgp_values.specs.declared.formats.BinaryFormat.TheVariants.{Bool as BoolFormat, Date, Int2, Int4, Int8, Interval, Jsonb, Lsn, Numeric, Oid, Time, Timestamp, Uuid, Xid8}
+use Rattle.pgp_values.specs.Decimal.{Numeric as Number, NumericReads}
+use Rattle.pgp_values.specs.DecimalText.{numeric_text}
+use Rattle.pgp_values.specs.Moment.{date_value, timestamp_value}
+use Rattle.pgp_values.specs.System.{xid8}
+use Rattle.pgp_values.specs.Text.{jsonb}
+use Rattle.pgp_values.specs.Time.{interval}
+use Rattle.pgp_values.specs.declared.moment.Moment.{Moment}
+use Rattle.pgp_values.specs.declared.moment.Moment.TheVariants.{PosInfinity, NegInfinity, Value}
+use Rattle.pgp_values.proofs.DecimalLemmas.{one_numeric}
+use Rattle.pgp_values.proofs.Fixed.{interval_sound}
+use Rattle.pgp_values.proofs.MomentLemmas.{date_value_sound, timestamp_value_sound}
+use Rattle.pgp_calendar.specs.Span.{span_text}
+use Rattle.pgp_calendar.specs.Text.{ShowsDay, ShowsInstant, ShowsMoment, ShowsTime}
+use Rattle.pgp_calendar.proofs.Uniqueness.{one_date, one_instant, one_time}
+use Rattle.pgp_value_text.specs.ValueText.{bool_text, lsn_text, zone_of, As, IsShown, Shows, ShowsNumeric}
+use Rattle.pgp_value_text.proofs.Texts.{one_as, one_shown}
 
-pub one_as : (f : Form) (bytes a b : List ℕ) → IsShownAs f bytes a → IsShownAs f bytes b → a ≡ b
-one_as as_bool = one_shown bool bool_sound bool_text
-one_as as_int8 = one_shown int8 (fixed_sound int64_spelling) signed_decimal
-one_as as_int2 = one_shown int2 (fixed_sound int16_spelling) signed_decimal
-one_as as_int4 = one_shown int4 (fixed_sound int32_spelling) signed_decimal
-one_as as_oid = one_shown oid (fixed_sound uint32_spelling) decimal
-one_as unshown = λ bytes a b s t. absurd s
+one_moment : (shows : ℤ → List ℕ → Type 0) → ((n : ℤ) (a b : List ℕ) → shows n a → shows n b → a ≡ b) → (v : Moment ℤ) (a b : List ℕ) → ShowsMoment shows v a → ShowsMoment shows v b → a ≡ b
+one_moment shows h PosInfinity a b s t = s ∙ sym t
+one_moment shows h NegInfinity a b s t = s ∙ sym t
+one_moment shows h (Value n) a b s t = h n a b s t
+
+one_number : (bytes a b : List ℕ) → ShowsNumeric bytes a → ShowsNumeric bytes b → a ≡ b
+one_number bytes a b s t =
+    let same : s.0 ≡ t.0 = subst (λ r. IfOk r (λ v. s.0 ≡ v)) (one_numeric bytes (Ok s.0) (Ok t.0) s.1 t.1) refl in
+    s.2 ∙ (ap numeric_text same ∙ sym t.2)
+
+pub one_formatted : (f : Option BinaryFormat) (type_oid : ℕ) (bytes a b : List ℕ) → IsShown f type_oid bytes a → IsShown f type_oid bytes b → a ≡ b
+one_formatted (Some BoolFormat) n = one_shown bool bool_sound (As bool_text) (one_as bool_text)
+one_formatted (Some Date) n = one_shown date_value date_value_sound (ShowsMoment ShowsDay) (one_moment ShowsDay one_date)
+one_formatted (Some Int2) n = one_shown int2 (fixed_sound int16_spelling) (As signed_decimal) (one_as signed_decimal)
+one_formatted (Some Int4) n = one_shown int4 (fixed_sound int32_spelling) (As signed_decimal) (one_as signed_decimal)
+one_formatted (Some Int8) n = one_shown int8 (fixed_sound int64_spelling) (As signed_decimal) (one_as signed_decimal)
+one_formatted (Some Interval) n = one_shown interval interval_sound (As span_text) (one_as span_text)
+one_formatted (Some Jsonb) n = one_shown jsonb (label_sound 1) (As (λ text. text)) (one_as (λ text. text))
+one_formatted (Some Lsn) n = one_shown lsn (fixed_sound uint64_spelling) (As lsn_text) (one_as lsn_text)
+one_formatted (Some Numeric) n = one_number
+one_formatted (Some Oid) n = λ bytes a b s t. one_shown oid (fixed_sound uint32_spelling) (As decimal) (one_as decimal) bytes a b s.1 t.1
+one_formatted (Some Time) n = one_shown time (fixed_sound int64_spelling) ShowsTime one_time
+one_formatted (Some Timestamp) n = one_shown timestamp_value timestamp_value_sound (ShowsMoment (ShowsInstant (zone_of n))) (one_moment (ShowsInstant (zone_of n)) (one_instant (zone_of n)))
+one_formatted (Some Uuid) n = one_shown uuid (whole_sound 16) (As (hyphenated_text lower)) (one_as (hyphenated_text lower))
+one_formatted (Some Xid8) n = one_shown xid8 (fixed_sound uint64_spelling) (As decimal) (one_as decimal)
+one_formatted _ n = λ bytes a b s t. absurd s

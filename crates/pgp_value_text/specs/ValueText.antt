@@ -1,45 +1,74 @@
--- The text that a server shows of a value whose bytes in binary format are given, by the number (OID) of its type.
--- PostgreSQL manual, "Boolean Type", "Numeric Types", "Object Identifier Types".
-use Rattle.std.specs.Prelude.{◌≡◌, ℕ, nat_eq, if◌then◌else◌, Bool, true, false, List, ◌++◌, codes, Result, Ok, Err}
-use Rattle.std.specs.Fmt.{decimal, signed_decimal}
+-- The text that a server shows of a value whose bytes in binary format are given, by the number (OID) of its type. As it shows it with the
+-- settings `DateStyle` `ISO`, `IntervalStyle` `iso_8601` and `TimeZone` `UTC`.
+-- PostgreSQL manual, "Data Types": "Boolean Type", "Numeric Types", "Date/Time Types", "UUID Type", "JSON Types", "Object Identifier Types",
+-- "pg_lsn Type".
+use Rattle.std.specs.Prelude.{◌≡◌, ℕ, ◌/◌, ◌%◌, ◌^◌, nat_eq, ◌||◌, if◌then◌else◌, Bool, true, false, IsTrue, List, [], ◌∷◌, ◌++◌, codes, Option, Some, None, Result, Ok, Err}
+use Rattle.std.specs.Fmt.{decimal, digits, signed_decimal}
+use Rattle.uuid.specs.Text.{hyphenated_text, lower}
 use Rattle.pgp_types.specs.Format.{Plain}
-use Rattle.pgp_types.specs.Scalar.{bool, int2, int4, int8, oid}
+use Rattle.pgp_types.specs.Network.{uuid}
+use Rattle.pgp_types.specs.Scalar.{bool, int2, int4, int8, oid, lsn}
+use Rattle.pgp_types.specs.Time.{time}
+use Rattle.pgp_values.specs.declared.formats.BinaryFormat.{BinaryFormat}
+use Rattle.pgp_values.specs.declared.formats.BinaryFormat.TheVariants.{Bool as BoolFormat, Date, Int2, Int4, Int8, Interval, Jsonb, Lsn, Numeric, Oid, Time, Timestamp, Uuid, Xid8}
+use Rattle.pgp_values.specs.Decimal.{NumericReads}
+use Rattle.pgp_values.specs.DecimalText.{numeric_text}
+use Rattle.pgp_values.specs.Formats.{formats}
+use Rattle.pgp_values.specs.FormatTable.{format_in}
+use Rattle.pgp_values.specs.Moment.{date_value, timestamp_value}
+use Rattle.pgp_values.specs.System.{xid8}
+use Rattle.pgp_values.specs.Text.{jsonb}
+use Rattle.pgp_values.specs.Time.{interval}
+use Rattle.pgp_calendar.specs.Span.{span_text}
+use Rattle.pgp_calendar.specs.Text.{ShowsDay, ShowsInstant, ShowsMoment, ShowsTime}
 
--- the bytes are read as a value, and the value is shown so
-abbrev pub Shows : {V : Type 0} → Plain V → (V → List ℕ) → List ℕ → List ℕ → Type 0
-Shows f shown bytes text = (v : _) × f.Reads bytes (Ok v) × (text ≡ shown v)
+-- the bytes are read as a value that is shown so
+abbrev pub Shows : {V : Type 0} → Plain V → (V → List ℕ → Type 0) → List ℕ → List ℕ → Type 0
+Shows f shown bytes text = (v : _) × f.Reads bytes (Ok v) × shown v text
+
+-- by this text alone
+abbrev pub As : {V : Type 0} → (V → List ℕ) → V → List ℕ → Type 0
+As text_of v text = text ≡ text_of v
 
 abbrev pub bool_text : Bool → List ℕ
 bool_text true = codes "t"
 bool_text false = codes "f"
 
--- how a value is shown
-pub data Form : Type 0 where
-  as_bool : Form
-  as_int8 : Form
-  as_int2 : Form
-  as_int4 : Form
-  as_oid : Form
-  unshown : Form
+abbrev pub ShowsNumeric : List ℕ → List ℕ → Type 0
+ShowsNumeric bytes text = (v : _) × NumericReads bytes (Ok v) × (text ≡ numeric_text v)
 
-abbrev pub form_of : ℕ → Form
-form_of type_oid =
-    if nat_eq type_oid 16 then as_bool else
-    if nat_eq type_oid 20 then as_int8 else
-    if nat_eq type_oid 21 then as_int2 else
-    if nat_eq type_oid 23 then as_int4 else
-    if nat_eq type_oid 26 then as_oid else unshown
+-- the upper and the lower 32 bits in hex
+unfoldable pub lsn_text : ℕ → List ℕ
+lsn_text n = digits 16 true (n / 2 ^ 32) ++ 47 ∷ digits 16 true (n % 2 ^ 32)
 
-abbrev pub IsShownAs : Form → List ℕ → List ℕ → Type 0
-IsShownAs as_bool = Shows bool bool_text
-IsShownAs as_int8 = Shows int8 signed_decimal
-IsShownAs as_int2 = Shows int2 signed_decimal
-IsShownAs as_int4 = Shows int4 signed_decimal
-IsShownAs as_oid = Shows oid decimal
-IsShownAs unshown = λ bytes text. ⊥
+-- `oid`, `xid` and `cid` are shown as numbers; the types that name an object, as `regclass`, by its name
+abbrev pub is_numbered : ℕ → Bool
+is_numbered type_oid = nat_eq type_oid 26 || nat_eq type_oid 28 || nat_eq type_oid 29
+
+-- behind the time of a `timestamptz`
+abbrev pub zone_of : ℕ → List ℕ
+zone_of type_oid = if nat_eq type_oid 1184 then codes "+00" else []
+
+-- the text of a type with this format; where types share one and are shown otherwise, by the type
+abbrev pub IsShown : Option BinaryFormat → ℕ → List ℕ → List ℕ → Type 0
+IsShown (Some BoolFormat) type_oid = Shows bool (As bool_text)
+IsShown (Some Date) type_oid = Shows date_value (ShowsMoment ShowsDay)
+IsShown (Some Int2) type_oid = Shows int2 (As signed_decimal)
+IsShown (Some Int4) type_oid = Shows int4 (As signed_decimal)
+IsShown (Some Int8) type_oid = Shows int8 (As signed_decimal)
+IsShown (Some Interval) type_oid = Shows interval (As span_text)
+IsShown (Some Jsonb) type_oid = Shows jsonb (As (λ text. text))
+IsShown (Some Lsn) type_oid = Shows lsn (As lsn_text)
+IsShown (Some Numeric) type_oid = ShowsNumeric
+IsShown (Some Oid) type_oid = λ bytes text. IsTrue (is_numbered type_oid) × Shows oid (As decimal) bytes text
+IsShown (Some Time) type_oid = Shows time ShowsTime
+IsShown (Some Timestamp) type_oid = Shows timestamp_value (ShowsMoment (ShowsInstant (zone_of type_oid)))
+IsShown (Some Uuid) type_oid = Shows uuid (As (hyphenated_text lower))
+IsShown (Some Xid8) type_oid = Shows xid8 (As decimal)
+IsShown _ type_oid = λ bytes text. ⊥
 
 abbrev pub IsTextOf : ℕ → List ℕ → List ℕ → Type 0
-IsTextOf type_oid = IsShownAs (form_of type_oid)
+IsTextOf type_oid = IsShown (format_in formats type_oid) type_oid
 
 -- What a writer of such a text answers: that it added one, or that there is none, and then it added nothing; nor does it where memory is
 -- refused.

@@ -2,7 +2,10 @@
 #![tactic(auto)]
 
 pub mod laws;
-mod shown;
+mod moment;
+mod number;
+mod object;
+mod put;
 mod value;
 
 pub use value::put_value;
