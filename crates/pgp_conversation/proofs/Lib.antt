@@ -14,3 +14,4 @@ pub mod PrintedObjects
 pub mod Secrets
 pub mod SettingLemmas
 pub mod Endings
+pub mod ShelfLemmas

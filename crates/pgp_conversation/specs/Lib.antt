@@ -2,6 +2,9 @@ pub mod Recording
 pub mod Marks
 pub mod Requests
 pub mod Roles
+pub mod Shelves
+pub mod Types
+pub mod TypesKept
 pub mod Conversation
 pub mod Steps
 pub mod Hints

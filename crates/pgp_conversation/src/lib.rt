@@ -2,7 +2,9 @@
 //! `pgtrace` runs for `session`, with all else of `pgp_trace`.
 #![tactic(auto)]
 
+pub mod awaited;
 pub mod chunk;
+pub mod column;
 pub mod ending;
 pub mod frames;
 pub mod hint;
@@ -19,6 +21,8 @@ pub mod outcome;
 pub mod role;
 pub mod run;
 pub mod session;
+pub mod shelf;
 pub mod talk;
 pub mod told;
+pub mod types;
 pub mod word;
