@@ -5,6 +5,8 @@ pub mod Roles
 pub mod Shelves
 pub mod Types
 pub mod TypesKept
+pub mod Typed
+pub mod TypedLines
 pub mod Conversation
 pub mod Steps
 pub mod Hints
