@@ -5,6 +5,8 @@
 #[cfg(test)]
 mod checks;
 #[cfg(test)]
+mod client_rows;
+#[cfg(test)]
 mod clients;
 #[cfg(test)]
 mod failing;

@@ -2,7 +2,6 @@
 
 use crate::checks::{holds, same, same_at};
 use crate::clients::ERROR;
-use crate::uses::NONCE;
 use bytes::BytesMut;
 use pgp_session::client::Event;
 use pgp_session::scram_login::{LoginEvent, LoginFault, LoginPhase, SaslStorage, ScramLogin};
@@ -17,27 +16,31 @@ use std::alloc::Global;
 use std::process::Abort;
 use std::test::Fail;
 
-const OFFER: &[u8; 43] =
+pub(crate) const OFFER: &[u8; 43] =
     b"R\x00\x00\x00\x2a\x00\x00\x00\x0aSCRAM-SHA-256-PLUS\x00SCRAM-SHA-256\x00\x00";
 
-const CHALLENGE: &[u8; 85] =
+pub(crate) const CHALLENGE: &[u8; 85] =
     b"R\x00\x00\x00\x54\x00\x00\x00\x0br=9IZ2O01zb9IgiIZ1WJ/zgpJBjx/oIRLs02gGSHcw1KEty3eY,s=fs3IXBy7U7+IvVjZ,i=4096";
 
-const OUTCOME: &[u8; 55] =
+pub(crate) const OUTCOME: &[u8; 55] =
     b"R\x00\x00\x00\x36\x00\x00\x00\x0cv=U+ppxD5XUKtradnv8e2MkeupiA8FU87Sg8CXzXHDAzw=";
 
-const WELCOME: &[u8; 9] = b"R\x00\x00\x00\x08\x00\x00\x00\x00";
+pub(crate) const WELCOME: &[u8; 9] = b"R\x00\x00\x00\x08\x00\x00\x00\x00";
 
-/// A log-in whose startup packet is written, with the password `foobar`.
-fn opened(rt: &HostRuntime) -> Result<ScramLogin<Global, BytesMut>, Fail> {
-    let nonce = String::from_str(rt.alloc(), NONCE)?;
+/// The exchange of these messages, with the password `foobar`.
+pub(crate) fn exchange(rt: &HostRuntime) -> Result<ScramSha256, Fail> {
+    let nonce = String::from_str(rt.alloc(), "9IZ2O01zb9IgiIZ1WJ/zgpJB")?;
     if !is_nonce(&nonce) {
         return Err(Error::NotUtf8.into());
     }
     let binding = ChannelBinding::unsupported();
-    let exchange = ScramSha256::with_nonce(rt.alloc(), b"foobar", binding, nonce, &NoPrep)?;
+    Ok(ScramSha256::with_nonce(rt.alloc(), b"foobar", binding, nonce, &NoPrep)?)
+}
+
+/// A log-in whose startup packet is written.
+fn opened(rt: &HostRuntime) -> Result<ScramLogin<Global, BytesMut>, Fail> {
     let stream = ClientStream::<BytesMut>::new(rt.alloc());
-    Ok(ScramLogin::open("alice", exchange, stream)?)
+    Ok(ScramLogin::open("alice", exchange(rt)?, stream)?)
 }
 
 /// What a log-in reports a message, without the text that an error holds.

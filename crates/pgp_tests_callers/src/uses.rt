@@ -5,6 +5,7 @@ ghost use Rattle.std.specs.Prelude.{ℕ, ◌+◌, ◌%◌, ◌^◌, Some};
 ghost use Rattle.rand_core.specs.Steps.{stream_of, steps_u32};
 
 use crate::checks::{holds, same};
+use crate::logins::exchange;
 use bytes::BytesMut;
 use pgp_base::Window;
 use pgp_uses::columns::{NamesError, column_names};
@@ -17,7 +18,6 @@ use pgp_uses::session::{AskError, ask_named, one_query};
 use pgp_uses::streams::{completed, frame_count, front_row};
 use pgp_uses::values::{bind_int4, parameter, value_of};
 use pgp_uses::writing::{ask, ask_in_place};
-use postgres_protocol::authentication::sasl::{ChannelBinding, NoPrep, ScramSha256, is_nonce};
 use postgres_protocol::message::backend::Message;
 use postgres_protocol::message::frontend;
 use postgres_protocol::session::{ClientStream, StreamParser};
@@ -295,22 +295,10 @@ fn answers_are_frames(rt: HostRuntime) -> Result<(), Fail> {
     Ok(())
 }
 
-pub(crate) const NONCE: &str = "9IZ2O01zb9IgiIZ1WJ/zgpJB";
-
 /// The texts of the Rust crate's own test, for the password `foobar`.
 #[test]
 fn a_challenge_is_answered(rt: HostRuntime) -> Result<(), Fail> {
-    let nonce = String::from_str(rt.alloc(), NONCE)?;
-    if !is_nonce(&nonce) {
-        return Err(Error::NotUtf8.into());
-    }
-    let mut client = ScramSha256::with_nonce(
-        rt.alloc(),
-        b"foobar",
-        ChannelBinding::unsupported(),
-        nonce,
-        &NoPrep,
-    )?;
+    let mut client = exchange(&rt)?;
     let mut out = BytesMut::new(rt.alloc());
     let first = b"r=9IZ2O01zb9IgiIZ1WJ/zgpJBjx/oIRLs02gGSHcw1KEty3eY,s=fs3IXBy7U7+IvVjZ,i=4096";
     holds(&rt, respond(first, &mut client, &mut out).is_ok());

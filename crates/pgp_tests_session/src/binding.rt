@@ -4,8 +4,9 @@
 ghost use Rattle.pgp_base.specs.Calls.{KeepsValue};
 ghost use Rattle.pgp_base.specs.Held.{items_held};
 
-use crate::checks::{holds, same_at};
-use crate::connections::{ADMITTED, hears, trusting};
+use crate::checks::same_at;
+use crate::connections::{LOGGED_IN, trusting};
+use crate::steps::{Answer, Call, Step, takes};
 use bytes::BytesMut;
 use pgp_base::{BindError, IsNull};
 use pgp_client::Event;
@@ -24,7 +25,7 @@ enum Element {
 const BOUND: &[u8] =
     b"B\0\0\0\x1d\0s\0\0\x01\0\x01\0\x02\0\0\0\x04\0\0\0\x05\xff\xff\xff\xff\0\x01\0\x01";
 
-const ANSWERED: [(&[u8], Event); 2] = [
+const ANSWERED: [Answer; 2] = [
     (b"2\0\0\0\x04", Event::Last(1)),
     (b"Z\0\0\0\x05I", Event::Last(2)),
 ];
@@ -59,12 +60,18 @@ fn bind(connection: &mut Connection<'_>, elements: &[Element]) -> Result<u64, u8
     }
 }
 
+/// The Sync after a Bind, and the answers of both.
+static SYNCED: [Step; 3] = [
+    Step::Makes(Call::Sync),
+    Step::Hears(&ANSWERED),
+    Step::Is(true, true, Some(b'I')),
+];
+
 #[test]
 fn a_bind_is_sent_whole_or_not_at_all(rt: HostRuntime) {
     let mut connection = trusting(&rt);
     same_at(&rt, 0, bind(&mut connection, &[]), Err(8));
-    holds(&rt, connection.start(&[("user", "u")]).is_ok());
-    hears(&rt, &mut connection, &ADMITTED);
+    takes(&rt, &mut connection, &LOGGED_IN);
     let count = connection.to_send().len();
     connection.sent(count);
     let values = [Element::Number(5), Element::Null];
@@ -73,7 +80,5 @@ fn a_bind_is_sent_whole_or_not_at_all(rt: HostRuntime) {
     let failing = [Element::Number(5), Element::Failing];
     same_at(&rt, 3, bind(&mut connection, &failing), Err(2));
     same_at(&rt, 4, connection.to_send(), BOUND);
-    same_at(&rt, 5, connection.sync().ok(), Some(2));
-    hears(&rt, &mut connection, &ANSWERED);
-    holds(&rt, connection.is_idle());
+    takes(&rt, &mut connection, &SYNCED);
 }

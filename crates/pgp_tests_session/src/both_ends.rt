@@ -2,22 +2,23 @@
 //! to belong to the request whose number it carries, whatever the server's bytes are cut into.
 
 use crate::checks::{holds, same_at};
+use crate::connections::by_password;
 use bytes::{Bytes, BytesMut};
-use pgp_auth::authentication::sasl::{
-    ChannelBinding, ChannelOffer, NoPrep, ScramServer, ScramSha256, StoredVerifier, is_nonce,
-};
-use pgp_base::Error;
+use pgp_auth::authentication::sasl::{ChannelOffer, ScramServer, StoredVerifier, is_nonce};
 use pgp_client::Event;
 use pgp_frontend_read::{ClientMessage, ClientMessages};
-use pgp_message::Message;
+use pgp_message::{DataRowBody, Message};
 use pgp_message_write::{self as reply, Column, ErrorField};
+use pgp_session::Connection;
 use pgp_session::serving::{Serving, ServingEvent, ServingPhase};
-use pgp_session::{Connection, Ways};
 use std::test::Fail;
 
 // The salt of RFC 7677's example and its password `pencil`, with one round; the keys are python3's.
 const STORED: &[u8] =
     b"SCRAM-SHA-256$1:W22ZaJ0SNY7soEsUEjb6gQ==$bzcn5wYzlcMpEXczzDM1iuyLhni5BVbqsm82vjMHWXI=:fg/vS0Y425LcbLGWSqdzrFlRn9451QblzgpwLQYoXCI=";
+
+/// The client's nonce of that example.
+const NONCE: &str = "rOprNGfwEbeRWgbNEkqO";
 
 /// The column of each row.
 const COLUMN: Column<'static> = Column {
@@ -58,63 +59,62 @@ struct Server {
     skipping: bool,
 }
 
-/// Appends the answer to a request that names itself: rows with its text, or an error where the text begins with `x`.
-fn answer(
-    message: &ClientMessage<'_>,
-    skipping: &mut bool,
-    out: &mut BytesMut,
-) -> Result<(), Error> {
+/// Whether a request of this text has the server fail.
+fn fails(text: &[u8]) -> bool {
+    text.first() == Some(&b'x')
+}
+
+/// Appends the answer to a request that names itself: rows with its text, or an error.
+fn answers(message: &ClientMessage<'_>, skipping: &mut bool, out: &mut BytesMut) -> bool {
     match message {
         ClientMessage::Sync => {
             *skipping = false;
-            reply::ready_for_query(b'I', out)
+            reply::ready_for_query(b'I', out).is_ok()
         }
-        _ if *skipping => Ok(()),
-        ClientMessage::Query(text) => {
-            if text.first() != Some(&b'x') {
-                reply::row_description(&[COLUMN], out)?;
-            }
-            rows(text, out)?;
-            reply::ready_for_query(b'I', out)
-        }
+        _ if *skipping => true,
+        ClientMessage::Query(text) => answers_query(text, out),
         ClientMessage::Parse { query, .. } => {
-            *skipping = query.first() == Some(&b'x');
-            if *skipping {
-                return fail(out);
+            *skipping = fails(query);
+            if fails(query) {
+                puts_error(out)
+            } else {
+                reply::parse_complete(out).is_ok()
             }
-            reply::parse_complete(out)
         }
         ClientMessage::Describe { .. } => {
-            reply::parameter_description(&[], out)?;
-            reply::no_data(out)
+            reply::parameter_description(&[], out).is_ok() && reply::no_data(out).is_ok()
         }
         ClientMessage::Execute { portal, .. } => {
-            *skipping = portal.first() == Some(&b'x');
-            rows(portal, out)
+            *skipping = fails(portal);
+            puts_rows(portal, out)
         }
-        _ => Ok(()),
+        _ => true,
     }
 }
 
-/// A row of this text, twice, with a notice between them; an error where it begins with `x`.
-fn rows(text: &[u8], out: &mut BytesMut) -> Result<(), Error> {
-    if text.first() == Some(&b'x') {
-        return fail(out);
-    }
-    reply::data_row(&[Some(text)], out)?;
-    reply::notice_response(&[], out)?;
-    reply::data_row(&[Some(text)], out)?;
-    reply::command_complete(b"SELECT 2", out)
+fn answers_query(text: &[u8], out: &mut BytesMut) -> bool {
+    (fails(text) || reply::row_description(&[COLUMN], out).is_ok())
+        && puts_rows(text, out)
+        && reply::ready_for_query(b'I', out).is_ok()
 }
 
-fn fail(out: &mut BytesMut) -> Result<(), Error> {
-    reply::error_response(
-        &[ErrorField {
-            code: b'C',
-            value: b"42601",
-        }],
-        out,
-    )
+/// A row of this text, twice, with a notice between them, or an error.
+fn puts_rows(text: &[u8], out: &mut BytesMut) -> bool {
+    if fails(text) {
+        return puts_error(out);
+    }
+    reply::data_row(&[Some(text)], out).is_ok()
+        && reply::notice_response(&[], out).is_ok()
+        && reply::data_row(&[Some(text)], out).is_ok()
+        && reply::command_complete(b"SELECT 2", out).is_ok()
+}
+
+fn puts_error(out: &mut BytesMut) -> bool {
+    let field = ErrorField {
+        code: b'C',
+        value: b"42601",
+    };
+    reply::error_response(&[field], out).is_ok()
 }
 
 impl Server {
@@ -128,101 +128,85 @@ impl Server {
     }
 
     /// Takes all messages that the client has written, and appends the answers.
-    fn take(&mut self, rt: &HostRuntime, sent: &[u8], out: &mut BytesMut) -> Result<(), Fail> {
-        let rest = match sent.get(self.read..) {
-            Some(rest) => rest,
-            None => &[],
-        };
+    fn takes(&mut self, rt: &HostRuntime, sent: &[u8], out: &mut BytesMut) -> bool {
+        let (_, rest) = sent.split_at(self.read.min(sent.len()));
         let mut messages = ClientMessages::resume(rest, self.opened);
+        let mut taken = true;
         for _ in 0..1_000 {
-            let Ok(Some(message)) = messages.next(self.serving.kind()) else {
-                break;
-            };
-            self.step(rt, &message, out)?;
+            match messages.next(self.serving.kind()) {
+                Ok(Some(message)) => taken = self.steps(rt, &message, out) && taken,
+                _ => break,
+            }
         }
         self.opened = messages.is_open();
         self.read = sent.len().saturating_sub(messages.rest().len());
-        Ok(())
+        taken
     }
 
     /// Takes one of them.
-    fn step(
-        &mut self,
-        rt: &HostRuntime,
-        message: &ClientMessage<'_>,
-        out: &mut BytesMut,
-    ) -> Result<(), Fail> {
-        let event = self.serving.step(message, out)?;
-        if self.serving.phase == ServingPhase::Named {
-            self.serving.ask_scram(served(rt)?, out)?;
+    fn steps(&mut self, rt: &HostRuntime, message: &ClientMessage<'_>, out: &mut BytesMut) -> bool {
+        match self.serving.step(message, out) {
+            Ok(ServingEvent::LoggedIn) => reply::ready_for_query(b'I', out).is_ok(),
+            Ok(ServingEvent::Requested) => answers(message, &mut self.skipping, out),
+            Ok(_) => self.serving.phase != ServingPhase::Named || self.asks(rt, out),
+            Err(_) => false,
         }
-        match event {
-            ServingEvent::LoggedIn => reply::ready_for_query(b'I', out)?,
-            ServingEvent::Requested => answer(message, &mut self.skipping, out)?,
-            _ => {}
+    }
+
+    /// Asks the client for an exchange.
+    fn asks(&mut self, rt: &HostRuntime, out: &mut BytesMut) -> bool {
+        match served(rt) {
+            Some(server) => self.serving.ask_scram(server, out).is_ok(),
+            None => false,
         }
-        Ok(())
     }
 }
 
 /// The server's end of the exchange, with the nonce of RFC 7677's example.
-fn served(rt: &HostRuntime) -> Result<ScramServer, Fail> {
-    let verifier = StoredVerifier::parse(rt.alloc(), STORED)?;
-    let nonce = String::from_str(rt.alloc(), "%hvYDpWUa2RaTCAfuxFIlj)hNlF$k0")?;
+fn served(rt: &HostRuntime) -> Option<ScramServer> {
+    let nonce = String::from_str(rt.alloc(), "%hvYDpWUa2RaTCAfuxFIlj)hNlF$k0").ok()?;
     if !is_nonce(&nonce) {
-        return Err(Error::NotUtf8.into());
+        return None;
     }
-    Ok(ScramServer::with_nonce(verifier, ChannelOffer::NotOffered, nonce))
-}
-
-/// A connection that logs in by this password alone.
-fn client(rt: &HostRuntime, password: &[u8]) -> Result<Connection<'static>, Fail> {
-    let nonce = String::from_str(rt.alloc(), "rOprNGfwEbeRWgbNEkqO")?;
-    if !is_nonce(&nonce) {
-        return Err(Error::NotUtf8.into());
-    }
-    let binding = ChannelBinding::unsupported();
-    let exchange = ScramSha256::with_nonce(rt.alloc(), password, binding, nonce, &NoPrep)?;
-    let ways = Ways {
-        scram: Some(exchange),
-        md5: None,
-        cleartext: None,
-        none: false,
-    };
-    let mut connection = Connection::new(rt.alloc(), ways, 65_536);
-    connection.start(&[("user", "user")])?;
-    Ok(connection)
+    let verifier = StoredVerifier::parse(rt.alloc(), STORED).ok()?;
+    Some(ScramServer::with_nonce(verifier, ChannelOffer::NotOffered, nonce))
 }
 
 /// The text by which a request names itself; `x` before it has the server fail.
-fn text_of(rt: &HostRuntime, name: u64, fails: bool) -> Result<String, Fail> {
-    if fails {
-        return Ok(format!(in rt.alloc(); "x{name}")?);
+fn text_of(rt: &HostRuntime, name: u64, fails: bool) -> String {
+    let sign = if fails { "x" } else { "" };
+    match format!(in rt.alloc(); "{sign}{name}") {
+        Ok(text) => text,
+        Err(_) => String::new(rt.alloc()),
     }
-    Ok(format!(in rt.alloc(); "{name}")?)
 }
 
-/// Sends a Query, or a series of an extended query that a Sync may end, the first of which has this name. Returns the next name.
+/// Sends a Query, or a series of an extended query that a Sync may end, the first of which has this name. Returns the last one's name, if all were
+/// sent.
 fn ask(
     rt: &HostRuntime,
     connection: &mut Connection<'_>,
     dice: &mut Dice,
     name: u64,
-) -> Result<u64, Fail> {
-    let fails = dice.below(5) == 0;
+) -> Option<u64> {
+    let text = text_of(rt, name, dice.below(5) == 0);
     if dice.below(2) == 0 {
-        let text = text_of(rt, name, fails)?;
-        return Ok(connection.query(&text)?.saturating_add(1));
+        return connection.query(&text).ok();
     }
-    let text = text_of(rt, name, fails)?;
-    connection.parse("", &text, Vec::<u32>::new(rt.alloc()))?;
-    connection.describe(b'S', "")?;
-    let text = text_of(rt, name.saturating_add(2), dice.below(5) == 0)?;
-    let last = connection.execute(&text, 0)?;
+    let portal = text_of(rt, name.saturating_add(2), dice.below(5) == 0);
+    let last = series(connection, &text, &portal);
     if dice.below(3) == 0 {
-        return Ok(last.saturating_add(1));
+        return last;
     }
-    Ok(connection.sync()?.saturating_add(1))
+    connection.sync().ok()
+}
+
+/// Sends a Parse, a Describe, and an Execute. Returns the last one's name.
+fn series(connection: &mut Connection<'_>, text: &str, portal: &str) -> Option<u64> {
+    if connection.parse("", text, None::<u32>).is_err() || connection.describe(b'S', "").is_err() {
+        return None;
+    }
+    connection.execute(portal, 0).ok()
 }
 
 /// What came of a session: its rows, those that carry another number than their request's, and errors.
@@ -241,66 +225,70 @@ impl Tally {
             failed: 0,
         }
     }
-}
 
-/// Counts a message, and returns whether it ends the session.
-fn count(
-    rt: &HostRuntime,
-    event: Event,
-    message: &Message<Bytes>,
-    tally: &mut Tally,
-) -> Result<bool, Fail> {
-    match (event, message) {
-        (Event::Part(name), Message::DataRow(row)) => {
-            tally.rows = tally.rows.saturating_add(1);
-            let text = text_of(rt, name, false)?;
-            if row.column(0)? != Some(Some(text.as_bytes())) {
-                tally.astray = tally.astray.saturating_add(1);
+    /// Counts a message.
+    fn count(&mut self, rt: &HostRuntime, event: Event, message: &Message<Bytes>) {
+        match (event, message) {
+            (Event::Part(name), Message::DataRow(row)) => {
+                self.rows = self.rows.saturating_add(1);
+                let text = text_of(rt, name, false);
+                if !has_text(row, text.as_bytes()) {
+                    self.astray = self.astray.saturating_add(1);
+                }
             }
+            (_, Message::ErrorResponse(_)) => self.failed = self.failed.saturating_add(1),
+            _ => {}
         }
-        (_, Message::ErrorResponse(_)) => tally.failed = tally.failed.saturating_add(1),
-        _ => {}
     }
-    Ok(event == Event::Ended)
 }
 
-/// Takes all messages that are there.
-fn take(rt: &HostRuntime, connection: &mut Connection<'_>, tally: &mut Tally) -> Result<(), Fail> {
+/// Whether this is the first value of a row.
+fn has_text(row: &DataRowBody<Bytes>, text: &[u8]) -> bool {
+    match row.column(0) {
+        Ok(Some(Some(value))) => value == text,
+        _ => false,
+    }
+}
+
+/// Takes all messages that are there; false where one can't be taken.
+fn hears(rt: &HostRuntime, connection: &mut Connection<'_>, tally: &mut Tally) -> bool {
     for _ in 0..100_000 {
-        let Some((event, message)) = connection.next()? else {
-            return Ok(());
-        };
-        let ended = count(rt, event, &message, tally);
-        drop(message);
-        if ended? {
-            return Ok(());
+        match connection.next() {
+            Ok(Some((event, message))) => {
+                tally.count(rt, event, &message);
+                drop(message);
+                if event == Event::Ended {
+                    return true;
+                }
+            }
+            Ok(None) => return true,
+            Err(_) => return false,
         }
     }
-    Ok(())
+    false
 }
 
 /// The server takes what was sent, and its answers go to the client in pieces.
-fn exchange(
+fn meet(
     rt: &HostRuntime,
     connection: &mut Connection<'_>,
     server: &mut Server,
     dice: &mut Dice,
     tally: &mut Tally,
-) -> Result<(), Fail> {
+) -> bool {
     let mut out = BytesMut::new(rt.alloc());
-    server.take(rt, connection.to_send(), &mut out)?;
+    let mut met = server.takes(rt, connection.to_send(), &mut out);
     let mut rest = out.as_slice();
     for _ in 0..100_000 {
         if rest.is_empty() {
-            return Ok(());
+            break;
         }
         let cut = dice.below(40).saturating_add(1);
         let (piece, more) = rest.split_at(rest.len().min(cut as usize));
-        connection.feed(piece)?;
-        take(rt, connection, tally)?;
+        met = met && connection.feed(piece).is_ok() && hears(rt, connection, tally);
         rest = more;
     }
-    Ok(())
+    met
 }
 
 /// The log-in.
@@ -309,71 +297,64 @@ fn greet(
     connection: &mut Connection<'_>,
     server: &mut Server,
     tally: &mut Tally,
-) -> Result<(), Fail> {
+) -> bool {
     let mut dice = Dice(1);
+    let mut met = connection.start(&[("user", "user")]).is_ok();
     for _ in 0..3 {
-        exchange(rt, connection, server, &mut dice, tally)?;
+        met = met && meet(rt, connection, server, &mut dice, tally);
     }
-    Ok(())
+    met
 }
 
-/// A session of some requests, of which several are sent before the server takes them.
-fn requests(
+/// A session of some requests, of which several are sent before the server takes them; whether all could be sent and taken, and nothing is awaited then.
+fn is_played(
     rt: &HostRuntime,
     connection: &mut Connection<'_>,
-    server: &mut Server,
-    dice: &mut Dice,
+    seed: u64,
     tally: &mut Tally,
-) -> Result<(), Fail> {
-    greet(rt, connection, server, tally)?;
-    let mut name = 1;
-    for _ in 0..dice.below(12) {
-        name = ask(rt, connection, dice, name)?;
-        if dice.below(3) == 0 {
-            exchange(rt, connection, server, dice, tally)?;
-        }
-    }
-    connection.sync()?;
-    exchange(rt, connection, server, dice, tally)
-}
-
-/// Plays such a session, and returns what came of it, and whether the client awaits nothing more.
-fn play(rt: &HostRuntime, seed: u64) -> Result<(Tally, bool), Fail> {
+) -> bool {
     let mut dice = Dice(seed);
     let mut server = Server::new();
-    let mut tally = Tally::new();
-    let mut connection = client(rt, b"pencil")?;
-    let played = requests(rt, &mut connection, &mut server, &mut dice, &mut tally);
-    let idle = connection.is_idle();
-    drop(connection);
-    played?;
-    Ok((tally, idle))
+    let mut met = greet(rt, connection, &mut server, tally);
+    let mut name = 1_u64;
+    for _ in 0..dice.below(12) {
+        match ask(rt, connection, &mut dice, name) {
+            Some(last) => name = last.saturating_add(1),
+            None => met = false,
+        }
+        if dice.below(3) == 0 {
+            met = meet(rt, connection, &mut server, &mut dice, tally) && met;
+        }
+    }
+    let sent = connection.sync().is_ok();
+    meet(rt, connection, &mut server, &mut dice, tally) && met && sent && connection.is_idle()
 }
 
 #[test]
 fn a_thousand_sessions_of_both_ends(rt: HostRuntime) -> Result<(), Fail> {
-    let mut rows = 0_u64;
+    let mut tally = Tally::new();
     for seed in 0..1_000_u64 {
-        let (tally, idle) = play(&rt, seed)?;
-        same_at(&rt, seed as usize, tally.astray, 0);
-        holds(&rt, idle);
-        rows = rows.saturating_add(tally.rows);
+        let mut connection = by_password(&rt, b"pencil", NONCE)?;
+        holds(&rt, is_played(&rt, &mut connection, seed, &mut tally));
     }
-    holds(&rt, rows > 5_000);
+    same_at(&rt, 0, tally.astray, 0);
+    holds(&rt, tally.rows > 5_000);
     Ok(())
+}
+
+/// A client that is told that its password is another one.
+fn is_denied(rt: &HostRuntime, connection: &mut Connection<'_>) {
+    let mut server = Server::new();
+    let mut tally = Tally::new();
+    holds(rt, greet(rt, connection, &mut server, &mut tally));
+    holds(rt, !connection.is_logged_in());
+    same_at(rt, 0, tally.failed, 1);
+    same_at(rt, 0, server.serving.phase, ServingPhase::Over);
 }
 
 #[test]
 fn another_password_is_not_let_in(rt: HostRuntime) -> Result<(), Fail> {
-    let mut server = Server::new();
-    let mut tally = Tally::new();
-    let mut connection = client(&rt, b"pencils")?;
-    let greeted = greet(&rt, &mut connection, &mut server, &mut tally);
-    let logged_in = connection.is_logged_in();
-    drop(connection);
-    greeted?;
-    same_at(&rt, 0, tally.failed, 1);
-    holds(&rt, !logged_in);
-    same_at(&rt, 0, server.serving.phase, ServingPhase::Over);
+    let mut connection = by_password(&rt, b"pencils", NONCE)?;
+    is_denied(&rt, &mut connection);
     Ok(())
 }

@@ -15,3 +15,5 @@ mod in_place;
 mod pooled;
 #[cfg(test)]
 mod settings;
+#[cfg(test)]
+mod steps;

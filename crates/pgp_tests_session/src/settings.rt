@@ -2,29 +2,48 @@
 //! log-in, and again when it changes (the manual, "Asynchronous Operations").
 
 use crate::checks::{holds, same_at};
+use crate::steps::{Call, Step, next_event, takes};
 use bytes::BytesMut;
 use pgp_base::Error;
+use pgp_client::Event;
 use pgp_session::{Connection, ConnectionError, Ways};
 use std::alloc::Global;
 use std::process::Abort;
 use std::test::Fail;
 
-/// The messages of a server that asks for no password.
-const LOGIN: [&[u8]; 5] = [
-    b"R\0\0\0\x08\0\0\0\0",
-    b"S\0\0\0\x19client_encoding\0UTF8\0",
-    b"S\0\0\0\x11TimeZone\0UTC\0",
-    b"K\0\0\0\x0c\0\0\0\x01\0\0\0\x02",
-    READY,
-];
-
 const READY: &[u8] = b"Z\0\0\0\x05I";
 
-/// The answer to `SET TimeZone TO 'Europe/Paris'`.
-const SET: [&[u8]; 3] = [
-    b"C\0\0\0\x08SET\0",
-    b"S\0\0\0\x1aTimeZone\0Europe/Paris\0",
-    READY,
+/// A log-in without a password, and a setting that is changed by `SET TimeZone TO 'Europe/Paris'`.
+static REPORTED: [Step; 17] = [
+    Step::Setting(b"TimeZone", None),
+    Step::Feeds(
+        b"R\0\0\0\x08\0\0\0\0S\0\0\0\x19client_encoding\0UTF8\0S\0\0\0\x11TimeZone\0UTC\0K\0\0\0\x0c\0\0\0\x01\0\0\0\x02Z\0\0\0\x05I",
+    ),
+    Step::Next(Some(Event::Part(0))),
+    Step::Next(Some(Event::Aside)),
+    Step::Next(Some(Event::Aside)),
+    Step::Next(Some(Event::Part(0))),
+    Step::Next(Some(Event::Last(0))),
+    Step::Setting(b"TimeZone", Some(b"UTC")),
+    Step::Setting(b"timezone", None),
+    Step::Setting(b"TimeZon", None),
+    Step::Makes(Call::Query),
+    Step::Feeds(b"C\0\0\0\x08SET\0S\0\0\0\x1aTimeZone\0Europe/Paris\0Z\0\0\0\x05I"),
+    Step::Next(Some(Event::Part(1))),
+    Step::Next(Some(Event::Aside)),
+    Step::Next(Some(Event::Last(1))),
+    Step::Setting(b"TimeZone", Some(b"Europe/Paris")),
+    Step::Setting(b"client_encoding", Some(b"UTF8")),
+];
+
+/// A name and a value that are no text, and a value of no bytes.
+static NO_TEXTS: [Step; 6] = [
+    Step::Feeds(b"S\0\0\0\x08\xfe\0\xff\0"),
+    Step::Next(Some(Event::Aside)),
+    Step::Setting(b"\xfe", Some(b"\xff")),
+    Step::Feeds(b"S\0\0\0\x07\xfe\0\0"),
+    Step::Next(Some(Event::Aside)),
+    Step::Setting(b"\xfe", Some(b"")),
 ];
 
 /// A connection that was started, and takes messages of at most so many bytes.
@@ -40,64 +59,16 @@ fn started(rt: &impl Abort, alloc: Global, limit: u32) -> Connection<'static> {
     connection
 }
 
-/// The error of the next message, which is there; `None` where it was taken.
-fn hear(rt: &impl Abort, connection: &mut Connection<'_>, bytes: &[u8]) -> Option<ConnectionError> {
-    holds(rt, connection.feed(bytes).is_ok());
-    match connection.next() {
-        Ok(Some((_, message))) => {
-            drop(message);
-            None
-        }
-        Ok(None) => Some(ConnectionError::OutOfPhase),
-        Err(e) => Some(e),
-    }
-}
-
-/// Each message is taken.
-fn hears(rt: &impl Abort, connection: &mut Connection<'_>, messages: &[&[u8]]) {
-    for message in messages {
-        holds(rt, hear(rt, connection, message).is_none());
-    }
+#[test]
+fn the_last_report_of_a_setting_counts(rt: HostRuntime) {
+    let mut connection = started(&rt, rt.alloc(), 1_000);
+    takes(&rt, &mut connection, &REPORTED);
 }
 
 #[test]
-fn the_last_report_of_a_setting_counts(rt: HostRuntime) -> Result<(), Fail> {
+fn settings_need_not_be_text(rt: HostRuntime) {
     let mut connection = started(&rt, rt.alloc(), 1_000);
-    same_at(&rt, 0, connection.setting(b"TimeZone"), None);
-    hears(&rt, &mut connection, &LOGIN);
-    same_at(
-        &rt,
-        1,
-        connection.setting(b"TimeZone"),
-        Some(b"UTC".as_slice()),
-    );
-    same_at(&rt, 2, connection.setting(b"timezone"), None);
-    same_at(&rt, 3, connection.setting(b"TimeZon"), None);
-    holds(
-        &rt,
-        connection.query("SET TimeZone TO 'Europe/Paris'").is_ok(),
-    );
-    hears(&rt, &mut connection, &SET);
-    let paris = b"Europe/Paris".as_slice();
-    same_at(&rt, 4, connection.setting(b"TimeZone"), Some(paris));
-    let utf8 = b"UTF8".as_slice();
-    same_at(&rt, 5, connection.setting(b"client_encoding"), Some(utf8));
-    Ok(())
-}
-
-#[test]
-fn settings_need_not_be_text(rt: HostRuntime) -> Result<(), Fail> {
-    let mut connection = started(&rt, rt.alloc(), 1_000);
-    hears(&rt, &mut connection, &[b"S\0\0\0\x08\xfe\0\xff\0"]);
-    same_at(
-        &rt,
-        0,
-        connection.setting(b"\xfe"),
-        Some(b"\xff".as_slice()),
-    );
-    hears(&rt, &mut connection, &[b"S\0\0\0\x07\xfe\0\0"]);
-    same_at(&rt, 1, connection.setting(b"\xfe"), Some(b"".as_slice()));
-    Ok(())
+    takes(&rt, &mut connection, &NO_TEXTS);
 }
 
 /// The report of a setting of one character, whose value takes so many bytes.
@@ -111,6 +82,28 @@ fn report(alloc: Global, name: u8, len: u16) -> Result<BytesMut, Error> {
     Ok(frame)
 }
 
+/// Whether a setting that would pass the limit ends the connection.
+fn is_past(connection: &mut Connection<'_>, frame: &[u8]) -> bool {
+    if connection.feed(frame).is_err() {
+        return false;
+    }
+    match connection.next() {
+        Err(ConnectionError::Unkept(Error::TooLarge)) => connection.feed(READY).is_err(),
+        other => {
+            drop(other);
+            false
+        }
+    }
+}
+
+/// How long the value of a setting is, if it is there.
+fn len_of(connection: &Connection<'_>, name: &[u8]) -> Option<usize> {
+    match connection.setting(name) {
+        Some(value) => Some(value.len()),
+        None => None,
+    }
+}
+
 /// Names and values of 65,536 bytes stand at the limit. A shorter value makes room, and a byte more is past it.
 #[test]
 fn settings_past_the_limit_end_the_connection(rt: HostRuntime) -> Result<(), Fail> {
@@ -118,12 +111,15 @@ fn settings_past_the_limit_end_the_connection(rt: HostRuntime) -> Result<(), Fai
     let kept: [(u8, u16); 4] = [(b'a', 32_767), (b'b', 32_767), (b'a', 32_766), (b'c', 0)];
     for (name, len) in kept {
         let frame = report(rt.alloc(), name, len)?;
-        hears(&rt, &mut connection, &[frame.as_slice()]);
+        holds(&rt, connection.feed(&frame).is_ok());
+        same_at(
+            &rt,
+            usize::from(len),
+            next_event(&mut connection),
+            Some(Event::Aside),
+        );
     }
-    let error = hear(&rt, &mut connection, b"S\0\0\0\x07d\0\0");
-    let past = matches!(&error, Some(ConnectionError::Unkept(Error::TooLarge)));
-    drop(error);
-    holds(&rt, past);
+    holds(&rt, is_past(&mut connection, b"S\0\0\0\x07d\0\0"));
     let lens: [(&[u8], Option<usize>); 4] = [
         (b"a", Some(32_766)),
         (b"b", Some(32_767)),
@@ -131,13 +127,7 @@ fn settings_past_the_limit_end_the_connection(rt: HostRuntime) -> Result<(), Fai
         (b"d", None),
     ];
     for (at, (name, len)) in lens.iter().enumerate() {
-        same_at(
-            &rt,
-            at,
-            connection.setting(name).map(|value| value.len()),
-            *len,
-        );
+        same_at(&rt, at, len_of(&connection, name), *len);
     }
-    holds(&rt, connection.feed(READY).is_err());
     Ok(())
 }

@@ -5,6 +5,7 @@
 use crate::fault::Fault;
 use crate::outbox::Outbox;
 use pgp_base::FallibleIterator;
+use pgp_frontend::codes::VERSION_3_0;
 use pgp_frontend_read::{ClientMessage, StartupParameters};
 use pgp_message_write as reply;
 
@@ -16,9 +17,6 @@ pub(crate) struct Opening<'m> {
     /// Options of the protocol, of which this server knows none.
     unknown: Vec<&'m [u8]>,
 }
-
-/// Version 3.0 of the protocol.
-const VERSION: i32 = 196_608;
 
 /// The newest minor version that this server speaks, up to this one.
 fn spoken_minor(minor: u16) -> u16 {
@@ -66,7 +64,7 @@ impl<'m> Opening<'m> {
         if spoken == minor && self.unknown.is_empty() {
             return;
         }
-        let version = VERSION.saturating_add(i32::from(spoken));
+        let version = VERSION_3_0.saturating_add(u32::from(spoken)).cast_signed();
         let put = reply::negotiate_protocol_version(version, &self.unknown, &mut out.bytes);
         out.put(put);
     }

@@ -1,0 +1,55 @@
+//! The rows of a request, as a client takes them from its connection, on messages of the PostgreSQL manual's formats.
+
+use crate::checks::{holds, same};
+use crate::logins::{CHALLENGE, OFFER, OUTCOME, WELCOME, exchange};
+use pgp_uses::client::{Received, connect, next_row};
+use postgres_protocol::session::Connection;
+use std::process::Abort;
+use std::test::Fail;
+
+const READY: &[u8] = b"Z\x00\x00\x00\x05I";
+
+/// The server's messages of a log-in by SCRAM-SHA-256.
+const LOGIN: [&[u8]; 5] = [OFFER, CHALLENGE, OUTCOME, WELCOME, READY];
+
+/// The answer to a Query: a column, a row, a notice, the tag, and the end.
+const ANSWER: &[u8] =
+    b"T\0\0\0\x1a\0\x01a\0\0\0\0\0\0\0\0\0\x17\0\x04\xff\xff\xff\xff\0\0D\0\0\0\x0b\0\x01\0\0\0\x011N\0\0\0\x05\0C\0\0\0\x0dSELECT 1\0Z\0\0\0\x05I";
+
+/// How many rows of the request of this name are among the messages that came, and whether nothing else is left.
+fn rows_of(connection: &mut Connection<'_>, name: u64) -> (u64, bool) {
+    let mut rows = 0_u64;
+    for _ in 0..100 {
+        match next_row(connection, name) {
+            Ok(Received::Row(row)) => {
+                drop(row);
+                rows = rows.saturating_add(1);
+            }
+            Ok(Received::Other(_)) => {}
+            Ok(Received::Nothing) => return (rows, true),
+            Err(_) => return (rows, false),
+        }
+    }
+    (rows, false)
+}
+
+/// A log-in, and two Query of a row each.
+fn queries(rt: &impl Abort, connection: &mut Connection<'_>) {
+    for message in &LOGIN {
+        holds(rt, connection.feed(message).is_ok());
+        same(rt, rows_of(connection, 0), (0, true));
+    }
+    holds(rt, connection.query("SELECT 1").is_ok());
+    holds(rt, connection.query("SELECT 1").is_ok());
+    holds(rt, connection.feed(ANSWER).is_ok());
+    holds(rt, connection.feed(ANSWER).is_ok());
+    same(rt, rows_of(connection, 2), (1, true));
+    holds(rt, connection.is_idle());
+}
+
+#[test]
+fn a_row_belongs_to_the_request_that_asked_for_it(rt: HostRuntime) -> Result<(), Fail> {
+    let mut connection = connect(rt.alloc(), "alice", exchange(&rt)?)?;
+    queries(&rt, &mut connection);
+    Ok(())
+}
