@@ -1,7 +1,6 @@
 //! Lines, segments and circles. A coordinate is the bits of a floating-point number.
 //!
 //! PostgreSQL manual, "Geometric Types".
-#![tactic(auto, using(pgp_base::proofs::Parts::held_steps))]
 
 ghost use Rattle.std.specs.Prelude.{◌≡◌};
 ghost use Rattle.pgp_types.specs.Format.{Reads, Writes};

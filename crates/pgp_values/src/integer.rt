@@ -1,5 +1,4 @@
 //! Decimal numbers that are integers.
-#![tactic(auto, using(pgp_base::proofs::Parts::held_steps))]
 
 ghost use Rattle.std.specs.Prelude.{◌≡◌, ◌+◌, ◌*◌, ◌<◌, ◌≤◌, ◌^◌, FitsSigned, SomeIff, drop, length, map};
 ghost use Rattle.std.specs.Int.{w64, w128};
