@@ -13,6 +13,7 @@ pub mod GroupLemmas
 pub mod MeaningLemmas
 pub mod OnceLemmas
 pub mod RoundLemmas
+pub mod Rows
 pub mod CutLemmas
 pub mod MomentLemmas
 pub mod PlaceLemmas

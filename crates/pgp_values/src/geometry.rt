@@ -1,7 +1,6 @@
 //! Lines, segments and circles. A coordinate is the bits of a floating-point number.
 //!
 //! PostgreSQL manual, "Geometric Types".
-#![tactic(auto, using(pgp_base::proofs::Parts::held_steps))]
 
 ghost use Rattle.std.specs.Prelude.{◌≡◌};
 ghost use Rattle.pgp_types.specs.Format.{Reads, Writes};
@@ -86,14 +85,17 @@ pub fn lseg_from_sql(buf: &[u8]) -> Result<Segment, Error>
     })
 }
 
-/// Appends a `circle`.
+/// Appends a `circle`, which has the layout of a `line`.
 pub fn circle_to_sql<B: Buffer>(v: Circle, buf: &mut B) -> Result<(), Error>
     ensures { Writes circle v B.Lacks (B.held buf.old) result (B.held buf.new) }
 {
-    append_three(
-        &v.x.to_be_bytes(),
-        &v.y.to_be_bytes(),
-        &v.radius.to_be_bytes(),
+    let Circle { x, y, radius } = v;
+    line_to_sql(
+        Line {
+            a: x,
+            b: y,
+            c: radius,
+        },
         buf,
     )
 }
@@ -102,12 +104,12 @@ pub fn circle_to_sql<B: Buffer>(v: Circle, buf: &mut B) -> Result<(), Error>
 pub fn circle_from_sql(buf: &[u8]) -> Result<Circle, Error>
     ensures { Reads circle buf.now result }
 {
-    let bytes: [u8; 24] = block(buf)?;
-    let (x, rest) = bytes.split_at(8);
-    let (y, radius) = rest.split_at(8);
-    Ok(Circle {
-        x: uint64_of(x),
-        y: uint64_of(y),
-        radius: uint64_of(radius),
-    })
+    match line_from_sql(buf) {
+        Ok(Line { a, b, c }) => Ok(Circle {
+            x: a,
+            y: b,
+            radius: c,
+        }),
+        Err(e) => Err(e),
+    }
 }

@@ -215,9 +215,10 @@ fn put_number<B: Buffer>(w: &Written<'_>, g: &Groups, buf: &mut B) -> Result<(),
     ensures err { OnErr result (IsFrontOf (B.held buf.old) (B.held buf.new)) }
     ensures cause { IfErr result (WantsMemory (Wants B.Lacks (B.held buf.old) (length (numeric_bytes (finite (grouped (map digit_value (w.now.whole.now ++ w.now.fraction.now)) g.now)))))) }
 {
-    put_head(g, buf)?;
-    put_groups(w, g, buf)?;
-    Ok(())
+    match put_head(g, buf) {
+        Ok(()) => put_groups(w, g, buf),
+        Err(e) => Err(e),
+    }
 }
 
 // Appends the number, or leaves the buffer's bytes.

@@ -1,5 +1,4 @@
 //! Decimal numbers that are integers.
-#![tactic(auto, using(pgp_base::proofs::Parts::held_steps))]
 
 ghost use Rattle.std.specs.Prelude.{◌≡◌, ◌+◌, ◌*◌, ◌<◌, ◌≤◌, ◌^◌, FitsSigned, SomeIff, drop, length, map};
 ghost use Rattle.std.specs.Int.{w64, w128};
@@ -17,21 +16,28 @@ use crate::groups::{groups_of, groups_to_sql};
 use crate::numeric::Numeric;
 use crate::written::Written;
 use pgp_base::Buffer;
-use thiserror::Error as DeriveError;
+use std::error;
+use std::fmt;
 
 /// Why a `numeric` is no integer of a type.
-#[derive(Debug, Clone, Copy, PartialEq, Eq, DeriveError)]
+#[derive(Debug, Clone, Copy, PartialEq, Eq)]
 pub enum IntegerError {
     /// It is `NaN` or an infinity.
-    #[error("NotFinite")]
     NotFinite,
     /// A digit after the point isn't 0.
-    #[error("Fraction")]
     Fraction,
     /// It is an integer that the type doesn't hold.
-    #[error("OutOfRange")]
     OutOfRange,
 }
+
+/// Its name, as `Debug` writes it.
+impl fmt::Display for IntegerError {
+    fn fmt<W: fmt::Write>(&self, f: &mut fmt::Formatter<W>) -> fmt::Result {
+        fmt::Debug::fmt(self, f)
+    }
+}
+
+impl error::Error for IntegerError {}
 
 // How many digits to the base 10,000 stand before the point.
 fn whole_len(d: &Decimal<'_>) -> usize

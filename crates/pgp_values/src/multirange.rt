@@ -14,6 +14,7 @@ ghost use Rattle.pgp_values.specs.Multirange.{member, multirange, shown_member};
 
 use crate::list::{PutItem, write_list};
 use pgp_base::{Buffer, Counted, Error, FallibleIterator, length_field, put_u32};
+use pgp_types::codec::append;
 use pgp_types::part::{natural_at, sized_at};
 use std::marker::Model;
 
@@ -33,15 +34,19 @@ impl<'a> PutItem for &'a [u8] {
     }
 }
 
-// Appends a range's bytes after their length. An error leaves what stood there as a front.
-fn put_member<B: Buffer>(bytes: &[u8], buf: &mut B) -> Result<(), Error>
+// Appends the bytes of a range or of a field after their length. An error leaves what stood there as a front.
+pub(crate) fn put_member<B: Buffer>(bytes: &[u8], buf: &mut B) -> Result<(), Error>
     ensures ok { OnOk result ((member.cause bytes.now ≡ None) × (B.held buf.new ≡ B.held buf.old ⊕ member.written bytes.now)) }
     ensures err { OnErr result (IsFrontOf (B.held buf.old) (B.held buf.new)) }
     ensures why { IfErr result (λ e. WantsMemory (Wants B.Lacks (B.held buf.old) (length (member.written bytes.now))) e ⊎ (member.cause bytes.now ≡ Some e)) }
 {
-    put_u32(buf, length_field(bytes.len())?)?;
-    buf.append(bytes)?;
-    Ok(())
+    match length_field(bytes.len()) {
+        Ok(len) => match put_u32(buf, len) {
+            Ok(()) => append(bytes, buf),
+            Err(e) => Err(e),
+        },
+        Err(e) => Err(e),
+    }
 }
 
 /// Appends a multirange of these ranges, each given as the bytes that `range_to_sql` makes. A server puts them in order
@@ -92,9 +97,10 @@ impl<'a> FallibleIterator for MultirangeRanges<'a> {
     ghost walk = { λ s. s };
 
     fn next(&mut self) -> Result<Option<&'a [u8]>, Error> {
-        match self.0.due()? {
-            Some(buf) => self.0.take(sized_at(buf, Error::InvalidValueLength)),
-            None => Ok(None),
+        match self.0.due() {
+            Ok(Some(buf)) => self.0.take(sized_at(buf, Error::InvalidValueLength)),
+            Ok(None) => Ok(None),
+            Err(e) => Err(e),
         }
     }
 

@@ -1,7 +1,6 @@
 //! Networks, and hardware addresses of eight bytes.
 //!
 //! PostgreSQL manual, "Network Address Types".
-#![tactic(auto, using(pgp_base::proofs::Parts::held_steps))]
 
 ghost use Rattle.std.specs.Prelude.{◌≡◌};
 ghost use Rattle.pgp_types.specs.Format.{Reads, Writes};

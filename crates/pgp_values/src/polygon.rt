@@ -1,7 +1,6 @@
 //! Polygons.
 //!
 //! PostgreSQL manual, "Geometric Types".
-#![tactic(auto, using(pgp_base::proofs::Parts::held_steps))]
 
 ghost use Rattle.std.specs.Prelude.{◌≡◌, ◌≤◌, ◌⊎◌, ℕ, List, map, length, Some, None, OnOk, OnErr, IfOk, IfErr};
 ghost use Rattle.std.specs.Iterator.{IsFiniteIterable};
@@ -85,9 +84,10 @@ impl FallibleIterator for PolygonPoints<'_> {
     ghost walk = { λ s. s };
 
     fn next(&mut self) -> Result<Option<(u64, u64)>, Error> {
-        match self.0.due()? {
-            Some(buf) => self.0.take(point_at(buf)),
-            None => Ok(None),
+        match self.0.due() {
+            Ok(Some(buf)) => self.0.take(point_at(buf)),
+            Ok(None) => Ok(None),
+            Err(e) => Err(e),
         }
     }
 

@@ -17,8 +17,9 @@ ghost use Rattle.pgp_values.specs.ListReading.{field_at};
 ghost use Rattle.pgp_values.specs.Record.{field, composite, shown_field};
 
 use crate::list::{PutItem, write_list};
+use crate::multirange::put_member;
 use pgp_base::reading::oid_at;
-use pgp_base::{Buffer, Counted, Error, FallibleIterator, Oid, length_field, put_u32};
+use pgp_base::{Buffer, Counted, Error, FallibleIterator, Oid, put_u32};
 use pgp_types::part::{natural_at, nullable_at};
 use std::marker::Model;
 
@@ -48,12 +49,10 @@ fn put_nullable<B: Buffer>(v: Option<&[u8]>, buf: &mut B) -> Result<(), Error>
     ensures err { OnErr result (IsFrontOf (B.held buf.old) (B.held buf.new)) }
     ensures cause { IfErr result (λ e. WantsMemory (Wants B.Lacks (B.held buf.old) (length (nullable (shown v.entry)))) e ⊎ (nullable_cause (shown v.entry) ≡ Some e)) }
 {
-    let Some(bytes) = v else {
-        return put_u32(buf, NULL);
-    };
-    put_u32(buf, length_field(bytes.len())?)?;
-    buf.append(bytes)?;
-    Ok(())
+    match v {
+        Some(bytes) => put_member(bytes, buf),
+        None => put_u32(buf, NULL),
+    }
 }
 
 // Appends a field. An error leaves what stood there as a front.
@@ -62,9 +61,10 @@ fn put_field<B: Buffer>(of_type: Oid, value: Option<&[u8]>, buf: &mut B) -> Resu
     ensures err { OnErr result (IsFrontOf (B.held buf.old) (B.held buf.new)) }
     ensures why { IfErr result (λ e. WantsMemory (Wants B.Lacks (B.held buf.old) (length (field.written (of_type, shown value.entry)))) e ⊎ (field.cause (of_type, shown value.entry) ≡ Some e)) }
 {
-    put_u32(buf, of_type)?;
-    put_nullable(value, buf)?;
-    Ok(())
+    match put_u32(buf, of_type) {
+        Ok(()) => put_nullable(value, buf),
+        Err(e) => Err(e),
+    }
 }
 
 /// Appends a row or a composite value: the type of each field, and its value or a null. A server wants the types of
@@ -115,9 +115,10 @@ impl<'a> FallibleIterator for RecordFields<'a> {
     ghost walk = { λ s. s };
 
     fn next(&mut self) -> Result<Option<(Oid, Option<&'a [u8]>)>, Error> {
-        match self.0.due()? {
-            Some(buf) => self.0.take(field_at(buf)),
-            None => Ok(None),
+        match self.0.due() {
+            Ok(Some(buf)) => self.0.take(field_at(buf)),
+            Ok(None) => Ok(None),
+            Err(e) => Err(e),
         }
     }
 

@@ -1,5 +1,4 @@
 //! The parts of a number's text, each the longest that stands at the front.
-#![tactic(auto, using(pgp_base::proofs::Parts::held_steps))]
 
 ghost use Rattle.std.specs.Prelude.{◌≡◌, ℕ, List, true, false, ◌++◌, ◌<◌, ◌≤◌, map, IfOk, IfErr};
 ghost use Rattle.std.specs.List.{AllByRecursion};

@@ -134,9 +134,10 @@ fn put_before<B: Buffer>(d: &Decimal<'_>, k: usize, out: &mut B) -> Result<(), E
     ensures cause { IfErr result (WantsMemory (Wants B.Lacks (B.held out.old) (length (map letter (whole_digits (pos k) d.now.digits))))) }
 {
     let from = first_place(d, 4 * k + 3);
-    put_run(d, from, 4 - from % 4, out)?;
-    put_groups(d, from / 4 + 1, k - from / 4, out)?;
-    Ok(())
+    match put_run(d, from, 4 - from % 4, out) {
+        Ok(()) => put_groups(d, from / 4 + 1, k - from / 4, out),
+        Err(e) => Err(e),
+    }
 }
 
 // The decimal digit of this index after the point.
@@ -185,9 +186,10 @@ fn put_fraction<B: Buffer>(d: &Decimal<'_>, out: &mut B) -> Result<(), Error>
     if d.scale() == 0 {
         return Ok(());
     }
-    put_u8(out, b'.')?;
-    put_places(d, d.scale() as usize, out)?;
-    Ok(())
+    match put_u8(out, b'.') {
+        Ok(()) => put_places(d, d.scale() as usize, out),
+        Err(e) => Err(e),
+    }
 }
 
 // Whether one of the first places isn't 0.
@@ -268,10 +270,13 @@ fn put_decimal<B: Buffer>(d: &Decimal<'_>, out: &mut B) -> Result<(), Error>
     ensures err { OnErr result (IsFrontOf (B.held out.old) (B.held out.new)) }
     ensures cause { IfErr result (WantsMemory (Wants B.Lacks (B.held out.old) (length (decimal_text d.now)))) }
 {
-    put_sign(shows_minus(d), out)?;
-    put_whole(d, out)?;
-    put_fraction(d, out)?;
-    Ok(())
+    match put_sign(shows_minus(d), out) {
+        Ok(()) => match put_whole(d, out) {
+            Ok(()) => put_fraction(d, out),
+            Err(e) => Err(e),
+        },
+        Err(e) => Err(e),
+    }
 }
 
 // Appends the text of a number, or nothing.

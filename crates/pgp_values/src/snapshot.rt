@@ -91,9 +91,10 @@ impl FallibleIterator for SnapshotIds<'_> {
     ghost walk = { λ s. s };
 
     fn next(&mut self) -> Result<Option<u64>, Error> {
-        match self.0.due()? {
-            Some(buf) => self.0.take(xid_at(buf)),
-            None => Ok(None),
+        match self.0.due() {
+            Ok(Some(buf)) => self.0.take(xid_at(buf)),
+            Ok(None) => Ok(None),
+            Err(e) => Err(e),
         }
     }
 

@@ -1,7 +1,6 @@
 //! Amounts of money, places of rows, and transactions of 64 bits.
 //!
 //! PostgreSQL manual, "Monetary Types" and "Object Identifier Types".
-#![tactic(auto, using(pgp_base::proofs::Parts::held_steps))]
 
 ghost use Rattle.std.specs.Prelude.{◌≡◌};
 ghost use Rattle.pgp_types.specs.Format.{Reads, Writes};

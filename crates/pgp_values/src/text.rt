@@ -1,7 +1,6 @@
 //! Documents of JSON in the server's own form, and paths in them, as texts.
 //!
 //! PostgreSQL manual, "JSON Types".
-#![tactic(auto, using(pgp_base::proofs::Parts::held_steps))]
 
 ghost use Rattle.pgp_types.specs.Format.{ReadsBy, Writes};
 ghost use Rattle.pgp_values.specs.Text.{jsonb, jsonpath};

@@ -1,7 +1,6 @@
 //! Spans of time, and times of a day with a zone.
 //!
 //! PostgreSQL manual, "Date/Time Types".
-#![tactic(auto, using(pgp_base::proofs::Parts::held_steps))]
 
 ghost use Rattle.std.specs.Prelude.{◌≡◌};
 ghost use Rattle.pgp_types.specs.Format.{Reads, Writes};

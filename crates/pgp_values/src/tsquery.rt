@@ -76,9 +76,10 @@ fn put_operand<B: Buffer>(o: &TsOperand<'_>, buf: &mut B) -> Result<(), Error>
     ensures err { OnErr result (IsFrontOf (B.held buf.old) (B.held buf.new)) }
     ensures why { IfErr result (λ e. WantsMemory (Wants B.Lacks (B.held buf.old) (length (query_item.written (operand_of o.now)))) e ⊎ (query_item.cause (operand_of o.now) ≡ Some e)) }
 {
-    append(&[OPERAND, o.weights, u8::from(o.is_prefix)], buf)?;
-    write_cstr(o.text.as_bytes(), buf)?;
-    Ok(())
+    match append(&[OPERAND, o.weights, u8::from(o.is_prefix)], buf) {
+        Ok(()) => write_cstr(o.text.as_bytes(), buf),
+        Err(e) => Err(e),
+    }
 }
 
 // Appends an operator of two bytes and what stands after them, or nothing.
@@ -152,9 +153,10 @@ impl<'a> FallibleIterator for TsItems<'a> {
     ghost walk = { λ s. s };
 
     fn next(&mut self) -> Result<Option<TsItem<'a>>, Error> {
-        match self.0.due()? {
-            Some(buf) => self.0.take(query_at(buf)),
-            None => Ok(None),
+        match self.0.due() {
+            Ok(Some(buf)) => self.0.take(query_at(buf)),
+            Ok(None) => Ok(None),
+            Err(e) => Err(e),
         }
     }
 

@@ -60,9 +60,10 @@ fn put_lexeme<B: Buffer>(text: &str, places: &[u16], buf: &mut B) -> Result<(), 
     ensures err { OnErr result (IsFrontOf (B.held buf.old) (B.held buf.new)) }
     ensures why { IfErr result (λ e. WantsMemory (Wants B.Lacks (B.held buf.old) (length (lexeme.written (text.now, places.now)))) e ⊎ (lexeme.cause (text.now, places.now) ≡ Some e)) }
 {
-    write_cstr(text.as_bytes(), buf)?;
-    put_places(places, buf)?;
-    Ok(())
+    match write_cstr(text.as_bytes(), buf) {
+        Ok(()) => put_places(places, buf),
+        Err(e) => Err(e),
+    }
 }
 
 /// Appends a `tsvector` of these lexemes and their places. A server wants the lexemes in order, each once, of at most 2,046 bytes, and the
@@ -151,9 +152,10 @@ impl<'a> FallibleIterator for Lexemes<'a> {
     ghost walk = { λ s. s };
 
     fn next(&mut self) -> Result<Option<(&'a str, TsPositions<'a>)>, Error> {
-        match self.0.due()? {
-            Some(buf) => self.0.take(lexeme_at(buf)),
-            None => Ok(None),
+        match self.0.due() {
+            Ok(Some(buf)) => self.0.take(lexeme_at(buf)),
+            Ok(None) => Ok(None),
+            Err(e) => Err(e),
         }
     }
 

@@ -1,5 +1,4 @@
 //! A number as a text reports it: its decimal digits.
-#![tactic(auto, using(pgp_base::proofs::Parts::held_steps))]
 
 ghost use Rattle.std.specs.Prelude.{◌≡◌, ◌≢◌, ◌+◌, ◌++◌, ◌<◌, ◌≤◌, get_or, length, map, IfOk, IfErr};
 ghost use Rattle.pgp_values.specs.DecimalWriting.{digit_value};

@@ -1,22 +1,8 @@
-use Rattle.std.proofs.Common.{arith, ◌≡◌, ◌+◌, inl, length, refl}
-use Rattle.pgp_base.specs.Wire.{uint32, nullable}
-use Rattle.pgp_base.proofs.Parts.{if_err_at, length-uint32, wants_more, wants_now, wants_then}
 use Rattle.pgp_types.specs.Part.{shown}
-use Rattle.pgp_base.proofs.Needs.{nullable_least, sized_length}
+use Rattle.pgp_base.proofs.Needs.{nullable_least}
 use Rattle.pgp_types.proofs.Appending.{memory_as}
 use Rattle.pgp_values.proofs.record.put_nullable.Goals as goal
 
-pub returns-in_default-clause-cause : goal.returns-in_default-clause-cause
-returns-in_default-clause-cause g c =
+pub returns-in-None-clause-cause : goal.returns-in-None-clause-cause
+returns-in-None-clause-cause g c =
     memory_as g.B.Buffer.Lacks c.put_u32.result (g.B.Buffer.held c.args.buf.now) 4 _ _ (nullable_least (shown c.args.v)) c.put_u32.ensures.cause
-
-pub returns-in_err-put_u32-clause-cause : goal.returns-in_err-put_u32-clause-cause
-returns-in_err-put_u32-clause-cause g c =
-    let memory = c.in_err-put_u32.ensures.cause in
-    if_err_at _ _ _ c.from_residual-in_err-put_u32.ensures.1 (inl (memory.0, wants_more _ 4 _ (nullable_least (shown c.args.v)) memory.1))
-
-pub returns-in_err-append-clause-cause : goal.returns-in_err-append-clause-cause
-returns-in_err-append-clause-cause g c =
-    let size : length (nullable (shown c.args.v)) ≡ length c.in-Some.bytes.now + 4 = rw c.in-Some.is (sized_length c.in-Some.bytes.now) in
-    if_err_at _ _ _ c.from_residual-in_err-append.ensures.1
-    (inl (refl, wants_then (g.B.Buffer.held c.args.buf.now) _ (uint32 c.in_ok-length_field.field-0) _ _ c.in_ok-put_u32.ensures.ok (omega (arith, size, length-uint32 c.in_ok-length_field.field-0)) (wants_now _ _ c.in_err-append.ensures.lacks)))

@@ -1,18 +1,18 @@
-use Rattle.std.proofs.Common.{[], ◌∷◌, arith, inl, inr}
-use Rattle.pgp_base.proofs.Parts.{if_err_at, wants_more, wants_then}
+use Rattle.std.proofs.Common.{[], ◌∷◌, arith, inl}
+use Rattle.pgp_base.specs.Cause.{text_cause}
+use Rattle.pgp_base.specs.Wire.{text}
+use Rattle.pgp_base.proofs.Parts.{wants_more}
 use Rattle.pgp_types.proofs.Appending.{only_memory}
+use Rattle.pgp_values.proofs.Rows.{item_why, writes_why}
 use Rattle.pgp_values.proofs.tsquery.put_operand.Goals as goal
 
-pub returns-in_err-append-clause-why : goal.returns-in_err-append-clause-why
-returns-in_err-append-clause-why g c =
-    let memory = only_memory _ c.in_err-append.ensures.0 in
-    if_err_at _ _ _ c.from_residual.ensures.1 (inl (memory.0, wants_more _ 3 _ (omega arith) memory.1))
+pub returns-in-Ok-clause-why : goal.returns-in-Ok-clause-why
+returns-in-Ok-clause-why g c =
+    let z = c.args.o.now.text.now in
+    let said = (rw c.as_bytes.ensures.value at c.write_cstr.ensures) in
+    item_why g.B.Buffer.Lacks c.write_cstr.result (g.B.Buffer.held c.args.buf.now) _ (1 ∷ c.args.o.now.weights ∷ c.from.result ∷ []) _ _ (text_cause z) _ (λ e is. is) c.in-Ok.ensures.1 (omega arith) (writes_why g.B.Buffer.Lacks c.write_cstr.result _ _ (text z) (text_cause z) said)
 
-pub returns-in_err-write_cstr-clause-why : goal.returns-in_err-write_cstr-clause-why
-returns-in_err-write_cstr-clause-why g c =
-    let refused = (rw c.as_bytes.ensures.value at c.in_err-write_cstr.ensures) in
-    if_err_at _ _ _ c.from_residual-in_err-write_cstr.ensures.1
-    (elim refused.0 [
-      | inl memory ↦ inl (memory.0, wants_then (g.B.Buffer.held c.args.buf.now) _ (1 ∷ c.args.o.now.weights ∷ c.from.result ∷ []) _ _ c.in_ok-append.ensures.1 (omega arith) memory.1)
-      | inr cause ↦ inr cause
-    ])
+pub returns-in-Err-clause-why : goal.returns-in-Err-clause-why
+returns-in-Err-clause-why g c =
+    let memory = only_memory _ c.in-Err.ensures.0 in
+    inl (memory.0, wants_more _ 3 _ (omega arith) memory.1)
