@@ -342,19 +342,19 @@ fn a_thousand_sessions_of_both_ends(rt: HostRuntime) -> Result<(), Fail> {
     Ok(())
 }
 
-/// A client that is told that its password is another one.
-fn is_denied(rt: &HostRuntime, connection: &mut Connection<'_>) {
+/// Whether a client with another password is told so, and the server is done with it.
+fn is_denied(rt: &HostRuntime, connection: &mut Connection<'_>) -> bool {
     let mut server = Server::new();
     let mut tally = Tally::new();
-    holds(rt, greet(rt, connection, &mut server, &mut tally));
-    holds(rt, !connection.is_logged_in());
-    same_at(rt, 0, tally.failed, 1);
-    same_at(rt, 0, server.serving.phase, ServingPhase::Over);
+    greet(rt, connection, &mut server, &mut tally)
+        && !connection.is_logged_in()
+        && tally.failed == 1
+        && server.serving.phase == ServingPhase::Over
 }
 
 #[test]
 fn another_password_is_not_let_in(rt: HostRuntime) -> Result<(), Fail> {
     let mut connection = by_password(&rt, b"pencils", NONCE)?;
-    is_denied(&rt, &mut connection);
+    holds(&rt, is_denied(&rt, &mut connection));
     Ok(())
 }
