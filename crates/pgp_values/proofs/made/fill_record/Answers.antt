@@ -2,7 +2,7 @@ use Rattle.std.proofs.Common.{rules, [], ◌∷◌, ◌++◌, ◌≡◌, ◌∙�
 use Rattle.std.specs.List.{flat_map}
 use Rattle.pgp_base.specs.Held.{◌⊕◌}
 use Rattle.pgp_base.specs.Wire.{uint32}
-use Rattle.pgp_base.proofs.Parts.{if_err_at, more_parts, nothing_more, Runs-snoc, Runs-length, sized4}
+use Rattle.pgp_base.proofs.Parts.{more_parts, nothing_more, Runs-snoc, Runs-length, sized4}
 use Rattle.pgp_types.proofs.Appending.{counted_up4}
 use Rattle.pgp_values.specs.Record.{Field, field as composite_field}
 use Rattle.pgp_values.specs.RecordWriting.{MakesField}
