@@ -18,6 +18,7 @@ NAMES = [
     ('use std::simd::prelude::*;', 'use crate::kit::lanes::*;'),
     ('use unicode_normalization::to_nfkc;', 'use crate::kit::to_nfkc;'),
     ('use thiserror::Error as DeriveError;\n', ''),
+    ('fn fmt<W: fmt::Write>(&self, f: &mut fmt::Formatter<W>)', "fn fmt(&self, f: &mut fmt::Formatter<'_>)"),
     ('#[rattlefmt::skip]\n', ''),
     # Of a later Rust than the package's.
     ('.cast_unsigned()', '.bits()'),

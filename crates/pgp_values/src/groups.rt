@@ -195,7 +195,10 @@ fn put_groups<B: Buffer>(w: &Written<'_>, g: &Groups, buf: &mut B) -> Result<(),
     ensures cause { IfErr result (WantsMemory (Wants B.Lacks (B.held buf.old) (2 * g.now.count))) }
 {
     for i in 0..g.count as usize {
-        put_u16(buf, group_of(w, g.point, g.top - i))?;
+        match put_u16(buf, group_of(w, g.point, g.top - i)) {
+            Ok(()) => {}
+            Err(e) => return Err(e),
+        }
     }
     Ok(())
 }

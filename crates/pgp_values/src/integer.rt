@@ -16,8 +16,7 @@ use crate::groups::{groups_of, groups_to_sql};
 use crate::numeric::Numeric;
 use crate::written::Written;
 use pgp_base::Buffer;
-use std::error;
-use std::fmt;
+use std::{error, fmt};
 
 /// Why a `numeric` is no integer of a type.
 #[derive(Debug, Clone, Copy, PartialEq, Eq)]

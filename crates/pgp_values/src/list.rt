@@ -53,8 +53,10 @@ where
         if count == MOST_ITEMS {
             return Err(Error::TooLarge);
         }
-        item.put(buf)?;
-        count += 1;
+        match item.put(buf) {
+            Ok(()) => count += 1,
+            Err(e) => return Err(e),
+        }
     }
     patch_u32(buf, base, count);
     Ok(())

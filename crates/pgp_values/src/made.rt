@@ -27,10 +27,12 @@ fn put_made<B: Buffer, T: Drop, E: Drop, F: FnMut(T, &mut B) -> Result<IsNull, E
     ensures cause { IfErr result (λ e. FieldRefused B.held F.step B.Lacks (B.held buf.old) serializer.old (of_type, x) e serializer.new) }
     ensures callable { F.IsAlwaysCallable serializer.new }
 {
-    put_u32(buf, of_type)?;
-    match put_value(serializer, x, buf) {
-        Ok(_) => Ok(()),
-        Err(e) => Err(e),
+    match put_u32(buf, of_type) {
+        Ok(()) => match put_value(serializer, x, buf) {
+            Ok(_) => Ok(()),
+            Err(e) => Err(e),
+        },
+        Err(e) => Err(BindError::Serialization(e)),
     }
 }
 
@@ -59,8 +61,10 @@ where
             return Err(BindError::Serialization(Error::TooLarge));
         }
         let (of_type, x) = field;
-        put_made(of_type, x, serializer, buf)?;
-        count += 1;
+        match put_made(of_type, x, serializer, buf) {
+            Ok(()) => count += 1,
+            Err(e) => return Err(e),
+        }
     }
     patch_u32(buf, base, count);
     Ok(())

@@ -132,9 +132,13 @@ impl<'a> FallibleIterator for RecordFields<'a> {
 fn field_at(bytes: &[u8]) -> Result<((Oid, Option<&[u8]>), &[u8]), Error>
     ensures { Answers (λ x. (shown_field x.0, x.1.now)) result (field_at bytes.now) }
 {
-    let (of_type, rest) = oid_at(bytes)?;
-    let (value, rest) = nullable_at(rest, Error::InvalidValueLength)?;
-    Ok(((of_type, value), rest))
+    match oid_at(bytes) {
+        Ok((of_type, rest)) => match nullable_at(rest, Error::InvalidValueLength) {
+            Ok((value, rest)) => Ok(((of_type, value), rest)),
+            Err(e) => Err(e),
+        },
+        Err(e) => Err(e),
+    }
 }
 
 /// Reads a row or a composite value. Its fields are read as they are asked for.

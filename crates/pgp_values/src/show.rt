@@ -39,7 +39,10 @@ fn put_run<B: Buffer>(d: &Decimal<'_>, from: usize, count: usize, out: &mut B) -
     ensures cause { IfErr result (WantsMemory (Wants B.Lacks (B.held out.old) count)) }
 {
     for i in 0..count {
-        put_digit(decimal_at(d, from + i), out)?;
+        match put_digit(decimal_at(d, from + i), out) {
+            Ok(()) => {}
+            Err(e) => return Err(e),
+        }
     }
     Ok(())
 }
@@ -83,7 +86,10 @@ fn put_groups<B: Buffer>(
     ensures cause { IfErr result (WantsMemory (Wants B.Lacks (B.held out.old) (4 * count))) }
 {
     for i in 0..count {
-        put_group(d.digit(first + i), out)?;
+        match put_group(d.digit(first + i), out) {
+            Ok(()) => {}
+            Err(e) => return Err(e),
+        }
     }
     Ok(())
 }
@@ -172,7 +178,10 @@ fn put_places<B: Buffer>(d: &Decimal<'_>, count: usize, out: &mut B) -> Result<(
     ensures cause { IfErr result (WantsMemory (Wants B.Lacks (B.held out.old) count)) }
 {
     for i in 0..count {
-        put_digit(behind_point(d, i), out)?;
+        match put_digit(behind_point(d, i), out) {
+            Ok(()) => {}
+            Err(e) => return Err(e),
+        }
     }
     Ok(())
 }

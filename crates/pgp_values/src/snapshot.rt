@@ -120,10 +120,16 @@ fn xid_at(bytes: &[u8]) -> Result<(u64, &[u8]), Error>
 fn head_at(bytes: &[u8]) -> Result<((usize, (u64, u64)), &[u8]), Error>
     ensures { Answers (λ x. (x.0, x.1.now)) result (snapshot_head_at bytes.now) }
 {
-    let (count, rest) = natural_at(bytes, Error::InvalidCount)?;
-    let (xmin, rest) = xid_at(rest)?;
-    let (xmax, rest) = xid_at(rest)?;
-    Ok(((count, (xmin, xmax)), rest))
+    match natural_at(bytes, Error::InvalidCount) {
+        Ok((count, rest)) => match xid_at(rest) {
+            Ok((xmin, rest)) => match xid_at(rest) {
+                Ok((xmax, rest)) => Ok(((count, (xmin, xmax)), rest)),
+                Err(e) => Err(e),
+            },
+            Err(e) => Err(e),
+        },
+        Err(e) => Err(e),
+    }
 }
 
 // Appends both bounds, or nothing.
@@ -156,8 +162,10 @@ where
         if count == MOST_ITEMS {
             return Err(Error::TooLarge);
         }
-        xid8_to_sql(id, buf)?;
-        count += 1;
+        match xid8_to_sql(id, buf) {
+            Ok(()) => count += 1,
+            Err(e) => return Err(e),
+        }
     }
     patch_u32(buf, base, count);
     Ok(())

@@ -206,8 +206,10 @@ fn operator_at(bytes: &[u8]) -> Result<(TsItem<'_>, &[u8]), Error>
 fn phrase_at(bytes: &[u8]) -> Result<(TsItem<'_>, &[u8]), Error>
     ensures { Answers (λ x. (shown_query x.0, x.1.now)) result (phrase_at bytes.now) }
 {
-    let (distance, rest) = uint16_at(bytes)?;
-    Ok((TsItem::Phrase(distance), rest))
+    match uint16_at(bytes) {
+        Ok((distance, rest)) => Ok((TsItem::Phrase(distance), rest)),
+        Err(e) => Err(e),
+    }
 }
 
 // The item at the front.

@@ -49,7 +49,10 @@ fn put_places<B: Buffer>(places: &[u16], buf: &mut B) -> Result<(), Error>
     let count = u16_from_usize(places.len())?;
     put_u16(buf, count)?;
     for i in 0..places.len() {
-        put_u16(buf, places[i])?;
+        match put_u16(buf, places[i]) {
+            Ok(()) => {}
+            Err(e) => return Err(e),
+        }
     }
     Ok(())
 }
@@ -183,9 +186,13 @@ fn places_at(bytes: &[u8]) -> Result<(TsPositions<'_>, &[u8]), Error>
 fn lexeme_at(bytes: &[u8]) -> Result<((&str, TsPositions<'_>), &[u8]), Error>
     ensures { Answers (λ x. ((x.0.0.now, x.0.1), x.1.now)) result (lexeme_at bytes.now) }
 {
-    let (text, rest) = text_at(bytes)?;
-    let (places, rest) = places_at(rest)?;
-    Ok(((text, places), rest))
+    match text_at(bytes) {
+        Ok((text, rest)) => match places_at(rest) {
+            Ok((places, rest)) => Ok(((text, places), rest)),
+            Err(e) => Err(e),
+        },
+        Err(e) => Err(e),
+    }
 }
 
 /// Reads a `tsvector`. Its lexemes are read as they are asked for.

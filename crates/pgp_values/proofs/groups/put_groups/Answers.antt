@@ -2,7 +2,7 @@ use Rattle.std.proofs.Common.{◌≡◌, ◌+◌, ◌++◌, map, ap, ◌∙◌, 
 use Rattle.std.specs.List.{flat_map}
 use Rattle.pgp_base.specs.Held.{◌⊕◌}
 use Rattle.pgp_base.specs.Wire.{uint16}
-use Rattle.pgp_base.proofs.Parts.{more_parts, if_err_at, wants_then}
+use Rattle.pgp_base.proofs.Parts.{more_parts, wants_then}
 use Rattle.pgp_values.specs.DecimalText.{run}
 use Rattle.pgp_values.specs.DecimalWriting.{digit_value}
 use Rattle.pgp_values.specs.NumberGroups.{group_down}
@@ -14,12 +14,11 @@ pub loop-i-preserved : goal.loop-i-preserved
 loop-i-preserved g c =
     let f = group_down (map digit_value (c.args.w.now.whole.now ++ c.args.w.now.fraction.now)) c.args.g.now.point c.args.g.now.top in
     let here : c.loop-i.i ≡ 0 + c.loop-i.i = omega arith in
-    let put = rw (c.group_of.ensures.value ∙ ap f here) at c.in_ok-put_u16.ensures.ok in
+    let put = rw (c.group_of.ensures.value ∙ ap f here) at c.in-Ok.ensures.ok in
     rw add-one (more_parts uint16 (g.B.Buffer.held c.args.buf.now) _ _ (run f 0 c.loop-i.i) (f (0 + c.loop-i.i)) c.loop-i.invariant put ∙ ap (λ l. g.B.Buffer.held c.args.buf.now ⊕ flat_map uint16 l) (sym (run_more f 0 c.loop-i.i)))
 
-pub returns-in_err-put_u16-clause-cause : goal.returns-in_err-put_u16-clause-cause
-returns-in_err-put_u16-clause-cause g c =
+pub returns-in-Err-clause-cause : goal.returns-in-Err-clause-cause
+returns-in-Err-clause-cause g c =
     let f = group_down (map digit_value (c.args.w.now.whole.now ++ c.args.w.now.fraction.now)) c.args.g.now.point c.args.g.now.top in
-    let memory = c.in_err-put_u16.ensures.cause in
-    if_err_at _ _ _ c.from_residual.ensures.1
+    let memory = c.in-Err.ensures.cause in
     (memory.0, wants_then (g.B.Buffer.held c.args.buf.now) _ (flat_map uint16 (run f 0 c.loop-i.i)) 2 _ c.loop-i.invariant (omega (arith, pairs_size (run f 0 c.loop-i.i), run_length f 0 c.loop-i.i)) memory.1)

@@ -3,7 +3,7 @@ use Rattle.std.specs.List.{flat_map}
 use Rattle.std.proofs.lemmas.List.{length-map, map-append}
 use Rattle.pgp_base.specs.Held.{◌⊕◌}
 use Rattle.pgp_base.specs.Wire.{uint32}
-use Rattle.pgp_base.proofs.Parts.{length-uint32, wants_more, wants_then, sized4, if_err_at, on_err, front_twice, front_trans}
+use Rattle.pgp_base.proofs.Parts.{length-uint32, wants_more, wants_then, sized4, if_err_at, front_twice, front_trans}
 use Rattle.pgp_base.proofs.Needs.{flat_more}
 use Rattle.pgp_types.proofs.Appending.{counted_up4}
 use Rattle.pgp_values.proofs.ListLemmas.{items_fit, items_pass, item_stops, items_more, items_held}
@@ -23,17 +23,16 @@ returns-then-count-eq-MOST_ITEMS-clause-cause g c =
       passes = items_pass g.T.PutItem.item g.T.PutItem.meaning c.loop-item.yielded c.in-Some.item (omega arith);
     })
 
-pub returns-in_err-put-clause-err : goal.returns-in_err-put-clause-err
-returns-in_err-put-clause-err g c =
-    on_err _ _ (front_trans _ _ _ (front_twice (g.B.Buffer.held c.args.buf.now) _ _ _ _ refl c.loop-item.invariant.3) c.in_err-put.ensures.err)
+pub returns-in-Err-clause-err : goal.returns-in-Err-clause-err
+returns-in-Err-clause-err g c =
+    front_trans _ _ _ (front_twice (g.B.Buffer.held c.args.buf.now) _ _ _ _ refl c.loop-item.invariant.3) c.in-Err.ensures.err
 
-pub returns-in_err-put-clause-cause : goal.returns-in_err-put-clause-cause
-returns-in_err-put-clause-cause g c =
+pub returns-in-Err-clause-cause : goal.returns-in-Err-clause-cause
+returns-in-Err-clause-cause g c =
     let i = c.loop-item.invariant in
     let written = g.T.PutItem.item.written in
     let meaning = g.T.PutItem.meaning in
-    if_err_at _ _ _ c.from_residual-in_err-put.ensures.1
-    (elim c.in_err-put.ensures.why [
+    elim c.in-Err.ensures.why [
       | inl memory ↦
           let x = c.in-Some.item in
           let items = c.loop-item.yielded ++ x ∷ [] in
@@ -57,12 +56,12 @@ returns-in_err-put-clause-cause g c =
         fits = items_fit g.T.PutItem.item g.T.PutItem.meaning c.loop-item.yielded (omega arith) i.2;
         passes = item_stops g.T.PutItem.item g.T.PutItem.meaning c.loop-item.yielded c.in-Some.item _ (omega arith) i.2 cause;
       })
-    ])
+    ]
 
 pub loop-item-preserved : goal.loop-item-preserved
 loop-item-preserved g c =
     let i = c.loop-item.invariant in
-    let k = c.in_ok-put.ensures.ok in (
+    let k = c.in-Ok.ensures.ok in (
       omega (arith, length-append c.loop-item.yielded (c.in-Some.item ∷ [])),
       omega arith,
       items_more g.T.PutItem.item g.T.PutItem.meaning c.loop-item.yielded c.in-Some.item i.2 k.0,

@@ -2,7 +2,7 @@ use Rattle.std.proofs.Common.{rules, [], ◌∷◌, ◌++◌, ◌≡◌, ◌∙�
 use Rattle.std.specs.List.{flat_map}
 use Rattle.pgp_base.specs.Held.{◌⊕◌}
 use Rattle.pgp_base.specs.Wire.{uint32}
-use Rattle.pgp_base.proofs.Parts.{if_err_at, more_parts, nothing_more, Runs-snoc, Runs-length, sized4}
+use Rattle.pgp_base.proofs.Parts.{more_parts, nothing_more, Runs-snoc, Runs-length, sized4}
 use Rattle.pgp_types.proofs.Appending.{counted_up4}
 use Rattle.pgp_values.specs.Record.{Field, field as composite_field}
 use Rattle.pgp_values.specs.RecordWriting.{MakesField}
@@ -16,10 +16,10 @@ loop-field-init g c =
 pub loop-field-preserved : goal.loop-field-preserved
 loop-field-preserved g c =
     let i = c.loop-field.invariant in
-    let k = c.in_ok-put_made.ensures.ok in
+    let k = c.in-Ok.ensures.ok in
     let v : Field = (c.in-Some.field.0, k.0) in
     let here = g.B.Buffer.held c.args.buf.now ⊕ uint32 0 in (
-      c.in_ok-put_made.ensures.callable,
+      c.in-Ok.ensures.callable,
       omega (arith, length-append c.loop-field.yielded (c.in-Some.field ∷ [])),
       omega arith,
       (i.3.0 ++ v ∷ [], Runs-snoc (MakesField g.B.Buffer.held (goal.F-step g)) composite_field.written here _ _ _ _ _ _ _ _ i.3.1 i.3.2 (refl, k.1), more_parts composite_field.written here _ _ i.3.0 v i.3.2 k.2),
@@ -38,19 +38,18 @@ returns-then-count-eq-MOST_ITEMS-clause-cause g c =
       cause = inl (omega (arith, i.1), refl, refl);
     })
 
-pub returns-in_err-put_made-clause-cause : goal.returns-in_err-put_made-clause-cause
-returns-in_err-put_made-clause-cause g c =
+pub returns-in-Err-clause-cause : goal.returns-in-Err-clause-cause
+returns-in-Err-clause-cause g c =
     let i = c.loop-field.invariant in
-    if_err_at _ _ _ c.from_residual-in_err-put_made.ensures.1
-    (inr (record {
+    inr (record {
       xs = c.loop-field.yielded;
       x = c.in-Some.field;
       reached = search rules;
       fields = i.3.0;
       at = c.loop-field.serializer;
       runs = i.3.1;
-      cause = inr (omega (arith, i.1), refused_here g.B.Buffer.held (goal.F-step g) g.B.Buffer.Lacks _ _ c.loop-field.serializer c.in-Some.field _ _ i.3.2 c.in_err-put_made.ensures.cause);
-    }))
+      cause = inr (omega (arith, i.1), refused_here g.B.Buffer.held (goal.F-step g) g.B.Buffer.Lacks _ _ c.loop-field.serializer c.in-Some.field _ _ i.3.2 c.in-Err.ensures.cause);
+    })
 
 pub patch_u32-requires : goal.patch_u32-requires
 patch_u32-requires g c =

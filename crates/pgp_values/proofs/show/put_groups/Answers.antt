@@ -1,16 +1,15 @@
 use Rattle.std.proofs.Common.{◌*◌, arith, map}
-use Rattle.pgp_base.proofs.Parts.{if_err_at, wants_then}
+use Rattle.pgp_base.proofs.Parts.{wants_then}
 use Rattle.pgp_values.specs.DecimalText.{decimal_at, run, letter}
 use Rattle.pgp_values.proofs.GroupTexts.{groups_more}
 use Rattle.pgp_values.proofs.TextLemmas.{letters_length}
 use Rattle.pgp_values.proofs.show.put_groups.Goals as goal
 
-pub returns-in_err-put_group-clause-cause : goal.returns-in_err-put_group-clause-cause
-returns-in_err-put_group-clause-cause g c =
-    let memory = c.in_err-put_group.ensures.cause in
+pub returns-in-Err-clause-cause : goal.returns-in-Err-clause-cause
+returns-in-Err-clause-cause g c =
+    let memory = c.in-Err.ensures.cause in
     let f = decimal_at c.args.d.now.digits in
-    if_err_at _ _ _ c.from_residual.ensures.1
     (memory.0, wants_then (g.B.Buffer.held c.args.out.now) _ (map letter (run f (4 * c.args.first) (4 * c.loop-i.i))) 4 _ c.loop-i.invariant (omega (arith, letters_length f (4 * c.args.first) (4 * c.loop-i.i))) memory.1)
 
 pub loop-i-preserved : goal.loop-i-preserved
-loop-i-preserved g c = groups_more c.args.d.now.digits c.args.first c.loop-i.i c.digit.result (g.B.Buffer.held c.args.out.now) _ _ c.digit.ensures.value c.loop-i.invariant c.in_ok-put_group.ensures.ok
+loop-i-preserved g c = groups_more c.args.d.now.digits c.args.first c.loop-i.i c.digit.result (g.B.Buffer.held c.args.out.now) _ _ c.digit.ensures.value c.loop-i.invariant c.in-Ok.ensures.ok

@@ -2,7 +2,7 @@ use Rattle.std.proofs.Common.{rules, ◌+◌, ◌≤◌, ◌++◌, Some, ◌≡�
 use Rattle.std.specs.List.{flat_map}
 use Rattle.pgp_base.specs.Held.{◌⊕◌}
 use Rattle.pgp_base.specs.Wire.{uint32, uint64}
-use Rattle.pgp_base.proofs.Parts.{length-uint32, wants_more, wants_then, sized4, more_twice, more_parts, if_err_at, on_err, front_left}
+use Rattle.pgp_base.proofs.Parts.{length-uint32, wants_more, wants_then, sized4, more_twice, more_parts, if_err_at, front_left}
 use Rattle.pgp_base.proofs.Needs.{flat_more}
 use Rattle.pgp_values.specs.Snapshot.{snapshot_bytes, snapshot_of, bounds_bytes}
 use Rattle.pgp_types.proofs.Appending.{counted_up4, front_thrice, front_thrice_then, only_memory}
@@ -23,13 +23,13 @@ returns-then-count-eq-MOST_ITEMS-clause-cause g c =
       passes = ids_pass c.args.xmin c.args.xmax c.loop-id.yielded c.in-Some.id (omega arith);
     })
 
-pub returns-in_err-xid8_to_sql-clause-err : goal.returns-in_err-xid8_to_sql-clause-err
-returns-in_err-xid8_to_sql-clause-err g c =
-    on_err _ _ (front_thrice_then (g.B.Buffer.held c.args.buf.now) _ _ _ _ _ c.loop-id.invariant.2 (front_left _ _ c.in_err-xid8_to_sql.ensures.1))
+pub returns-in-Err-clause-err : goal.returns-in-Err-clause-err
+returns-in-Err-clause-err g c =
+    front_thrice_then (g.B.Buffer.held c.args.buf.now) _ _ _ _ _ c.loop-id.invariant.2 (front_left _ _ c.in-Err.ensures.1)
 
-pub returns-in_err-xid8_to_sql-clause-cause : goal.returns-in_err-xid8_to_sql-clause-cause
-returns-in_err-xid8_to_sql-clause-cause g c =
-    let memory = only_memory _ c.in_err-xid8_to_sql.ensures.0 in
+pub returns-in-Err-clause-cause : goal.returns-in-Err-clause-cause
+returns-in-Err-clause-cause g c =
+    let memory = only_memory _ c.in-Err.ensures.0 in
     let old = g.B.Buffer.held c.args.buf.now in
     let bounds = bounds_bytes c.args.xmin c.args.xmax in
     let front = flat_map uint64 c.loop-id.yielded in
@@ -38,8 +38,7 @@ returns-in_err-xid8_to_sql-clause-cause g c =
     let all : length (flat_map uint64 items) ≡ length front + length next = flat_more uint64 c.loop-id.yielded c.in-Some.id in
     let count = uint32 (length items) in
     let whole : 4 + (length bounds + (length front + length next)) ≤ length (snapshot_bytes (snapshot_of c.args.xmin c.args.xmax items)) = omega (arith, all, length-uint32 (length items), length-append count (bounds ++ flat_map uint64 items), length-append bounds (flat_map uint64 items)) in
-    if_err_at _ _ _ c.from_residual-in_err-xid8_to_sql.ensures.1
-    (inl (
+    inl (
       memory.0,
       (
         items,
@@ -48,12 +47,12 @@ returns-in_err-xid8_to_sql-clause-cause g c =
             (wants_then (old ⊕ uint32 0) (old ⊕ uint32 0 ⊕ bounds) bounds (length front + length next) _ refl (omega arith)
             (wants_then (old ⊕ uint32 0 ⊕ bounds) _ front _ _ c.loop-id.invariant.2 (omega arith) memory.1)),
       ),
-    ))
+    )
 
 pub loop-id-preserved : goal.loop-id-preserved
 loop-id-preserved g c =
     let i = c.loop-id.invariant in
-    let all = more_parts uint64 (g.B.Buffer.held c.args.buf.now ⊕ uint32 0 ⊕ bounds_bytes c.args.xmin c.args.xmax) _ _ c.loop-id.yielded c.in-Some.id i.2 c.in_ok-xid8_to_sql.ensures.1 in
+    let all = more_parts uint64 (g.B.Buffer.held c.args.buf.now ⊕ uint32 0 ⊕ bounds_bytes c.args.xmin c.args.xmax) _ _ c.loop-id.yielded c.in-Some.id i.2 c.in-Ok.ensures.1 in
     (omega (arith, length-append c.loop-id.yielded (c.in-Some.id ∷ [])), omega arith, all)
 
 pub patch_u32-requires : goal.patch_u32-requires
