@@ -148,16 +148,12 @@ impl Server {
         match self.serving.step(message, out) {
             Ok(ServingEvent::LoggedIn) => reply::ready_for_query(b'I', out).is_ok(),
             Ok(ServingEvent::Requested) => answers(message, &mut self.skipping, out),
-            Ok(_) => self.serving.phase != ServingPhase::Named || self.asks(rt, out),
+            Ok(_) if self.serving.phase == ServingPhase::Named => match served(rt) {
+                Some(server) => self.serving.ask_scram(server, out).is_ok(),
+                None => false,
+            },
+            Ok(_) => true,
             Err(_) => false,
-        }
-    }
-
-    /// Asks the client for an exchange.
-    fn asks(&mut self, rt: &HostRuntime, out: &mut BytesMut) -> bool {
-        match served(rt) {
-            Some(server) => self.serving.ask_scram(server, out).is_ok(),
-            None => false,
         }
     }
 }
