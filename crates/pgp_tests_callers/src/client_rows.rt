@@ -14,7 +14,7 @@ const LOGIN: [&[u8]; 5] = [OFFER, CHALLENGE, OUTCOME, WELCOME, READY];
 
 /// The answer to a Query: a column, a row, a notice, the tag, and the end.
 const ANSWER: &[u8] =
-    b"T\0\0\0\x1a\0\x01a\0\0\0\0\0\0\0\0\0\x17\0\x04\xff\xff\xff\xff\0\0D\0\0\0\x0b\0\x01\0\0\0\x011N\0\0\0\x05\0C\0\0\0\x0dSELECT 1\0Z\0\0\0\x05I";
+    b"T\0\0\0\x1a\0\x01a\0\0\0\0\0\0\0\0\0\0\x17\0\x04\xff\xff\xff\xff\0\0D\0\0\0\x0b\0\x01\0\0\0\x011N\0\0\0\x05\0C\0\0\0\x0dSELECT 1\0Z\0\0\0\x05I";
 
 /// How many rows of the request of this name are among the messages that came, and whether nothing else is left.
 fn rows_of(connection: &mut Connection<'_>, name: u64) -> (u64, bool) {
