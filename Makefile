@@ -3,7 +3,7 @@
 # `make edits`, before a release, tries every wrong body by itself, `make edits CRATES=pgp_base` those of one crate.
 # `make live` tries SASLprep, and what psql, pgbench and pg_dump send, with a PostgreSQL server of this machine, which it starts and stops; pgserve with psql, pgbench, drivers, and beside that server;
 # scripts/live_types, scripts/live_numerics and scripts/live_calendar, which compare the codecs of types, decimal numbers and texts of days and times with a server's;
-# examples/record.sh, which lists a session of psql with pgtrace, and examples/pcap.py; binary values, and programs over them; the Rust package under tokio-postgres; the Python package, and pipelined sessions.
+# examples/record.sh, which lists a session of psql with pgtrace, examples/pcap.py and examples/values.py; binary values, and programs over them; the Rust package under tokio-postgres; the Python package, and pipelined sessions.
 # `make library` proves and builds the library for C (docs/C.md), `make install PREFIX=..` puts it and the program there, and
 # `make check-c` tries it from C, C++ and Python (`LIBRARIES=gate`, right behind `rt ci`, takes the libraries below it from there).
 # `make wheel` builds the Python package over it (docs/PYTHON.md).
@@ -56,6 +56,7 @@ live:
 	@out/venv/bin/python scripts/live_values
 	@scripts/live_programs
 	@scripts/live_rust
+	@out/venv/bin/python scripts/live_recordings
 	@out/venv/bin/python scripts/live_python
 	@out/venv/bin/python scripts/live_dialogue
 
