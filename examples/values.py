@@ -81,7 +81,7 @@ class Connection:
         request = self.requests.get(number, {"name": None})
         if request["name"] == "Bind" and name in ENDS_BIND:
             self.bind(request, name)
-        elif name == "ParseComplete":
+        elif name == "ParseComplete" and request["name"] == "Parse":
             self.statements[str(request["statement"])] = Statement([kind["oid"] for kind in request["types"]])
         elif name == "ParameterDescription":
             self.object_of(request).types = [kind["oid"] for kind in message["types"]]
@@ -96,7 +96,7 @@ class Connection:
             return self.portals.setdefault("", Portal(Statement([]), []))
         if "statement" in request:
             return self.statements.setdefault(str(request["statement"]), Statement([]))
-        return self.portals.setdefault(str(request.get("portal")), Portal(Statement([]), []))
+        return self.portals.setdefault(str(request.get("portal", "")), Portal(Statement([]), []))
 
     def bind(self, request, answer):
         statement = self.statements.get(str(request["statement"]), Statement([]))
