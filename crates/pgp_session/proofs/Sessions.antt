@@ -232,14 +232,14 @@ asked_by m = tt
 record Offered (ways : Ways) (observed : List Message) (x : Client) : Type 0 where
   mechanisms : List ℕ
   from : ways.scram ≡ Some x
-  offers : Offers mechanisms
+  offers : Offers x mechanisms
   received : ReceivedAmong (offer mechanisms ∷ []) observed
 
 record Answered (ways : Ways) (observed : List Message) (x y : Client) : Type 0 where
   mechanisms : List ℕ
   first : List ℕ
   from : ways.scram ≡ Some x
-  offers : Offers mechanisms
+  offers : Offers x mechanisms
   received : ReceivedAmong (offer mechanisms ∷ first_text first ∷ []) observed
   answers : Answers x first y
 
@@ -250,7 +250,7 @@ record Verified (ways : Ways) (observed : List Message) : Type 0 where
   first : List ℕ
   final : List ℕ
   from : ways.scram ≡ Some start
-  offers : Offers mechanisms
+  offers : Offers start mechanisms
   received : ReceivedAmong (offer mechanisms ∷ first_text first ∷ final_text final ∷ []) observed
   completes : Completes start first final after
 
@@ -316,7 +316,7 @@ module _ (ways : Ways) (observed : List Message) (m : Message) where
         md5 = i.md5;
         cleartext = i.cleartext;
         none = i.none;
-        stands = (x, y, refl, record { mechanisms = st.2.mechanisms; first = text; from = st.2.from ∙ ap Some same; offers = st.2.offers; received = received_more (first_text text) is st.2.received; answers = a });
+        stands = (x, y, refl, record { mechanisms = st.2.mechanisms; first = text; from = st.2.from ∙ ap Some same; offers = subst (λ (c : Client). Offers c st.2.mechanisms) same st.2.offers; received = received_more (first_text text) is st.2.received; answers = a });
       }
   step asked reply l after is (ScramEnds {text = text} x y p e finished) i =
       let st = at l AwaitsFinal p i in

@@ -109,7 +109,7 @@ pub record Signed (start : Client) (observed : List Message) : Type 0 where
   pub first : List ℕ
   pub final : List ℕ
   pub after : Client
-  pub offers : Offers mechanisms
+  pub offers : Offers start mechanisms
   pub received : ReceivedAmong (offer mechanisms ∷ first_text first ∷ final_text final ∷ welcome ∷ []) observed
   pub completes : Completes start first final after
 
