@@ -374,17 +374,22 @@ module _ (ways : Ways) (observed : List Message) (gave : List ClientMessage) (m 
         md5 = i.md5;
         cleartext = i.cleartext;
         none = i.none;
-        stands = (x, y, refl, record {
-          mechanisms = st.2.mechanisms;
-          first = text;
-          mine = st.2.mine;
-          proof = answer;
-          from = st.2.from ∙ ap Some same;
-          offers = st.2.offers;
-          received = received_more (first_text text) is st.2.received;
-          answers = a;
-          given = ap (λ ms. ms ++ SaslResponse answer ∷ []) st.2.given;
-        });
+        stands = (
+          x,
+          y,
+          refl,
+          record {
+            mechanisms = st.2.mechanisms;
+            first = text;
+            mine = st.2.mine;
+            proof = answer;
+            from = st.2.from ∙ ap Some same;
+            offers = st.2.offers;
+            received = received_more (first_text text) is st.2.received;
+            answers = a;
+            given = ap (λ ms. ms ++ SaslResponse answer ∷ []) st.2.given;
+          },
+        );
       }
   step asked reply l after is (ScramEnds {text = text} x y p e finished) i =
       let st = at l AwaitsFinal p i in
