@@ -299,7 +299,7 @@ secrets_still : (l : List ClientMessage) (m : ClientMessage) → is_secret m ≡
 secrets_still l m plain = filter-append is_secret l (m ∷ []) ∙ ap (λ ms. secrets_of l ++ ms) (cond-false (is_secret m) (m ∷ []) [] plain) ∙ append-nil (secrets_of l)
 
 module _ (ways : Ways) (observed : List Message) (gave : List ClientMessage) (m : Message) where
-  admitted_more : Admitted ways observed gave → Admitted ways (observed ++ m ∷ []) gave
+  admitted_more : {given : List ClientMessage} → Admitted ways observed given → Admitted ways (observed ++ m ∷ []) given
   admitted_more (ByNone e) = ByNone e
   admitted_more (ByPassword password e) = ByPassword password e
   admitted_more (ByHash who salt e) = ByHash who salt e
