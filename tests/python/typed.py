@@ -5,7 +5,7 @@ import uuid
 from decimal import Decimal
 
 import postgres_protocol as pg
-from postgres_protocol.registry import INFINITY, NEGATIVE_INFINITY, Registry, Type, apply, label_type
+from postgres_protocol.registry import INFINITY, NEGATIVE_INFINITY, Registry, Type, apply, composite_type, label_type
 
 UTC = datetime.timezone.utc
 ONE, TWO, THREE, FOUR, NONE = '3ff0000000000000', '4000000000000000', '4008000000000000', '4010000000000000', '0000000000000000'
@@ -52,10 +52,24 @@ VALUES += (
     (3615, [pg.Operator('<->', 2), pg.Operand('b'), pg.Operand('a', 'AB')], '00000003' '02040002' '0100006200' '01 0c 00 61 00'.replace(' ', '')),
     (3643, [[pg.Lexeme('a')], []], '00000001' '00000000' '00000e1e' '00000002' '00000001' '00000008' '00000001' '6100' '0000' '00000004' '00000000'),
 )
+# As PostgreSQL 15.18 sends them.
+VALUES += (
+    (790, -1234, 'fffffffffffffb2e'), (791, [123, None], '00000001' '00000001' '00000316' '00000002' '00000001' '00000008' '000000000000007b' 'ffffffff'),
+    (5069, 2 ** 64 - 1, 'ff' * 8), (271, [1, 2 ** 64 - 1], '00000001' '00000000' '000013cd' '00000002' '00000001' '00000008' '0000000000000001' '00000008' + 'ff' * 8),
+    (4072, '$."a"[*]?(@ > 1)', '01242e2261225b2a5d3f2840203e203129'), (4073, ['$'], '00000001' '00000000' '00000fe8' '00000001' '00000001' '00000002' '0124'),
+    (22, [1, -2, 32767], '00000001' '00000000' '00000015' '00000003' '00000000' '000000020001' '00000002fffe' '000000027fff'),
+    (22, [], '00000001' '00000000' '00000015' '00000000' '00000000'), (30, [], '00000001' '00000000' '0000001a' '00000000' '00000000'),
+    (30, [23, 4294967295], '00000001' '00000000' '0000001a' '00000002' '00000000' '0000000400000017' '00000004ffffffff'),
+    (1006, [[1, 2], [3]], '00000001' '00000000' '00000016' '00000002' '00000001' '00000020' '00000001' '00000000' '00000015' '00000002' '00000000' '000000020001' '000000020002'
+     '0000001a' '00000001' '00000000' '00000015' '00000001' '00000000' '000000020003'),
+    (1013, [None, [23, 4294967295]], '00000001' '00000001' '0000001e' '00000002' '00000001' 'ffffffff' '00000024' '00000001' '00000000' '0000001a' '00000002' '00000000'
+     '0000000400000017' '00000004ffffffff'),
+)
 #: A type's number, a value that it doesn't take, and the exception.
 WRONG = ((23, 'x', TypeError), (23, 2 ** 31, OverflowError), (16, 1, TypeError), (25, 5, TypeError), (1184, datetime.datetime(2000, 1, 1), TypeError),
          (1266, datetime.time(1, 0), TypeError), (1007, [[1], [2, 3]], ValueError), (1700, 'abc', pg.ProtocolError), (1700, '1e200000', pg.ProtocolError),
-         (3614, [pg.Lexeme('a', (pg.Position(16384),))], OverflowError), (3614, [pg.Lexeme('a\0')], pg.ProtocolError), (3615, [pg.Operator('-')], ValueError))
+         (3614, [pg.Lexeme('a', (pg.Position(16384),))], OverflowError), (3614, [pg.Lexeme('a\0')], pg.ProtocolError), (3615, [pg.Operator('-')], ValueError),
+         (790, 2 ** 63, OverflowError), (5069, -1, OverflowError), (22, [1, None], TypeError), (22, [32768], OverflowError), (30, [-1], OverflowError))
 
 
 def check_typed(same, raises):
@@ -77,6 +91,7 @@ def check_typed(same, raises):
     for name, value in (('ltree', 'Top.Science.Astronomy'), ('lquery', 'Top.*{,2}.sport@'), ('ltxtquery', 'Europe & Russia@*')):
         kept = label_type(name, 99998)
         same(name, (kept.encode(value), apply(kept.decode, b'\1' + value.encode())), (b'\1' + value.encode(), value))
+    check_composite(same, registry)
     same('char', (pg.put_char(-1), pg.get_char(b'\x80')), (b'\xff', -128))
     same('a netmask of 33 bits', pg.put_inet_any(bytes([127, 0, 0, 1]), 33).hex(), '022100047f000001')
     for oid, value, error in WRONG:
@@ -95,6 +110,27 @@ def check_typed(same, raises):
     registry.add(Type(99999, 'point', lambda data: tuple(map(ord, data.decode())), bytes))
     same('a type of the user', apply(registry.get(99999).decode, b'ab'), (97, 98))
     same('a date past Python', [type(e) for e in [_error(lambda: apply(registry.get(1082).decode, b'\x7f\0\0\0'))]], [OverflowError])
+
+
+def check_composite(same, registry):
+    """Composite types, with nulls, in an array and in one another: (a int4, b text), and (p pair, ps pair[], n numeric). The bytes are the server's."""
+    pair = composite_type('pair', 16394, [registry.get(23), registry.get(25)])
+    registry.add(pair, 16393)
+    nest = composite_type('nest', 16397, [pair, registry.get(16393), registry.get(1700)])
+    both = '00000002' '00000017' '0000000400000001' '00000019' '0000000178'
+    half = '00000002' '00000017' '0000000400000002' '00000019' 'ffffffff'
+    array = '00000001' '00000001' '0000400a' '00000002' '00000001' '00000018' + half + 'ffffffff'
+    for kept, value, data in ((pair, (1, 'x'), both), (pair, (2, None), half), (pair, (None, None), '00000002' '00000017' 'ffffffff' '00000019' 'ffffffff'),
+                              (registry.get(16393), [(2, None), None], array),
+                              (nest, ((1, 'x'), [(2, None), None], Decimal('1.50')), '00000003' '0000400a' '00000019' + both + '00004009' '00000034' + array
+                               + '000006a4' '0000000c' '0002000000000002' '0001' '1388')):
+        same('encode %s %r' % (kept.name, value), kept.encode(value).hex(), data)
+        same('decode %s %r' % (kept.name, value), apply(kept.decode, bytes.fromhex(data)), value)
+    same('a composite in a record', apply(registry.get(2249).decode, bytes.fromhex('00000001' '0000400a' '00000019' + both)), ((1, 'x'),))
+    same('no composite', [type(_error(call)) for call in (lambda: pair.encode((1,)), lambda: pair.encode('ab'), lambda: pair.encode([1, 'x']), lambda: pair.encode(('x', 1)),
+                                                          lambda: pair.decode(bytes.fromhex(both[:8] + '00000019' + both[16:])), lambda: pair.decode(b'\0\0\0\0'),
+                                                          lambda: composite_type('other', 1, [registry.get(99999)]))],
+         [ValueError, TypeError, TypeError, TypeError, ValueError, ValueError, ValueError])
 
 
 def _error(call):

@@ -12,7 +12,8 @@ from . import _rows
 from ._library import ProtocolError
 from .search import get_tsquery, get_tsvector, put_tsquery, put_tsvector
 from .shapes import (get_box, get_circle, get_label, get_line, get_lseg, get_macaddr8, get_multirange, get_path, get_point, get_polygon, get_record, get_snapshot, get_tid,
-                     put_box, put_circle, put_cidr, put_label, put_line, put_lseg, put_macaddr8, put_multirange, put_path, put_point, put_polygon, put_snapshot, put_tid)
+                     put_box, put_circle, put_cidr, put_label, put_line, put_lseg, put_macaddr8, put_multirange, put_path, put_point, put_polygon, put_record, put_snapshot,
+                     put_tid)
 from .values import (Array, Interval, Range, get, get_array, get_inet, get_interval, get_jsonb, get_macaddr, get_numeric, get_range, get_timetz, get_varbit, put,
                      put_array, put_inet, put_interval, put_jsonb, put_macaddr, put_numeric, put_range, put_timetz, put_uuid, put_varbit)
 
@@ -209,8 +210,13 @@ def _is_of_tuples(value: Any) -> bool:
     return not isinstance(value, list) or not value or isinstance(value[0], tuple)
 
 
+def _is_of_numbers(value: Any) -> bool:
+    """The same of int2vector and oidvector."""
+    return not isinstance(value, list) or all(isinstance(part, int) for part in value)
+
+
 #: The types whose values are lists. (Those of JSON may be, but in its arrays a list is a dimension.)
-_LISTS = {oid: _is_of_tuples for oid in (604, 3614, 3615)}
+_LISTS = {22: _is_of_numbers, 30: _is_of_numbers, **{oid: _is_of_tuples for oid in (604, 3614, 3615)}}
 
 
 def _flat(value: Sequence[Any], is_element: Callable[[Any], bool]) -> Tuple[List[int], List[Any]]:
@@ -232,6 +238,11 @@ def array_encoder(oid: int, element: Callable[[Any], bytes], is_element: Callabl
     return encode
 
 
+def _vector_encoder(oid: int, element: Callable[[Any], bytes]) -> Callable[[Sequence[int]], bytes]:
+    """What writes an int2vector or an oidvector, an array of one dimension, from 0, also where it has no elements."""
+    return lambda value: put_array(oid, [element(part) for part in value], [(len(value), 0)])
+
+
 _D = DECODERS
 #: The server's own types: number, that of its arrays, name, decoder, encoder, and whether they are text on the wire.
 _PLAIN: Sequence[Tuple[int, int, str, Decoder, Callable[[Any], bytes], bool]] = (
@@ -241,13 +252,16 @@ _PLAIN: Sequence[Tuple[int, int, str, Decoder, Callable[[Any], bytes], bool]] = 
     (19, 1003, 'name', _D['text'], _text, False),
     (20, 1016, 'int8', _D['int8'], _putter('int8'), False),
     (21, 1005, 'int2', _D['int2'], _putter('int2'), False),
+    (22, 1006, 'int2vector', array_decoder(_D['int2']), _vector_encoder(21, _putter('int2')), False),
     (23, 1007, 'int4', _D['int4'], _putter('int4'), False),
     (25, 1009, 'text', _D['text'], _text, False),
     (26, 1028, 'oid', _D['oid'], _putter('oid'), False),
+    (30, 1013, 'oidvector', array_decoder(_D['oid']), _vector_encoder(26, _putter('oid')), False),
     (114, 199, 'json', lambda data: json.loads(data), _json, False),
     (142, 143, 'xml', _D['text'], _text, False),
     (700, 1021, 'float4', _D['float4'], _putter('float4'), False),
     (701, 1022, 'float8', _D['float8'], _putter('float8'), False),
+    (790, 791, 'money', _D['int8'], _putter('int8'), False),
     (829, 1040, 'macaddr', _get_macaddr, _put_macaddr, False),
     (869, 1041, 'inet', _get_interface, _put_interface, False),
     (650, 651, 'cidr', _get_interface, put_cidr, False),
@@ -278,6 +292,8 @@ _PLAIN: Sequence[Tuple[int, int, str, Decoder, Callable[[Any], bytes], bool]] = 
     (2970, 2949, 'txid_snapshot', get_snapshot, put_snapshot, False),
     (5038, 5039, 'pg_snapshot', get_snapshot, put_snapshot, False),
     (3802, 3807, 'jsonb', lambda data: json.loads(get_jsonb(data)), lambda value: put_jsonb(json.dumps(value)), False),
+    (4072, 4073, 'jsonpath', get_jsonb, put_jsonb, False),
+    (5069, 271, 'xid8', lambda data: get('lsn', data), _putter('lsn'), False),
 )
 #: The server's own ranges: number, that of its arrays, name, and that of the bounds.
 _RANGES = ((3904, 3905, 'int4range', 23), (3906, 3907, 'numrange', 1700), (3908, 3909, 'tsrange', 1114), (3910, 3911, 'tstzrange', 1184),
@@ -291,6 +307,27 @@ _LISTS.update((oid, _is_of_tuples) for oid, _, _, _ in _MULTIRANGES)
 def label_type(name: str, oid: int) -> Type:
     """The type of the module ltree of this name, 'ltree', 'lquery' or 'ltxtquery', which has the number that the server gave it."""
     return Type(oid, name, lambda data: get_label(name, data), lambda value: put_label(name, value))
+
+
+def composite_type(name: str, oid: int, fields: Sequence[Type]) -> Type:
+    """A composite type, whose values are tuples: its number, which the server gave it, and the types of its fields, in order. A null is None."""
+    kept = tuple(fields)
+    if any(field.is_text for field in kept):
+        raise ValueError('%s: a field has a type whose binary format is not known' % name)
+
+    def decode(data: bytes) -> Tuple[Any, ...]:
+        found = get_record(data)
+        if [number for number, _ in found] != [field.oid for field in kept]:
+            raise ValueError('%s: the server sent other fields' % name)
+        return tuple(None if part is None else apply(field.decode, part) for field, (_, part) in zip(kept, found))
+
+    def encode(value: Tuple[Any, ...]) -> bytes:
+        if not isinstance(value, tuple):
+            raise TypeError('%s: a tuple is expected, not %s' % (name, type(value).__name__))
+        if len(value) != len(kept):
+            raise ValueError('%s: %d fields are expected, not %d' % (name, len(kept), len(value)))
+        return put_record([(field.oid, None if part is None else field.encode(part)) for field, part in zip(kept, value)])
+    return Type(oid, name, decode, encode)
 
 
 class Registry:

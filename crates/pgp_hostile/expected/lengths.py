@@ -1,7 +1,7 @@
 """Makes data/lengths.rows: `python3 expected/lengths.py > data/lengths.rows`, in crates/pgp_hostile.
 
 Written from the manual's "Message Formats" (the message `v` from this project's profile of protocol 3.2) and from what PostgreSQL's `array_send`, `hstore_send`, `path_send`, `range_send`,
-`varbit_send`, `record_send`, `multirange_send`, `poly_send`, `pg_snapshot_send`, `tsvectorsend`, `tsquerysend` and `numeric_send` write, and not from the code of this repository. Which refusal comes for what is the table of refusals in the
+`varbit_send`, `network_send` (of `inet` and `cidr`), `record_send`, `multirange_send`, `poly_send`, `pg_snapshot_send`, `tsvectorsend`, `tsquerysend` and `numeric_send` write, and not from the code of this repository. Which refusal comes for what is the table of refusals in the
 repository's README: a length or count that is cut is UnexpectedEof, one that can't be has a name of its own, and bytes that are
 left behind a list are NotDrained.
 """
@@ -230,6 +230,25 @@ def numeric(data):
     return " ".join(map(str, ["-" if sign else "+", weight, scale] + digits))
 
 
+def inet(data):
+    parts = Parts(data)
+    family, bits, _, size = (parts.number(1, False) for _ in range(4))
+    whole = {2: 4, 3: 16}.get(family)
+    if whole is None:
+        raise Refused("InvalidFamily")
+    if bits > 8 * whole:
+        raise Refused("InvalidNetmask")
+    if size != whole:
+        raise Refused("InvalidAddressLength")
+    address = parts.take(whole)
+    parts.end()
+    return f"{hexed(address)} {bits}"
+
+
+def cidr(data):
+    return inet(data)
+
+
 # A call, its bytes, and where its lengths and counts stand: behind each their size in bytes.
 CASES = [
     (row, "0003 00000001 61 ffffffff 00000000", {0: 2, 2: 4, 7: 4, 11: 4}),
@@ -255,14 +274,20 @@ CASES = [
     (tsquery, "00000005 02 02 01 0f 01 636174 00 02 01 02 04 0002 01 00 00 726174 00", {0: 4}),
     (numeric, "0003 0001 4000 0002 0001 09d4 10e0", {0: 2}),
     (numeric, "0000 0000 0000 0000", {0: 2}),
+    (inet, "02 19 00 04 c0a86480", {0: 1, 1: 1, 3: 1}),
+    (inet, "03 80 00 10 200104f8000300ba02e081fffe22d1f1", {0: 1, 1: 1, 3: 1}),
+    (inet, "02 20 00 04", {0: 1, 1: 1, 3: 1}),
+    (cidr, "02 10 01 04 0a010000", {0: 1, 1: 1, 3: 1}),
+    (cidr, "03 40 01 10 200104f8000300ba0000000000000000", {0: 1, 1: 1, 3: 1}),
     (bounds, "02 00000004 00000001 00000004 00000005", {1: 4, 9: 4}),
 ]
 NAMES = {bounds: "range"}
 
 
 def changes(size, left):
-    """The bytes that replace a field of this size, without those that come twice."""
-    values = {4: [-2**31, 2**31 - 1, 0, 1, -1, left, left + 1], 2: [0, 65535, 32767, 32768, 1, -1, left, left + 1]}[size]
+    """The bytes that replace a field of this size, without those that come twice; of one byte also the families of addresses and their lengths in bytes and bits."""
+    values = {4: [-2**31, 2**31 - 1, 0, 1, -1, left, left + 1], 2: [0, 65535, 32767, 32768, 1, -1, left, left + 1],
+              1: [0, 255, 2, 3, 4, 5, 16, 32, 33, 128, 129]}[size]
     return list(dict.fromkeys((value % 256**size).to_bytes(size, "big") for value in values))
 
 

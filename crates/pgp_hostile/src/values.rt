@@ -1,13 +1,15 @@
 //! Further values whose lengths and counts are false: records, multiranges, polygons, snapshots, texts to be searched, what they are
-//! searched for, and decimal numbers.
+//! searched for, decimal numbers, and addresses.
 
 use crate::text::{Show, Text};
 use crate::walks::show_list;
-use pgp_base::Oid;
+use pgp_base::{Error, Oid};
+use pgp_types::{Inet, inet_from_sql};
 use pgp_values::{
-    Numeric, TsItem, TsPositions, multirange_from_sql, numeric_from_sql, polygon_from_sql,
-    record_from_sql, snapshot_from_sql, tsquery_from_sql, tsvector_from_sql,
+    Numeric, TsItem, TsPositions, cidr_from_sql, multirange_from_sql, numeric_from_sql,
+    polygon_from_sql, record_from_sql, snapshot_from_sql, tsquery_from_sql, tsvector_from_sql,
 };
+use std::net::IpAddr;
 
 /// A field's type and its value.
 impl Show for (Oid, Option<&[u8]>) {
@@ -104,6 +106,19 @@ fn read_numeric(bytes: &[u8], out: &mut Text) {
     }
 }
 
+fn show_address(read: Result<Inet, Error>, out: &mut Text) {
+    match read {
+        Ok(inet) => {
+            match inet.addr() {
+                IpAddr::V4(a) => out.nullable(Some(&a.octets())),
+                IpAddr::V6(a) => out.nullable(Some(&a.octets())),
+            }
+            out.number(inet.netmask())
+        }
+        Err(e) => out.number(e),
+    }
+}
+
 /// Reads the bytes as the call of this name does; whether there is such a call.
 pub(crate) fn read(call: &str, bytes: &[u8], out: &mut Text) -> bool {
     let most = bytes.len();
@@ -125,6 +140,8 @@ pub(crate) fn read(call: &str, bytes: &[u8], out: &mut Text) -> bool {
         "tsquery" => show_list(tsquery_from_sql(bytes), tsquery_from_sql(bytes), most, out),
         "snapshot" => read_snapshot(bytes, out),
         "numeric" => read_numeric(bytes, out),
+        "inet" => show_address(inet_from_sql(bytes), out),
+        "cidr" => show_address(cidr_from_sql(bytes), out),
         _ => return false,
     }
     true

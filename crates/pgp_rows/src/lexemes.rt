@@ -1,9 +1,9 @@
 //! Texts to be searched: lexemes, each with its places.
 
-use crate::shown::Shown;
+use crate::shown::{Show, Shown};
 use crate::word::Words;
-use pgp_base::{Buffer, Error, FallibleIterator};
-use pgp_values::{Lexemes, TsPositions, tsvector_to_sql};
+use pgp_base::{Buffer, Error};
+use pgp_values::{TsPositions, tsvector_to_sql};
 use std::alloc::{AllocError, Global};
 
 // A lexeme and its places.
@@ -50,6 +50,15 @@ pub fn write_tsvector<B: Buffer>(
     tsvector_to_sql(items.iter().copied(), buf)
 }
 
+// A lexeme and its places.
+impl Show for (&str, TsPositions<'_>) {
+    fn show(self, out: &mut Shown) {
+        let (text, places) = self;
+        out.text(text);
+        show_places(places, out);
+    }
+}
+
 fn show_places(places: TsPositions<'_>, out: &mut Shown) {
     out.word("[");
     for i in 0..places.len() {
@@ -61,30 +70,5 @@ fn show_places(places: TsPositions<'_>, out: &mut Shown) {
     out.word("]");
     if places.get(places.len()).is_some() || places.is_empty() != (places.len() == 0) {
         out.word("and more");
-    }
-}
-
-pub fn show_lexemes(mut walk: Lexemes<'_>, out: &mut Shown) {
-    let (announced, _) = walk.size_hint();
-    let mut received = 0usize;
-    out.word("[");
-    for _ in 0..100 {
-        match walk.next() {
-            Ok(Some((text, places))) => {
-                received = received.saturating_add(1);
-                out.text(text);
-                show_places(places, out);
-            }
-            Ok(None) => break,
-            Err(e) => {
-                out.refusal(e);
-                break;
-            }
-        }
-    }
-    out.word("]");
-    if announced != received {
-        out.word("of");
-        out.number(announced);
     }
 }

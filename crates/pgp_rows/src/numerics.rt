@@ -28,6 +28,14 @@ pub fn write_numeric<B: Buffer>(words: &mut Words<'_>, buf: &mut B) -> Result<()
     plain_numeric(numeric_text_to_sql(text, buf), words)
 }
 
+// The text of the number that these bytes are.
+pub fn write_numeric_text<B: Buffer>(words: &mut Words<'_>, buf: &mut B) -> Result<(), Error> {
+    match numeric_from_sql(words.bytes()) {
+        Ok(v) => numeric_to_text(&v, buf),
+        Err(_) => words.no_call(),
+    }
+}
+
 // The text, and whether what is written of the number that was read is the same bytes.
 pub fn show_numeric(bytes: &[u8], out: &mut Shown) {
     match numeric_from_sql(bytes) {

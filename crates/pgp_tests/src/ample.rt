@@ -32,7 +32,13 @@ fn put_joined(
 }
 
 // The piece again and again, between two ends. Without memory nothing stands there, which isn't what is wanted.
-fn joined_bytes(alloc: Global, open: &[u8], piece: &[u8], count: u32, close: &[u8]) -> Vec<u8> {
+pub(crate) fn joined_bytes(
+    alloc: Global,
+    open: &[u8],
+    piece: &[u8],
+    count: u32,
+    close: &[u8],
+) -> Vec<u8> {
     let mut bytes = Vec::new(alloc);
     if bytes.extend_from_slice(open).is_err()
         || put_joined(&mut bytes, piece, count, close).is_err()
@@ -43,7 +49,7 @@ fn joined_bytes(alloc: Global, open: &[u8], piece: &[u8], count: u32, close: &[u
 }
 
 // The same of a text.
-fn joined(alloc: Global, open: &str, piece: &str, count: u32, close: &str) -> String {
+pub(crate) fn joined(alloc: Global, open: &str, piece: &str, count: u32, close: &str) -> String {
     let bytes = joined_bytes(
         alloc,
         open.as_bytes(),

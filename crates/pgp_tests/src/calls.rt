@@ -9,6 +9,7 @@ mod latin1;
 mod message;
 mod protocol;
 mod ranges;
+mod records;
 mod reply;
 mod row_index;
 mod server;

@@ -4,6 +4,8 @@
 #[cfg(test)]
 mod ample;
 #[cfg(test)]
+mod ample_values;
+#[cfg(test)]
 mod calls;
 #[cfg(test)]
 mod checks;

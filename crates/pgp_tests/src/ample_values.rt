@@ -1,0 +1,100 @@
+//! Large values of the further types with ample memory, and the first that is too large.
+
+use crate::ample::{joined, joined_bytes};
+use crate::checks::{holds, same};
+use bytes::BytesMut;
+use pgp_base::{Error, FallibleIterator};
+use pgp_values::{
+    jsonb_from_sql, jsonb_to_sql, numeric_from_sql, numeric_text_to_sql, numeric_to_text,
+    record_from_sql, record_to_sql, tsvector_from_sql, tsvector_to_sql,
+};
+use std::alloc::Global;
+use std::test::Fail;
+
+// Whether this is what is written of a number's text.
+fn is_written(alloc: Global, text: &str, sent: &[u8]) -> bool {
+    let mut buf = BytesMut::new(alloc);
+    numeric_text_to_sql(text, &mut buf).is_ok() && buf.as_slice() == sent
+}
+
+// Whether this is what is shown of a number's bytes.
+fn is_shown(alloc: Global, sent: &[u8], text: &str) -> bool {
+    let mut buf = BytesMut::new(alloc);
+    match numeric_from_sql(sent) {
+        Ok(v) => numeric_to_text(&v, &mut buf).is_ok() && buf.as_slice() == text.as_bytes(),
+        Err(_) => false,
+    }
+}
+
+// The bytes are those that PostgreSQL 15.18 sends of both numbers, the greatest exponents that it takes.
+#[test]
+fn the_longest_numbers_are_written_and_shown(rt: HostRuntime) {
+    let great = joined(rt.alloc(), "9", "0", 131_071, "");
+    let sent = b"\0\x01\x7f\xff\0\0\0\0\x23\x28";
+    holds(&rt, is_written(rt.alloc(), "9e131071", sent));
+    holds(&rt, is_written(rt.alloc(), &great, sent));
+    holds(&rt, is_shown(rt.alloc(), sent, &great));
+    let small = joined(rt.alloc(), "0.", "0", 16_382, "1");
+    let sent = b"\0\x01\xf0\0\0\0\x3f\xff\0\x0a";
+    holds(&rt, is_written(rt.alloc(), "1e-16383", sent));
+    holds(&rt, is_written(rt.alloc(), &small, sent));
+    holds(&rt, is_shown(rt.alloc(), sent, &small));
+}
+
+// How many of the fields are the number 42.
+fn fields_of_42(bytes: &[u8]) -> Result<usize, Error> {
+    let mut fields = record_from_sql(bytes)?;
+    let mut count = 0usize;
+    while let Some((23, Some(b"\0\0\0\x2a"))) = fields.next()? {
+        count = count.saturating_add(1);
+    }
+    Ok(count)
+}
+
+#[test]
+fn a_record_has_ten_thousand_fields(rt: HostRuntime) -> Result<(), Fail> {
+    let number = b"\0\0\0\x2a".as_slice();
+    let fields = vec![in rt.alloc(); (23, Some(number)); 10_000]?;
+    let mut buf = BytesMut::new(rt.alloc());
+    same(&rt, record_to_sql(fields.iter().copied(), &mut buf), Ok(()));
+    let field = b"\0\0\0\x17\0\0\0\x04\0\0\0\x2a";
+    let sent = joined_bytes(rt.alloc(), b"\0\0\x27\x10", field, 10_000, b"");
+    holds(&rt, buf.as_slice() == sent.as_slice());
+    same(&rt, fields_of_42(&sent), Ok(10_000));
+    Ok(())
+}
+
+#[test]
+fn a_document_has_a_megabyte(rt: HostRuntime) {
+    let text = joined(rt.alloc(), "\"", "0123456789", 100_000, "\"");
+    let mut buf = BytesMut::new(rt.alloc());
+    same(&rt, jsonb_to_sql(&text, &mut buf), Ok(()));
+    let sent = joined(rt.alloc(), "\x01", &text, 1, "");
+    holds(&rt, buf.as_slice() == sent.as_bytes());
+    same(&rt, jsonb_from_sql(sent.as_bytes()), Ok(text.as_str()));
+}
+
+// How many places the first lexeme has.
+fn places_of(bytes: &[u8]) -> Result<usize, Error> {
+    match tsvector_from_sql(bytes)?.next()? {
+        Some((_, places)) => Ok(places.len()),
+        None => Ok(0),
+    }
+}
+
+// As many places as their count can say, and one more.
+#[test]
+fn a_lexeme_has_65535_places(rt: HostRuntime) -> Result<(), Fail> {
+    let places = vec![in rt.alloc(); 5u16; 65_536]?;
+    let (most, _) = places.as_slice().split_at(65_535);
+    let mut buf = BytesMut::new(rt.alloc());
+    same(&rt, tsvector_to_sql(Some(("a", most)), &mut buf), Ok(()));
+    let front = b"\0\0\0\x01a\0\xff\xff";
+    let sent = joined_bytes(rt.alloc(), front, b"\0\x05", 65_535, b"");
+    holds(&rt, buf.as_slice() == sent.as_slice());
+    same(&rt, places_of(&sent), Ok(65_535));
+    let more = tsvector_to_sql(Some(("a", places.as_slice())), &mut buf);
+    same(&rt, more, Err(Error::TooLarge));
+    holds(&rt, buf.as_slice() == sent.as_slice());
+    Ok(())
+}

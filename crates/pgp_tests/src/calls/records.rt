@@ -1,0 +1,110 @@
+//! What no row of `pgp_rows` says of records: one whose field is an array of records, and how often a serializer is called.
+#![tactic(auto, using(pgp_base::proofs::Parts::held_steps))]
+
+ghost use Rattle.pgp_base.specs.Calls.{KeepsValue};
+ghost use Rattle.pgp_base.specs.Held.{items_held};
+
+use crate::checks::same;
+use crate::reads::buffer;
+use bytes::BytesMut;
+use pgp_base::{BindError, Buffer, Error, IsNull, Oid};
+use pgp_types::{ArrayDimension, array_to_sql, int4_to_sql};
+use pgp_values::record_values_to_sql;
+
+// The types of a number, of a record and of an array of records.
+const INT4: Oid = 23;
+
+const RECORD: Oid = 2249;
+
+const RECORDS: Oid = 2287;
+
+fn put_number(number: Option<i32>, buf: &mut BytesMut) -> Result<IsNull, Error>
+    ensures { KeepsValue result (items_held buf.entry.now.items) (items_held buf.exit.now.items) }
+{
+    match number {
+        None => Ok(IsNull::Yes),
+        Some(n) => match int4_to_sql(n, buf) {
+            Ok(()) => Ok(IsNull::No),
+            Err(e) => Err(e),
+        },
+    }
+}
+
+// A record of a number and a null, as an element that is never a null.
+fn put_record(number: i32, buf: &mut BytesMut) -> Result<IsNull, BindError<Error>>
+    ensures { KeepsValue result (items_held buf.entry.now.items) (items_held buf.exit.now.items) }
+{
+    let fields = [(INT4, Some(number)), (INT4, None)];
+    let answer = record_values_to_sql(
+        fields.iter().copied(),
+        |number: Option<i32>, buf: &mut BytesMut| put_number(number, buf),
+        buf,
+    );
+    match answer {
+        Ok(()) => Ok(IsNull::No),
+        Err(e) => Err(e),
+    }
+}
+
+// An array of such records, as a value that is never a null.
+fn put_records(numbers: [i32; 2], buf: &mut BytesMut) -> Result<IsNull, BindError<BindError<Error>>>
+    ensures { KeepsValue result (items_held buf.entry.now.items) (items_held buf.exit.now.items) }
+{
+    let answer = array_to_sql(
+        Some(ArrayDimension {
+            len: 2,
+            lower_bound: 1,
+        }),
+        RECORD,
+        numbers.as_slice(),
+        |number: &i32, buf: &mut BytesMut| put_record(*number, buf),
+        buf,
+    );
+    match answer {
+        Ok(()) => Ok(IsNull::No),
+        Err(e) => Err(e),
+    }
+}
+
+// The bytes are those that PostgreSQL 15.18 sent of `row(array[row(2, null::int4), row(3, null::int4)])`.
+#[test]
+fn records_stand_in_an_array_in_a_record(rt: HostRuntime) {
+    let mut buf = buffer(rt.alloc(), b"S\0\0\0\x04");
+    let answer = record_values_to_sql(
+        Some((RECORDS, [2, 3])),
+        |numbers: [i32; 2], buf: &mut BytesMut| put_records(numbers, buf),
+        &mut buf,
+    );
+    same(&rt, answer, Ok(()));
+    same(
+        &rt,
+        buf.as_slice(),
+        b"S\0\0\0\x04\0\0\0\x01\0\0\x08\xef\0\0\0\x4c\0\0\0\x01\0\0\0\0\0\0\x08\xc9\0\0\0\x02\0\0\0\x01\0\0\0\x18\0\0\0\x02\0\0\0\x17\0\0\0\x04\0\0\0\x02\0\0\0\x17\xff\xff\xff\xff\0\0\0\x18\0\0\0\x02\0\0\0\x17\0\0\0\x04\0\0\0\x03\0\0\0\x17\xff\xff\xff\xff".as_slice(),
+    );
+}
+
+// The serializer isn't called after its error, and the bytes before the record stay.
+#[test]
+fn a_field_refuses(rt: HostRuntime) {
+    let fields = [(INT4, 1u32), (INT4, 2), (INT4, 3), (INT4, 4), (INT4, 5)];
+    for k in 1..6u32 {
+        let mut buf = buffer(rt.alloc(), b"S\0\0\0\x04");
+        let mut calls = 0u32;
+        let answer = record_values_to_sql(
+            fields.iter().copied(),
+            |n: u32, buf: &mut BytesMut| -> Result<IsNull, u32>
+                ensures { KeepsValue result (items_held buf.entry.now.items) (items_held buf.exit.now.items) }
+            {
+                calls = calls.saturating_add(1);
+                if buf.append(b"abc").is_err() || n == k {
+                    return Err(n);
+                }
+                Ok(IsNull::No)
+            },
+            &mut buf,
+        );
+        same(&rt, answer, Err(BindError::Conversion(k)));
+        same(&rt, calls, k);
+        same(&rt, buf.as_slice(), b"S\0\0\0\x04".as_slice());
+    }
+}
