@@ -1,14 +1,12 @@
 //! A client's connection whose messages are read in place, on messages of the PostgreSQL manual's formats.
 
 use crate::checks::holds;
-use crate::connections::{
-    ANSWERED, ASKED, DESCRIPTION, FINAL, FIRST, OFFER, READY, WELCOME, known, trusting,
-};
-use crate::steps::{Answer, Call, Step, event_in_place, is_there, next_event, takes};
+use crate::connections::{ANSWERED, ASKED, DESCRIPTION, LOGIN, known, trusting};
+use crate::ends::all_end;
+use crate::steps::{Answer, Call, Fault, Step, is_there, taken, takes};
 use pgp_client::Event;
 use pgp_session::Connection;
 use std::process::Abort;
-use std::test::Fail;
 
 static HEARD: [Step; 2] = [
     Step::HearsInPlace(&ANSWERED),
@@ -17,7 +15,7 @@ static HEARD: [Step; 2] = [
 
 #[test]
 fn messages_in_place_belong_to_their_requests(rt: HostRuntime) {
-    let mut connection = trusting(&rt);
+    let mut connection = trusting(rt.alloc());
     takes(&rt, &mut connection, &ASKED);
     takes(&rt, &mut connection, &HEARD);
 }
@@ -27,11 +25,7 @@ static TURNS: [Answer; 9] = ANSWERED;
 
 /// Whether the next message, read in place or handed out, is this to the requests, and there or not then.
 fn is_turn(connection: &mut Connection<'_>, in_place: bool, event: Event) -> bool {
-    let received = match in_place {
-        true => event_in_place(connection),
-        false => next_event(connection),
-    };
-    received == Some(event) && is_there(connection) == in_place
+    taken(connection, in_place) == Ok(Some(event)) && is_there(connection) == in_place
 }
 
 fn take_turns(rt: &impl Abort, connection: &mut Connection<'_>, first: usize) {
@@ -47,7 +41,7 @@ fn take_turns(rt: &impl Abort, connection: &mut Connection<'_>, first: usize) {
 #[test]
 fn both_calls_take_turns(rt: HostRuntime) {
     for first in 0..2 {
-        let mut connection = trusting(&rt);
+        let mut connection = trusting(rt.alloc());
         takes(&rt, &mut connection, &ASKED);
         take_turns(&rt, &mut connection, first);
     }
@@ -72,53 +66,59 @@ static ROWS: [Step; 13] = [
 
 #[test]
 fn a_row_is_read_in_place(rt: HostRuntime) {
-    let mut connection = trusting(&rt);
+    let mut connection = trusting(rt.alloc());
     takes(&rt, &mut connection, &ASKED);
     takes(&rt, &mut connection, &ROWS);
     holds(&rt, is_there(&connection));
 }
 
-static LOGIN: [&[u8]; 5] = [OFFER, FIRST, FINAL, WELCOME, READY];
-
-/// Whether both take a message, one in place, as the same to the requests, and send the same.
-fn are_alike(connection: &mut Connection<'_>, other: &mut Connection<'_>, bytes: &[u8]) -> bool {
-    if connection.feed(bytes).is_err() || other.feed(bytes).is_err() {
-        return false;
-    }
-    let event = event_in_place(connection);
-    event.is_some() && event == next_event(other) && connection.to_send() == other.to_send()
+/// Whether both take a message, one in place, as this to the requests, and send the same.
+fn are_alike(
+    connection: &mut Connection<'_>,
+    other: &mut Connection<'_>,
+    bytes: &[u8],
+    event: Event,
+) -> bool {
+    connection.feed(bytes).is_ok()
+        && other.feed(bytes).is_ok()
+        && taken(connection, true) == Ok(Some(event))
+        && taken(other, false) == Ok(Some(event))
+        && connection.to_send() == other.to_send()
 }
 
 /// Both log in.
 fn log_in(rt: &impl Abort, connection: &mut Connection<'_>, other: &mut Connection<'_>) {
     holds(rt, connection.start(&[("user", "alice")]).is_ok());
     holds(rt, other.start(&[("user", "alice")]).is_ok());
-    for bytes in &LOGIN {
-        holds(rt, are_alike(connection, other, bytes));
+    for (bytes, event) in &LOGIN {
+        holds(rt, are_alike(connection, other, bytes, *event));
     }
     holds(rt, connection.is_logged_in());
 }
 
 /// The log-in sends what it sends where its messages are handed out.
 #[test]
-fn a_log_in_is_taken_in_place(rt: HostRuntime) -> Result<(), Fail> {
-    let mut connection = known(&rt)?;
-    let mut other = known(&rt)?;
+fn a_log_in_is_taken_in_place(rt: HostRuntime) {
+    let mut connection = known(rt.alloc());
+    let mut other = known(rt.alloc());
     log_in(&rt, &mut connection, &mut other);
-    Ok(())
 }
 
 /// A message that has no place ends the connection, and isn't there.
-static PLACELESS: [Step; 5] = [
+static PLACELESS: [Step; 4] = [
     Step::Makes(Call::Start),
     Step::Feeds(b"D\0\0\0\x06\0\0"),
-    Step::Advances(None),
+    Step::EndsInPlace(Fault::Unexpected),
     Step::Reads(false, None),
-    Step::IsOver,
 ];
 
 #[test]
 fn a_message_without_a_place_is_not_there(rt: HostRuntime) {
-    let mut connection = trusting(&rt);
+    let mut connection = trusting(rt.alloc());
     takes(&rt, &mut connection, &PLACELESS);
+}
+
+#[test]
+fn a_connection_ends_in_place_where_a_message_is_not_taken(rt: HostRuntime) {
+    all_end(&rt, rt.alloc(), true);
 }
