@@ -57,8 +57,12 @@ pub(crate) static LOGIN: [Answer; 5] = [
 ];
 
 /// An exchange with this password and nonce.
-fn exchange(alloc: Global, password: &[u8], nonce: &str) -> Option<ScramSha256> {
-    let binding = ChannelBinding::unsupported();
+fn exchange(
+    alloc: Global,
+    binding: ChannelBinding,
+    password: &[u8],
+    nonce: &str,
+) -> Option<ScramSha256> {
     match String::from_str(alloc, nonce) {
         Ok(nonce) if is_nonce(&nonce) => {
             ScramSha256::with_nonce(alloc, password, binding, nonce, &NoPrep).ok()
@@ -85,12 +89,36 @@ pub(crate) fn connecting(
 
 /// A connection that logs in by SCRAM-SHA-256 alone, with this password and nonce.
 pub(crate) fn by_password(alloc: Global, password: &[u8], nonce: &str) -> Connection<'static> {
-    connecting(alloc, exchange(alloc, password, nonce), false, 65_536)
+    let binding = ChannelBinding::unsupported();
+    connecting(
+        alloc,
+        exchange(alloc, binding, password, nonce),
+        false,
+        65_536,
+    )
 }
+
+const NONCE: &str = "9IZ2O01zb9IgiIZ1WJ/zgpJB";
 
 /// A connection that logs in by the exchange of these messages.
 pub(crate) fn known(alloc: Global) -> Connection<'static> {
-    by_password(alloc, b"foobar", "9IZ2O01zb9IgiIZ1WJ/zgpJB")
+    by_password(alloc, b"foobar", NONCE)
+}
+
+/// The exchange with that password and nonce that is bound to the channel.
+fn bound(alloc: Global) -> Option<ScramSha256> {
+    match Vec::from_slice(alloc, b"a hash") {
+        Ok(hash) => {
+            let binding = ChannelBinding::tls_server_end_point(hash);
+            exchange(alloc, binding, b"foobar", NONCE)
+        }
+        Err(_) => None,
+    }
+}
+
+/// A connection that logs in by it.
+pub(crate) fn known_bound(alloc: Global) -> Connection<'static> {
+    connecting(alloc, bound(alloc), false, 65_536)
 }
 
 pub(crate) fn trusting(alloc: Global) -> Connection<'static> {

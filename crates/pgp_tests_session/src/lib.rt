@@ -14,6 +14,8 @@ mod ends;
 #[cfg(test)]
 mod in_place;
 #[cfg(test)]
+mod offers;
+#[cfg(test)]
 mod pooled;
 #[cfg(test)]
 mod settings;
