@@ -422,14 +422,13 @@ module _ (ways : Ways) (observed : List Message) (gave : List ClientMessage) (m 
   open_allowed (SaslResponse response) e = absurd cc
   open_allowed x e = tt
 
-  not_none : (o : Option Client) (x : Client) → o ≡ Some x → o ≢ None
-  not_none o x e = λ none. let both : Some x ≡ None = sym e ∙ none in cc
-
   reply_allowed : (asked : Asking) (x : ClientMessage) (l after : Login) → LogsOn asked (Some x) l after → IsAt ways observed gave l → IsAllowed ways x
   reply_allowed asked x l after (ByCleartext password p e) i = inl (sym i.cleartext ∙ e)
   reply_allowed asked x l after (ByMd5 {salt = salt} who p e) i = inr (who, sym i.md5 ∙ e, salt, refl)
-  reply_allowed asked x l after (ScramBegins y text p e o f) i = not_none ways.scram y (sym (at l AwaitsOffer p i).0 ∙ e)
-  reply_allowed asked x l after (ScramGoesOn y z answer p e a f) i = let st = at l AwaitsFirst p i in not_none ways.scram st.0 st.2.from
+  reply_allowed asked x l after (ScramBegins y text p e o f) i = (y, sym (at l AwaitsOffer p i).0 ∙ e, text, f, refl)
+  reply_allowed asked x l after (ScramGoesOn {text = text} y z answer p e a f) i =
+      let st = at l AwaitsFirst p i in
+      (y, st.2.from ∙ ap Some (same_client l.ways.scram st.0 y st.1 e), text, z, a, f)
 
   all_allowed : (written : List ClientMessage) (asked : Asking) (reply : Option ClientMessage) (l after : Login) → LogsOn asked reply l after → IsAt ways observed gave l
       → AllByRecursion (IsAllowed ways) written → AllByRecursion (IsAllowed ways) (written ++ option_to_list reply)

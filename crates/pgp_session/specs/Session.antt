@@ -1,10 +1,10 @@
 -- What is known of a connection after any calls.
 -- PostgreSQL manual, "Message Flow"; "SASL Authentication"; RFC 5802, RFC 7677.
-use Rattle.std.specs.Prelude.{◌≡◌, ◌≢◌, ◌⊎◌, ℕ, Bool, true, false, List, [], ◌∷◌, ◌++◌, take, map, option_to_list, Option, Some, None, Result, Ok}
+use Rattle.std.specs.Prelude.{◌≡◌, ◌⊎◌, ℕ, Bool, true, false, List, [], ◌∷◌, ◌++◌, take, map, option_to_list, Option, Some, None, Result, Ok}
 use Rattle.std.specs.List.{flat_map, filter, AllByRecursion}
 use Rattle.pgp_base.specs.declared.error.Error.{Error}
 use Rattle.pgp_auth.specs.Md5Text.{md5_answer}
-use Rattle.pgp_auth.specs.ScramClient.{Client, Completes}
+use Rattle.pgp_auth.specs.ScramClient.{Client, Answers, Completes, message_of}
 use Rattle.pgp_client.specs.Flow.{Belong}
 use Rattle.pgp_client.specs.Kinds.{kind_of, request_of}
 use Rattle.pgp_client.specs.Taking.{taken}
@@ -125,11 +125,12 @@ pub data Admitted (ways : Ways) (observed : List Message) : List ClientMessage �
   ByHash : (who : List ℕ × List ℕ) (salt : List ℕ) → ways.md5 ≡ Some who → Admitted ways observed (PasswordMessage (md5_answer who.0 who.1 salt) ∷ [])
   BySignature : (x : Client) (mine proof : List ℕ) → ways.scram ≡ Some x → Signed x observed → Admitted ways observed (initial mine ∷ SaslResponse proof ∷ [])
 
--- what a message of a log-in gives away: the password in clear text, its hash or a text of the exchange, each where that way is admitted
+-- What a message of a log-in gives away: the password in clear text, its hash, or what the exchange says, at first or after a text of the server; each where that
+-- way is admitted.
 abbrev pub IsAllowed : Ways → ClientMessage → Type 0
 IsAllowed ways (PasswordMessage text) = (ways.cleartext ≡ Some text) ⊎ ((who : List ℕ × List ℕ) × (ways.md5 ≡ Some who) × (salt : List ℕ) × (text ≡ md5_answer who.0 who.1 salt))
-IsAllowed ways (SaslInitialResponse mechanism response) = ways.scram ≢ None
-IsAllowed ways (SaslResponse response) = ways.scram ≢ None
+IsAllowed ways (SaslInitialResponse mechanism response) = (x : Client) × (ways.scram ≡ Some x) × (text : List ℕ) × (message_of x.state ≡ Some text) × (SaslInitialResponse mechanism response ≡ initial text)
+IsAllowed ways (SaslResponse text) = (x : Client) × (ways.scram ≡ Some x) × (first : List ℕ) × (y : Client) × Answers x first y × (message_of y.state ≡ Some text)
 IsAllowed ways m = Unit {0}
 
 -- What is known says of a session: the requests that were asked are those of the messages written; each message belongs to the request that was reported, and to
