@@ -1,5 +1,5 @@
 -- A client's core and a server's core, turn by turn.
-use Rattle.std.proofs.Common.{◌≡◌, ℕ, List, [], ◌∷◌, ◌++◌, length, Option, Some, None, Result, Ok, Err, refl, sym, ap, subst, ◌∙◌, arith, inl, inr, false, append_assoc}
+use Rattle.std.proofs.Common.{◌≡◌, ℕ, List, [], ◌∷◌, ◌++◌, length, Option, Some, None, Result, Ok, Err, refl, sym, ap, subst, ◌∙◌, arith, inl, inr, false, append_assoc, Contains}
 use Rattle.std.specs.Prelude.{◌⊎◌, ◌≢◌}
 use Rattle.std.specs.Char.{encode_utf8}
 use Rattle.std.specs.List.{AllByRecursion}
@@ -26,7 +26,7 @@ use Rattle.pgp_message.specs.Items.{TextSpelled, TextRefused}
 use Rattle.pgp_message.specs.Stream.{Frames, TakesFrame}
 use Rattle.pgp_message_write.specs.Reply.{IsInRange, IsMechanism, IsReply, bytes_of, cause, names_of, parts}
 use Rattle.pgp_uses.specs.BothEnds.{AreRead, Facing, IsClientsWant, IsServersWant, LogsIn}
-use Rattle.pgp_session.specs.ClientStream.{IsAdded}
+use Rattle.pgp_session.specs.ClientStream.{IsAdded, RefusesMessage}
 use Rattle.pgp_session.specs.ScramLogin as login
 use Rattle.pgp_session.specs.ScramLogin.{Offers, Shown, initial, mechanism_by, mechanism_of, observed}
 use Rattle.pgp_session.specs.Serving as serving

@@ -26,7 +26,7 @@ use Rattle.pgp_message.specs.Stream.{Frames, TakesFrame}
 use Rattle.pgp_message_write.specs.Reply.{IsMechanism, IsReply, bytes_of, names_of}
 use Rattle.pgp_uses.specs.BothEnds.{ConnectionLogsIn, Facing, HasStarted, IsConnectionsWant}
 use Rattle.pgp_session.specs.Connection.{Hears, Shown, is_end, is_logged_in, logged_in_at}
-use Rattle.pgp_session.specs.Login.{Added, AddsReply, Asking, Sasl, First, Final, Welcome, LoggedOn, Login, LogsOn, ScramBegins, ScramGoesOn, ScramEnds, Welcomed, Trusted, asking, goes_on, in_phase}
+use Rattle.pgp_session.specs.Login.{Added, AddsReply, Asking, Sasl, First, Final, Welcome, LoggedOn, Login, LogsOn, ScramBegins, ScramGoesOn, ScramEnds, Welcomed, Trusted, asking, goes_on, in_phase, Unsent}
 use Rattle.pgp_session.specs.Login as login
 use Rattle.pgp_session.specs.ScramLogin.{Offers, initial, mechanism_of}
 use Rattle.pgp_session.specs.Serving.{admission, challenge, final_message, first_message, kind_in, scram, scram_offer, signature}
