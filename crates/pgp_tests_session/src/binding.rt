@@ -5,7 +5,7 @@ ghost use Rattle.pgp_base.specs.Calls.{KeepsValue};
 ghost use Rattle.pgp_base.specs.Held.{items_held};
 
 use crate::connections::{ADMITTED, trusting};
-use crate::steps::{Call, Step, takes};
+use crate::steps::{Call, Step, plays};
 use bytes::BytesMut;
 use pgp_base::{BindError, IsNull};
 use pgp_client::Event;
@@ -67,6 +67,5 @@ static BINDS: [Step; 11] = [
 
 #[test]
 fn a_bind_is_sent_whole_or_not_at_all(rt: HostRuntime) {
-    let mut connection = trusting(rt.alloc());
-    takes(&rt, &mut connection, &BINDS);
+    plays(&rt, rt.alloc(), 0, trusting(rt.alloc()), &[&BINDS]);
 }

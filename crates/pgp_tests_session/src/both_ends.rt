@@ -334,23 +334,47 @@ fn is_played(
     rt: &HostRuntime,
     connection: &mut Connection<'_>,
     server: &mut Server,
-    dice: &mut Dice,
+    seed: u64,
     tally: &mut Tally,
 ) -> bool {
-    let mut met = greet(rt, connection, server, dice, tally);
+    let mut dice = Dice(seed);
+    let mut met = greet(rt, connection, server, &mut dice, tally);
     let mut name = 1_u64;
     for _ in 0..dice.below(12) {
-        match ask(rt, connection, dice, name) {
+        match ask(rt, connection, &mut dice, name) {
             Some(last) => name = last.saturating_add(1),
             None => met = false,
         }
         if dice.below(3) == 0 {
-            met &= meet(rt, connection, server, dice, tally);
+            met &= meet(rt, connection, server, &mut dice, tally);
         }
     }
     met &= connection.sync().is_ok();
-    met &= meet(rt, connection, server, dice, tally);
+    met &= meet(rt, connection, server, &mut dice, tally);
     met && connection.is_idle()
+}
+
+/// Whether the client's log-in fails, and the server is done with it.
+fn is_denied(
+    rt: &HostRuntime,
+    connection: &mut Connection<'_>,
+    server: &mut Server,
+    tally: &mut Tally,
+) -> bool {
+    greet(rt, connection, server, &mut Dice(1), tally)
+        && !connection.is_logged_in()
+        && tally.failed == 1
+        && server.serving.phase == ServingPhase::Over
+}
+
+/// Whether a client with this password plays the session of a seed, or is denied where there is none.
+fn has_met(rt: &HostRuntime, password: &[u8], seed: Option<u64>, tally: &mut Tally) -> bool {
+    let mut connection = by_password(rt.alloc(), password, NONCE);
+    let mut server = Server::new();
+    match seed {
+        Some(seed) => is_played(rt, &mut connection, &mut server, seed, tally),
+        None => is_denied(rt, &mut connection, &mut server, tally),
+    }
 }
 
 /// Half of the requests are Queries, a fifth of whose texts fail, and as many of the texts of the others: of some 5,500 requests more than
@@ -359,31 +383,15 @@ fn is_played(
 fn a_thousand_sessions_of_both_ends(rt: HostRuntime) {
     let mut tally = Tally::new();
     for seed in 0..1_000_u64 {
-        let mut connection = by_password(rt.alloc(), b"pencil", NONCE);
-        let mut server = Server::new();
-        let mut dice = Dice(seed);
-        holds(
-            &rt,
-            is_played(&rt, &mut connection, &mut server, &mut dice, &mut tally),
-        );
+        holds(&rt, has_met(&rt, b"pencil", Some(seed), &mut tally));
     }
     same_at(&rt, 0, tally.astray, 0);
     holds(&rt, tally.rows > 5_000);
     holds(&rt, tally.failed > 1_000);
 }
 
-/// Whether a client with another password is told so, and the server is done with it.
-fn is_denied(rt: &HostRuntime, connection: &mut Connection<'_>, server: &mut Server) -> bool {
-    let mut tally = Tally::new();
-    greet(rt, connection, server, &mut Dice(1), &mut tally)
-        && !connection.is_logged_in()
-        && tally.failed == 1
-        && server.serving.phase == ServingPhase::Over
-}
-
 #[test]
 fn another_password_is_not_let_in(rt: HostRuntime) {
-    let mut connection = by_password(rt.alloc(), b"pencils", NONCE);
-    let mut server = Server::new();
-    holds(&rt, is_denied(&rt, &mut connection, &mut server));
+    let mut tally = Tally::new();
+    holds(&rt, has_met(&rt, b"pencils", None, &mut tally));
 }

@@ -1,9 +1,7 @@
 //! A client's connection, on messages of the PostgreSQL manual's formats. The manual's chapter "Message Flow" says which
 //! message answers which request.
 
-use crate::checks::{holds, same_at};
-use crate::steps::{Answer, Call, Step, is_taken, takes};
-use bytes::BytesMut;
+use crate::steps::{Answer, Call, Step, plays};
 use pgp_auth::authentication::sasl::{ChannelBinding, NoPrep, ScramSha256, is_nonce};
 use pgp_client::Event;
 use pgp_session::{BackendKey, Connection, Ways};
@@ -149,40 +147,32 @@ static HEARD: [Step; 6] = [
 
 #[test]
 fn answers_belong_to_their_requests(rt: HostRuntime) {
-    let mut connection = trusting(rt.alloc());
-    takes(&rt, &mut connection, &ASKED);
-    takes(&rt, &mut connection, &HEARD);
+    plays(&rt, rt.alloc(), 0, trusting(rt.alloc()), &[&ASKED, &HEARD]);
 }
 
 /// A log-in without a password.
-pub(crate) static LOGGED_IN: [Step; 3] = [
+static LOGGED_IN: [Step; 3] = [
     Step::Makes(Call::Start),
     Step::Is(false, false, None),
     Step::Hears(&ADMITTED),
 ];
 
-/// The key that came in it.
-static KEYED: [Step; 1] = [Step::Key(Some(BackendKey {
-    process_id: 1,
-    secret_key: [0, 0, 0, 2],
-}))];
-
-/// Whether this is the request to cancel; it has no bytes where there is no key.
-fn is_cancelled(connection: &Connection<'_>, out: &mut BytesMut, wanted: &[u8]) -> bool {
-    let made = connection.cancel_request(out).is_ok();
-    made != wanted.is_empty() && out.as_slice() == wanted
-}
+/// There is a request to cancel where the key came in the log-in.
+static CANCELLED: [Step; 6] = [
+    Step::Makes(Call::Start),
+    Step::Is(false, false, None),
+    Step::Cancels(b""),
+    Step::Hears(&ADMITTED),
+    Step::Key(Some(BackendKey {
+        process_id: 1,
+        secret_key: [0, 0, 0, 2],
+    })),
+    Step::Cancels(b"\0\0\0\x10\x04\xd2\x16\x2e\0\0\0\x01\0\0\0\x02"),
+];
 
 #[test]
 fn another_connection_cancels_by_the_key(rt: HostRuntime) {
-    let mut connection = trusting(rt.alloc());
-    let mut out = BytesMut::new(rt.alloc());
-    takes(&rt, &mut connection, &LOGGED_IN[..2]);
-    holds(&rt, is_cancelled(&connection, &mut out, b""));
-    takes(&rt, &mut connection, &LOGGED_IN[2..]);
-    takes(&rt, &mut connection, &KEYED);
-    let request = b"\0\0\0\x10\x04\xd2\x16\x2e\0\0\0\x01\0\0\0\x02";
-    holds(&rt, is_cancelled(&connection, &mut out, request));
+    plays(&rt, rt.alloc(), 0, trusting(rt.alloc()), &[&CANCELLED]);
 }
 
 /// Three Sync, and the ReadyForQuery of each.
@@ -200,9 +190,13 @@ static STATUSES: [Step; 9] = [
 
 #[test]
 fn the_last_ready_for_query_tells_the_status(rt: HostRuntime) {
-    let mut connection = trusting(rt.alloc());
-    takes(&rt, &mut connection, &LOGGED_IN);
-    takes(&rt, &mut connection, &STATUSES);
+    plays(
+        &rt,
+        rt.alloc(),
+        0,
+        trusting(rt.alloc()),
+        &[&LOGGED_IN, &STATUSES],
+    );
 }
 
 /// Encryption is asked for, and nothing of the connection itself is taken before the answer.
@@ -214,20 +208,25 @@ static ASKED_ENCRYPTION: [Step; 4] = [
 ];
 
 /// Answers about encryption, with bytes after them and without.
-static ENCRYPTIONS: [Step; 6] = [
-    Step::Encrypts(b"", Some(None)),
-    Step::Encrypts(b"S", Some(Some(true))),
-    Step::Encrypts(b"N", Some(Some(false))),
-    Step::Encrypts(b"SR\0\0\0\x08\0\0\0\0", None),
-    Step::Encrypts(b"NS", None),
-    Step::Encrypts(b"E", None),
+static ENCRYPTIONS: [[Step; 1]; 6] = [
+    [Step::Encrypts(b"", Some(None))],
+    [Step::Encrypts(b"S", Some(Some(true)))],
+    [Step::Encrypts(b"N", Some(Some(false)))],
+    [Step::Encrypts(b"SR\0\0\0\x08\0\0\0\0", None)],
+    [Step::Encrypts(b"NS", None)],
+    [Step::Encrypts(b"E", None)],
 ];
 
 #[test]
 fn the_answer_about_encryption_is_one_byte(rt: HostRuntime) {
-    for (place, step) in ENCRYPTIONS.iter().enumerate() {
-        let mut connection = trusting(rt.alloc());
-        takes(&rt, &mut connection, &ASKED_ENCRYPTION);
-        same_at(&rt, place, is_taken(&mut connection, step), true);
+    let alloc = rt.alloc();
+    for (row, answered) in ENCRYPTIONS.iter().enumerate() {
+        plays(
+            &rt,
+            alloc,
+            row,
+            trusting(alloc),
+            &[&ASKED_ENCRYPTION, answered],
+        );
     }
 }

@@ -1,10 +1,8 @@
 //! Where a client's connection ends, on messages of the PostgreSQL manual's formats, and copies to the server.
 
-use crate::checks::same_at;
 use crate::connections::{ADMITTED, LOGIN, OFFER, READY, WELCOME, known, trusting};
-use crate::steps::{Call, Fault, Step, are_heard, is_taken, takes};
+use crate::steps::{Call, Fault, Step, plays};
 use pgp_client::Event;
-use pgp_session::Connection;
 use std::alloc::Global;
 use std::process::Abort;
 
@@ -53,25 +51,22 @@ static ENDS: [End; 15] = [
     (false, 0, b"R\0\0\0\x04", Fault::Malformed),
 ];
 
-/// Whether the connection is started, takes the messages before, and ends at the last.
-fn is_met(connection: &mut Connection<'_>, end: &End, in_place: bool) -> bool {
+/// The steps of such an end.
+fn steps_of(end: &'static End, in_place: bool) -> [Step; 4] {
     let (_, count, last, fault) = end;
     let (before, _) = LOGIN.split_at(LOGIN.len().min(*count));
-    let step = match in_place {
-        true => Step::EndsInPlace(*fault),
-        false => Step::Ends(*fault),
+    let (hears, ends) = match in_place {
+        true => (Step::HearsInPlace(before), Step::EndsInPlace(*fault)),
+        false => (Step::Hears(before), Step::Ends(*fault)),
     };
-    is_taken(connection, &Step::Makes(Call::Start))
-        && are_heard(connection, before, in_place)
-        && connection.feed(last).is_ok()
-        && is_taken(connection, &step)
+    [Step::Makes(Call::Start), hears, Step::Feeds(last), ends]
 }
 
 /// Each connection ends, by messages that are handed out or read in place.
 pub(crate) fn all_end(rt: &impl Abort, alloc: Global, in_place: bool) {
-    for (place, end) in ENDS.iter().enumerate() {
-        let mut connection = if end.0 { known(alloc) } else { trusting(alloc) };
-        same_at(rt, place, is_met(&mut connection, end, in_place), true);
+    for (row, end) in ENDS.iter().enumerate() {
+        let connection = if end.0 { known(alloc) } else { trusting(alloc) };
+        plays(rt, alloc, row, connection, &[&steps_of(end, in_place)]);
     }
 }
 
@@ -120,8 +115,8 @@ static UNCERTAIN: [Step; 7] = [
 
 #[test]
 fn copies_and_a_message_at_the_limit(rt: HostRuntime) {
+    let alloc = rt.alloc();
     for steps in [AT_LIMIT.as_slice(), &COPIED, &UNCERTAIN] {
-        let mut connection = trusting(rt.alloc());
-        takes(&rt, &mut connection, steps);
+        plays(&rt, alloc, steps.len(), trusting(alloc), &[steps]);
     }
 }

@@ -1,10 +1,9 @@
-//! Under which mechanism a client's exchange goes, on messages of the PostgreSQL manual's formats ("SASL Authentication").
+//! Under which mechanism a client's exchange goes, on messages of the PostgreSQL manual's formats ("SASL Authentication"), and what a log-in by
+//! it sends.
 
-use crate::checks::same_at;
-use crate::connections::{OFFER, known, known_bound};
-use crate::steps::{Call, Fault, Step, is_taken};
+use crate::connections::{FINAL, FIRST, OFFER, READY, WELCOME, known, known_bound};
+use crate::steps::{Call, Fault, Step, plays};
 use pgp_client::Event;
-use pgp_session::Connection;
 
 /// Offers of the mechanism without channel binding alone, and of that with it.
 const UNBOUND: &[u8] = b"R\0\0\0\x17\0\0\0\x0aSCRAM-SHA-256\0\0";
@@ -17,40 +16,111 @@ const UNBOUND_SENT: &[u8] = b"p\0\0\0\x36SCRAM-SHA-256\0\0\0\0\x20n,,n=,r=9IZ2O0
 const BOUND_SENT: &[u8] =
     b"p\0\0\0\x50SCRAM-SHA-256-PLUS\0\0\0\0\x35p=tls-server-end-point,,n=,r=9IZ2O01zb9IgiIZ1WJ/zgpJB";
 
-/// Whether the exchange is bound to the channel, the server's offer, and what is sent after it: nothing where the offer lacks the mechanism.
-static OFFERS: [(bool, &[u8], Option<&[u8]>); 6] = [
-    (true, OFFER, Some(BOUND_SENT)),
-    (true, BOUND, Some(BOUND_SENT)),
-    (true, UNBOUND, None),
-    (false, OFFER, Some(UNBOUND_SENT)),
-    (false, BOUND, None),
-    (false, UNBOUND, Some(UNBOUND_SENT)),
-];
+static STARTED: [Step; 2] = [Step::Makes(Call::Start), Step::Sent];
 
-/// Whether this is sent after the offer.
-fn is_begun(connection: &mut Connection<'_>, offer: &[u8], sent: Option<&'static [u8]>) -> bool {
-    let started = is_taken(connection, &Step::Makes(Call::Start))
-        && is_taken(connection, &Step::Sent)
-        && connection.feed(offer).is_ok();
-    match sent {
-        Some(bytes) => {
-            started
-                && is_taken(connection, &Step::Next(Some(Event::Part(0))))
-                && is_taken(connection, &Step::ToSend(bytes))
-        }
-        None => started && is_taken(connection, &Step::Ends(Fault::NotOffered)),
-    }
-}
+/// Whether the exchange is bound to the channel, the server's offer, and what is sent after it; a connection ends whose offer lacks the mechanism.
+static OFFERS: [(bool, [Step; 3]); 6] = [
+    (
+        true,
+        [
+            Step::Feeds(OFFER),
+            Step::Next(Some(Event::Part(0))),
+            Step::ToSend(BOUND_SENT),
+        ],
+    ),
+    (
+        true,
+        [
+            Step::Feeds(BOUND),
+            Step::Next(Some(Event::Part(0))),
+            Step::ToSend(BOUND_SENT),
+        ],
+    ),
+    (
+        true,
+        [
+            Step::Feeds(UNBOUND),
+            Step::Ends(Fault::NotOffered),
+            Step::ToSend(b""),
+        ],
+    ),
+    (
+        false,
+        [
+            Step::Feeds(OFFER),
+            Step::Next(Some(Event::Part(0))),
+            Step::ToSend(UNBOUND_SENT),
+        ],
+    ),
+    (
+        false,
+        [
+            Step::Feeds(BOUND),
+            Step::Ends(Fault::NotOffered),
+            Step::ToSend(b""),
+        ],
+    ),
+    (
+        false,
+        [
+            Step::Feeds(UNBOUND),
+            Step::Next(Some(Event::Part(0))),
+            Step::ToSend(UNBOUND_SENT),
+        ],
+    ),
+];
 
 #[test]
 fn a_bound_exchange_goes_under_its_own_mechanism(rt: HostRuntime) {
-    for (place, (is_bound, offer, sent)) in OFFERS.iter().enumerate() {
-        let alloc = rt.alloc();
-        let mut connection = if *is_bound {
+    let alloc = rt.alloc();
+    for (row, (is_bound, steps)) in OFFERS.iter().enumerate() {
+        let connection = if *is_bound {
             known_bound(alloc)
         } else {
             known(alloc)
         };
-        same_at(&rt, place, is_begun(&mut connection, offer, *sent), true);
+        plays(&rt, alloc, row, connection, &[&STARTED, steps]);
+    }
+}
+
+/// The exchange's final text, which is that of the Rust crate's tests.
+const FINAL_SENT: &[u8] =
+    b"p\0\0\0\x6cc=biws,r=9IZ2O01zb9IgiIZ1WJ/zgpJBjx/oIRLs02gGSHcw1KEty3eY,p=AmNKosjJzS31NTlQYNs5BTeQjdHdk7lOflDo5re2an8=";
+
+/// A log-in, whose messages are handed out, and read in place.
+static LOGINS: [[Step; 7]; 2] = [
+    [
+        Step::Hears(&[(OFFER, Event::Part(0))]),
+        Step::ToSend(UNBOUND_SENT),
+        Step::Sent,
+        Step::Hears(&[(FIRST, Event::Part(0))]),
+        Step::ToSend(FINAL_SENT),
+        Step::Hears(&[
+            (FINAL, Event::Part(0)),
+            (WELCOME, Event::Part(0)),
+            (READY, Event::Last(0)),
+        ]),
+        Step::Is(true, true, Some(b'I')),
+    ],
+    [
+        Step::HearsInPlace(&[(OFFER, Event::Part(0))]),
+        Step::ToSend(UNBOUND_SENT),
+        Step::Sent,
+        Step::HearsInPlace(&[(FIRST, Event::Part(0))]),
+        Step::ToSend(FINAL_SENT),
+        Step::HearsInPlace(&[
+            (FINAL, Event::Part(0)),
+            (WELCOME, Event::Part(0)),
+            (READY, Event::Last(0)),
+        ]),
+        Step::Is(true, true, Some(b'I')),
+    ],
+];
+
+#[test]
+fn a_log_in_sends_the_same_where_it_is_taken_in_place(rt: HostRuntime) {
+    let alloc = rt.alloc();
+    for (row, steps) in LOGINS.iter().enumerate() {
+        plays(&rt, alloc, row, known(alloc), &[&STARTED, steps]);
     }
 }

@@ -2,7 +2,7 @@
 //! log-in, and again when it changes (the manual, "Asynchronous Operations").
 
 use crate::connections::connecting;
-use crate::steps::{Call, Fault, Step, takes};
+use crate::steps::{Call, Fault, Step, plays};
 use pgp_client::Event;
 
 /// A log-in without a password, and a setting that is changed by `SET TimeZone TO 'Europe/Paris'`.
@@ -68,8 +68,9 @@ static FULL: [Step; 21] = [
 /// Each by itself, and that the last report of a setting counts.
 #[test]
 fn settings_are_as_they_were_reported_last(rt: HostRuntime) {
+    let alloc = rt.alloc();
     for steps in [REPORTED.as_slice(), &NO_TEXTS, &FULL] {
-        let mut connection = connecting(rt.alloc(), None, true, 100_000);
-        takes(&rt, &mut connection, steps);
+        let connection = connecting(alloc, None, true, 100_000);
+        plays(&rt, alloc, steps.len(), connection, &[steps]);
     }
 }

@@ -3,10 +3,12 @@
 
 use crate::binding::{Element, bind};
 use crate::checks::same_at;
+use bytes::BytesMut;
 use pgp_base::Error;
 use pgp_client::{Event, Refusal};
 use pgp_message::Message;
 use pgp_session::{BackendKey, Connection, ConnectionError};
+use std::alloc::Global;
 use std::process::Abort;
 
 /// A call of a connection.
@@ -68,25 +70,49 @@ pub(crate) enum Step {
     /// Each of these messages comes in two pieces, and is handed out, or read in place.
     Hears(&'static [Answer]),
     HearsInPlace(&'static [Answer]),
+    /// All of them come, and are read in place and handed out in turn, in place the first (0) or the second (1).
+    TakesTurns(&'static [Answer], usize),
     /// Whether the message that was taken last is there to be read, and its first column, if it is a row of one.
     Reads(bool, Option<&'static [u8]>),
     /// Whether the log-in is over, whether nothing is awaited, and the status in the last ReadyForQuery.
     Is(bool, bool, Option<u8>),
     Key(Option<BackendKey>),
+    /// The request to cancel, which has no bytes where there is no key.
+    Cancels(&'static [u8]),
     /// The value of the setting of this name that the server reported last, and its length.
     Setting(&'static [u8], Option<&'static [u8]>),
     SettingLen(&'static [u8], usize),
 }
 
+/// Takes all steps of some tables, which are a row of their own. It owns the connection, since a function that does so is dear to prove.
+pub(crate) fn plays(
+    rt: &impl Abort,
+    alloc: Global,
+    row: usize,
+    mut connection: Connection<'_>,
+    tables: &[&[Step]],
+) {
+    for steps in tables {
+        takes(rt, alloc, row, &mut connection, steps);
+    }
+}
+
 /// Takes all steps of a table.
-pub(crate) fn takes(rt: &impl Abort, connection: &mut Connection<'_>, steps: &[Step]) {
+fn takes(
+    rt: &impl Abort,
+    alloc: Global,
+    row: usize,
+    connection: &mut Connection<'_>,
+    steps: &[Step],
+) {
     for (place, step) in steps.iter().enumerate() {
-        same_at(rt, place, is_taken(connection, step), true);
+        let taken = is_taken(alloc, connection, step);
+        same_at(rt, row, (place, taken), (place, true));
     }
 }
 
 /// Whether a step comes to what it has to.
-pub(crate) fn is_taken(connection: &mut Connection<'_>, step: &Step) -> bool {
+fn is_taken(alloc: Global, connection: &mut Connection<'_>, step: &Step) -> bool {
     match step {
         Step::Makes(call) => is_made(connection, *call),
         Step::Rejects(call) => !is_made(connection, *call),
@@ -97,19 +123,17 @@ pub(crate) fn is_taken(connection: &mut Connection<'_>, step: &Step) -> bool {
         Step::Feeds(bytes) => connection.feed(bytes).is_ok(),
         Step::FeedsTimes(times, bytes) => is_fed(connection, *times, bytes),
         Step::TakesNoBytes => connection.feed(b"x").is_err(),
-        Step::Next(event) => taken(connection, false) == Ok(*event),
-        Step::Advances(event) => taken(connection, true) == Ok(*event),
+        Step::Next(event) => is_next(connection, *event, false),
+        Step::Advances(event) => is_next(connection, *event, true),
         Step::Ends(fault) => is_ended(connection, *fault, false),
         Step::EndsInPlace(fault) => is_ended(connection, *fault, true),
         Step::Hears(answers) => are_heard(connection, answers, false),
         Step::HearsInPlace(answers) => are_heard(connection, answers, true),
         Step::Reads(is_there, value) => is_read(connection, *is_there, *value),
-        Step::Is(logged_in, idle, status) => {
-            connection.is_logged_in() == *logged_in
-                && connection.is_idle() == *idle
-                && connection.status() == *status
-        }
+        Step::TakesTurns(answers, first) => are_in_turns(connection, answers, *first),
+        Step::Is(logged_in, idle, status) => is_so(connection, *logged_in, *idle, *status),
         Step::Key(key) => connection.backend_key() == *key,
+        Step::Cancels(request) => is_cancelled(alloc, connection, request),
         Step::Setting(name, value) => connection.setting(name) == *value,
         Step::SettingLen(name, len) => setting_len(connection, name) == Some(*len),
     }
@@ -128,6 +152,24 @@ fn is_made(connection: &mut Connection<'_>, call: Call) -> bool {
         Call::Terminate => return connection.terminate().is_ok(),
     };
     made.is_ok()
+}
+
+/// Whether this is the request to cancel; it has no bytes where there is no key.
+fn is_cancelled(alloc: Global, connection: &Connection<'_>, wanted: &[u8]) -> bool {
+    let mut out = BytesMut::new(alloc);
+    cancels(connection, &mut out, wanted)
+}
+
+fn cancels(connection: &Connection<'_>, out: &mut BytesMut, wanted: &[u8]) -> bool {
+    let made = connection.cancel_request(out).is_ok();
+    made != wanted.is_empty() && out.as_slice() == wanted
+}
+
+/// Whether the log-in is over, whether nothing is awaited, and the status.
+fn is_so(connection: &Connection<'_>, logged_in: bool, idle: bool, status: Option<u8>) -> bool {
+    connection.is_logged_in() == logged_in
+        && connection.is_idle() == idle
+        && connection.status() == status
 }
 
 /// All that is to be sent is sent.
@@ -159,11 +201,7 @@ fn is_fed(connection: &mut Connection<'_>, times: u32, bytes: &[u8]) -> bool {
 }
 
 /// Whether each of these messages, which comes in two pieces, is what it has to be to the requests.
-pub(crate) fn are_heard(
-    connection: &mut Connection<'_>,
-    answers: &[Answer],
-    in_place: bool,
-) -> bool {
+fn are_heard(connection: &mut Connection<'_>, answers: &[Answer], in_place: bool) -> bool {
     for (bytes, event) in answers {
         let (front, rest) = bytes.split_at(bytes.len().min(3));
         if !comes(connection, front, None, in_place)
@@ -183,15 +221,41 @@ fn comes(
     in_place: bool,
 ) -> bool {
     connection.feed(bytes).is_ok()
-        && taken(connection, in_place) == Ok(event)
+        && is_next(connection, event, in_place)
         && is_there(connection) == (in_place && event.is_some())
 }
 
+/// Whether all of these come.
+fn are_fed(connection: &mut Connection<'_>, answers: &[Answer]) -> bool {
+    for (bytes, _) in answers {
+        if connection.feed(bytes).is_err() {
+            return false;
+        }
+    }
+    true
+}
+
+/// Whether all of these come, and are read in place and handed out in turn.
+fn are_in_turns(connection: &mut Connection<'_>, answers: &[Answer], first: usize) -> bool {
+    if !are_fed(connection, answers) {
+        return false;
+    }
+    for (place, (_, event)) in answers.iter().enumerate() {
+        let in_place = place % 2 == first;
+        if !is_next(connection, Some(*event), in_place) || is_there(connection) != in_place {
+            return false;
+        }
+    }
+    true
+}
+
+/// Whether this is the next event.
+fn is_next(connection: &mut Connection<'_>, event: Option<Event>, in_place: bool) -> bool {
+    taken(connection, in_place) == Ok(event)
+}
+
 /// The event of the next message, which is read in place or handed out; `None` where there is none.
-pub(crate) fn taken(
-    connection: &mut Connection<'_>,
-    in_place: bool,
-) -> Result<Option<Event>, Fault> {
+fn taken(connection: &mut Connection<'_>, in_place: bool) -> Result<Option<Event>, Fault> {
     if in_place {
         return match connection.advance() {
             Ok(event) => Ok(event),
@@ -239,7 +303,7 @@ fn is_ended(connection: &mut Connection<'_>, fault: Fault, in_place: bool) -> bo
 }
 
 /// Whether the message that was taken last is there to be read.
-pub(crate) fn is_there(connection: &Connection<'_>) -> bool {
+fn is_there(connection: &Connection<'_>) -> bool {
     match connection.message() {
         Some(message) => {
             drop(message);
