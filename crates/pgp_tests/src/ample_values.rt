@@ -41,17 +41,16 @@ fn the_longest_numbers_are_written_and_shown(rt: HostRuntime) {
     holds(&rt, is_shown(rt.alloc(), sent, &small));
 }
 
-// How many of the fields are the number 42.
+// How many of the first 20,000 fields are the number 42, up to one that isn't.
 fn fields_of_42(bytes: &[u8]) -> Result<usize, Error> {
     let mut fields = record_from_sql(bytes)?;
-    let mut count = 0usize;
-    for _ in 0..20_000 {
+    for count in 0..20_000usize {
         match fields.next()? {
-            Some((23, Some(b"\0\0\0\x2a"))) => count = count.saturating_add(1),
-            _ => break,
+            Some((23, Some(value))) if value == b"\0\0\0\x2a" => {}
+            _ => return Ok(count),
         }
     }
-    Ok(count)
+    Ok(20_000)
 }
 
 #[test]
