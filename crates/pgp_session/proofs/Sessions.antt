@@ -9,7 +9,7 @@ use Rattle.std.proofs.lemmas.List.Elements.{filter-append}
 use Rattle.std.proofs.lemmas.Grind.{flat_map-append}
 use Rattle.pgp_base.specs.declared.error.Error.{Error}
 use Rattle.pgp_auth.specs.Md5Text.{md5_answer}
-use Rattle.pgp_auth.specs.ScramClient.{Client, Answers, Completes}
+use Rattle.pgp_auth.specs.ScramClient.{Client, Answers, Completes, message_of}
 use Rattle.pgp_client.specs.Flow.{Belong}
 use Rattle.pgp_client.specs.Kinds.{kind_of, request_of}
 use Rattle.pgp_client.specs.Taking.{is_copying, taken}
@@ -24,12 +24,12 @@ use Rattle.pgp_frontend.specs.Reading.{IsNamed}
 use Rattle.pgp_frontend.specs.ClientRun.{ClientRun, MayCome, is_opened, is_startup, kinds_of}
 use Rattle.pgp_frontend.specs.Payload.{bytes_of, tag_of}
 use Rattle.pgp_frontend.proofs.ClientRuns.{each_push, run_more, opened_more, nothing}
-use Rattle.pgp_message.specs.BackendMessage.{Message, Authentication, AuthenticationOk, AuthenticationSasl, AuthenticationSaslContinue, AuthenticationSaslFinal}
+use Rattle.pgp_message.specs.BackendMessage.{Message, Authentication, AuthenticationOk, AuthenticationCleartextPassword, AuthenticationMd5Password, AuthenticationSasl, AuthenticationSaslContinue, AuthenticationSaslFinal}
 use Rattle.pgp_message.specs.Stream.{Frames, TakesFrame}
 use Rattle.pgp_session.specs.Connection.{HasStarted, Sent, Shown, Took, Wrote, asked_of, begun, in_phase, is_end, is_logged_in, logged_in_at, may_send, with_incoming}
-use Rattle.pgp_session.specs.Login.{Added, AddsReply, Asking, Sasl, First, Final, Welcome, Login, LogsOn, NothingAsked, ByCleartext, ByMd5, ScramBegins, ScramGoesOn, ScramEnds, Welcomed, Trusted, Ways, asking}
+use Rattle.pgp_session.specs.Login.{Added, AddsReply, Asking, Cleartext, Md5, Sasl, First, Final, Welcome, Login, LogsOn, NothingAsked, ByCleartext, ByMd5, ScramBegins, ScramGoesOn, ScramEnds, Welcomed, Trusted, Ways, asking}
 use Rattle.pgp_session.specs.ScramLogin.{Offers, ReceivedAmong, NoneWanted, OneReceived, OtherReceived, initial, offer, first_text, final_text, welcome}
-use Rattle.pgp_session.specs.Session.{Admitted, ByNone, ByPassword, ByHash, BySignature, Follows, History, IsAllowed, IsOpenedAt, Known, Plays, Begins, Writes, Hears, and_fed, and_observed, and_sent, and_wrote, good, is_secret, nothing as no_history, requests_in, requests_of, secrets_of, turns_of}
+use Rattle.pgp_session.specs.Session.{Admitted, ByNone, ByPassword, ByHash, BySignature, Follows, History, IsAllowed, IsOpenedAt, Known, Plays, Begins, Writes, Hears, and_fed, and_observed, and_sent, and_wrote, asks_hash, asks_password, good, is_secret, nothing as no_history, requests_in, requests_of, secrets_of, turns_of}
 use Rattle.pgp_session.specs.Settings.{Said, heard, nothing_said, value_of}
 use Rattle.pgp_session.proofs.Reported.{said_more, states_follow, values_follow}
 use Rattle.pgp_session.specs.declared.connection.ConnectionPhase.{ConnectionPhase}
@@ -218,6 +218,8 @@ module _ (ways : Ways) where
 -- ---- by which way a client is logged in
 
 IsAskedBy : Message → Asking → Type 0
+IsAskedBy m Cleartext = m ≡ asks_password
+IsAskedBy m (Md5 salt) = m ≡ asks_hash salt
 IsAskedBy m (Sasl mechanisms) = m ≡ offer mechanisms
 IsAskedBy m (First text) = m ≡ first_text text
 IsAskedBy m (Final text) = m ≡ final_text text
@@ -226,6 +228,8 @@ IsAskedBy m asked = Unit {0}
 
 asked_by : (m : Message) → IsAskedBy m (asking m)
 unfolding IsAskedBy
+asked_by (Authentication AuthenticationCleartextPassword) = refl
+asked_by (Authentication (AuthenticationMd5Password salt)) = refl
 asked_by (Authentication (AuthenticationSasl mechanisms)) = refl
 asked_by (Authentication (AuthenticationSaslContinue text)) = refl
 asked_by (Authentication (AuthenticationSaslFinal text)) = refl
@@ -238,6 +242,7 @@ record Offered (ways : Ways) (observed : List Message) (gave : List ClientMessag
   from : ways.scram ≡ Some x
   offers : Offers mechanisms
   received : ReceivedAmong (offer mechanisms ∷ []) observed
+  says : message_of x.state ≡ Some mine
   given : gave ≡ initial mine ∷ []
 
 record Answered (ways : Ways) (observed : List Message) (gave : List ClientMessage) (x y : Client) : Type 0 where
@@ -249,6 +254,8 @@ record Answered (ways : Ways) (observed : List Message) (gave : List ClientMessa
   offers : Offers mechanisms
   received : ReceivedAmong (offer mechanisms ∷ first_text first ∷ []) observed
   answers : Answers x first y
+  says : message_of x.state ≡ Some mine
+  proves : message_of y.state ≡ Some proof
   given : gave ≡ initial mine ∷ SaslResponse proof ∷ []
 
 record Verified (ways : Ways) (observed : List Message) (gave : List ClientMessage) : Type 0 where
@@ -263,14 +270,22 @@ record Verified (ways : Ways) (observed : List Message) (gave : List ClientMessa
   offers : Offers mechanisms
   received : ReceivedAmong (offer mechanisms ∷ first_text first ∷ final_text final ∷ []) observed
   completes : Completes start first final after
+  says : message_of start.state ≡ Some mine
+  proves : message_of completes.between.state ≡ Some proof
   given : gave ≡ initial mine ∷ SaslResponse proof ∷ []
+
+-- the last answer was given, and the welcome is awaited
+data Awaits (ways : Ways) (observed : List Message) : List ClientMessage → Type 0 where
+  GavePassword : (password : List ℕ) → ways.cleartext ≡ Some password → ReceivedAmong (asks_password ∷ []) observed → Awaits ways observed (PasswordMessage password ∷ [])
+  GaveHash : (who : List ℕ × List ℕ) (salt : List ℕ) → ways.md5 ≡ Some who → ReceivedAmong (asks_hash salt ∷ []) observed → Awaits ways observed (PasswordMessage (md5_answer who.0 who.1 salt) ∷ [])
+  SawSignature : {gave : List ClientMessage} → Verified ways observed gave → Awaits ways observed gave
 
 -- what a log-in's phase says of the messages that came and of its own that were written, where it has this exchange
 abbrev Stands : Ways → List Message → List ClientMessage → LoginPhase → Option Client → Type 0
 Stands ways observed gave AwaitsOffer s = (s ≡ ways.scram) × (gave ≡ [])
 Stands ways observed gave AwaitsFirst s = (x : Client) × (s ≡ Some x) × Offered ways observed gave x
 Stands ways observed gave AwaitsFinal s = (x : Client) × (y : Client) × (s ≡ Some y) × Answered ways observed gave x y
-Stands ways observed gave AwaitsOk s = Admitted ways observed gave ⊎ Verified ways observed gave
+Stands ways observed gave AwaitsOk s = Awaits ways observed gave
 Stands ways observed gave Done s = Admitted ways observed gave
 Stands ways observed gave Over s = Unit {0}
 
@@ -300,19 +315,16 @@ secrets_still l m plain = filter-append is_secret l (m ∷ []) ∙ ap (λ ms. se
 
 module _ (ways : Ways) (observed : List Message) (gave : List ClientMessage) (m : Message) where
   admitted_more : {given : List ClientMessage} → Admitted ways observed given → Admitted ways (observed ++ m ∷ []) given
-  admitted_more (ByNone e) = ByNone e
-  admitted_more (ByPassword password e) = ByPassword password e
-  admitted_more (ByHash who salt e) = ByHash who salt e
+  admitted_more (ByNone e r) = ByNone e (OtherReceived m r)
+  admitted_more (ByPassword password e r) = ByPassword password e (OtherReceived m r)
+  admitted_more (ByHash who salt e r) = ByHash who salt e (OtherReceived m r)
   admitted_more (BySignature x mine proof e s) =
-      BySignature x mine proof e (record { mechanisms = s.mechanisms; first = s.first; final = s.final; after = s.after; offers = s.offers; received = OtherReceived m s.received; completes = s.completes })
+      BySignature x mine proof e (record { mechanisms = s.mechanisms; first = s.first; final = s.final; after = s.after; offers = s.offers; received = OtherReceived m s.received; completes = s.completes; says = s.says; proves = s.proves })
 
-  stands_more : (p : LoginPhase) (s : Option Client) → Stands ways observed gave p s → Stands ways (observed ++ m ∷ []) gave p s
-  stands_more AwaitsOffer s h = h
-  stands_more AwaitsFirst s h = (h.0, h.1, record { mechanisms = h.2.mechanisms; mine = h.2.mine; from = h.2.from; offers = h.2.offers; received = OtherReceived m h.2.received; given = h.2.given })
-  stands_more AwaitsFinal s h =
-      (h.0, h.1, h.2, record { mechanisms = h.3.mechanisms; first = h.3.first; mine = h.3.mine; proof = h.3.proof; from = h.3.from; offers = h.3.offers; received = OtherReceived m h.3.received; answers = h.3.answers; given = h.3.given })
-  stands_more AwaitsOk s (inl a) = inl (admitted_more a)
-  stands_more AwaitsOk s (inr v) = inr (record {
+  awaits_more : {given : List ClientMessage} → Awaits ways observed given → Awaits ways (observed ++ m ∷ []) given
+  awaits_more (GavePassword password e r) = GavePassword password e (OtherReceived m r)
+  awaits_more (GaveHash who salt e r) = GaveHash who salt e (OtherReceived m r)
+  awaits_more (SawSignature v) = SawSignature (record {
     start = v.start;
     after = v.after;
     mechanisms = v.mechanisms;
@@ -324,8 +336,34 @@ module _ (ways : Ways) (observed : List Message) (gave : List ClientMessage) (m 
     offers = v.offers;
     received = OtherReceived m v.received;
     completes = v.completes;
+    says = v.says;
+    proves = v.proves;
     given = v.given;
   })
+
+  stands_more : (p : LoginPhase) (s : Option Client) → Stands ways observed gave p s → Stands ways (observed ++ m ∷ []) gave p s
+  stands_more AwaitsOffer s h = h
+  stands_more AwaitsFirst s h =
+      (h.0, h.1, record { mechanisms = h.2.mechanisms; mine = h.2.mine; from = h.2.from; offers = h.2.offers; received = OtherReceived m h.2.received; says = h.2.says; given = h.2.given })
+  stands_more AwaitsFinal s h = (
+    h.0,
+    h.1,
+    h.2,
+    record {
+      mechanisms = h.3.mechanisms;
+      first = h.3.first;
+      mine = h.3.mine;
+      proof = h.3.proof;
+      from = h.3.from;
+      offers = h.3.offers;
+      received = OtherReceived m h.3.received;
+      answers = h.3.answers;
+      says = h.3.says;
+      proves = h.3.proves;
+      given = h.3.given;
+    },
+  )
+  stands_more AwaitsOk s h = awaits_more h
   stands_more Done s h = admitted_more h
   stands_more Over s h = tt
 
@@ -342,30 +380,43 @@ module _ (ways : Ways) (observed : List Message) (gave : List ClientMessage) (m 
   alone : (x : ClientMessage) → gave ≡ [] → gave ++ x ∷ [] ≡ x ∷ []
   alone x e = ap (λ ms. ms ++ x ∷ []) e
 
-  admitted_by : (given : List ClientMessage) (all : List ClientMessage) → all ≡ given → Admitted ways (observed ++ m ∷ []) given → Admitted ways (observed ++ m ∷ []) all
-  admitted_by given all e a = subst (λ ms. Admitted ways (observed ++ m ∷ []) ms) (sym e) a
-
-  signs : m ≡ welcome → Admitted ways observed gave ⊎ Verified ways observed gave → Admitted ways (observed ++ m ∷ []) gave
-  signs e (inl a) = admitted_more a
-  signs e (inr v) = admitted_by (initial v.mine ∷ SaslResponse v.proof ∷ []) gave v.given
-      (BySignature v.start v.mine v.proof v.from (record { mechanisms = v.mechanisms; first = v.first; final = v.final; after = v.after; offers = v.offers; received = received_more welcome e v.received; completes = v.completes }))
+  signs : {given : List ClientMessage} → m ≡ welcome → Awaits ways observed given → Admitted ways (observed ++ m ∷ []) given
+  signs e (GavePassword password is r) = ByPassword password is (received_more welcome e r)
+  signs e (GaveHash who salt is r) = ByHash who salt is (received_more welcome e r)
+  signs e (SawSignature v) = subst (λ ms. Admitted ways (observed ++ m ∷ []) ms) (sym v.given) (BySignature v.start v.mine v.proof v.from (record {
+    mechanisms = v.mechanisms;
+    first = v.first;
+    final = v.final;
+    after = v.after;
+    offers = v.offers;
+    received = received_more welcome e v.received;
+    completes = v.completes;
+    says = v.says;
+    proves = v.proves;
+  }))
 
   step : (asked : Asking) (reply : Option ClientMessage) (l after : Login) → IsAskedBy m asked → LogsOn asked reply l after → IsAt ways observed gave l → IsAt ways (observed ++ m ∷ []) (and_reply reply gave) after
   unfolding IsAskedBy
   step asked reply l after is NothingAsked i = record { md5 = i.md5; cleartext = i.cleartext; none = i.none; stands = stands_more l.phase l.ways.scram i.stands }
-  step asked reply l after is (ByCleartext password p e) i =
-      let x = PasswordMessage password in
-      record { md5 = i.md5; cleartext = i.cleartext; none = i.none; stands = inl (admitted_by (x ∷ []) (gave ++ x ∷ []) (alone x (at l AwaitsOffer p i).1) (ByPassword password (sym i.cleartext ∙ e))) }
-  step asked reply l after is (ByMd5 {salt = salt} who p e) i =
-      let x = PasswordMessage (md5_answer who.0 who.1 salt) in
-      record { md5 = i.md5; cleartext = i.cleartext; none = i.none; stands = inl (admitted_by (x ∷ []) (gave ++ x ∷ []) (alone x (at l AwaitsOffer p i).1) (ByHash who salt (sym i.md5 ∙ e))) }
+  step asked reply l after is (ByCleartext password p e) i = record {
+    md5 = i.md5;
+    cleartext = i.cleartext;
+    none = i.none;
+    stands = subst (λ ms. Awaits ways (observed ++ m ∷ []) ms) (sym (alone (PasswordMessage password) (at l AwaitsOffer p i).1)) (GavePassword password (sym i.cleartext ∙ e) (received_more asks_password is NoneWanted));
+  }
+  step asked reply l after is (ByMd5 {salt = salt} who p e) i = record {
+    md5 = i.md5;
+    cleartext = i.cleartext;
+    none = i.none;
+    stands = subst (λ ms. Awaits ways (observed ++ m ∷ []) ms) (sym (alone (PasswordMessage (md5_answer who.0 who.1 salt)) (at l AwaitsOffer p i).1)) (GaveHash who salt (sym i.md5 ∙ e) (received_more (asks_hash salt) is NoneWanted));
+  }
   step asked reply l after is (ScramBegins {mechanisms = mechanisms} x text p e o f) i =
       let st = at l AwaitsOffer p i in
       record {
         md5 = i.md5;
         cleartext = i.cleartext;
         none = i.none;
-        stands = (x, e, record { mechanisms = mechanisms; mine = text; from = sym st.0 ∙ e; offers = o; received = received_more (offer mechanisms) is NoneWanted; given = alone (initial text) st.1 });
+        stands = (x, e, record { mechanisms = mechanisms; mine = text; from = sym st.0 ∙ e; offers = o; received = received_more (offer mechanisms) is NoneWanted; says = f; given = alone (initial text) st.1 });
       }
   step asked reply l after is (ScramGoesOn {text = text} x y answer p e a f) i =
       let st = at l AwaitsFirst p i in
@@ -387,6 +438,8 @@ module _ (ways : Ways) (observed : List Message) (gave : List ClientMessage) (m 
             offers = st.2.offers;
             received = received_more (first_text text) is st.2.received;
             answers = a;
+            says = subst (λ (c : Client). message_of c.state ≡ Some st.2.mine) same st.2.says;
+            proves = f;
             given = ap (λ ms. ms ++ SaslResponse answer ∷ []) st.2.given;
           },
         );
@@ -398,7 +451,7 @@ module _ (ways : Ways) (observed : List Message) (gave : List ClientMessage) (m 
         md5 = i.md5;
         cleartext = i.cleartext;
         none = i.none;
-        stands = inr (record {
+        stands = SawSignature (record {
           start = st.0;
           after = y;
           mechanisms = st.3.mechanisms;
@@ -410,11 +463,18 @@ module _ (ways : Ways) (observed : List Message) (gave : List ClientMessage) (m 
           offers = st.3.offers;
           received = received_more (final_text text) is st.3.received;
           completes = record { between = x; answers = subst (λ (c : Client). Answers st.0 st.3.first c) same st.3.answers; finished = finished };
+          says = st.3.says;
+          proves = subst (λ (c : Client). message_of c.state ≡ Some st.3.proof) same st.3.proves;
           given = st.3.given;
         });
       }
   step asked reply l after is (Welcomed p) i = record { md5 = i.md5; cleartext = i.cleartext; none = i.none; stands = signs is (at l AwaitsOk p i) }
-  step asked reply l after is (Trusted p e) i = record { md5 = i.md5; cleartext = i.cleartext; none = i.none; stands = admitted_by [] gave (at l AwaitsOffer p i).1 (ByNone (sym i.none ∙ e)) }
+  step asked reply l after is (Trusted p e) i = record {
+    md5 = i.md5;
+    cleartext = i.cleartext;
+    none = i.none;
+    stands = subst (λ ms. Admitted ways (observed ++ m ∷ []) ms) (sym (at l AwaitsOffer p i).1) (ByNone (sym i.none ∙ e) (received_more welcome is NoneWanted));
+  }
 
   open_allowed : (x : ClientMessage) → is_secret x ≡ false → IsAllowed ways x
   open_allowed (PasswordMessage text) e = absurd cc
