@@ -15,7 +15,7 @@ use Rattle.pgp_client.specs.declared.request.Asked.{Asked}
 use Rattle.pgp_client.specs.declared.request.Request.{Request}
 use Rattle.pgp_frontend.specs.ClientMessage.{ClientMessage, PasswordMessage, SaslInitialResponse, SaslResponse}
 use Rattle.pgp_frontend.specs.ClientRun.{ClientRun, is_opened, kinds_of}
-use Rattle.pgp_message.specs.BackendMessage.{Message}
+use Rattle.pgp_message.specs.BackendMessage.{Message, Authentication, AuthenticationCleartextPassword, AuthenticationMd5Password}
 use Rattle.pgp_message.specs.Stream.{Frames}
 use Rattle.pgp_session.specs.Login.{Login, LogsOn, Ways, asking}
 use Rattle.pgp_session.specs.ScramLogin.{Offers, ReceivedAmong, initial, offer, first_text, final_text, welcome}
@@ -106,9 +106,16 @@ requests_in rs = map (λ (a : Asked). a.request) rs
 abbrev pub secrets_of : List ClientMessage → List ClientMessage
 secrets_of ms = filter is_secret ms
 
+-- the messages by which a server asks for a password in clear text, and for its hash with a salt
+abbrev pub asks_password : Message
+asks_password = Authentication AuthenticationCleartextPassword
+
+abbrev pub asks_hash : List ℕ → Message
+asks_hash salt = Authentication (AuthenticationMd5Password salt)
+
 -- The server showed that it holds the verifier of the exchange's password: its offer, its first text, its final text and its welcome came in
--- this order, and the texts complete the exchange.
-pub record Signed (start : Client) (observed : List Message) : Type 0 where
+-- this order, the texts complete the exchange, and these two are what the exchange said, at first and to the server's first text.
+pub record Signed (start : Client) (mine proof : List ℕ) (observed : List Message) : Type 0 where
   pub mechanisms : List ℕ
   pub first : List ℕ
   pub final : List ℕ
@@ -116,14 +123,16 @@ pub record Signed (start : Client) (observed : List Message) : Type 0 where
   pub offers : Offers start mechanisms
   pub received : ReceivedAmong (offer mechanisms ∷ first_text first ∷ final_text final ∷ welcome ∷ []) observed
   pub completes : Completes start first final after
+  pub says : message_of start.state ≡ Some mine
+  pub proves : message_of completes.between.state ≡ Some proof
 
--- Why a client is logged in that wrote these messages of a log-in and no others: by a way that is admitted, with its one answer, if it has one; and where
--- an exchange of SCRAM-SHA-256 was begun, by that alone, and only where the server's signature was shown.
+-- Why a client is logged in that wrote these messages of a log-in and no others: by a way that is admitted, with its one answer, if it has one, to the server that
+-- asked for it, and then the server's welcome; and where an exchange of SCRAM-SHA-256 was begun, by that alone, and only where the server's signature was shown.
 pub data Admitted (ways : Ways) (observed : List Message) : List ClientMessage → Type 0 where
-  ByNone : ways.none ≡ true → Admitted ways observed []
-  ByPassword : (password : List ℕ) → ways.cleartext ≡ Some password → Admitted ways observed (PasswordMessage password ∷ [])
-  ByHash : (who : List ℕ × List ℕ) (salt : List ℕ) → ways.md5 ≡ Some who → Admitted ways observed (PasswordMessage (md5_answer who.0 who.1 salt) ∷ [])
-  BySignature : (x : Client) (mine proof : List ℕ) → ways.scram ≡ Some x → Signed x observed → Admitted ways observed (initial mine ∷ SaslResponse proof ∷ [])
+  ByNone : ways.none ≡ true → ReceivedAmong (welcome ∷ []) observed → Admitted ways observed []
+  ByPassword : (password : List ℕ) → ways.cleartext ≡ Some password → ReceivedAmong (asks_password ∷ welcome ∷ []) observed → Admitted ways observed (PasswordMessage password ∷ [])
+  ByHash : (who : List ℕ × List ℕ) (salt : List ℕ) → ways.md5 ≡ Some who → ReceivedAmong (asks_hash salt ∷ welcome ∷ []) observed → Admitted ways observed (PasswordMessage (md5_answer who.0 who.1 salt) ∷ [])
+  BySignature : (x : Client) (mine proof : List ℕ) → ways.scram ≡ Some x → Signed x mine proof observed → Admitted ways observed (initial mine ∷ SaslResponse proof ∷ [])
 
 -- What a message of a log-in gives away: the password in clear text, its hash, or what the exchange says, at first or after a text of the server; each where that
 -- way is admitted.
