@@ -3,6 +3,7 @@
 
 use crate::checks::{holds, same_at};
 use crate::connections::by_password;
+use crate::dice::Dice;
 use bytes::{Bytes, BytesMut};
 use pgp_auth::authentication::sasl::{ChannelOffer, ScramServer, StoredVerifier, is_nonce};
 use pgp_client::Event;
@@ -29,25 +30,6 @@ const COLUMN: Column<'static> = Column {
     type_modifier: -1,
     format: 0,
 };
-
-/// A fraction of the numbers that follow from a seed (the linear congruence of Knuth's MMIX).
-#[derive(Drop)]
-struct Dice(u64);
-
-impl Dice {
-    /// One of the numbers below `count`, which is no more than 2^16.
-    fn below(&mut self, count: u64) -> u64 {
-        self.0 = self
-            .0
-            .wrapping_mul(6_364_136_223_846_793_005)
-            .wrapping_add(1_442_695_040_888_963_407);
-        let high = self.0 >> 48;
-        match high.checked_rem(count) {
-            Some(number) => number,
-            None => 0,
-        }
-    }
-}
 
 /// What the server's end has done: whether it skips what comes before the next Sync.
 #[derive(Drop)]
@@ -220,7 +202,7 @@ fn series(connection: &mut Connection<'_>, text: &str, portal: &str) -> Option<u
 }
 
 /// What came of a session: its rows, those that carry another number than their request's, and errors.
-#[derive(Debug, Clone, Copy, PartialEq, Eq)]
+#[derive(Drop)]
 struct Tally {
     rows: u64,
     astray: u64,
@@ -371,9 +353,19 @@ fn is_denied(
 fn has_met(rt: &HostRuntime, password: &[u8], seed: Option<u64>, tally: &mut Tally) -> bool {
     let mut connection = by_password(rt.alloc(), password, NONCE);
     let mut server = Server::new();
+    is_met(rt, &mut connection, &mut server, seed, tally)
+}
+
+fn is_met(
+    rt: &HostRuntime,
+    connection: &mut Connection<'_>,
+    server: &mut Server,
+    seed: Option<u64>,
+    tally: &mut Tally,
+) -> bool {
     match seed {
-        Some(seed) => is_played(rt, &mut connection, &mut server, seed, tally),
-        None => is_denied(rt, &mut connection, &mut server, tally),
+        Some(seed) => is_played(rt, connection, server, seed, tally),
+        None => is_denied(rt, connection, server, tally),
     }
 }
 

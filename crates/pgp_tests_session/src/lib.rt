@@ -10,6 +10,8 @@ mod checks;
 #[cfg(test)]
 mod connections;
 #[cfg(test)]
+mod dice;
+#[cfg(test)]
 mod ends;
 #[cfg(test)]
 mod in_place;

@@ -19,10 +19,10 @@ const BOUND_SENT: &[u8] =
 static STARTED: [Step; 2] = [Step::Makes(Call::Start), Step::Sent];
 
 /// Whether the exchange is bound to the channel, the server's offer, and what is sent after it; a connection ends whose offer lacks the mechanism.
-static OFFERS: [(bool, [Step; 3]); 6] = [
+static OFFERS: [(bool, &[Step]); 6] = [
     (
         true,
-        [
+        &[
             Step::Feeds(OFFER),
             Step::Next(Some(Event::Part(0))),
             Step::ToSend(BOUND_SENT),
@@ -30,7 +30,7 @@ static OFFERS: [(bool, [Step; 3]); 6] = [
     ),
     (
         true,
-        [
+        &[
             Step::Feeds(BOUND),
             Step::Next(Some(Event::Part(0))),
             Step::ToSend(BOUND_SENT),
@@ -38,7 +38,7 @@ static OFFERS: [(bool, [Step; 3]); 6] = [
     ),
     (
         true,
-        [
+        &[
             Step::Feeds(UNBOUND),
             Step::Ends(Fault::NotOffered),
             Step::ToSend(b""),
@@ -46,7 +46,7 @@ static OFFERS: [(bool, [Step; 3]); 6] = [
     ),
     (
         false,
-        [
+        &[
             Step::Feeds(OFFER),
             Step::Next(Some(Event::Part(0))),
             Step::ToSend(UNBOUND_SENT),
@@ -54,7 +54,7 @@ static OFFERS: [(bool, [Step; 3]); 6] = [
     ),
     (
         false,
-        [
+        &[
             Step::Feeds(BOUND),
             Step::Ends(Fault::NotOffered),
             Step::ToSend(b""),
@@ -62,7 +62,7 @@ static OFFERS: [(bool, [Step; 3]); 6] = [
     ),
     (
         false,
-        [
+        &[
             Step::Feeds(UNBOUND),
             Step::Next(Some(Event::Part(0))),
             Step::ToSend(UNBOUND_SENT),

@@ -5,6 +5,7 @@ use Side::{Client, Server};
 use pgp_frontend_read::{ClientMessages, PasswordKind};
 use pgp_message::Messages;
 use pgp_session::pooler::Session;
+use std::process::Abort;
 
 /// Who sent the message.
 #[derive(Clone, Copy)]
@@ -67,17 +68,20 @@ static CALL: [Row; 3] = [
     (Server, b"Z\0\0\0\x05I", true),
 ];
 
-/// Takes note of a message; false where there is none, or it has no place.
-fn notes(session: &mut Session, side: Side, bytes: &[u8], opened: bool) -> bool {
+/// Takes note of a message; false where there is none, or it has no place. A startup packet has no tag: it begins with a 0 byte of its length.
+fn notes(session: &mut Session, side: Side, bytes: &[u8]) -> bool {
     match side {
-        Client => match ClientMessages::resume(bytes, opened).next(PasswordKind::Password) {
-            Ok(Some(message)) => {
-                let noted = session.sent(&message).is_ok();
-                drop(message);
-                noted
+        Client => {
+            let opened = bytes.first() != Some(&0);
+            match ClientMessages::resume(bytes, opened).next(PasswordKind::Password) {
+                Ok(Some(message)) => {
+                    let noted = session.sent(&message).is_ok();
+                    drop(message);
+                    noted
+                }
+                _ => false,
             }
-            _ => false,
-        },
+        }
         Server => match Messages::new(bytes).next() {
             Ok(Some(message)) => {
                 let noted = session.received(&message).is_ok();
@@ -89,29 +93,29 @@ fn notes(session: &mut Session, side: Side, bytes: &[u8], opened: bool) -> bool 
     }
 }
 
+/// Takes note of the messages of a table, after which a byte of either side that isn't taken leaves the session busy.
+fn take(rt: &impl Abort, session: &mut Session, rows: &[Row]) {
+    for (place, (side, bytes, idle)) in rows.iter().enumerate() {
+        holds(rt, notes(session, *side, bytes));
+        same_at(rt, place, session.is_idle(b"", b""), *idle);
+    }
+    holds(rt, !session.is_idle(b"Q", b""));
+    holds(rt, !session.is_idle(b"", b"Z\0"));
+}
+
 #[test]
 fn a_session_is_idle_where_nothing_is_awaited(rt: HostRuntime) {
     let mut session = Session::new(rt.alloc());
-    let mut place = 0_usize;
     holds(&rt, !session.is_idle(b"", b""));
     for rows in [QUERIES.as_slice(), &SERIES, &FAILED, &COPY, &CALL] {
-        for (side, bytes, idle) in rows {
-            holds(&rt, notes(&mut session, *side, bytes, place > 0));
-            same_at(&rt, place, session.is_idle(b"", b""), *idle);
-            place = place.saturating_add(1);
-        }
-        holds(&rt, !session.is_idle(b"Q", b""));
-        holds(&rt, !session.is_idle(b"", b"Z\0"));
+        take(&rt, &mut session, rows);
     }
 }
 
 #[test]
 fn an_answer_that_nobody_awaits_ends_the_pooling(rt: HostRuntime) {
     let mut session = Session::new(rt.alloc());
-    for (place, (side, bytes, _)) in QUERIES.iter().enumerate() {
-        holds(&rt, notes(&mut session, *side, bytes, place > 0));
-    }
-    holds(&rt, session.is_idle(b"", b""));
-    holds(&rt, !notes(&mut session, Server, b"Z\0\0\0\x05I", true));
+    take(&rt, &mut session, &QUERIES);
+    holds(&rt, !notes(&mut session, Server, b"Z\0\0\0\x05I"));
     holds(&rt, !session.is_idle(b"", b""));
 }
