@@ -72,7 +72,9 @@ fn records_stand_in_an_array_in_a_record(rt: HostRuntime) {
     let mut buf = buffer(rt.alloc(), b"S\0\0\0\x04");
     let answer = record_values_to_sql(
         Some((RECORDS, [2, 3])),
-        |numbers: [i32; 2], buf: &mut BytesMut| put_records(numbers, buf),
+        |numbers: [i32; 2], buf: &mut BytesMut| -> Result<IsNull, BindError<BindError<Error>>>
+            ensures { KeepsValue result (items_held buf.entry.now.items) (items_held buf.exit.now.items) }
+        { put_records(numbers, buf) },
         &mut buf,
     );
     same(&rt, answer, Ok(()));
