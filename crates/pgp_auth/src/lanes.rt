@@ -19,8 +19,8 @@ fn xor_lanes(into: &mut [u8], other: &[u8], at: usize)
     both.copy_to_slice(&mut into[at..]);
 }
 
-// `into` xor `other`, byte by byte.
-pub(crate) fn xor_into(into: &mut [u8], other: &[u8])
+/// `into` xor `other`, byte by byte.
+pub fn xor_into(into: &mut [u8], other: &[u8])
     requires { length into.old ≡ length other.now }
     ensures { into.new ≡ xor_bytes into.old other.now }
 {

@@ -5,7 +5,7 @@
 pub mod authentication;
 pub mod escape;
 mod hmac;
-mod lanes;
+pub mod lanes;
 pub mod laws;
 mod md5_text;
 pub mod password;

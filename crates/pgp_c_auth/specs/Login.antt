@@ -1,6 +1,6 @@
 -- The log-in of a client for C, a request of the server at a time: what a caller keeps of it between the calls.
 -- PostgreSQL manual, "Message Flow"; "SASL Authentication"; RFC 5802, RFC 7677. The ways that are admitted are those of libpq's `require_auth`.
-use Rattle.std.specs.Prelude.{◌≡◌, ◌≢◌, ◌⊎◌, ℕ, List, bit_and, codes}
+use Rattle.std.specs.Prelude.{◌≡◌, ◌≢◌, ◌⊎◌, ℕ, Bool, true, false, List, bit_and, codes}
 use Rattle.pgp_auth.specs.ScramRefusal.{Verifies}
 use Rattle.pgp_c_auth.specs.Scram.{Start, AnswersWith}
 use Rattle.pgp_c_auth.specs.declared.login.PgpLogin.{PgpLogin}
@@ -60,10 +60,15 @@ pub data Step (ways : ℕ) (old : PgpLogin) : PgpLogin → Type 0 where
   -- the server lets the client in
   Welcome : (old.phase ≡ awaits_welcome) ⊎ ((old.phase ≡ awaits_request) × IsAdmitted ways by_none) → Step ways old (at_phase done old)
 
--- A log-in comes to this from its beginning.
-pub data Comes (ways : ℕ) : PgpLogin → Type 0 where
-  Begins : (l : PgpLogin) → l.phase ≡ awaits_request → Comes ways l
-  Goes : (old new : PgpLogin) → Comes ways old → Step ways old new → Comes ways new
+-- whether an exchange was begun, after this step too
+abbrev pub now_begun : {ways : ℕ} {old new : PgpLogin} → Bool → Step ways old new → Bool
+now_begun begun (Offer due admitted) = true
+now_begun begun step = begun
+
+-- A log-in comes to this from its beginning, with an exchange that was begun or without.
+pub data Comes (ways : ℕ) : (begun : Bool) → PgpLogin → Type 0 where
+  Begins : (l : PgpLogin) → l.phase ≡ awaits_request → Comes ways false l
+  Goes : (begun : Bool) (old new : PgpLogin) → Comes ways begun old → (step : Step ways old new) → Comes ways (now_begun begun step) new
 
 -- The server showed the signature of the password's verifier: the client answered its first text, and its final text shows what a server answers to that.
 pub record Signed : Type 0 where
@@ -75,12 +80,12 @@ pub record Signed : Type 0 where
   pub answers : AnswersWith start server_first signature answer
   pub verifies : Verifies signature server_final
 
--- Why a client is logged in: by a way that is admitted, and by SCRAM-SHA-256 only where the server's signature was shown.
-pub data LetIn (ways : ℕ) : Type 0 where
-  ByNone : IsAdmitted ways by_none → LetIn ways
-  ByCleartext : IsAdmitted ways by_cleartext → LetIn ways
-  ByMd5 : IsAdmitted ways by_md5 → LetIn ways
-  BySignature : IsAdmitted ways by_scram → Signed → LetIn ways
+-- Why a client is logged in: by a way that is admitted; and where an exchange was begun, by that alone, and only where the server's signature was shown.
+pub data LetIn (ways : ℕ) : (begun : Bool) → Type 0 where
+  ByNone : IsAdmitted ways by_none → LetIn ways false
+  ByCleartext : IsAdmitted ways by_cleartext → LetIn ways false
+  ByMd5 : IsAdmitted ways by_md5 → LetIn ways false
+  BySignature : IsAdmitted ways by_scram → Signed → LetIn ways true
 
 -- why a request for this way isn't answered: it isn't due, or the way isn't admitted
 abbrev pub Declined : ℕ → ℕ → ℕ → ℕ → Type 0

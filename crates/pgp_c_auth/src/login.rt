@@ -1,6 +1,6 @@
 //! The log-in of a client, a request of the server at a time. What stands between the calls is in the caller's memory.
 
-ghost use Rattle.std.specs.Prelude.{◌≡◌, ◌≢◌, ◌⊎◌, ℕ, length, [], true, false};
+ghost use Rattle.std.specs.Prelude.{◌≡◌, ◌≢◌, ◌⊎◌, ℕ, Bool, length, [], true, false};
 ghost use Rattle.pgp_auth.specs.Md5Text.{md5_answer};
 ghost use Rattle.pgp_auth.specs.ScramRefusal.{Verifies};
 ghost use Rattle.pgp_c_auth.specs.Delivering.{Delivers, IsLonger, LacksRoom, NotDelivered};
@@ -365,7 +365,8 @@ pub extern "C" fn pgp_login_ok(login: &mut PgpLogin, ways: u8) -> u32
     0
 }
 
-/// Whatever a server sends, a log-in that is done came there by a way that is admitted, and by SCRAM-SHA-256 only where the server showed the signature.
+/// Whatever a server sends, a log-in that is done came there by a way that is admitted; and where an exchange of SCRAM-SHA-256 was begun, by that alone, and only where
+/// the server showed the signature.
 pub fn no_other_is_logged_in()
-    ensures { (ways : ℕ) (login : Kept) → Comes ways login → login.phase ≡ done → LetIn ways }
+    ensures { (ways : ℕ) (begun : Bool) (login : Kept) → Comes ways begun login → login.phase ≡ done → LetIn ways begun }
 {}

@@ -32,7 +32,6 @@ mod texts;
 mod values;
 mod word;
 
-use calendar::check_calendar;
 use client_read::check_client_read;
 use codec::{check_answer, check_value, check_writer};
 use dialogue::check_dialogue;
@@ -125,7 +124,7 @@ fn check(alloc: Global, family: Family, row: &Row<'_>, out: &mut Shown) -> Resul
         Family::Numerics => check_numeric(alloc, row, out),
         Family::Values => check_value::<Values>(alloc, row, out),
         Family::Formats => check_answer::<formats::Formats>(alloc, row, out),
-        Family::Calendar => check_calendar(alloc, row, out),
+        Family::Calendar => calendar::check_calendar(alloc, row, out),
     }
 }
 

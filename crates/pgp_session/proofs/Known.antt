@@ -3,7 +3,7 @@ use Rattle.std.proofs.Common.{◌≡◌, ℕ, List, Option, Some, None, Result, 
 use Rattle.pgp_base.specs.Held.{Held}
 use Rattle.pgp_auth.specs.ScramClient.{Client, Answers}
 use Rattle.pgp_message.specs.BackendMessage.{Message, Authentication, AuthenticationOk, AuthenticationSasl, AuthenticationSaslContinue, AuthenticationSaslFinal}
-use Rattle.pgp_session.specs.ScramLogin.{Said, Notice, Failure, Offer, First, Final, Welcome, ReceivedAmong, OneReceived, OtherReceived, NoneWanted, offer, first_text, final_text, welcome, says, if_due, Knows, Shown, HearsOffer, HearsFirst, HearsFinal, Hears, StepsOn, Steps}
+use Rattle.pgp_session.specs.ScramLogin.{Offers, Said, Notice, Failure, Offer, First, Final, Welcome, ReceivedAmong, OneReceived, OtherReceived, NoneWanted, offer, first_text, final_text, welcome, says, if_due, Knows, Shown, HearsOffer, HearsFirst, HearsFinal, Hears, StepsOn, Steps}
 use Rattle.pgp_session.specs.declared.scram_login.LoginPhase.{LoginPhase}
 use Rattle.pgp_session.specs.declared.scram_login.LoginPhase.TheVariants.{AwaitsOffer, AwaitsFirst, AwaitsFinal, AwaitsOk, Done, Over}
 use Rattle.pgp_session.specs.declared.scram_login.LoginEvent.{LoginEvent}
@@ -69,7 +69,7 @@ module _ {A B K : Type 0} (held : B → Held K) (memory : Type 0) (lacks : Held 
 
   offered : (mechanisms : List ℕ) (r : Result LoginEvent (LoginFault A)) → m ≡ offer mechanisms → HearsOffer held memory lacks {A = A} mechanisms old new r → old.phase ≡ AwaitsOffer → Stays start received m old new
   offered mechanisms (Ok Began) s w p = λ k. moved start received m old new AwaitsFirst old.exchange w.1 w.2
-      (mechanisms, w.0, one_more m (offer mechanisms) s NoneWanted, at start received m old new AwaitsOffer p k)
+      (mechanisms, subst (λ (c : Client). Offers c mechanisms) (at start received m old new AwaitsOffer p k) w.0, one_more m (offer mechanisms) s NoneWanted, at start received m old new AwaitsOffer p k)
   offered mechanisms (Err NotOffered) s w p = stays start received m old new w.1
   offered mechanisms (Err (Unsent e)) s w p = λ k. moved start received m old new old.phase old.exchange w.1 w.2 (longer start received m old.phase old.exchange k)
   offered mechanisms (Err (Scram e)) s w p = stays start received m old new w.3

@@ -12,6 +12,7 @@ pub mod Reported
 pub mod Served
 pub mod StartupNames
 pub mod LogIns
+pub mod Admissions
 pub mod Sessions
 pub mod Incomings
 pub mod Binds

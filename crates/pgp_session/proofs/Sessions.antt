@@ -1,17 +1,16 @@
 -- What is known of a connection, after each call, and what follows from it.
 use Rattle.std.proofs.Common.{◌≡◌, ◌≢◌, ◌⊎◌, ℕ, Bool, true, false, List, [], ◌∷◌, ◌++◌, take, drop, map, Option, Some, None, Result, Ok, refl, sym, ap, subst, ◌∙◌, append_assoc, inl, inr}
 use Rattle.std.specs.Prelude.{option_to_list, if◌then◌else◌, ◌&&◌}
-use Rattle.std.specs.List.{flat_map, AllByRecursion}
+use Rattle.std.specs.List.{flat_map}
 use Rattle.std.proofs.lemmas.List.{append-nil, take-append-drop}
 use Rattle.std.proofs.lemmas.List.Concat.{flat_map-cons}
 use Rattle.std.proofs.lemmas.Grind.{flat_map-append}
 use Rattle.pgp_base.specs.declared.error.Error.{Error}
-use Rattle.pgp_auth.specs.ScramClient.{Client, Answers, Completes}
 use Rattle.pgp_client.specs.Flow.{Belong}
 use Rattle.pgp_client.specs.Kinds.{kind_of, request_of}
 use Rattle.pgp_client.specs.Taking.{is_copying, taken}
 use Rattle.pgp_client.specs.Talk.{Talk}
-use Rattle.pgp_client.specs.Telling.{Turn, Asks, Hears as HearsTurn, Follows as FollowsTurns, asked_in, observed_in, reported_in, start}
+use Rattle.pgp_client.specs.Telling.{Doubts, Turn, Asks, Hears as HearsTurn, Follows as FollowsTurns, asked_all, asked_in, observed_in, reported_in, start}
 use Rattle.pgp_client.specs.declared.event.Event.{Event}
 use Rattle.pgp_client.specs.declared.event.Event.TheVariants.{Ended}
 use Rattle.pgp_client.specs.declared.request.Asked.{Asked}
@@ -20,19 +19,18 @@ use Rattle.pgp_frontend.specs.ClientMessage.{ClientMessage, CancelRequest, GssEn
 use Rattle.pgp_frontend.specs.Reading.{IsNamed}
 use Rattle.pgp_frontend.specs.ClientRun.{ClientRun, MayCome, is_opened, is_startup, kinds_of}
 use Rattle.pgp_frontend.specs.Payload.{bytes_of, tag_of}
-use Rattle.pgp_frontend.proofs.ClientRuns.{each_push, run_more, opened_more, nothing}
-use Rattle.pgp_message.specs.BackendMessage.{Message, Authentication, AuthenticationOk, AuthenticationSasl, AuthenticationSaslContinue, AuthenticationSaslFinal}
+use Rattle.pgp_frontend.proofs.ClientRuns.{run_more, opened_more, nothing}
+use Rattle.pgp_message.specs.BackendMessage.{Message}
 use Rattle.pgp_message.specs.Stream.{Frames, TakesFrame}
 use Rattle.pgp_session.specs.Connection.{HasStarted, Sent, Shown, Took, Wrote, asked_of, begun, in_phase, is_end, is_logged_in, logged_in_at, may_send, with_incoming}
-use Rattle.pgp_session.specs.Login.{Added, AddsReply, Asking, Sasl, First, Final, Welcome, Login, LogsOn, NothingAsked, ByCleartext, ByMd5, ScramBegins, ScramGoesOn, ScramEnds, Welcomed, Trusted, Ways, asking}
-use Rattle.pgp_session.specs.ScramLogin.{Offers, ReceivedAmong, NoneWanted, OneReceived, OtherReceived, offer, first_text, final_text, welcome}
-use Rattle.pgp_session.specs.Session.{Admitted, ByNone, ByPassword, ByHash, BySignature, Follows, History, IsAllowed, IsOpenedAt, Known, Plays, Begins, Writes, Hears, and_fed, and_observed, and_sent, and_wrote, good, is_secret, nothing as no_history, requests_in, requests_of, turns_of}
+use Rattle.pgp_session.specs.Login.{Added, AddsReply, Asking, Login, LogsOn, ByCleartext, ByMd5, ScramBegins, ScramGoesOn, Ways, asking}
+use Rattle.pgp_session.specs.Session.{Follows, History, IsOpenedAt, Known, Plays, Begins, Writes, Hears, and_fed, and_observed, and_sent, and_wrote, good, is_secret, nothing as no_history, requests_in, requests_of, turns_of}
 use Rattle.pgp_session.specs.Settings.{Said, heard, nothing_said, value_of}
 use Rattle.pgp_session.proofs.Reported.{said_more, states_follow, values_follow}
 use Rattle.pgp_session.specs.declared.connection.ConnectionPhase.{ConnectionPhase}
 use Rattle.pgp_session.specs.declared.connection.ConnectionPhase.TheVariants.{Opening, Encrypting, Started, Over as OverPhase}
 use Rattle.pgp_session.specs.declared.scram_login.LoginPhase.{LoginPhase}
-use Rattle.pgp_session.specs.declared.scram_login.LoginPhase.TheVariants.{AwaitsOffer, AwaitsFirst, AwaitsFinal, AwaitsOk, Done, Over}
+use Rattle.pgp_session.proofs.Admissions.{plays_admitted, plays_allowed}
 
 -- ---- one message more
 
@@ -212,173 +210,17 @@ module _ (ways : Ways) where
   pub plays_follow : {written : List ClientMessage} {observed : List Message} {turns : List Turn} {t : Talk} {l : Login} → Plays ways written observed turns t l → FollowsTurns start turns
   plays_follow {turns = turns} p = subst (λ ts. FollowsTurns start ts) (append-nil turns) (plays_on p [] tt)
 
--- ---- by which way a client is logged in
-
-IsAskedBy : Message → Asking → Type 0
-IsAskedBy m (Sasl mechanisms) = m ≡ offer mechanisms
-IsAskedBy m (First text) = m ≡ first_text text
-IsAskedBy m (Final text) = m ≡ final_text text
-IsAskedBy m Welcome = m ≡ welcome
-IsAskedBy m asked = Unit {0}
-
-asked_by : (m : Message) → IsAskedBy m (asking m)
-unfolding IsAskedBy
-asked_by (Authentication (AuthenticationSasl mechanisms)) = refl
-asked_by (Authentication (AuthenticationSaslContinue text)) = refl
-asked_by (Authentication (AuthenticationSaslFinal text)) = refl
-asked_by (Authentication AuthenticationOk) = refl
-asked_by m = tt
-
-record Offered (ways : Ways) (observed : List Message) (x : Client) : Type 0 where
-  mechanisms : List ℕ
-  from : ways.scram ≡ Some x
-  offers : Offers mechanisms
-  received : ReceivedAmong (offer mechanisms ∷ []) observed
-
-record Answered (ways : Ways) (observed : List Message) (x y : Client) : Type 0 where
-  mechanisms : List ℕ
-  first : List ℕ
-  from : ways.scram ≡ Some x
-  offers : Offers mechanisms
-  received : ReceivedAmong (offer mechanisms ∷ first_text first ∷ []) observed
-  answers : Answers x first y
-
-record Verified (ways : Ways) (observed : List Message) : Type 0 where
-  start : Client
-  after : Client
-  mechanisms : List ℕ
-  first : List ℕ
-  final : List ℕ
-  from : ways.scram ≡ Some start
-  offers : Offers mechanisms
-  received : ReceivedAmong (offer mechanisms ∷ first_text first ∷ final_text final ∷ []) observed
-  completes : Completes start first final after
-
--- what a log-in's phase says of the messages that came, where it has this exchange
-abbrev Stands : Ways → List Message → LoginPhase → Option Client → Type 0
-Stands ways observed AwaitsOffer s = s ≡ ways.scram
-Stands ways observed AwaitsFirst s = (x : Client) × (s ≡ Some x) × Offered ways observed x
-Stands ways observed AwaitsFinal s = (x : Client) × (y : Client) × (s ≡ Some y) × Answered ways observed x y
-Stands ways observed AwaitsOk s = Admitted ways observed ⊎ Verified ways observed
-Stands ways observed Done s = Admitted ways observed
-Stands ways observed Over s = Unit {0}
-
-record IsAt (ways : Ways) (observed : List Message) (l : Login) : Type 0 where
-  md5 : l.ways.md5 ≡ ways.md5
-  cleartext : l.ways.cleartext ≡ ways.cleartext
-  none : l.ways.none ≡ ways.none
-  stands : Stands ways observed l.phase l.ways.scram
-
-module _ (ways : Ways) (observed : List Message) (m : Message) where
-  admitted_more : Admitted ways observed → Admitted ways (observed ++ m ∷ [])
-  admitted_more (ByNone e) = ByNone e
-  admitted_more (ByPassword password e) = ByPassword password e
-  admitted_more (ByHash who e) = ByHash who e
-  admitted_more (BySignature x e s) = BySignature x e (record { mechanisms = s.mechanisms; first = s.first; final = s.final; after = s.after; offers = s.offers; received = OtherReceived m s.received; completes = s.completes })
-
-  stands_more : (p : LoginPhase) (s : Option Client) → Stands ways observed p s → Stands ways (observed ++ m ∷ []) p s
-  stands_more AwaitsOffer s h = h
-  stands_more AwaitsFirst s h = (h.0, h.1, record { mechanisms = h.2.mechanisms; from = h.2.from; offers = h.2.offers; received = OtherReceived m h.2.received })
-  stands_more AwaitsFinal s h = (h.0, h.1, h.2, record { mechanisms = h.3.mechanisms; first = h.3.first; from = h.3.from; offers = h.3.offers; received = OtherReceived m h.3.received; answers = h.3.answers })
-  stands_more AwaitsOk s (inl a) = inl (admitted_more a)
-  stands_more AwaitsOk s (inr v) = inr (record { start = v.start; after = v.after; mechanisms = v.mechanisms; first = v.first; final = v.final; from = v.from; offers = v.offers; received = OtherReceived m v.received; completes = v.completes })
-  stands_more Done s h = admitted_more h
-  stands_more Over s h = tt
-
-  received_more : {wanted : List Message} (x : Message) → m ≡ x → ReceivedAmong wanted observed → ReceivedAmong (wanted ++ x ∷ []) (observed ++ m ∷ [])
-  received_more {wanted} x e a = subst (λ (y : Message). ReceivedAmong (wanted ++ y ∷ []) (observed ++ m ∷ [])) e (OneReceived m a)
-
-  at : (l : Login) (p : LoginPhase) → l.phase ≡ p → IsAt ways observed l → Stands ways observed p l.ways.scram
-  at l p e i = subst (λ (q : LoginPhase). Stands ways observed q l.ways.scram) e i.stands
-
-  same_client : (s : Option Client) (x y : Client) → s ≡ Some x → s ≡ Some y → x ≡ y
-  same_client s x y e f = let both : Some x ≡ Some y = sym e ∙ f in cc
-
-  signs : m ≡ welcome → Admitted ways observed ⊎ Verified ways observed → Admitted ways (observed ++ m ∷ [])
-  signs e (inl a) = admitted_more a
-  signs e (inr v) = BySignature v.start v.from (record { mechanisms = v.mechanisms; first = v.first; final = v.final; after = v.after; offers = v.offers; received = received_more welcome e v.received; completes = v.completes })
-
-  step : (asked : Asking) (reply : Option ClientMessage) (l after : Login) → IsAskedBy m asked → LogsOn asked reply l after → IsAt ways observed l → IsAt ways (observed ++ m ∷ []) after
-  unfolding IsAskedBy
-  step asked reply l after is NothingAsked i = record { md5 = i.md5; cleartext = i.cleartext; none = i.none; stands = stands_more l.phase l.ways.scram i.stands }
-  step asked reply l after is (ByCleartext password p e) i = record { md5 = i.md5; cleartext = i.cleartext; none = i.none; stands = inl (ByPassword password (sym i.cleartext ∙ e)) }
-  step asked reply l after is (ByMd5 who p e) i = record { md5 = i.md5; cleartext = i.cleartext; none = i.none; stands = inl (ByHash who (sym i.md5 ∙ e)) }
-  step asked reply l after is (ScramBegins {mechanisms = mechanisms} x text p e o f) i = record {
-    md5 = i.md5;
-    cleartext = i.cleartext;
-    none = i.none;
-    stands = (x, e, record { mechanisms = mechanisms; from = sym (at l AwaitsOffer p i) ∙ e; offers = o; received = received_more (offer mechanisms) is NoneWanted });
-  }
-  step asked reply l after is (ScramGoesOn {text = text} x y answer p e a f) i =
-      let st = at l AwaitsFirst p i in
-      let same : st.0 ≡ x = same_client l.ways.scram st.0 x st.1 e in
-      record {
-        md5 = i.md5;
-        cleartext = i.cleartext;
-        none = i.none;
-        stands = (x, y, refl, record { mechanisms = st.2.mechanisms; first = text; from = st.2.from ∙ ap Some same; offers = st.2.offers; received = received_more (first_text text) is st.2.received; answers = a });
-      }
-  step asked reply l after is (ScramEnds {text = text} x y p e finished) i =
-      let st = at l AwaitsFinal p i in
-      let same : st.1 ≡ x = same_client l.ways.scram st.1 x st.2 e in
-      record {
-        md5 = i.md5;
-        cleartext = i.cleartext;
-        none = i.none;
-        stands = inr (record {
-          start = st.0;
-          after = y;
-          mechanisms = st.3.mechanisms;
-          first = st.3.first;
-          final = text;
-          from = st.3.from;
-          offers = st.3.offers;
-          received = received_more (final_text text) is st.3.received;
-          completes = record { between = x; answers = subst (λ (c : Client). Answers st.0 st.3.first c) same st.3.answers; finished = finished };
-        });
-      }
-  step asked reply l after is (Welcomed p) i = record { md5 = i.md5; cleartext = i.cleartext; none = i.none; stands = signs is (at l AwaitsOk p i) }
-  step asked reply l after is (Trusted p e) i = record { md5 = i.md5; cleartext = i.cleartext; none = i.none; stands = ByNone (sym i.none ∙ e) }
-
-  open_allowed : (x : ClientMessage) → is_secret x ≡ false → IsAllowed ways x
-  open_allowed (PasswordMessage text) e = absurd cc
-  open_allowed (SaslInitialResponse mechanism response) e = absurd cc
-  open_allowed (SaslResponse response) e = absurd cc
-  open_allowed x e = tt
-
-  not_none : (o : Option Client) (x : Client) → o ≡ Some x → o ≢ None
-  not_none o x e = λ none. let both : Some x ≡ None = sym e ∙ none in cc
-
-  reply_allowed : (asked : Asking) (x : ClientMessage) (l after : Login) → LogsOn asked (Some x) l after → IsAt ways observed l → IsAllowed ways x
-  reply_allowed asked x l after (ByCleartext password p e) i = inl (sym i.cleartext ∙ e)
-  reply_allowed asked x l after (ByMd5 {salt = salt} who p e) i = inr (who, sym i.md5 ∙ e, salt, refl)
-  reply_allowed asked x l after (ScramBegins y text p e o f) i = not_none ways.scram y (sym (at l AwaitsOffer p i) ∙ e)
-  reply_allowed asked x l after (ScramGoesOn y z answer p e a f) i = let st = at l AwaitsFirst p i in not_none ways.scram st.0 st.2.from
-
-  all_allowed : (written : List ClientMessage) (asked : Asking) (reply : Option ClientMessage) (l after : Login) → LogsOn asked reply l after → IsAt ways observed l
-      → AllByRecursion (IsAllowed ways) written → AllByRecursion (IsAllowed ways) (written ++ option_to_list reply)
-  all_allowed written asked None l after logs i all = subst (λ (ms : List ClientMessage). AllByRecursion (IsAllowed ways) ms) (sym (append-nil written)) all
-  all_allowed written asked (Some x) l after logs i all = each_push (IsAllowed ways) written x all (reply_allowed asked x l after logs i)
-
-module _ (ways : Ways) where
-  plays_stand : {written : List ClientMessage} {observed : List Message} {turns : List Turn} {t : Talk} {l : Login} → Plays ways written observed turns t l → IsAt ways observed l
-  plays_stand Begins = record { md5 = refl; cleartext = refl; none = refl; stands = refl }
-  plays_stand (Writes m name plain p) = plays_stand p
-  plays_stand (Hears {written} {reply} {observed} {turns} {t} {next} {l} {after} m e taken on logs p) = step ways observed m (asking m) reply l after (asked_by m) logs (plays_stand p)
-
-  plays_allowed : {written : List ClientMessage} {observed : List Message} {turns : List Turn} {t : Talk} {l : Login} → Plays ways written observed turns t l → AllByRecursion (IsAllowed ways) written
-  plays_allowed Begins = tt
-  plays_allowed (Writes {written} {observed} m name plain p) = each_push (IsAllowed ways) written m (plays_allowed p) (open_allowed ways observed welcome m plain)
-  plays_allowed (Hears {written} {reply} {observed} {turns} {t} {next} {l} {after} m e taken on logs p) = all_allowed ways observed m written (asking m) reply l after logs (plays_stand p) (plays_allowed p)
-
 -- what follows from what is known
-pub follows : (ways : Ways) (h : History) (now : Shown) → ((turns : List Turn) → FollowsTurns start turns → Belong (asked_in turns) (observed_in turns) (reported_in turns)) → Known ways h now → Follows ways h now
-follows ways h now belongs k = record {
+pub follows : (ways : Ways) (h : History) (now : Shown) → ((turns : List Turn) → FollowsTurns start turns → Belong (asked_in turns) (observed_in turns) (reported_in turns))
+    → ((turns : List Turn) (truth : List Event) → FollowsTurns start turns → Belong (asked_in turns) (observed_in turns) truth → (truth ≡ reported_in turns) ⊎ Doubts (asked_all start (asked_in turns)) (observed_in turns))
+    → Known ways h now → Follows ways h now
+follows ways h now belongs single k = record {
   asked = plays_asked ways k.plays;
   observed = plays_observed ways k.plays;
   belong = belongs h.turns (plays_follow ways k.plays);
+  alone = λ truth. single h.turns truth (plays_follow ways k.plays);
   allowed = plays_allowed ways k.plays;
-  admitted = λ done. subst (λ (q : LoginPhase). Stands ways h.observed q now.login.ways.scram) done (plays_stand ways k.plays).stands;
+  admitted = plays_admitted ways k.plays;
   server = ap (λ (s : Said). s.state) k.server ∙ states_follow nothing_said h.observed;
   settings = λ name. ap (λ (s : Said). value_of name s.settings) k.server ∙ values_follow name nothing_said h.observed;
 }
@@ -451,6 +293,9 @@ at_encrypting p b e opened = subst (λ (q : ConnectionPhase). IsOpenedAt q b) e 
 
 pub answered : (ways : Ways) (h : History) (old : Shown) → old.phase ≡ Encrypting → Known ways h old → Known ways h (in_phase Opening old)
 answered ways h old phase k = record { run = k.run; opened = at_encrypting old.phase (is_opened h.written) phase k.opened; read = k.read; plays = k.plays; server = k.server }
+
+pub stopped : (ways : Ways) (h : History) (old : Shown) → Known ways h old → Known ways h (in_phase OverPhase old)
+stopped ways h old k = record { run = k.run; opened = tt; read = k.read; plays = k.plays; server = k.server }
 
 pub begins : (ways : Ways) (limit : ℕ) → ((bytes : List ℕ) → Frames bytes [] bytes) → Known ways no_history (begun ways limit)
 begins ways limit none = record { run = nothing; opened = refl; read = none []; plays = Begins; server = refl }

@@ -121,8 +121,8 @@ module _ {A : Type 0} (lacks : Type 0) where
 
   abbrev pub AsksSasl : Option Client → List ℕ → Login → Login → List ℕ → List ℕ → Result (Unit {0}) (ConnectionError A) → Type 0
   AsksSasl None mechanisms old new out grown result = result ≡ Err NotAdmitted
-  AsksSasl (Some x) mechanisms old new out grown (Ok done) = Offers mechanisms × Begins x out grown (Ok done) × (new ≡ in_phase AwaitsFirst old)
-  AsksSasl (Some x) mechanisms old new out grown (Err e) = ((e ≡ NotOffered) × (Offers mechanisms → ⊥)) ⊎ (Offers mechanisms × Begins x out grown (Err e))
+  AsksSasl (Some x) mechanisms old new out grown (Ok done) = Offers x mechanisms × Begins x out grown (Ok done) × (new ≡ in_phase AwaitsFirst old)
+  AsksSasl (Some x) mechanisms old new out grown (Err e) = ((e ≡ NotOffered) × (Offers x mechanisms → ⊥)) ⊎ (Offers x mechanisms × Begins x out grown (Err e))
 
   -- the exchange takes the server's first text, and its final text is sent
   abbrev pub RepliesFirst : List ℕ → Client → Client → List ℕ → List ℕ → Result (Unit {0}) (ConnectionError A) → Type 0
@@ -179,7 +179,7 @@ pub data LogsOn : Asking → Option ClientMessage → Login → Login → Type 0
       → LogsOn Cleartext (Some (PasswordMessage password)) l (in_phase AwaitsOk l)
   ByMd5 : {l : Login} {salt : List ℕ} (who : List ℕ × List ℕ) → l.phase ≡ AwaitsOffer → l.ways.md5 ≡ Some who
       → LogsOn (Md5 salt) (Some (PasswordMessage (md5_answer who.0 who.1 salt))) l (in_phase AwaitsOk l)
-  ScramBegins : {l : Login} {mechanisms : List ℕ} (x : Client) (text : List ℕ) → l.phase ≡ AwaitsOffer → l.ways.scram ≡ Some x → Offers mechanisms
+  ScramBegins : {l : Login} {mechanisms : List ℕ} (x : Client) (text : List ℕ) → l.phase ≡ AwaitsOffer → l.ways.scram ≡ Some x → Offers x mechanisms
       → message_of x.state ≡ Some text → LogsOn (Sasl mechanisms) (Some (initial text)) l (in_phase AwaitsFirst l)
   ScramGoesOn : {l : Login} {text : List ℕ} (x y : Client) (answer : List ℕ) → l.phase ≡ AwaitsFirst → l.ways.scram ≡ Some x → Answers x text y
       → message_of y.state ≡ Some answer → LogsOn (First text) (Some (SaslResponse answer)) l (goes_on AwaitsFinal y l)

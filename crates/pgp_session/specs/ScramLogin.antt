@@ -1,6 +1,6 @@
--- A client that logs in with SCRAM-SHA-256: what each message of the server comes to.
+-- A client that logs in with SCRAM-SHA-256, bound to the channel or not: what each message of the server comes to.
 -- PostgreSQL manual, "SASL Authentication", "Message Flow": "Start-up"; RFC 5802; RFC 7677.
-use Rattle.std.specs.Prelude.{◌≡◌, ℕ, Bool, true, false, if◌then◌else◌, List, Option, Some, None, Result, Ok, Err, Contains, [], ◌∷◌, ◌++◌, codes}
+use Rattle.std.specs.Prelude.{◌≡◌, ℕ, Bool, true, false, if◌then◌else◌, nat_eq, List, Option, Some, None, Result, Ok, Err, Contains, [], ◌∷◌, ◌++◌, codes}
 use Rattle.pgp_base.specs.Held.{Held}
 use Rattle.pgp_base.specs.Items.{MarkedItems}
 use Rattle.pgp_base.specs.declared.error.Error.{Error}
@@ -20,9 +20,25 @@ use Rattle.pgp_session.specs.declared.scram_login.LoginEvent.TheVariants.{Noted,
 use Rattle.pgp_session.specs.declared.scram_login.LoginFault.{LoginFault}
 use Rattle.pgp_session.specs.declared.scram_login.LoginFault.TheVariants.{Unexpected, NotOffered, Unsent, Scram}
 
+-- RFC 5802, section 6: the first text of an exchange that is bound to the channel begins with `p`, and its mechanism has another name.
+abbrev pub is_bound : List ℕ → Bool
+is_bound [] = false
+is_bound (b ∷ text) = nat_eq b 112
+
+abbrev pub mechanism : List ℕ → List ℕ
+mechanism text = if is_bound text then codes "SCRAM-SHA-256-PLUS" else codes "SCRAM-SHA-256"
+
+-- the mechanism of an exchange with this text to send, if it has one
+abbrev pub mechanism_by : Option (List ℕ) → List ℕ
+mechanism_by None = codes "SCRAM-SHA-256"
+mechanism_by (Some text) = mechanism text
+
+abbrev pub mechanism_of : Client → List ℕ
+mechanism_of exchange = mechanism_by (message_of exchange.state)
+
 -- the first message of the exchange
 abbrev pub initial : List ℕ → ClientMessage
-initial text = SaslInitialResponse (codes "SCRAM-SHA-256") (Some text)
+initial text = SaslInitialResponse (mechanism text) (Some text)
 
 -- what a server says to a client that logs in
 pub data Said : Type 0 where
@@ -63,9 +79,9 @@ if_due phase (Some said) = if is_due phase said then Some said else None
 abbrev pub observed : LoginPhase → Message → Option Said
 observed phase m = if_due phase (says m)
 
--- the list of mechanisms ends well, and SCRAM-SHA-256 is one of them
-abbrev pub Offers : List ℕ → Type 0
-Offers mechanisms = (names : List (List ℕ)) × MarkedItems TextSpelled TextRefused mechanisms names None × Contains names (codes "SCRAM-SHA-256")
+-- the list of mechanisms ends well, and that of the exchange is one of them
+abbrev pub Offers : Client → List ℕ → Type 0
+Offers exchange mechanisms = (names : List (List ℕ)) × MarkedItems TextSpelled TextRefused mechanisms names None × Contains names (mechanism_of exchange)
 
 -- the first messages came among the second in this order, others before, between and after them
 pub data ReceivedAmong : List Message → List Message → Type 0 where
@@ -90,13 +106,13 @@ welcome = Authentication AuthenticationOk
 -- where it is, in their order. So after the server's signature the two texts that complete the exchange are two that came.
 abbrev pub Knows : Client → List Message → LoginPhase → Client → Type 0
 Knows start received AwaitsOffer now = now ≡ start
-Knows start received AwaitsFirst now = (mechanisms : List ℕ) × Offers mechanisms
+Knows start received AwaitsFirst now = (mechanisms : List ℕ) × Offers start mechanisms
     × ReceivedAmong (offer mechanisms ∷ []) received × (now ≡ start)
-Knows start received AwaitsFinal now = (mechanisms first : List ℕ) × Offers mechanisms
+Knows start received AwaitsFinal now = (mechanisms first : List ℕ) × Offers start mechanisms
     × ReceivedAmong (offer mechanisms ∷ first_text first ∷ []) received × Answers start first now
-Knows start received AwaitsOk now = (mechanisms first final : List ℕ) × Offers mechanisms
+Knows start received AwaitsOk now = (mechanisms first final : List ℕ) × Offers start mechanisms
     × ReceivedAmong (offer mechanisms ∷ first_text first ∷ final_text final ∷ []) received × Completes start first final now
-Knows start received Done now = (mechanisms first final : List ℕ) × Offers mechanisms
+Knows start received Done now = (mechanisms first final : List ℕ) × Offers start mechanisms
     × ReceivedAmong (offer mechanisms ∷ first_text first ∷ final_text final ∷ welcome ∷ []) received × Completes start first final now
 Knows start received Over now = Unit {0}
 
@@ -123,10 +139,10 @@ module _ {B K : Type 0} (held : B → Held K) (memory : Type 0) (lacks : Held K 
   module _ {A : Type 0} where
     -- The mechanisms were offered. An error leaves the log-in as it is; the last is that the exchange was over before.
     abbrev pub HearsOffer : List ℕ → Shown B → Shown B → Result LoginEvent (LoginFault A) → Type 0
-    HearsOffer mechanisms old new (Ok Began) = Offers mechanisms × (new.phase ≡ AwaitsFirst) × (new.exchange ≡ old.exchange) × Adds initial old.exchange old.out new.out
-    HearsOffer mechanisms old new (Err NotOffered) = (Offers mechanisms → ⊥) × (new ≡ old)
-    HearsOffer mechanisms old new (Err (Unsent e)) = Offers mechanisms × (new.phase ≡ old.phase) × (new.exchange ≡ old.exchange) × AddsNone initial old.exchange e old.out new.out
-    HearsOffer mechanisms old new (Err (Scram e)) = Offers mechanisms × (message_of old.exchange.state ≡ None) × (refusal e ≡ WrongState) × (new ≡ old)
+    HearsOffer mechanisms old new (Ok Began) = Offers old.exchange mechanisms × (new.phase ≡ AwaitsFirst) × (new.exchange ≡ old.exchange) × Adds initial old.exchange old.out new.out
+    HearsOffer mechanisms old new (Err NotOffered) = (Offers old.exchange mechanisms → ⊥) × (new ≡ old)
+    HearsOffer mechanisms old new (Err (Unsent e)) = Offers old.exchange mechanisms × (new.phase ≡ old.phase) × (new.exchange ≡ old.exchange) × AddsNone initial old.exchange e old.out new.out
+    HearsOffer mechanisms old new (Err (Scram e)) = Offers old.exchange mechanisms × (message_of old.exchange.state ≡ None) × (refusal e ≡ WrongState) × (new ≡ old)
     HearsOffer mechanisms old new result = ⊥
 
     -- the server's first text came; an error ends the log-in

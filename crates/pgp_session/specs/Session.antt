@@ -1,24 +1,24 @@
 -- What is known of a connection after any calls.
 -- PostgreSQL manual, "Message Flow"; "SASL Authentication"; RFC 5802, RFC 7677.
-use Rattle.std.specs.Prelude.{◌≡◌, ◌≢◌, ◌⊎◌, ℕ, Bool, true, false, List, [], ◌∷◌, ◌++◌, take, map, option_to_list, Option, Some, None, Result, Ok}
-use Rattle.std.specs.List.{flat_map, AllByRecursion}
+use Rattle.std.specs.Prelude.{◌≡◌, ◌⊎◌, ℕ, Bool, true, false, List, [], ◌∷◌, ◌++◌, take, map, option_to_list, Option, Some, None, Result, Ok}
+use Rattle.std.specs.List.{flat_map, filter, AllByRecursion}
 use Rattle.pgp_base.specs.declared.error.Error.{Error}
 use Rattle.pgp_auth.specs.Md5Text.{md5_answer}
-use Rattle.pgp_auth.specs.ScramClient.{Client, Completes}
+use Rattle.pgp_auth.specs.ScramClient.{Client, Answers, Completes, message_of}
 use Rattle.pgp_client.specs.Flow.{Belong}
 use Rattle.pgp_client.specs.Kinds.{kind_of, request_of}
 use Rattle.pgp_client.specs.Taking.{taken}
 use Rattle.pgp_client.specs.Talk.{Talk}
-use Rattle.pgp_client.specs.Telling.{Turn, Asks, Hears as HearsTurn, asked_in, observed_in, reported_in, start}
+use Rattle.pgp_client.specs.Telling.{Doubts, Turn, Asks, Hears as HearsTurn, asked_all, asked_in, observed_in, reported_in, start}
 use Rattle.pgp_client.specs.declared.event.Event.{Event}
 use Rattle.pgp_client.specs.declared.request.Asked.{Asked}
 use Rattle.pgp_client.specs.declared.request.Request.{Request}
 use Rattle.pgp_frontend.specs.ClientMessage.{ClientMessage, PasswordMessage, SaslInitialResponse, SaslResponse}
 use Rattle.pgp_frontend.specs.ClientRun.{ClientRun, is_opened, kinds_of}
-use Rattle.pgp_message.specs.BackendMessage.{Message}
+use Rattle.pgp_message.specs.BackendMessage.{Message, Authentication, AuthenticationCleartextPassword, AuthenticationMd5Password}
 use Rattle.pgp_message.specs.Stream.{Frames}
 use Rattle.pgp_session.specs.Login.{Login, LogsOn, Ways, asking}
-use Rattle.pgp_session.specs.ScramLogin.{Offers, ReceivedAmong, offer, first_text, final_text, welcome}
+use Rattle.pgp_session.specs.ScramLogin.{Offers, ReceivedAmong, initial, offer, first_text, final_text, welcome}
 use Rattle.pgp_session.specs.Connection.{Shown, asked_of, is_end}
 use Rattle.pgp_session.specs.ServerState.{state_after, unsaid}
 use Rattle.pgp_session.specs.Settings.{last_reported, nothing_said, said_after, value_of}
@@ -102,38 +102,55 @@ requests_of ms = flat_map (λ m. option_to_list (request_of m)) ms
 abbrev pub requests_in : List Asked → List Request
 requests_in rs = map (λ (a : Asked). a.request) rs
 
+-- the messages of a log-in among these
+abbrev pub secrets_of : List ClientMessage → List ClientMessage
+secrets_of ms = filter is_secret ms
+
+-- the messages by which a server asks for a password in clear text, and for its hash with a salt
+abbrev pub asks_password : Message
+asks_password = Authentication AuthenticationCleartextPassword
+
+abbrev pub asks_hash : List ℕ → Message
+asks_hash salt = Authentication (AuthenticationMd5Password salt)
+
 -- The server showed that it holds the verifier of the exchange's password: its offer, its first text, its final text and its welcome came in
--- this order, and the texts complete the exchange.
-pub record Signed (start : Client) (observed : List Message) : Type 0 where
+-- this order, the texts complete the exchange, and these two are what the exchange said, at first and to the server's first text.
+pub record Signed (start : Client) (mine proof : List ℕ) (observed : List Message) : Type 0 where
   pub mechanisms : List ℕ
   pub first : List ℕ
   pub final : List ℕ
   pub after : Client
-  pub offers : Offers mechanisms
+  pub offers : Offers start mechanisms
   pub received : ReceivedAmong (offer mechanisms ∷ first_text first ∷ final_text final ∷ welcome ∷ []) observed
   pub completes : Completes start first final after
+  pub says : message_of start.state ≡ Some mine
+  pub proves : message_of completes.between.state ≡ Some proof
 
--- Why a client is logged in: by a way that is admitted, and by SCRAM-SHA-256 only where the server's signature was shown.
-pub data Admitted (ways : Ways) (observed : List Message) : Type 0 where
-  ByNone : ways.none ≡ true → Admitted ways observed
-  ByPassword : (password : List ℕ) → ways.cleartext ≡ Some password → Admitted ways observed
-  ByHash : (who : List ℕ × List ℕ) → ways.md5 ≡ Some who → Admitted ways observed
-  BySignature : (x : Client) → ways.scram ≡ Some x → Signed x observed → Admitted ways observed
+-- Why a client is logged in that wrote these messages of a log-in and no others: by a way that is admitted, with its one answer, if it has one, to the server that
+-- asked for it, and then the server's welcome; and where an exchange of SCRAM-SHA-256 was begun, by that alone, and only where the server's signature was shown.
+pub data Admitted (ways : Ways) (observed : List Message) : List ClientMessage → Type 0 where
+  ByNone : ways.none ≡ true → ReceivedAmong (welcome ∷ []) observed → Admitted ways observed []
+  ByPassword : (password : List ℕ) → ways.cleartext ≡ Some password → ReceivedAmong (asks_password ∷ welcome ∷ []) observed → Admitted ways observed (PasswordMessage password ∷ [])
+  ByHash : (who : List ℕ × List ℕ) (salt : List ℕ) → ways.md5 ≡ Some who → ReceivedAmong (asks_hash salt ∷ welcome ∷ []) observed → Admitted ways observed (PasswordMessage (md5_answer who.0 who.1 salt) ∷ [])
+  BySignature : (x : Client) (mine proof : List ℕ) → ways.scram ≡ Some x → Signed x mine proof observed → Admitted ways observed (initial mine ∷ SaslResponse proof ∷ [])
 
--- what a message of a log-in gives away: the password in clear text, its hash or a text of the exchange, each where that way is admitted
+-- What a message of a log-in gives away: the password in clear text, its hash, or what the exchange says, at first or after a text of the server; each where that
+-- way is admitted.
 abbrev pub IsAllowed : Ways → ClientMessage → Type 0
 IsAllowed ways (PasswordMessage text) = (ways.cleartext ≡ Some text) ⊎ ((who : List ℕ × List ℕ) × (ways.md5 ≡ Some who) × (salt : List ℕ) × (text ≡ md5_answer who.0 who.1 salt))
-IsAllowed ways (SaslInitialResponse mechanism response) = ways.scram ≢ None
-IsAllowed ways (SaslResponse response) = ways.scram ≢ None
+IsAllowed ways (SaslInitialResponse mechanism response) = (x : Client) × (ways.scram ≡ Some x) × (text : List ℕ) × (message_of x.state ≡ Some text) × (SaslInitialResponse mechanism response ≡ initial text)
+IsAllowed ways (SaslResponse text) = (x : Client) × (ways.scram ≡ Some x) × (first : List ℕ) × (y : Client) × Answers x first y × (message_of y.state ≡ Some text)
 IsAllowed ways m = Unit {0}
 
--- What is known says of a session: the requests that were asked are those of the messages written, each message belongs to the request that was reported,
--- no password is given away but by an admitted way, a client is logged in by such a way alone, and the status, the key and each setting are the server's last.
+-- What is known says of a session: the requests that were asked are those of the messages written; each message belongs to the request that was reported, and to
+-- no other, but where it is uncertain over which Syncs the server passed; no password is given away but by an admitted way; a client is logged in by one such way
+-- alone; and the status, the key and each setting are the server's last.
 pub record Follows (ways : Ways) (h : History) (now : Shown) : Type 0 where
   pub asked : requests_in (asked_in h.turns) ≡ requests_of h.written
   pub observed : observed_in h.turns ≡ map kind_of h.observed
   pub belong : Belong (asked_in h.turns) (observed_in h.turns) (reported_in h.turns)
+  pub alone : (truth : List Event) → Belong (asked_in h.turns) (observed_in h.turns) truth → (truth ≡ reported_in h.turns) ⊎ Doubts (asked_all start (asked_in h.turns)) (observed_in h.turns)
   pub allowed : AllByRecursion (IsAllowed ways) h.written
-  pub admitted : now.login.phase ≡ Done → Admitted ways h.observed
+  pub admitted : now.login.phase ≡ Done → Admitted ways h.observed (secrets_of h.written)
   pub server : now.server.state ≡ state_after unsaid h.observed
   pub settings : (name : List ℕ) → value_of name now.server.settings ≡ last_reported name h.observed

@@ -27,7 +27,7 @@ pub enum ConnectionError<A: Allocator = Global> {
     Undue,
     /// The server asks for a way of logging in that isn't admitted.
     NotAdmitted,
-    /// The server's SASL mechanisms lack SCRAM-SHA-256, or their list is malformed.
+    /// The server's SASL mechanisms lack that of the exchange, or their list is malformed.
     NotOffered,
     /// The exchange rejected the server's text, or lacked memory for its own; or it was over before it began.
     Scram(ScramError<A>),

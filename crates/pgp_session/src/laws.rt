@@ -26,6 +26,7 @@ pub fn calls_are_known()
     ensures observed { (ways : Admitting) (h : History) (old new : Shown) (rest : List ℕ) (m : Observed) (e : Reported) → old.phase ≡ Started → TakesFrame old.incoming (Ok m) rest
         → Took m (with_incoming rest old) new e → Known ways h old → (reply : Option Written) × Known ways (and_observed m e reply h) new }
     ensures ends { (ways : Admitting) (h : History) (old new : Shown) → Wrote Started Over Terminate old new → Known ways h old → Known ways (and_wrote Terminate 0 h) new }
+    ensures stopped { (ways : Admitting) (h : History) (old : Shown) → Known ways h old → Known ways h (in_phase Over old) }
 {
     pgp_message::laws::no_frame();
     pgp_message::laws::frames_go_on();
@@ -33,13 +34,14 @@ pub fn calls_are_known()
 }
 
 /// What is known of a connection says of the whole session: the requests that were asked are those of the messages in the bytes; each message of
-/// the server belongs to the request that was reported; no password is given away but by a way that is admitted; and the client is logged in by
-/// such a way alone, by SCRAM-SHA-256 only where the server's signature was shown; and the status, the key and each setting are the last that
-/// the server's messages have.
+/// the server belongs to the request that was reported, and to no other, but where it is uncertain over which Syncs the server passed; no password is
+/// given away but by a way that is admitted; and the client is logged in by one such way alone, and only where the server's signature was shown if an
+/// exchange of SCRAM-SHA-256 was begun; and the status, the key and each setting are the last that the server's messages have.
 pub fn sessions_follow()
     ensures { (ways : Admitting) (h : History) (now : Shown) → Known ways h now → Follows ways h now }
 {
     pgp_client::laws::only_answers_are_taken();
+    pgp_client::laws::later_requests_change_nothing();
 }
 
 /// A message that is read in place is the one that `advance` took: of one frame there is one message.

@@ -9,10 +9,10 @@ ghost use Rattle.pgp_session.specs.ScramLogin.{initial};
 ghost use Rattle.pgp_session.specs.Login.{AnswersFirst, AsksCleartext, AsksMd5, AsksSasl, Hears, Puts, RepliesFirst, Begins, VerifiesFinal, Welcomes, asking, given, is_due, seen, reported};
 
 use crate::connection_error::ConnectionError;
-use crate::scram_login::{LoginPhase, SaslStorage, offers};
+use crate::scram_login::{LoginPhase, SaslStorage, mechanism, offers};
 use bytes::BytesMut;
 use pgp_auth::authentication::md5_hash;
-use pgp_auth::authentication::sasl::{SCRAM_SHA_256, ScramError, ScramSha256};
+use pgp_auth::authentication::sasl::{ScramError, ScramSha256};
 use pgp_base::{Error, Memory};
 use pgp_frontend_read::{ClientMessage, forward};
 use pgp_message::{AuthenticationSaslBody, Message};
@@ -21,7 +21,7 @@ use std::alloc::Global;
 /// The ways of logging in that are admitted, each with what it needs. A server that asks for another gets nothing.
 #[derive(Drop)]
 pub struct Ways<'a, A: Memory = Global> {
-    /// SCRAM-SHA-256, by an exchange that has begun.
+    /// SCRAM-SHA-256 by an exchange that has begun, or SCRAM-SHA-256-PLUS where that is bound to the channel.
     pub scram: Option<ScramSha256<A>>,
     /// MD5, by a user and a password.
     pub md5: Option<(&'a [u8], &'a [u8])>,
@@ -107,7 +107,7 @@ impl<'a, A: Memory> Login<'a, A> {
         let Some(exchange) = &self.ways.scram else {
             return Err(ConnectionError::NotAdmitted);
         };
-        if !offers(body) {
+        if !offers(exchange, body) {
             return Err(ConnectionError::NotOffered);
         }
         match begin(exchange, out) {
@@ -226,7 +226,7 @@ fn begin<A: Memory>(
         return Err(ConnectionError::Scram(ScramError::WrongState));
     };
     let message = ClientMessage::SaslInitialResponse {
-        mechanism: SCRAM_SHA_256.as_bytes(),
+        mechanism: mechanism(first).as_bytes(),
         response: Some(first),
     };
     if let Err(e) = put(&message, out) {

@@ -1,4 +1,4 @@
-//! A client's core from the startup packet to the end of a log-in with SCRAM-SHA-256: it is handed a server's
+//! A client's core from the startup packet to the end of a log-in with SCRAM-SHA-256, bound to the channel or not: it is handed a server's
 //! messages, and says what they come to and what is to be sent. It reads and writes nothing itself.
 
 ghost use Rattle.std.specs.Prelude.{◌≡◌, [], ◌∷◌, ◌++◌, List, codes, true, false, option_map, Contains, None, IfOk, IfErr};
@@ -9,12 +9,12 @@ ghost use Rattle.pgp_message.specs.BackendMessage.{Message as BackendMessage};
 ghost use Rattle.pgp_message.specs.Items.{TextSpelled, TextRefused};
 ghost use Rattle.pgp_message.specs.Views.{view};
 ghost use Rattle.pgp_session.specs.ClientStream.{IsAdded, RefusesMessage};
-ghost use Rattle.pgp_session.specs.ScramLogin.{HearsFinal, HearsFirst, HearsOffer, Knows, Offers, Steps, is_due, observed, says, seen};
+ghost use Rattle.pgp_session.specs.ScramLogin.{HearsFinal, HearsFirst, HearsOffer, Knows, Offers, Steps, is_due, mechanism, mechanism_of, observed, says, seen};
 
 use crate::client::{Client, Phase};
 use crate::client_stream::ClientStream;
 use bytes::Bytes;
-use pgp_auth::authentication::sasl::{SCRAM_SHA_256, ScramError, ScramSha256};
+use pgp_auth::authentication::sasl::{SCRAM_SHA_256, SCRAM_SHA_256_PLUS, ScramError, ScramSha256};
 use pgp_base::{Buffer, Error, FallibleIterator, Memory};
 use pgp_message::{
     AuthenticationSaslBody, AuthenticationSaslContinueBody, AuthenticationSaslFinalBody, Message,
@@ -61,7 +61,7 @@ pub enum LoginEvent {
 pub enum LoginFault<A: Allocator = Global> {
     /// The message has no place there.
     Unexpected,
-    /// The server doesn't offer SCRAM-SHA-256, or its list of mechanisms is cut short.
+    /// The server doesn't offer the exchange's mechanism, or its list of mechanisms is cut short.
     NotOffered,
     /// The reply couldn't be written.
     Unsent(Error),
@@ -226,13 +226,13 @@ impl<A: Memory, B: Buffer + Drop> ScramLogin<A, B> {
             (record { phase = self.new.phase; exchange = self.new.exchange; out = self.new.out }) result }
         ensures opened { self.new.out.opened ≡ true }
     {
-        if !offers(body) {
+        if !offers(&self.exchange, body) {
             return Err(LoginFault::NotOffered);
         }
         let Some(first) = self.exchange.message() else {
             return Err(LoginFault::Scram(ScramError::WrongState));
         };
-        if let Err(e) = self.out.sasl_initial_response(SCRAM_SHA_256, first) {
+        if let Err(e) = self.out.sasl_initial_response(mechanism(first), first) {
             return Err(LoginFault::Unsent(e));
         }
         self.phase = LoginPhase::AwaitsFirst;
@@ -341,24 +341,47 @@ fn is_due<S: Storage>(phase: LoginPhase, said: &Observed<'_, S>) -> bool
     }
 }
 
-/// Whether SCRAM-SHA-256 is one of the mechanisms, whose list ends well.
-pub(crate) fn offers<S: SaslStorage>(body: &AuthenticationSaslBody<S>) -> bool
-    ensures yes { result ≡ true → Offers body.now }
-    ensures no { result ≡ false → Offers body.now → ⊥ }
+/// The mechanism of an exchange with this first text, which begins with `p` where the exchange is bound to the channel (RFC 5802, section 6).
+pub(crate) fn mechanism(first: &[u8]) -> &'static str
+    ensures { result.now ≡ mechanism first.now }
 {
-    pgp_message::laws::one_list_of_mechanisms();
-    has_scram(S::mechanisms(body))
+    match first {
+        [b'p', ..] => SCRAM_SHA_256_PLUS,
+        _ => SCRAM_SHA_256,
+    }
 }
 
-/// Whether SCRAM-SHA-256 is one of the names, and the iterator isn't rejected.
-fn has_scram(mut names: SaslMechanisms<'_>) -> bool
-    ensures yes { result ≡ true → (names.entry.end ≡ None) × Contains names.entry.items (codes "SCRAM-SHA-256") }
-    ensures no { result ≡ false → names.entry.end ≡ None → Contains names.entry.items (codes "SCRAM-SHA-256") → ⊥ }
+/// The same of an exchange, where it hasn't ended.
+fn mechanism_of<A: Allocator>(exchange: &ScramSha256<A>) -> &'static str
+    ensures { result.now ≡ mechanism_of exchange.now }
+{
+    match exchange.message() {
+        Some(first) => mechanism(first),
+        None => SCRAM_SHA_256,
+    }
+}
+
+/// Whether the mechanism of the exchange is one of the mechanisms, whose list ends well.
+pub(crate) fn offers<A: Allocator, S: SaslStorage>(
+    exchange: &ScramSha256<A>,
+    body: &AuthenticationSaslBody<S>,
+) -> bool
+    ensures yes { result ≡ true → Offers exchange.now body.now }
+    ensures no { result ≡ false → Offers exchange.now body.now → ⊥ }
+{
+    pgp_message::laws::one_list_of_mechanisms();
+    has_name(S::mechanisms(body), mechanism_of(exchange))
+}
+
+/// Whether this name is one of the names, and the iterator isn't rejected.
+fn has_name(mut names: SaslMechanisms<'_>, sought: &str) -> bool
+    ensures yes { result ≡ true → (names.entry.end ≡ None) × Contains names.entry.items sought.now }
+    ensures no { result ≡ false → names.entry.end ≡ None → Contains names.entry.items sought.now → ⊥ }
 {
     let mut found = false;
     'names: loop {
         match names.next() {
-            Ok(Some(name)) => found |= name == SCRAM_SHA_256,
+            Ok(Some(name)) => found |= name == sought,
             Ok(None) => return found,
             Err(_) => return false,
         }

@@ -2,9 +2,12 @@
 
 use crate::checks::{holds, same, same_at};
 use crate::clients::ERROR;
+use crate::uses::Counting;
 use bytes::BytesMut;
+use pgp_saslprep::SaslPrepRfc4013;
 use pgp_session::client::Event;
 use pgp_session::scram_login::{LoginEvent, LoginFault, LoginPhase, SaslStorage, ScramLogin};
+use pgp_uses::login::begin_prepared;
 use pgp_uses::server::answer;
 use postgres_protocol::Error;
 use postgres_protocol::authentication::sasl::{
@@ -199,5 +202,22 @@ fn a_log_in_is_refused_by_an_error(rt: HostRuntime) -> Result<(), Fail> {
     let reported = observed(ERROR, &mut login);
     same(&rt, reported, Reported::Event(LoginEvent::Refused));
     same(&rt, login.phase, LoginPhase::Over);
+    Ok(())
+}
+
+/// The mapping has a letter to normalize, and the first text doesn't depend on the password.
+#[test]
+fn a_login_with_a_prepared_password_begins(rt: HostRuntime) -> Result<(), Fail> {
+    let mut out = BytesMut::new(rt.alloc());
+    let prep = SaslPrepRfc4013::new(rt.alloc());
+    let client = begin_prepared(
+        rt.alloc(),
+        b"caf\xc3\xa9",
+        &prep,
+        &mut Counting(0),
+        &mut out,
+    )?;
+    same(&rt, out.len(), 55);
+    same(&rt, client.message(), out.as_slice().get(23..));
     Ok(())
 }

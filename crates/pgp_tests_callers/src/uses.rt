@@ -352,7 +352,7 @@ fn commands_hold_what_they_are_reported(rt: HostRuntime) -> Result<(), Fail> {
 
 /// Each word is greater than the one before by 0x04040404.
 #[derive(Debug, Drop)]
-struct Counting(u32);
+pub(crate) struct Counting(pub(crate) u32);
 
 impl Model for Counting {
     ghost Value = { ℕ };

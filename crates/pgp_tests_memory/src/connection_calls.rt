@@ -4,23 +4,43 @@ use crate::checks::holds;
 use crate::connections::{
     ROUNDS, are_next, fed_again, is_repeated, open, outcome_of, turn_of, unopened,
 };
+use crate::serializers::{OWN, put_own};
 use crate::turns::{DONE, Tried, Turn, WRONG, refused};
-use pgp_base::Error;
+use bytes::BytesMut;
+use pgp_base::{BindError, Error};
 use postgres_protocol::dialogue::Event;
-use postgres_protocol::session::Connection;
+use postgres_protocol::message::client::ClientMessage;
+use postgres_protocol::session::{BindSendError, Connection};
 use std::alloc::Allocator;
 
 #[derive(Clone, Copy)]
 enum Call {
     Query,
     Parse,
+    Bind,
     Describe,
     Execute,
     Close,
     Sync,
     Flush,
     CopyData,
+    CopyDone,
     CopyFail,
+    Send,
+}
+
+/// A Bind of one value, whose serializer reports a lack of memory by an error of its own.
+fn bind<A: Allocator + Copy>(connection: &mut Connection<'_, A>) -> Result<u64, Error> {
+    let put = put_own::<BytesMut<A>>;
+    match connection.bind("", "s", Some(1i16), Some(0u32), put, Some(1i16)) {
+        Ok(name) => Ok(name),
+        Err(
+            BindSendError::OutOfMemory
+            | BindSendError::Unwritten(BindError::Conversion(OWN))
+            | BindSendError::Unwritten(BindError::Serialization(Error::OutOfMemory)),
+        ) => Err(Error::OutOfMemory),
+        Err(_) => Err(Error::InvalidLength),
+    }
 }
 
 /// Makes the call, and returns the name of its request.
@@ -28,13 +48,19 @@ fn make<A: Allocator + Copy>(call: Call, connection: &mut Connection<'_, A>) -> 
     outcome_of(match call {
         Call::Query => connection.query("SELECT 1"),
         Call::Parse => connection.parse("", "SELECT 1", Some(23u32)),
+        Call::Bind => return bind(connection),
         Call::Describe => connection.describe(b'S', "s"),
         Call::Execute => connection.execute("", 0),
         Call::Close => connection.close(b'S', "s"),
         Call::Sync => connection.sync(),
         Call::Flush => connection.flush(),
         Call::CopyData => connection.copy_data(b"ab"),
+        Call::CopyDone => connection.copy_done(),
         Call::CopyFail => connection.copy_fail("x"),
+        Call::Send => connection.send(&ClientMessage::Close {
+            variant: b'P',
+            name: b"",
+        }),
     })
 }
 
@@ -63,7 +89,7 @@ impl Made {
     /// The name of the first call's request: before a copy stands the Query that asked for it.
     fn first_name(&self) -> u64 {
         match self.call {
-            Call::CopyData | Call::CopyFail => 2,
+            Call::CopyData | Call::CopyDone | Call::CopyFail => 2,
             _ => 1,
         }
     }
@@ -156,7 +182,7 @@ impl Tried for Made {
 }
 
 /// The calls that send, their lengths and their replies by hand. Flush and the data of a copy have no answer, nor has the end of a copy one of its own.
-const MADE: [Made; 9] = [
+const MADE: [Made; 12] = [
     Made {
         call: Call::Query,
         bytes: b"Q\0\0\0\x0dSELECT 1\0",
@@ -167,6 +193,12 @@ const MADE: [Made; 9] = [
         call: Call::Parse,
         bytes: b"P\0\0\0\x14\0SELECT 1\0\0\x01\0\0\0\x17",
         answer: b"1\0\0\0\x04",
+        messages: 1,
+    },
+    Made {
+        call: Call::Bind,
+        bytes: b"B\0\0\0\x29\0s\0\0\x01\0\x01\0\x01\0\0\0\x140123456789abcdefghij\0\x01\0\x01",
+        answer: b"2\0\0\0\x04",
         messages: 1,
     },
     Made {
@@ -206,10 +238,22 @@ const MADE: [Made; 9] = [
         messages: 0,
     },
     Made {
+        call: Call::CopyDone,
+        bytes: b"c\0\0\0\x04",
+        answer: b"",
+        messages: 0,
+    },
+    Made {
         call: Call::CopyFail,
         bytes: b"f\0\0\0\x06x\0",
         answer: b"",
         messages: 0,
+    },
+    Made {
+        call: Call::Send,
+        bytes: b"C\0\0\0\x06P\0",
+        answer: b"3\0\0\0\x04",
+        messages: 1,
     },
 ];
 

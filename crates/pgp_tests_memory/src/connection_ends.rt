@@ -1,9 +1,10 @@
 //! The front and the end of a connection, the bytes that come, and a dialogue by itself, with fault injection on each allocation.
 
+use crate::auth::begun;
 use crate::checks::{holds, same};
 use crate::connections::{
-    LOGGED, LOGIN, ROUNDS, are_next, event_again, event_in_place, fed_again, is_repeated, open,
-    outcome_of, start, turn_of, unopened,
+    LOGGED, LOGIN, ROUNDS, are_next, connecting, event_again, event_in_place, fed_again,
+    is_repeated, open, outcome_of, start, turn_of, unopened,
 };
 use crate::turns::{DONE, Tried, Turn, WRONG, refused};
 use bytes::BytesMut;
@@ -187,6 +188,60 @@ impl Tried for InPlace {
 #[test]
 fn messages_in_place_with_each_allocation_refused(rt: HostRuntime) {
     same(&rt, refused(&rt, rt.alloc(), &InPlace, Ok(DONE)), 0);
+}
+
+/// A server's messages of a log-in by the exchange of `begun`, its mapped password `x`, and two reports of a setting. The signature is
+/// python3's, after RFC 5802.
+const EXCHANGED: &[u8] = b"R\0\0\0\x2a\0\0\0\x0aSCRAM-SHA-256-PLUS\0SCRAM-SHA-256\0\0\
+R\0\0\0\x47\0\0\0\x0br=9IZ2O01zb9IgiIZ1WJ/zgpJBjx/oIRLs02gGSH,s=fs3IXBy7U7+IvVjZ,i=1\
+R\0\0\0\x36\0\0\0\x0cv=m+cAYTiNc/OmEbe8MlvmxG+xzCiFgsA/gTNNezJrQp4=\
+R\0\0\0\x08\0\0\0\0S\0\0\0\x09a\0bc\0S\0\0\0\x08a\0d\0Z\0\0\0\x05I";
+
+/// That log-in, whose messages came before, taken in place.
+struct Replies;
+
+impl Replies {
+    /// A lack of memory for a reply or for a setting ends the connection, with nothing sent for the message.
+    fn end<A: Allocator + Copy>(&self, connection: &mut Connection<'_, A>) -> Result<usize, Error> {
+        for _ in 0..7 {
+            let count = connection.to_send().len();
+            match outcome_of(connection.advance()) {
+                Ok(Some(_)) => {}
+                Err(Error::OutOfMemory) if is_over(connection, count) => {
+                    return Err(Error::OutOfMemory);
+                }
+                _ => return Ok(WRONG),
+            }
+        }
+        match connection.setting(b"a") {
+            Some(b"d") if connection.is_logged_in() => Ok(DONE),
+            _ => Ok(WRONG),
+        }
+    }
+}
+
+/// Whether the connection is over, with so many bytes to send.
+fn is_over<A: Allocator + Copy>(connection: &mut Connection<'_, A>, count: usize) -> bool {
+    connection.to_send().len() == count
+        && !connection.is_logged_in()
+        && connection.feed(b"x").is_err()
+}
+
+impl Tried for Replies {
+    fn outcome<A: Allocator + Copy>(&self, alloc: A, turn: Turn<'_>) -> Result<usize, Error> {
+        let mut connection = connecting(alloc, begun(alloc, false).ok());
+        if !start(&mut connection) || connection.feed(EXCHANGED).is_err() {
+            return Ok(WRONG);
+        }
+        turn.begin();
+        self.end(&mut connection)
+    }
+}
+
+/// A reply is made and written, and a setting is copied and kept beside others.
+#[test]
+fn replies_with_each_allocation_refused(rt: HostRuntime) {
+    holds(&rt, refused(&rt, rt.alloc(), &Replies, Ok(DONE)) > 8);
 }
 
 /// The end of a session, and a request to cancel its query, after so many Flush.

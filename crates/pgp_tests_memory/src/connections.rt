@@ -2,6 +2,7 @@
 //! the formats of the PostgreSQL manual; its chapter "Message Flow" says which message answers which request.
 
 use crate::turns::{DONE, WRONG};
+use pgp_auth::authentication::sasl::{ScramError, ScramSha256};
 use pgp_base::Error;
 use postgres_protocol::dialogue::Event;
 use postgres_protocol::session::{Connection, ConnectionError, Ways};
@@ -22,9 +23,12 @@ pub(crate) fn outcome_of<T: Drop, A: Allocator>(
 ) -> Result<T, Error> {
     match made {
         Ok(value) => Ok(value),
-        Err(ConnectionError::OutOfMemory | ConnectionError::Unwritten(Error::OutOfMemory)) => {
-            Err(Error::OutOfMemory)
-        }
+        Err(
+            ConnectionError::OutOfMemory
+            | ConnectionError::Unwritten(Error::OutOfMemory)
+            | ConnectionError::Unkept(Error::OutOfMemory)
+            | ConnectionError::Scram(ScramError::OutOfMemory),
+        ) => Err(Error::OutOfMemory),
         Err(e) => {
             drop(e);
             Err(Error::InvalidLength)
@@ -109,14 +113,22 @@ pub(crate) fn are_next<A: Allocator + Copy>(
     next_event(connection) == Ok(None)
 }
 
-pub(crate) fn unopened<A: Allocator + Copy>(alloc: A) -> Connection<'static, A> {
+/// A connection that logs in by this exchange, or without a password where there is none.
+pub(crate) fn connecting<A: Allocator + Copy>(
+    alloc: A,
+    scram: Option<ScramSha256<A>>,
+) -> Connection<'static, A> {
     let ways = Ways {
-        scram: None,
+        none: scram.is_none(),
+        scram,
         md5: None,
         cleartext: None,
-        none: true,
     };
     Connection::new(alloc, ways, 1_000)
+}
+
+pub(crate) fn unopened<A: Allocator + Copy>(alloc: A) -> Connection<'static, A> {
+    connecting(alloc, None)
 }
 
 /// Whether the connection could be started, with nothing left to send.

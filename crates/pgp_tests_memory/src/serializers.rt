@@ -15,7 +15,7 @@ use pgp_types::{ArrayDimension, RangeBound, array_to_sql, range_to_sql};
 use std::alloc::{AllocError, Global};
 
 // What the serializers here answer where they are refused memory.
-const OWN: u8 = 77;
+pub(crate) const OWN: u8 = 77;
 
 // How often a serializer is called that refuses the k-th of five values, after the bytes that it has appended; 0 where its
 // error isn't reported, or the buffer doesn't keep its bytes.
@@ -54,7 +54,7 @@ fn bind_with_each_value_refused(rt: HostRuntime) {
 }
 
 // Appends twenty bytes, or returns its own number.
-fn put_own<B: Buffer>(_value: u32, buf: &mut B) -> Result<IsNull, u8>
+pub(crate) fn put_own<B: Buffer>(_value: u32, buf: &mut B) -> Result<IsNull, u8>
     ensures { KeepsValue result (B.held buf.old) (B.held buf.new) }
 {
     match buf.append(b"0123456789abcdefghij") {

@@ -4,9 +4,8 @@
 ghost use Rattle.pgp_base.specs.Calls.{KeepsValue};
 ghost use Rattle.pgp_base.specs.Held.{items_held};
 
-use crate::checks::same_at;
-use crate::connections::{LOGGED_IN, trusting};
-use crate::steps::{Answer, Call, Step, takes};
+use crate::connections::{ADMITTED, trusting};
+use crate::steps::{Call, Step, plays};
 use bytes::BytesMut;
 use pgp_base::{BindError, IsNull};
 use pgp_client::Event;
@@ -15,7 +14,7 @@ use pgp_types::int4_to_sql;
 
 /// Values of a statement's parameters.
 #[derive(Clone, Copy)]
-enum Element {
+pub(crate) enum Element {
     Number(i32),
     Null,
     Failing,
@@ -25,18 +24,13 @@ enum Element {
 const BOUND: &[u8] =
     b"B\0\0\0\x1d\0s\0\0\x01\0\x01\0\x02\0\0\0\x04\0\0\0\x05\xff\xff\xff\xff\0\x01\0\x01";
 
-const ANSWERED: [Answer; 2] = [
-    (b"2\0\0\0\x04", Event::Last(1)),
-    (b"Z\0\0\0\x05I", Event::Last(2)),
-];
-
-fn put_element(element: Element, buf: &mut BytesMut) -> Result<IsNull, u8>
+fn put_element(element: &Element, buf: &mut BytesMut) -> Result<IsNull, u8>
     ensures { KeepsValue result (items_held buf.entry.now.items) (items_held buf.exit.now.items) }
 {
     match element {
         Element::Null => Ok(IsNull::Yes),
         Element::Failing => Err(2),
-        Element::Number(n) => match int4_to_sql(n, buf) {
+        Element::Number(n) => match int4_to_sql(*n, buf) {
             Ok(()) => Ok(IsNull::No),
             Err(_) => Err(1),
         },
@@ -44,15 +38,8 @@ fn put_element(element: Element, buf: &mut BytesMut) -> Result<IsNull, u8>
 }
 
 /// The name of the request; the error of the serializer, 8 where the connection isn't logged in, or 9.
-fn bind(connection: &mut Connection<'_>, elements: &[Element]) -> Result<u64, u8> {
-    match connection.bind(
-        "",
-        "s",
-        Some(1i16),
-        elements,
-        |element: &Element, buf: &mut BytesMut| put_element(*element, buf),
-        Some(1i16),
-    ) {
+pub(crate) fn bind(connection: &mut Connection<'_>, elements: &[Element]) -> Result<u64, u8> {
+    match connection.bind("", "s", Some(1i16), elements, put_element, Some(1i16)) {
         Ok(name) => Ok(name),
         Err(BindSendError::OutOfPhase) => Err(8),
         Err(BindSendError::Unwritten(BindError::Conversion(e))) => Err(e),
@@ -60,25 +47,25 @@ fn bind(connection: &mut Connection<'_>, elements: &[Element]) -> Result<u64, u8
     }
 }
 
-/// The Sync after a Bind, and the answers of both.
-static SYNCED: [Step; 3] = [
+/// A Bind before the log-in, one that is sent, one whose serializer fails, and a Sync with the answers of both.
+static BINDS: [Step; 11] = [
+    Step::Binds(&[], Err(8)),
+    Step::Makes(Call::Start),
+    Step::Hears(&ADMITTED),
+    Step::Sent,
+    Step::Binds(&[Element::Number(5), Element::Null], Ok(1)),
+    Step::ToSend(BOUND),
+    Step::Binds(&[Element::Number(5), Element::Failing], Err(2)),
+    Step::ToSend(BOUND),
     Step::Makes(Call::Sync),
-    Step::Hears(&ANSWERED),
+    Step::Hears(&[
+        (b"2\0\0\0\x04", Event::Last(1)),
+        (b"Z\0\0\0\x05I", Event::Last(2)),
+    ]),
     Step::Is(true, true, Some(b'I')),
 ];
 
 #[test]
 fn a_bind_is_sent_whole_or_not_at_all(rt: HostRuntime) {
-    let mut connection = trusting(&rt);
-    same_at(&rt, 0, bind(&mut connection, &[]), Err(8));
-    takes(&rt, &mut connection, &LOGGED_IN);
-    let count = connection.to_send().len();
-    connection.sent(count);
-    let values = [Element::Number(5), Element::Null];
-    same_at(&rt, 1, bind(&mut connection, &values), Ok(1));
-    same_at(&rt, 2, connection.to_send(), BOUND);
-    let failing = [Element::Number(5), Element::Failing];
-    same_at(&rt, 3, bind(&mut connection, &failing), Err(2));
-    same_at(&rt, 4, connection.to_send(), BOUND);
-    takes(&rt, &mut connection, &SYNCED);
+    plays(&rt, rt.alloc(), 0, trusting(rt.alloc()), &[&BINDS]);
 }

@@ -1,18 +1,14 @@
 //! A client's connection, on messages of the PostgreSQL manual's formats. The manual's chapter "Message Flow" says which
 //! message answers which request.
 
-use crate::checks::{holds, same_at};
-use crate::steps::{Answer, Call, Step, next_event, takes};
-use bytes::BytesMut;
+use crate::steps::{Answer, Call, Step, plays};
 use pgp_auth::authentication::sasl::{ChannelBinding, NoPrep, ScramSha256, is_nonce};
-use pgp_base::Error;
 use pgp_client::Event;
-use pgp_session::{BackendKey, Connection, ConnectionError, Ways};
-use std::process::Abort;
-use std::test::Fail;
+use pgp_session::{BackendKey, Connection, Ways};
+use std::alloc::Global;
 
 /// The messages of a server that asks for no password, and the events of the request 0.
-const ADMITTED: [Answer; 4] = [
+pub(crate) const ADMITTED: [Answer; 4] = [
     (b"R\0\0\0\x08\0\0\0\0", Event::Part(0)),
     (b"S\0\0\0\x0bTimeZ\0\0", Event::Aside),
     (b"K\0\0\0\x0c\0\0\0\x01\0\0\0\x02", Event::Part(0)),
@@ -49,56 +45,82 @@ pub(crate) const WELCOME: &[u8] = b"R\0\0\0\x08\0\0\0\0";
 
 pub(crate) const READY: &[u8] = b"Z\0\0\0\x05I";
 
-const CLEARTEXT: &[u8] = b"R\0\0\0\x08\0\0\0\x03";
+/// The messages of a log-in by that exchange.
+pub(crate) static LOGIN: [Answer; 5] = [
+    (OFFER, Event::Part(0)),
+    (FIRST, Event::Part(0)),
+    (FINAL, Event::Part(0)),
+    (WELCOME, Event::Part(0)),
+    (READY, Event::Last(0)),
+];
 
-const MD5: &[u8] = b"R\0\0\0\x0c\0\0\0\x05salt";
-
-/// A connection that logs in by SCRAM-SHA-256 alone, with this password and nonce.
-pub(crate) fn by_password(
-    rt: &HostRuntime,
+/// An exchange with this password and nonce.
+fn exchange(
+    alloc: Global,
+    binding: ChannelBinding,
     password: &[u8],
     nonce: &str,
-) -> Result<Connection<'static>, Fail> {
-    let nonce = String::from_str(rt.alloc(), nonce)?;
-    if !is_nonce(&nonce) {
-        return Err(Error::NotUtf8.into());
+) -> Option<ScramSha256> {
+    match String::from_str(alloc, nonce) {
+        Ok(nonce) if is_nonce(&nonce) => {
+            ScramSha256::with_nonce(alloc, password, binding, nonce, &NoPrep).ok()
+        }
+        _ => None,
     }
-    let binding = ChannelBinding::unsupported();
-    let exchange = ScramSha256::with_nonce(rt.alloc(), password, binding, nonce, &NoPrep)?;
+}
+
+/// A connection that logs in by this exchange alone, if there is one, or without a password.
+pub(crate) fn connecting(
+    alloc: Global,
+    scram: Option<ScramSha256>,
+    none: bool,
+    limit: u32,
+) -> Connection<'static> {
     let ways = Ways {
-        scram: Some(exchange),
+        scram,
         md5: None,
         cleartext: None,
-        none: false,
+        none,
     };
-    Ok(Connection::new(rt.alloc(), ways, 65_536))
+    Connection::new(alloc, ways, limit)
 }
+
+/// A connection that logs in by SCRAM-SHA-256 alone, with this password and nonce.
+pub(crate) fn by_password(alloc: Global, password: &[u8], nonce: &str) -> Connection<'static> {
+    let binding = ChannelBinding::unsupported();
+    connecting(
+        alloc,
+        exchange(alloc, binding, password, nonce),
+        false,
+        65_536,
+    )
+}
+
+const NONCE: &str = "9IZ2O01zb9IgiIZ1WJ/zgpJB";
 
 /// A connection that logs in by the exchange of these messages.
-pub(crate) fn known(rt: &HostRuntime) -> Result<Connection<'static>, Fail> {
-    by_password(rt, b"foobar", "9IZ2O01zb9IgiIZ1WJ/zgpJB")
+pub(crate) fn known(alloc: Global) -> Connection<'static> {
+    by_password(alloc, b"foobar", NONCE)
 }
 
-pub(crate) fn trusting(rt: &HostRuntime) -> Connection<'static> {
-    let ways = Ways {
-        scram: None,
-        md5: None,
-        cleartext: None,
-        none: true,
-    };
-    Connection::new(rt.alloc(), ways, 1_000)
-}
-
-/// Whether the next message isn't admitted in the log-in, or isn't due there.
-fn stops(connection: &mut Connection<'_>) -> bool {
-    match connection.next() {
-        Ok(Some((_, message))) => {
-            drop(message);
-            false
+/// The exchange with that password and nonce that is bound to the channel.
+fn bound(alloc: Global) -> Option<ScramSha256> {
+    match Vec::from_slice(alloc, b"a hash") {
+        Ok(hash) => {
+            let binding = ChannelBinding::tls_server_end_point(hash);
+            exchange(alloc, binding, b"foobar", NONCE)
         }
-        Err(ConnectionError::NotAdmitted | ConnectionError::Undue) => true,
-        _ => false,
+        Err(_) => None,
     }
+}
+
+/// A connection that logs in by it.
+pub(crate) fn known_bound(alloc: Global) -> Connection<'static> {
+    connecting(alloc, bound(alloc), false, 65_536)
+}
+
+pub(crate) fn trusting(alloc: Global) -> Connection<'static> {
+    connecting(alloc, None, true, 1_000)
 }
 
 /// A log-in without a password, and what `ANSWERED` answers.
@@ -125,33 +147,32 @@ static HEARD: [Step; 6] = [
 
 #[test]
 fn answers_belong_to_their_requests(rt: HostRuntime) {
-    let mut connection = trusting(&rt);
-    takes(&rt, &mut connection, &ASKED);
-    takes(&rt, &mut connection, &HEARD);
+    plays(&rt, rt.alloc(), 0, trusting(rt.alloc()), &[&ASKED, &HEARD]);
 }
 
 /// A log-in without a password.
-pub(crate) static LOGGED_IN: [Step; 3] = [
+static LOGGED_IN: [Step; 3] = [
     Step::Makes(Call::Start),
     Step::Is(false, false, None),
     Step::Hears(&ADMITTED),
 ];
 
-#[test]
-fn another_connection_cancels_by_the_key(rt: HostRuntime) {
-    let mut connection = trusting(&rt);
-    let mut out = BytesMut::new(rt.alloc());
-    takes(&rt, &mut connection, &LOGGED_IN[..2]);
-    holds(&rt, connection.cancel_request(&mut out).is_err());
-    takes(&rt, &mut connection, &LOGGED_IN[2..]);
-    let key = BackendKey {
+/// There is a request to cancel where the key came in the log-in.
+static CANCELLED: [Step; 6] = [
+    Step::Makes(Call::Start),
+    Step::Is(false, false, None),
+    Step::Cancels(b""),
+    Step::Hears(&ADMITTED),
+    Step::Key(Some(BackendKey {
         process_id: 1,
         secret_key: [0, 0, 0, 2],
-    };
-    same_at(&rt, 1, connection.backend_key(), Some(key));
-    holds(&rt, connection.cancel_request(&mut out).is_ok());
-    let wanted = b"\0\0\0\x10\x04\xd2\x16\x2e\0\0\0\x01\0\0\0\x02".as_slice();
-    same_at(&rt, 2, out.as_slice(), wanted);
+    })),
+    Step::Cancels(b"\0\0\0\x10\x04\xd2\x16\x2e\0\0\0\x01\0\0\0\x02"),
+];
+
+#[test]
+fn another_connection_cancels_by_the_key(rt: HostRuntime) {
+    plays(&rt, rt.alloc(), 0, trusting(rt.alloc()), &[&CANCELLED]);
 }
 
 /// Three Sync, and the ReadyForQuery of each.
@@ -169,88 +190,43 @@ static STATUSES: [Step; 9] = [
 
 #[test]
 fn the_last_ready_for_query_tells_the_status(rt: HostRuntime) {
-    let mut connection = trusting(&rt);
-    takes(&rt, &mut connection, &LOGGED_IN);
-    takes(&rt, &mut connection, &STATUSES);
+    plays(
+        &rt,
+        rt.alloc(),
+        0,
+        trusting(rt.alloc()),
+        &[&LOGGED_IN, &STATUSES],
+    );
 }
 
-/// Whether a request for a way of logging in that isn't admitted is rejected, with nothing sent and nothing more taken.
-fn is_rejected(connection: &mut Connection<'_>, request: &[u8]) -> bool {
-    let started = connection.start(&[("user", "u")]).is_ok();
-    let written = connection.to_send().len();
-    let fed = connection.feed(request).is_ok();
-    started
-        && fed
-        && stops(connection)
-        && connection.to_send().len() == written
-        && connection.feed(WELCOME).is_err()
-}
-
-#[test]
-fn only_ways_that_are_admitted_are_taken(rt: HostRuntime) {
-    for request in [CLEARTEXT, MD5, OFFER] {
-        let mut connection = trusting(&rt);
-        holds(&rt, is_rejected(&mut connection, request));
-    }
-}
-
-/// Whether a client that was started is let in after these messages and a last one.
-fn is_let_in(connection: &mut Connection<'_>, answers: &[&[u8]]) -> bool {
-    for answer in answers {
-        if connection.feed(answer).is_ok() {
-            let _ = next_event(connection);
-        }
-    }
-    connection.is_logged_in()
-}
-
-/// Orders of the messages of an exchange, of which the first is the right one.
-static ORDERS: [[&[u8]; 4]; 4] = [
-    [OFFER, FIRST, FINAL, WELCOME],
-    [WELCOME, FIRST, FINAL, WELCOME],
-    [OFFER, WELCOME, FINAL, WELCOME],
-    [OFFER, FIRST, WELCOME, WELCOME],
+/// Encryption is asked for, and nothing of the connection itself is taken before the answer.
+static ASKED_ENCRYPTION: [Step; 4] = [
+    Step::Makes(Call::RequestEncryption),
+    Step::ToSend(b"\0\0\0\x08\x04\xd2\x16\x2f"),
+    Step::Sent,
+    Step::TakesNoBytes,
 ];
 
-#[test]
-fn no_client_is_let_in_without_the_signature(rt: HostRuntime) -> Result<(), Fail> {
-    for (place, answers) in ORDERS.iter().enumerate() {
-        let mut connection = known(&rt)?;
-        holds(&rt, connection.start(&[("user", "user")]).is_ok());
-        same_at(&rt, place, is_let_in(&mut connection, answers), place == 0);
-    }
-    Ok(())
-}
-
-/// What a piece after a request for encryption comes to, before which nothing of the connection itself is taken.
-fn encryption(
-    rt: &impl Abort,
-    connection: &mut Connection<'_>,
-    piece: &[u8],
-) -> Option<Option<bool>> {
-    holds(rt, connection.request_encryption().is_ok());
-    let request = b"\0\0\0\x08\x04\xd2\x16\x2f".as_slice();
-    same_at(rt, 0, connection.to_send(), request);
-    let count = connection.to_send().len();
-    connection.sent(count);
-    holds(rt, connection.feed(b"S").is_err());
-    connection.encryption_answered(piece).ok()
-}
-
 /// Answers about encryption, with bytes after them and without.
-static ENCRYPTIONS: [(&[u8], Option<Option<bool>>); 6] = [
-    (b"", Some(None)),
-    (b"S", Some(Some(true))),
-    (b"N", Some(Some(false))),
-    (b"SR\0\0\0\x08\0\0\0\0", None),
-    (b"NS", None),
-    (b"E", None),
+static ENCRYPTIONS: [[Step; 1]; 6] = [
+    [Step::Encrypts(b"", Some(None))],
+    [Step::Encrypts(b"S", Some(Some(true)))],
+    [Step::Encrypts(b"N", Some(Some(false)))],
+    [Step::Encrypts(b"SR\0\0\0\x08\0\0\0\0", None)],
+    [Step::Encrypts(b"NS", None)],
+    [Step::Encrypts(b"E", None)],
 ];
 
 #[test]
 fn the_answer_about_encryption_is_one_byte(rt: HostRuntime) {
-    for (place, (piece, wanted)) in ENCRYPTIONS.iter().enumerate() {
-        let mut connection = trusting(&rt);
-        same_at(&rt, place, encryption(&rt, &mut connection, piece), *wanted);
+    let alloc = rt.alloc();
+    for (row, answered) in ENCRYPTIONS.iter().enumerate() {
+        plays(
+            &rt,
+            alloc,
+            row,
+            trusting(alloc),
+            &[&ASKED_ENCRYPTION, answered],
+        );
     }
 }

@@ -1,60 +1,29 @@
 //! A client's connection whose messages are read in place, on messages of the PostgreSQL manual's formats.
 
-use crate::checks::holds;
-use crate::connections::{
-    ANSWERED, ASKED, DESCRIPTION, FINAL, FIRST, OFFER, READY, WELCOME, known, trusting,
-};
-use crate::steps::{Answer, Call, Step, event_in_place, is_there, next_event, takes};
+use crate::connections::{ANSWERED, ASKED, DESCRIPTION, trusting};
+use crate::ends::all_end;
+use crate::steps::{Call, Fault, Step, plays};
 use pgp_client::Event;
-use pgp_session::Connection;
-use std::process::Abort;
-use std::test::Fail;
 
+/// The answers to what was asked, each in place.
 static HEARD: [Step; 2] = [
     Step::HearsInPlace(&ANSWERED),
     Step::Is(true, true, Some(b'I')),
 ];
 
-#[test]
-fn messages_in_place_belong_to_their_requests(rt: HostRuntime) {
-    let mut connection = trusting(&rt);
-    takes(&rt, &mut connection, &ASKED);
-    takes(&rt, &mut connection, &HEARD);
-}
+/// All at once, in place and handed out in turn.
+static TURNS: [Step; 2] = [
+    Step::TakesTurns(&ANSWERED, 0),
+    Step::Is(true, true, Some(b'I')),
+];
 
-/// The answers to what was asked, all at once, which are taken in place and handed out in turn.
-static TURNS: [Answer; 9] = ANSWERED;
-
-/// Whether the next message, read in place or handed out, is this to the requests, and there or not then.
-fn is_turn(connection: &mut Connection<'_>, in_place: bool, event: Event) -> bool {
-    let received = match in_place {
-        true => event_in_place(connection),
-        false => next_event(connection),
-    };
-    received == Some(event) && is_there(connection) == in_place
-}
-
-fn take_turns(rt: &impl Abort, connection: &mut Connection<'_>, first: usize) {
-    for (bytes, _) in &TURNS {
-        holds(rt, connection.feed(bytes).is_ok());
-    }
-    for (place, (_, event)) in TURNS.iter().enumerate() {
-        holds(rt, is_turn(connection, place % 2 == first, *event));
-    }
-    holds(rt, connection.is_idle());
-}
-
-#[test]
-fn both_calls_take_turns(rt: HostRuntime) {
-    for first in 0..2 {
-        let mut connection = trusting(&rt);
-        takes(&rt, &mut connection, &ASKED);
-        take_turns(&rt, &mut connection, first);
-    }
-}
+static OTHER_TURNS: [Step; 2] = [
+    Step::TakesTurns(&ANSWERED, 1),
+    Step::Is(true, true, Some(b'I')),
+];
 
 /// Two rows of one column come in one piece with a part of the message after them.
-static ROWS: [Step; 13] = [
+static ROWS: [Step; 14] = [
     Step::Feeds(DESCRIPTION),
     Step::Advances(Some(Event::Part(1))),
     Step::Reads(true, None),
@@ -68,57 +37,34 @@ static ROWS: [Step; 13] = [
     Step::Reads(false, None),
     Step::Feeds(b"\0\x0dSELECT 2\0"),
     Step::Advances(Some(Event::Part(1))),
+    Step::Reads(true, None),
 ];
 
 #[test]
-fn a_row_is_read_in_place(rt: HostRuntime) {
-    let mut connection = trusting(&rt);
-    takes(&rt, &mut connection, &ASKED);
-    takes(&rt, &mut connection, &ROWS);
-    holds(&rt, is_there(&connection));
-}
-
-static LOGIN: [&[u8]; 5] = [OFFER, FIRST, FINAL, WELCOME, READY];
-
-/// Whether both take a message, one in place, as the same to the requests, and send the same.
-fn are_alike(connection: &mut Connection<'_>, other: &mut Connection<'_>, bytes: &[u8]) -> bool {
-    if connection.feed(bytes).is_err() || other.feed(bytes).is_err() {
-        return false;
+fn messages_in_place_belong_to_their_requests(rt: HostRuntime) {
+    let alloc = rt.alloc();
+    for (row, steps) in [HEARD.as_slice(), &TURNS, &OTHER_TURNS, &ROWS]
+        .iter()
+        .enumerate()
+    {
+        plays(&rt, alloc, row, trusting(alloc), &[&ASKED, steps]);
     }
-    let event = event_in_place(connection);
-    event.is_some() && event == next_event(other) && connection.to_send() == other.to_send()
-}
-
-/// Both log in.
-fn log_in(rt: &impl Abort, connection: &mut Connection<'_>, other: &mut Connection<'_>) {
-    holds(rt, connection.start(&[("user", "alice")]).is_ok());
-    holds(rt, other.start(&[("user", "alice")]).is_ok());
-    for bytes in &LOGIN {
-        holds(rt, are_alike(connection, other, bytes));
-    }
-    holds(rt, connection.is_logged_in());
-}
-
-/// The log-in sends what it sends where its messages are handed out.
-#[test]
-fn a_log_in_is_taken_in_place(rt: HostRuntime) -> Result<(), Fail> {
-    let mut connection = known(&rt)?;
-    let mut other = known(&rt)?;
-    log_in(&rt, &mut connection, &mut other);
-    Ok(())
 }
 
 /// A message that has no place ends the connection, and isn't there.
-static PLACELESS: [Step; 5] = [
+static PLACELESS: [Step; 4] = [
     Step::Makes(Call::Start),
     Step::Feeds(b"D\0\0\0\x06\0\0"),
-    Step::Advances(None),
+    Step::EndsInPlace(Fault::Unexpected),
     Step::Reads(false, None),
-    Step::IsOver,
 ];
 
 #[test]
 fn a_message_without_a_place_is_not_there(rt: HostRuntime) {
-    let mut connection = trusting(&rt);
-    takes(&rt, &mut connection, &PLACELESS);
+    plays(&rt, rt.alloc(), 0, trusting(rt.alloc()), &[&PLACELESS]);
+}
+
+#[test]
+fn a_connection_ends_in_place_where_a_message_is_not_taken(rt: HostRuntime) {
+    all_end(&rt, rt.alloc(), true);
 }

@@ -10,7 +10,11 @@ mod checks;
 #[cfg(test)]
 mod connections;
 #[cfg(test)]
+mod ends;
+#[cfg(test)]
 mod in_place;
+#[cfg(test)]
+mod offers;
 #[cfg(test)]
 mod pooled;
 #[cfg(test)]

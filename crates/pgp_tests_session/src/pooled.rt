@@ -5,10 +5,9 @@ use Side::{Client, Server};
 use pgp_frontend_read::{ClientMessages, PasswordKind};
 use pgp_message::Messages;
 use pgp_session::pooler::Session;
-use std::test::Fail;
 
 /// Who sent the message.
-#[derive(Debug, Clone, Copy, PartialEq, Eq)]
+#[derive(Clone, Copy)]
 enum Side {
     Client,
     Server,
@@ -18,7 +17,7 @@ enum Side {
 type Row = (Side, &'static [u8], bool);
 
 /// The log-in, and a Query that begins a transaction, with one that ends it.
-const QUERIES: [Row; 9] = [
+static QUERIES: [Row; 9] = [
     (Client, b"\0\0\0\x09\0\x03\0\0\0", false),
     (Server, b"R\0\0\0\x08\0\0\0\0", false),
     (Server, b"Z\0\0\0\x05I", true),
@@ -31,7 +30,7 @@ const QUERIES: [Row; 9] = [
 ];
 
 /// A Parse, whose answer doesn't end the series: its Sync does.
-const SERIES: [Row; 4] = [
+static SERIES: [Row; 4] = [
     (Client, b"P\0\0\0\x09\0\x31\0\0\0", false),
     (Server, b"1\0\0\0\x04", false),
     (Client, b"S\0\0\0\x04", false),
@@ -39,7 +38,7 @@ const SERIES: [Row; 4] = [
 ];
 
 /// A Parse that fails: the server skips all that comes before the next Sync.
-const FAILED: [Row; 6] = [
+static FAILED: [Row; 6] = [
     (Client, b"P\0\0\0\x09\0x\0\0\0", false),
     (Client, b"E\0\0\0\x09\0\0\0\0\0", false),
     (Client, b"Q\0\0\0\x05\0", false),
@@ -49,7 +48,7 @@ const FAILED: [Row; 6] = [
 ];
 
 /// A copy to the server by an Execute: the server skips the Sync that stands in its data.
-const COPY: [Row; 9] = [
+static COPY: [Row; 9] = [
     (Client, b"E\0\0\0\x09\0\0\0\0\0", false),
     (Server, b"G\0\0\0\x07\0\0\0", false),
     (Client, b"d\0\0\0\x06x\n", false),
@@ -62,7 +61,7 @@ const COPY: [Row; 9] = [
 ];
 
 /// A FunctionCall that fails.
-const CALL: [Row; 3] = [
+static CALL: [Row; 3] = [
     (Client, b"F\0\0\0\x0e\0\0\x01\0\0\0\0\0\0\x01", false),
     (Server, b"E\0\0\0\x05\0", false),
     (Server, b"Z\0\0\0\x05I", true),
@@ -72,11 +71,19 @@ const CALL: [Row; 3] = [
 fn notes(session: &mut Session, side: Side, bytes: &[u8], opened: bool) -> bool {
     match side {
         Client => match ClientMessages::resume(bytes, opened).next(PasswordKind::Password) {
-            Ok(Some(message)) => session.sent(&message).is_ok(),
+            Ok(Some(message)) => {
+                let noted = session.sent(&message).is_ok();
+                drop(message);
+                noted
+            }
             _ => false,
         },
         Server => match Messages::new(bytes).next() {
-            Ok(Some(message)) => session.received(&message).is_ok(),
+            Ok(Some(message)) => {
+                let noted = session.received(&message).is_ok();
+                drop(message);
+                noted
+            }
             _ => false,
         },
     }

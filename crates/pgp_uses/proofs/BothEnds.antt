@@ -1,5 +1,5 @@
 -- A client's core and a server's core, turn by turn.
-use Rattle.std.proofs.Common.{◌≡◌, ℕ, List, [], ◌∷◌, ◌++◌, length, Option, Some, None, Result, Ok, Err, refl, sym, ap, subst, ◌∙◌, arith, inl, inr, false, append_assoc}
+use Rattle.std.proofs.Common.{◌≡◌, ℕ, List, [], ◌∷◌, ◌++◌, length, Option, Some, None, Result, Ok, Err, refl, sym, ap, subst, ◌∙◌, arith, inl, inr, false, append_assoc, Contains}
 use Rattle.std.specs.Prelude.{◌⊎◌, ◌≢◌}
 use Rattle.std.specs.Char.{encode_utf8}
 use Rattle.std.specs.List.{AllByRecursion}
@@ -17,7 +17,7 @@ use Rattle.pgp_auth.specs.ScramServing.{Server, Challenges, Admits}
 use Rattle.pgp_auth.specs.ScramServing as server
 use Rattle.pgp_auth.specs.Verifier.{verifier}
 use Rattle.pgp_auth.proofs.EndsMeet.{first_memory, finish_never_refused, last_is, message_is, signature_never_refused, text_is, update_memory_met}
-use Rattle.pgp_frontend.specs.ClientMessage.{ClientMessage}
+use Rattle.pgp_frontend.specs.ClientMessage.{ClientMessage, SaslInitialResponse}
 use Rattle.pgp_frontend.specs.Payload.{joined}
 use Rattle.pgp_frontend_read.proofs.Items.{bytes_behind}
 use Rattle.pgp_frontend_read.proofs.Steps.{frame_payload}
@@ -26,9 +26,9 @@ use Rattle.pgp_message.specs.Items.{TextSpelled, TextRefused}
 use Rattle.pgp_message.specs.Stream.{Frames, TakesFrame}
 use Rattle.pgp_message_write.specs.Reply.{IsInRange, IsMechanism, IsReply, bytes_of, cause, names_of, parts}
 use Rattle.pgp_uses.specs.BothEnds.{AreRead, Facing, IsClientsWant, IsServersWant, LogsIn}
-use Rattle.pgp_session.specs.ClientStream.{IsAdded}
+use Rattle.pgp_session.specs.ClientStream.{IsAdded, RefusesMessage}
 use Rattle.pgp_session.specs.ScramLogin as login
-use Rattle.pgp_session.specs.ScramLogin.{Offers, Shown, observed}
+use Rattle.pgp_session.specs.ScramLogin.{Offers, Shown, initial, mechanism_by, mechanism_of, observed}
 use Rattle.pgp_session.specs.Serving as serving
 use Rattle.pgp_session.specs.Serving.{Comes, Outcome, Challenge, Denied, Signed, IsAdmitted, IsChallenged, IsNoFinal, IsNoFirst, admission, cause_of, challenge, due, final_message, first_message, kind_in, scram, scram_offer, signature, spelled}
 use Rattle.pgp_session.specs.declared.scram_login.LoginEvent.{LoginEvent}
@@ -67,6 +67,10 @@ meeting_of x s f = record {
   salt_is = f.salt_is;
   few = f.few;
 }
+
+-- the first message of an exchange that isn't bound to the channel
+pub unbound_first : (x : Client) (text : List ℕ) → message_of x.state ≡ Some text → mechanism_of x ≡ scram → initial text ≡ first_message text
+unbound_first x text said unbound = ap (λ (name : List ℕ). SaslInitialResponse name (Some text)) (sym (ap mechanism_by said) ∙ unbound)
 
 -- ---- what the server says is read
 
@@ -226,19 +230,29 @@ module _ {B K E : Type 0} (held : B → Held K) (memory : Type 0) (lacks : Held 
   heard : (m : Message) (old new : Shown B) (p : LoginPhase) (result : Result LoginEvent (LoginFault E)) → old.phase ≡ p → login.Steps held memory lacks m old new result → login.StepsOn held memory lacks (observed p m) old new result
   heard m old new p result e h = subst (λ (q : LoginPhase). login.StepsOn held memory lacks (observed q m) old new result) e h
 
-  begins : (server : Server) (old new : Shown B) (meeting : Meeting old.exchange server) (result : Result LoginEvent (LoginFault E)) → Offers (names_of (scram ∷ []))
+  begins : (server : Server) (old new : Shown B) (meeting : Meeting old.exchange server) → mechanism_of old.exchange ≡ scram → (result : Result LoginEvent (LoginFault E)) → Offers old.exchange (names_of (scram ∷ []))
       → login.HearsOffer held memory lacks (names_of (scram ∷ [])) old new result
       → ((result ≡ Ok Began) × HasBegun held (text_of meeting.begun) old new) ⊎ IsClientsWant held memory lacks first_message old result
-  begins server old new meeting (Ok Began) offers (offered, phase, exchange, (text, said, added)) =
-      inl (refl, record { first = text; is = text_is old.exchange server meeting text (sym said); phase = phase; exchange = exchange; added = added })
-  begins server old new meeting (Ok event) offers h = absurd h
-  begins server old new meeting (Err NotOffered) offers h = absurd (h.0 offers)
-  begins server old new meeting (Err (Unsent e)) offers (offered, phase, exchange, (text, said, refused, left)) = inr (text, refused)
-  begins server old new meeting (Err (Scram e)) offers h = absurd (no_none (message_of old.exchange.state) (text_of meeting.begun) (message_is old.exchange server meeting) h.1)
+  begins server old new meeting unbound (Ok Began) offers (offered, phase, exchange, (text, said, added)) =
+      inl (
+        refl,
+        record {
+          first = text;
+          is = text_is old.exchange server meeting text (sym said);
+          phase = phase;
+          exchange = exchange;
+          added = subst (λ (m : ClientMessage). IsAdded held m old.out new.out) (unbound_first old.exchange text said unbound) added;
+        },
+      )
+  begins server old new meeting unbound (Ok event) offers h = absurd h
+  begins server old new meeting unbound (Err NotOffered) offers h = absurd (h.0 offers)
+  begins server old new meeting unbound (Err (Unsent e)) offers (offered, phase, exchange, (text, said, refused, left)) =
+      inr (text, subst (λ (m : ClientMessage). RefusesMessage m lacks (held old.out.buf) e) (unbound_first old.exchange text said unbound) refused)
+  begins server old new meeting unbound (Err (Scram e)) offers h = absurd (no_none (message_of old.exchange.state) (text_of meeting.begun) (message_is old.exchange server meeting) h.1)
     where
       no_none : (o : Option (List ℕ)) (text : List ℕ) → o ≡ Some text → o ≡ None → ⊥
       no_none o text e f = cc
-  begins server old new meeting (Err e) offers h = absurd h
+  begins server old new meeting unbound (Err e) offers h = absurd h
 
   replies : (start : Client) (server mid : Server) (meeting : Meeting start server) (first text : List ℕ) → first ≡ text_of meeting.begun → Challenges server first mid text → (old new : Shown B) → old.exchange ≡ start
       → (result : Result LoginEvent (LoginFault E)) → login.HearsFirst held memory lacks text old new result
@@ -280,13 +294,14 @@ pub on_left : {P Q R : Type 0} → (P → Q) → P ⊎ R → Q ⊎ R
 on_left f (inl p) = inl (f p)
 on_left f (inr r) = inr r
 
-pub offers_scram : ((names : List (List ℕ)) → AllByRecursion IsMechanism names → MarkedItems TextSpelled TextRefused (names_of names) names None) → Offers (names_of (scram ∷ []))
+pub offers_scram : (exchange : Client) → mechanism_of exchange ≡ scram → ((names : List (List ℕ)) → AllByRecursion IsMechanism names → MarkedItems TextSpelled TextRefused (names_of names) names None)
+    → Offers exchange (names_of (scram ∷ []))
 unfolding encode_utf8
-offers_scram back =
+offers_scram exchange unbound back =
     let zero_free : HasNoZero scram = (λ e. cc, (λ e. cc, (λ e. cc, (λ e. cc, (λ e. cc, (λ e. cc, (λ e. cc, (λ e. cc, (λ e. cc, (λ e. cc, (λ e. cc, (λ e. cc, (λ e. cc, tt))))))))))))) in
     let text : IsUtf8 scram = (scram, (refl, refl)) in
     let some : scram ≢ [] = λ e. cc in
-    (scram ∷ [], back (scram ∷ []) ((zero_free, text, some), tt), (0, omega arith, refl))
+    (scram ∷ [], back (scram ∷ []) ((zero_free, text, some), tt), subst (λ (name : List ℕ). Contains (scram ∷ []) name) (sym unbound) (0, omega arith, refl))
 
 module _ (one : (m : Message) (rest : List ℕ) → IsReply m → TakesFrame (bytes_of m ++ rest) (Ok m) rest) (none : (bytes : List ℕ) → Frames bytes [] bytes)
     (next : (bytes before after : List ℕ) (results : List (Result Message Error)) (r : Result Message Error) → Frames bytes results before → TakesFrame before r after → Frames bytes (results ++ r ∷ []) after)
@@ -339,5 +354,5 @@ module _ (one : (m : Message) (rest : List ℕ) → IsReply m → TakesFrame (by
               )) (takes_first memory_there lacks_there client.exchange mate meeting x.1.first x.1.is there challenged before behind r2 facing.awaits facing.holds h2),
             ),
           ),
-        )) (begins {E = E} held memory lacks mate client begun meeting r1 (offers_scram back) (heard {E = E} held memory lacks scram_offer client begun client_phases.AwaitsOffer r1 awaits h1)),
+        )) (begins {E = E} held memory lacks mate client begun meeting facing.unbound r1 (offers_scram client.exchange facing.unbound back) (heard {E = E} held memory lacks scram_offer client begun client_phases.AwaitsOffer r1 awaits h1)),
       )

@@ -26,9 +26,9 @@ use Rattle.pgp_message.specs.Stream.{Frames, TakesFrame}
 use Rattle.pgp_message_write.specs.Reply.{IsMechanism, IsReply, bytes_of, names_of}
 use Rattle.pgp_uses.specs.BothEnds.{ConnectionLogsIn, Facing, HasStarted, IsConnectionsWant}
 use Rattle.pgp_session.specs.Connection.{Hears, Shown, is_end, is_logged_in, logged_in_at}
-use Rattle.pgp_session.specs.Login.{Added, AddsReply, Asking, Sasl, First, Final, Welcome, LoggedOn, Login, LogsOn, ScramBegins, ScramGoesOn, ScramEnds, Welcomed, Trusted, asking, goes_on, in_phase}
+use Rattle.pgp_session.specs.Login.{Added, AddsReply, Asking, Sasl, First, Final, Welcome, LoggedOn, Login, LogsOn, ScramBegins, ScramGoesOn, ScramEnds, Welcomed, Trusted, asking, goes_on, in_phase, Unsent}
 use Rattle.pgp_session.specs.Login as login
-use Rattle.pgp_session.specs.ScramLogin.{Offers, initial}
+use Rattle.pgp_session.specs.ScramLogin.{Offers, initial, mechanism_of}
 use Rattle.pgp_session.specs.Serving.{admission, challenge, final_message, first_message, kind_in, scram, scram_offer, signature}
 use Rattle.pgp_session.specs.Settings.{IsUnkept, most, setting_in}
 use Rattle.pgp_session.specs.declared.connection.ConnectionPhase.{ConnectionPhase}
@@ -39,7 +39,7 @@ use Rattle.pgp_session.specs.declared.scram_login.LoginPhase.{LoginPhase}
 use Rattle.pgp_session.specs.declared.scram_login.LoginPhase.TheVariants.{AwaitsOffer, AwaitsFirst, AwaitsFinal, AwaitsOk, Done}
 use Rattle.pgp_session.specs.declared.serving.Serving.{Serving}
 use Rattle.pgp_session.specs.declared.serving.ServingPhase.{ServingPhase}
-use Rattle.pgp_uses.proofs.BothEnds.{admission_spelled, meeting_of, offer_spelled, offers_scram, on_left, one_read, server_of, takes_final, takes_first, two_read}
+use Rattle.pgp_uses.proofs.BothEnds.{admission_spelled, meeting_of, offer_spelled, offers_scram, on_left, one_read, server_of, takes_final, takes_first, two_read, unbound_first}
 
 -- ---- where a connection is
 
@@ -122,15 +122,15 @@ module _ {E : Type 0} (lacks : Type 0) where
       → login.HearsDue lacks (login.is_due p asked_for) asked_for old after out grown (Err e)
   due_one asked_for p old after out grown e is h = subst (λ (q : LoginPhase). login.HearsDue lacks (login.is_due q asked_for) asked_for old after out grown (Err e)) is h
 
-  begins_want : (x : Client) (text out grown : List ℕ) (e : ConnectionError E) → message_of x.state ≡ Some text → login.Begins lacks x out grown (Err e) → IsConnectionsWant lacks first_message (Err e)
-  begins_want x text out grown (Unwritten u) said h = (h.0, h.2)
-  begins_want x text out grown (Scram u) said h = absurd (no_none (message_of x.state) text said h.0)
-  begins_want x text out grown e said h = absurd h
+  begins_want : (x : Client) (text out grown : List ℕ) (e : ConnectionError E) → mechanism_of x ≡ scram → message_of x.state ≡ Some text → login.Begins lacks x out grown (Err e) → IsConnectionsWant lacks first_message (Err e)
+  begins_want x text out grown (Unwritten u) unbound said h = (h.0, subst (λ (m : ClientMessage). Unsent lacks m u) (unbound_first x h.0 h.1 unbound) h.2)
+  begins_want x text out grown (Scram u) unbound said h = absurd (no_none (message_of x.state) text said h.0)
+  begins_want x text out grown e unbound said h = absurd h
 
-  offer_want : (mechanisms : List ℕ) (x : Client) (text : List ℕ) (old after : Login) (out grown : List ℕ) (e : ConnectionError E) → Offers mechanisms → message_of x.state ≡ Some text
+  offer_want : (mechanisms : List ℕ) (x : Client) (text : List ℕ) (old after : Login) (out grown : List ℕ) (e : ConnectionError E) → mechanism_of x ≡ scram → Offers x mechanisms → message_of x.state ≡ Some text
       → login.AsksSasl lacks (Some x) mechanisms old after out grown (Err e) → IsConnectionsWant lacks first_message (Err e)
-  offer_want mechanisms x text old after out grown e offers said (inl none) = absurd (none.1 offers)
-  offer_want mechanisms x text old after out grown e offers said (inr begins) = begins_want x text out grown e said begins.1
+  offer_want mechanisms x text old after out grown e unbound offers said (inl none) = absurd (none.1 offers)
+  offer_want mechanisms x text old after out grown e unbound offers said (inr begins) = begins_want x text out grown e unbound said begins.1
 
   first_want : (server mid : Server) (start : Client) (meeting : Meeting start server) (first text : List ℕ) → first ≡ text_of meeting.begun → Challenges server first mid text → (old after : Login) (out grown : List ℕ) (e : ConnectionError E)
       → login.AnswersFirst lacks (Some start) text old after out grown (Err e) → IsConnectionsWant lacks final_message (Err e)
@@ -167,16 +167,16 @@ pub record Replied (name : ℕ) (start : Client) (text : List ℕ) (old new : Sh
   pub added : Added (final_message final) old.out new.out
 
 module _ (name : ℕ) where
-  begins_with : (there : Server) (x : Client) (meeting : Meeting x there) (old new : Shown) → Is name AwaitsOffer x (asked unasked (record { request = Startup; name = name })) old
+  begins_with : (there : Server) (x : Client) (meeting : Meeting x there) → mechanism_of x ≡ scram → (old new : Shown) → Is name AwaitsOffer x (asked unasked (record { request = Startup; name = name })) old
       → new.phase ≡ old.phase → new.talk ≡ under_way name → LoggedOn (asking scram_offer) old.login new.login old.out new.out → Begun name x (text_of meeting.begun) old new
-  begins_with there x meeting old new here phase talk logged =
+  begins_with there x meeting unbound old new here phase talk logged =
       let b = begun_by (names_of (scram ∷ [])) logged.reply old.login new.login logged.logs in
       let same : b.0 ≡ x = some_is b.0 x (sym b.2 ∙ here.exchange) in
       record {
         first = b.1;
         is = text_is x there meeting b.1 (sym (ap (λ (y : Client). message_of y.state) (sym same) ∙ b.3));
         at = record { phase = phase ∙ here.phase; talk = talk; login = ap (λ (l : Login). l.phase) b.5; exchange = ap (λ (l : Login). l.ways.scram) b.5 ∙ here.exchange };
-        added = added_by logged.reply (first_message b.1) old.out new.out b.4 logged.adds;
+        added = added_by logged.reply (first_message b.1) old.out new.out (b.4 ∙ ap Some (unbound_first b.0 b.1 b.3 (ap mechanism_of same ∙ unbound))) logged.adds;
       }
 
   replies_with : (start : Client) (text : List ℕ) (old new : Shown) → Is name AwaitsFirst start (under_way name) old
@@ -198,20 +198,20 @@ module _ {E : Type 0} (lacks : Type 0) (name : ℕ) where
   want_at : (reply : List ℕ → ClientMessage) (result : Result (Option (Event × Message)) (ConnectionError E)) (e : ConnectionError E) → result ≡ Err e → IsConnectionsWant lacks reply (Err e) → IsConnectionsWant lacks reply result
   want_at reply result e is h = subst (λ (r : Result (Option (Event × Message)) (ConnectionError E)). IsConnectionsWant lacks reply r) (sym is) h
 
-  pub takes_offer : (there : Server) (x : Client) (meeting : Meeting x there) (old new : Shown) (result : Result (Option (Event × Message)) (ConnectionError E)) → Offers (names_of (scram ∷ []))
+  pub takes_offer : (there : Server) (x : Client) (meeting : Meeting x there) → mechanism_of x ≡ scram → (old new : Shown) (result : Result (Option (Event × Message)) (ConnectionError E)) → Offers x (names_of (scram ∷ []))
       → Is name AwaitsOffer x (asked unasked (record { request = Startup; name = name })) old → Hears lacks scram_offer old new result
       → ((result ≡ Ok (Some (Part name, scram_offer))) × Begun name x (text_of meeting.begun) old new) ⊎ IsConnectionsWant lacks first_message result
-  takes_offer there x meeting old new result offers here h =
+  takes_offer there x meeting unbound old new result offers here h =
       by (heard lacks scram_offer name (under_way name) old new result (ap (λ (t : Talk). taken t (kind_of scram_offer)) here.talk) (λ cause unkept. unkept) h)
     where
       by : ((result ≡ Ok (Some (Part name, scram_offer))) × (new.phase ≡ old.phase) × (new.talk ≡ under_way name) × LoggedOn (asking scram_offer) old.login new.login old.out new.out)
           ⊎ ((e : ConnectionError E) × (result ≡ Err e) × (after : Login) × (grown : List ℕ) × login.Hears lacks (asking scram_offer) old.login after old.out grown (Err e))
           → ((result ≡ Ok (Some (Part name, scram_offer))) × Begun name x (text_of meeting.begun) old new) ⊎ IsConnectionsWant lacks first_message result
-      by (inl took) = inl (took.0, begins_with name there x meeting old new here took.1 took.2 took.3)
+      by (inl took) = inl (took.0, begins_with name there x meeting unbound old new here took.1 took.2 took.3)
       by (inr stops) =
           let asks = due_one lacks (asking scram_offer) AwaitsOffer old.login stops.2 old.out stops.3 stops.0 here.login stops.4 in
           let sasl = subst (λ (o : Option Client). login.AsksSasl lacks o (names_of (scram ∷ [])) old.login stops.2 old.out stops.3 (Err stops.0)) here.exchange asks in
-          inr (want_at first_message result stops.0 stops.1 (offer_want lacks (names_of (scram ∷ [])) x (text_of meeting.begun) old.login stops.2 old.out stops.3 stops.0 offers (message_is x there meeting) sasl))
+          inr (want_at first_message result stops.0 stops.1 (offer_want lacks (names_of (scram ∷ [])) x (text_of meeting.begun) old.login stops.2 old.out stops.3 stops.0 unbound offers (message_is x there meeting) sasl))
 
   pub takes_text : (server mid : Server) (start : Client) (meeting : Meeting start server) (first text : List ℕ) → first ≡ text_of meeting.begun → Challenges server first mid text → (old new : Shown) (result : Result (Option (Event × Message)) (ConnectionError E))
       → Is name AwaitsFirst start (under_way name) old → Hears lacks (challenge text) old new result
@@ -315,5 +315,5 @@ module _ (one : (m : Message) (rest : List ℕ) → IsReply m → TakesFrame (by
               )) (takes_first memory_there lacks_there exchange mate meeting x.1.first x.1.is there challenged before behind r2 facing.awaits facing.holds h2),
             ),
           ),
-        )) (takes_offer {E = E} lacks name mate exchange meeting client begun r1 (offers_scram back) here h1),
+        )) (takes_offer {E = E} lacks name mate exchange meeting facing.unbound client begun r1 (offers_scram exchange facing.unbound back) here h1),
       )

@@ -29,7 +29,7 @@ use Rattle.pgp_session.specs.Connection as connection
 use Rattle.pgp_session.specs.Login.{Added, Unsent}
 use Rattle.pgp_session.specs.ScramLogin.{Shown}
 use Rattle.pgp_session.specs.ScramLogin as login
-use Rattle.pgp_session.specs.Serving.{Challenge, Outcome, Signed, admission, cause_of, challenge, final_message, first_message, kind_in, scram_offer, signature, spelled}
+use Rattle.pgp_session.specs.Serving.{Challenge, Outcome, Signed, admission, cause_of, challenge, final_message, first_message, kind_in, scram, scram_offer, signature, spelled}
 use Rattle.pgp_session.specs.Serving as serving
 use Rattle.pgp_session.specs.declared.connection.ConnectionPhase.TheVariants.{Started}
 use Rattle.pgp_session.specs.declared.connection_error.ConnectionError.{ConnectionError}
@@ -45,7 +45,8 @@ use Rattle.pgp_session.specs.declared.serving.ServingEvent.{ServingEvent}
 use Rattle.pgp_session.specs.declared.serving.ServingEvent.TheVariants.{Challenged, LoggedIn}
 use Rattle.pgp_session.specs.declared.serving.ServingPhase.TheVariants.{AwaitsFirst, Open}
 
--- The client's exchange has begun, and the server's core has made the offer: it holds the verifier of the client's password, and takes its channel binding.
+-- The client's exchange has begun, and isn't bound to the channel, for which the server's core has no mechanism; and that core has made the offer: it
+-- holds the verifier of the client's password, and takes what the exchange says of a binding.
 pub record Facing {A : Type 0} (exchange : Client) (serving : Serving A) : Type 0 where
   pub password : List ℕ
   pub salt : List ℕ
@@ -56,6 +57,7 @@ pub record Facing {A : Type 0} (exchange : Client) (serving : Serving A) : Type 
   pub binding : Binding
   pub offer : Offer
   pub exchange_is : exchange.state ≡ client.AwaitsFirst (record { password = password; binding = binding; nonce = nonce })
+  pub unbound : login.mechanism_of exchange ≡ scram
   pub awaits : serving.phase ≡ AwaitsFirst
   pub holds : serving.method ≡ Exchange (server.AwaitsFirst (record { verifier = verifier password salt count; is_mock = false; offer = offer; own = own }))
   pub taken : IsTaken offer binding

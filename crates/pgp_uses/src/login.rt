@@ -12,8 +12,7 @@ ghost use Rattle.pgp_auth.specs.Verifier.{verifier, verifier_text};
 ghost use Rattle.pgp_frontend.specs.ClientMessage.{SaslResponse};
 ghost use Rattle.pgp_saslprep.specs.SaslPrep.{prepared_bytes};
 ghost use Rattle.pgp_uses.specs.Login.{Sends, BeginRefused, RespondRefused, IsSetPassword, IsComparison};
-ghost use Rattle.pgp_session.specs.ScramLogin.{initial};
-ghost use Rattle.pgp_session.specs.Serving.{unmapped};
+ghost use Rattle.pgp_session.specs.Serving.{first_message, unmapped};
 
 use pgp_base::{Buffer, Memory};
 use pgp_saslprep::SaslPrepRfc4013;
@@ -47,10 +46,10 @@ fn begin_with<A: Memory, P: SaslPrep, R: Rng, B: Buffer>(
 ) -> Result<ScramSha256<A>, LoginError<A>>
     ensures client { let nonce = (drawn_chars 24 (R.stream rng.old)).0 in
         IfOk result (λ client. client ≡ fresh (prepared (P.mapping prep.now) password.now) Unsupported nonce) }
-    ensures sent { IfOk result (λ client. Sends initial client (B.held out.old) (B.held out.new)) }
+    ensures sent { IfOk result (λ client. Sends first_message client (B.held out.old) (B.held out.new)) }
     ensures kept { OnErr result (Leaves (B.held out.old) (B.held out.new)) }
     ensures refused { let nonce = (drawn_chars 24 (R.stream rng.old)).0 in
-        IfErr result (BeginRefused (initial (client_first Unsupported nonce)) (A.Lacks ⊎ MappingLacks P.Lacks password.now) B.Lacks (B.held out.old)) }
+        IfErr result (BeginRefused (first_message (client_first Unsupported nonce)) (A.Lacks ⊎ MappingLacks P.Lacks password.now) B.Lacks (B.held out.old)) }
     ensures drawn { R.stream rng.new ≡ (drawn_chars 24 (R.stream rng.old)).1 }
 {
     let binding = ChannelBinding::unsupported();
@@ -82,10 +81,10 @@ pub fn begin<A: Memory, R: Rng, B: Buffer>(
 ) -> Result<ScramSha256<A>, LoginError<A>>
     ensures client { let nonce = (drawn_chars 24 (R.stream rng.old)).0 in
         IfOk result (λ client. client ≡ fresh (unmapped password.now) Unsupported nonce) }
-    ensures sent { IfOk result (λ client. Sends initial client (B.held out.old) (B.held out.new)) }
+    ensures sent { IfOk result (λ client. Sends first_message client (B.held out.old) (B.held out.new)) }
     ensures kept { OnErr result (Leaves (B.held out.old) (B.held out.new)) }
     ensures refused { let nonce = (drawn_chars 24 (R.stream rng.old)).0 in
-        IfErr result (BeginRefused (initial (client_first Unsupported nonce)) A.Lacks B.Lacks (B.held out.old)) }
+        IfErr result (BeginRefused (first_message (client_first Unsupported nonce)) A.Lacks B.Lacks (B.held out.old)) }
     ensures drawn { R.stream rng.new ≡ (drawn_chars 24 (R.stream rng.old)).1 }
 {
     begin_with(alloc, password, &NoPrep, rng, out)
@@ -106,10 +105,10 @@ pub fn begin_prepared<A: Memory, R: Rng, B: Buffer>(
 ) -> Result<ScramSha256<A>, LoginError<A>>
     ensures client { let nonce = (drawn_chars 24 (R.stream rng.old)).0 in
         IfOk result (λ client. client ≡ fresh (prepared prepared_bytes password.now) Unsupported nonce) }
-    ensures sent { IfOk result (λ client. Sends initial client (B.held out.old) (B.held out.new)) }
+    ensures sent { IfOk result (λ client. Sends first_message client (B.held out.old) (B.held out.new)) }
     ensures kept { OnErr result (Leaves (B.held out.old) (B.held out.new)) }
     ensures refused { let nonce = (drawn_chars 24 (R.stream rng.old)).0 in
-        IfErr result (BeginRefused (initial (client_first Unsupported nonce)) (A.Lacks ⊎ Unit {0}) B.Lacks (B.held out.old)) }
+        IfErr result (BeginRefused (first_message (client_first Unsupported nonce)) (A.Lacks ⊎ Unit {0}) B.Lacks (B.held out.old)) }
     ensures drawn { R.stream rng.new ≡ (drawn_chars 24 (R.stream rng.old)).1 }
 {
     begin_with(alloc, password, prep, rng, out)

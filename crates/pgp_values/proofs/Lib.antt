@@ -15,6 +15,7 @@ pub mod OnceLemmas
 pub mod RoundLemmas
 pub mod Rows
 pub mod CutLemmas
+pub mod KeptLemmas
 pub mod MomentLemmas
 pub mod PlaceLemmas
 pub mod LexemeLemmas

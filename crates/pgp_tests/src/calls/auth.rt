@@ -6,6 +6,7 @@ ghost use Rattle.rand_core.specs.Steps.{stream_of, steps_u32};
 mod drawn;
 mod escaped;
 mod hi;
+mod lanes;
 mod mapped;
 mod met;
 

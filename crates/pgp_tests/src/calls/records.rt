@@ -46,10 +46,11 @@ fn put_record(number: i32, buf: &mut BytesMut) -> Result<IsNull, BindError<Error
     }
 }
 
-// An array of such records, as a value that is never a null.
-fn put_records(numbers: [i32; 2], buf: &mut BytesMut) -> Result<IsNull, BindError<BindError<Error>>>
+// An array of two such records, of a number and the next, as a value that is never a null.
+fn put_records(first: i32, buf: &mut BytesMut) -> Result<IsNull, BindError<BindError<Error>>>
     ensures { KeepsValue result (items_held buf.entry.now.items) (items_held buf.exit.now.items) }
 {
+    let numbers = [first, first.saturating_add(1)];
     let answer = array_to_sql(
         Some(ArrayDimension {
             len: 2,
@@ -71,10 +72,8 @@ fn put_records(numbers: [i32; 2], buf: &mut BytesMut) -> Result<IsNull, BindErro
 fn records_stand_in_an_array_in_a_record(rt: HostRuntime) {
     let mut buf = buffer(rt.alloc(), b"S\0\0\0\x04");
     let answer = record_values_to_sql(
-        Some((RECORDS, [2, 3])),
-        |numbers: [i32; 2], buf: &mut BytesMut| -> Result<IsNull, BindError<BindError<Error>>>
-            ensures { KeepsValue result (items_held buf.entry.now.items) (items_held buf.exit.now.items) }
-        { put_records(numbers, buf) },
+        Some((RECORDS, 2)),
+        |first: i32, buf: &mut BytesMut| put_records(first, buf),
         &mut buf,
     );
     same(&rt, answer, Ok(()));

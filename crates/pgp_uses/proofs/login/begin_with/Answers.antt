@@ -3,7 +3,7 @@ use Rattle.pgp_auth.specs.Nonce.{drawn_chars}
 use Rattle.pgp_auth.specs.ScramClient.{Client, message_of}
 use Rattle.pgp_auth.specs.ScramText.{Binding, Unsupported, client_first}
 use Rattle.pgp_session.specs.ClientStream.{RefusesMessage}
-use Rattle.pgp_session.specs.ScramLogin.{initial}
+use Rattle.pgp_session.specs.Serving.{first_message}
 use Rattle.pgp_uses.proofs.login.begin_with.Goals as goal
 
 -- what stands in both
@@ -17,4 +17,4 @@ pub returns-in-Err-sasl_initial_response-clause-refused : goal.returns-in-Err-sa
 returns-in-Err-sasl_initial_response-clause-refused g c =
     let nonce = (drawn_chars 24 (g.R.Rng.stream c.args.rng.now)).0 in
     let is = same_text c.in-Some.first.now (client_first Unsupported nonce) _ c.in-Some.ensures (ap (λ (client : Client). message_of client.state) c.in-Ok.ensures.ok ∙ ap (λ (b : Binding). Some (client_first b nonce)) c.unsupported-binding.ensures) in
-    subst (λ text. RefusesMessage (initial text) g.B.Buffer.Lacks (g.B.Buffer.held c.args.out.now) c.in-Err-sasl_initial_response.e) is c.in-Err-sasl_initial_response.ensures.1.0
+    subst (λ text. RefusesMessage (first_message text) g.B.Buffer.Lacks (g.B.Buffer.held c.args.out.now) c.in-Err-sasl_initial_response.e) is c.in-Err-sasl_initial_response.ensures.1.0

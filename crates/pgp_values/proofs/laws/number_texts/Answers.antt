@@ -1,4 +1,5 @@
 use Rattle.pgp_values.specs.DecimalText.{numeric_text}
+use Rattle.pgp_values.proofs.KeptLemmas.{meant_is_kept}
 use Rattle.pgp_values.proofs.RoundLemmas.{one_meaning, kept_means, settled}
 use Rattle.pgp_values.proofs.laws.number_texts.Goals as goal
 
@@ -7,6 +8,9 @@ returns-clause-one c = one_meaning
 
 pub returns-clause-back : goal.returns-clause-back
 returns-clause-back c = kept_means
+
+pub returns-clause-kept : goal.returns-clause-kept
+returns-clause-kept c = meant_is_kept
 
 pub returns-clause-round : goal.returns-clause-round
 returns-clause-round c v w kept means = one_meaning (numeric_text v) v w (kept_means v kept) means
