@@ -46,7 +46,7 @@ fn fields_of_42(bytes: &[u8]) -> Result<usize, Error> {
     let mut fields = record_from_sql(bytes)?;
     for count in 0..20_000usize {
         match fields.next()? {
-            Some((23, Some(value))) if value == b"\0\0\0\x2a" => {}
+            Some((23, Some(value))) if value == b"\0\0\0\x2a".as_slice() => {}
             _ => return Ok(count),
         }
     }
