@@ -3,6 +3,7 @@
 use crate::checks::{holds, same};
 use crate::logins::{CHALLENGE, OFFER, OUTCOME, WELCOME, exchange};
 use pgp_uses::client::{Received, connect, next_row};
+use postgres_protocol::dialogue::Event;
 use postgres_protocol::session::Connection;
 use std::process::Abort;
 use std::test::Fail;
@@ -16,6 +17,9 @@ const LOGIN: [&[u8]; 5] = [OFFER, CHALLENGE, OUTCOME, WELCOME, READY];
 const ANSWER: &[u8] =
     b"T\0\0\0\x1a\0\x01a\0\0\0\0\0\0\0\0\0\0\x17\0\x04\xff\xff\xff\xff\0\0D\0\0\0\x0b\0\x01\0\0\0\x011N\0\0\0\x05\0C\0\0\0\x0dSELECT 1\0Z\0\0\0\x05I";
 
+/// The answer to a Query that fails: an error without fields, and the end.
+const FAILED: &[u8] = b"E\0\0\0\x05\0Z\0\0\0\x05I";
+
 /// How many rows of the request of this name are among the messages that came, and whether nothing else is left.
 fn rows_of(connection: &mut Connection<'_>, name: u64) -> (u64, bool) {
     let mut rows = 0_u64;
@@ -25,6 +29,7 @@ fn rows_of(connection: &mut Connection<'_>, name: u64) -> (u64, bool) {
                 drop(row);
                 rows = rows.saturating_add(1);
             }
+            Ok(Received::Failed(_, error)) => drop(error),
             Ok(Received::Other(_)) => {}
             Ok(Received::Nothing) => return (rows, true),
             Err(_) => return (rows, false),
@@ -33,7 +38,25 @@ fn rows_of(connection: &mut Connection<'_>, name: u64) -> (u64, bool) {
     (rows, false)
 }
 
-/// A log-in, and two Query of a row each.
+/// Whether the request of this name, which is sent now, fails with its error as the next message.
+fn is_failed(connection: &mut Connection<'_>, name: u64) -> bool {
+    let asked = match connection.query("x") {
+        Ok(asked) => asked == name,
+        Err(_) => false,
+    };
+    if !asked || connection.feed(FAILED).is_err() {
+        return false;
+    }
+    match next_row(connection, name) {
+        Ok(Received::Failed(event, error)) => {
+            drop(error);
+            event == Event::Part(name)
+        }
+        _ => false,
+    }
+}
+
+/// A log-in, two Query of a row each, and one that fails.
 fn queries(rt: &impl Abort, connection: &mut Connection<'_>) {
     for message in &LOGIN {
         holds(rt, connection.feed(message).is_ok());
@@ -44,6 +67,8 @@ fn queries(rt: &impl Abort, connection: &mut Connection<'_>) {
     holds(rt, connection.feed(ANSWER).is_ok());
     holds(rt, connection.feed(ANSWER).is_ok());
     same(rt, rows_of(connection, 2), (1, true));
+    holds(rt, is_failed(connection, 3));
+    same(rt, rows_of(connection, 3), (0, true));
     holds(rt, connection.is_idle());
 }
 

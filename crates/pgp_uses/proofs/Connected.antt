@@ -2,10 +2,11 @@
 use Rattle.std.proofs.Common.{◌≡◌, ℕ, Bool, true, false, List, Option, Some, None, Ok, sym, subst}
 use Rattle.std.specs.Prelude.{◌⊎◌}
 use Rattle.pgp_client.specs.declared.event.Event.{Event}
-use Rattle.pgp_message.specs.BackendMessage.{Message, DataRow}
+use Rattle.pgp_message.specs.BackendMessage.{Message, DataRow, ErrorResponse}
+use Rattle.pgp_message.specs.Parts.{CountedBytes}
 use Rattle.pgp_message.specs.Views.{view}
 use Rattle.pgp_message.specs.declared.message as code
-use Rattle.pgp_uses.specs.Client.{IsSo, received_as, received_if, is_part, row_of}
+use Rattle.pgp_uses.specs.Client.{IsSo, received_as, row_if, is_part}
 use Rattle.pgp_uses.specs.declared.client.Received.{Received}
 use Rattle.pgp_uses.specs.declared.client.Received.TheVariants as received
 use Rattle.pgp_message.specs.Stream.{IsPartial, TakesFrame}
@@ -36,15 +37,17 @@ pub some_given : {A B : Type 0} (lacks : Type 0) (old new : Shown) (o : Option (
 some_given {A} {B} lacks old new o e m is n = one_comes {A = A} lacks old new e (view m) (subst (λ (x : Option (Event × code.Message.Message B)). Nexts {A = A} lacks old new (nexted {A = B} {E = ConnectionError A} (Ok x))) is n)
 
 module _ {A : Type 0} where
-  no_row : (e : Event) (m : Message) → received.Nothing ≡ row_of {A = A} e m → ⊥
-  no_row e (DataRow row) is = cc
-  no_row e m is = cc
+  no_row : (b : Bool) (e : Event) (row : CountedBytes) → received.Nothing ≡ row_if {A = A} b e row → ⊥
+  no_row true e row is = cc
+  no_row false e row is = cc
 
-  not_nothing : (b : Bool) (e : Event) (m : Message) → received.Nothing ≡ received_if {A = A} b e m → ⊥
-  not_nothing true e m is = no_row e m is
-  not_nothing false e m is = cc
+  not_nothing : (name : ℕ) (e : Event) (m : Message) → received.Nothing ≡ received_as {A = A} name e m → ⊥
+  not_nothing name e (DataRow row) is = no_row (is_part name e) e row is
+  not_nothing name e (ErrorResponse fields) is = cc
+  not_nothing name e m is = cc
 
   pub is_so : (name : ℕ) (c : Received A) (old new : Shown) (e : Event) (m : Message) → c ≡ received_as {A = A} name e m → Taken old new e m → IsSo name c old new
-  is_so name received.Nothing old new e m is t = absurd (not_nothing (is_part name e) e m is)
+  is_so name received.Nothing old new e m is t = absurd (not_nothing name e m is)
   is_so name (received.Row row) old new e m is t = (m, t.rest, e, t.frame, t.took, is)
+  is_so name (received.Failed f fields) old new e m is t = (m, t.rest, e, t.frame, t.took, is)
   is_so name (received.Other f) old new e m is t = (m, t.rest, e, t.frame, t.took, is)

@@ -1,10 +1,11 @@
 -- A client's connection that awaits the rows of a request.
-use Rattle.std.specs.Prelude.{◌≡◌, ◌⊎◌, ℕ, Bool, true, false, List, [], ◌∷◌, Option, Some, None, Result, Ok, codes, ◌==◌}
+use Rattle.std.specs.Prelude.{◌≡◌, ◌⊎◌, ℕ, Bool, true, false, List, [], ◌∷◌, Some, None, Ok, codes, ◌==◌}
 use Rattle.pgp_auth.specs.ScramClient.{Client}
 use Rattle.pgp_client.specs.declared.event.Event.{Event}
 use Rattle.pgp_client.specs.declared.event.Event.TheVariants.{Part}
 use Rattle.pgp_frontend.specs.ClientMessage.{Startup}
-use Rattle.pgp_message.specs.BackendMessage.{Message, DataRow}
+use Rattle.pgp_message.specs.BackendMessage.{Message, DataRow, ErrorResponse}
+use Rattle.pgp_message.specs.Parts.{CountedBytes}
 use Rattle.pgp_message.specs.Stream.{IsPartial, TakesFrame}
 use Rattle.pgp_session.specs.Connection.{Shown, Took, TookEnd, with_incoming}
 use Rattle.pgp_session.specs.Login.{Ways}
@@ -25,18 +26,16 @@ abbrev pub is_part : ℕ → Event → Bool
 is_part name (Part n) = n == name
 is_part name e = false
 
-abbrev pub row_of : {A : Type 0} → Event → Message → Received A
-row_of e (DataRow row) = code.Row row
-row_of e m = code.Other e
-
-abbrev pub received_if : {A : Type 0} → Bool → Event → Message → Received A
-received_if true e m = row_of e m
-received_if false e m = code.Other e
+abbrev pub row_if : {A : Type 0} → Bool → Event → CountedBytes → Received A
+row_if true e row = code.Row row
+row_if false e row = code.Other e
 
 abbrev pub received_as : {A : Type 0} → ℕ → Event → Message → Received A
-received_as name e m = received_if (is_part name e) e m
+received_as name e (DataRow row) = row_if (is_part name e) e row
+received_as name e (ErrorResponse fields) = code.Failed e fields
+received_as name e m = code.Other e
 
--- What the next message is: none is complete; or one was taken, and is a row of the request, or not.
+-- What the next message is: none is complete; or one was taken, and is a row of the request, an error, or another.
 abbrev pub IsSo : {A : Type 0} → ℕ → Received A → Shown → Shown → Type 0
 IsSo name code.Nothing old new = IsPartial old.incoming × (new ≡ old)
 IsSo {A} name received old new = (m : Message) × (rest : List ℕ) × (e : Event) × TakesFrame old.incoming (Ok m) rest

@@ -10,7 +10,7 @@ use bytes::Bytes;
 use pgp_base::Memory;
 use postgres_protocol::authentication::sasl::ScramSha256;
 use postgres_protocol::dialogue::Event;
-use postgres_protocol::message::backend::{DataRowBody, Message};
+use postgres_protocol::message::backend::{DataRowBody, ErrorResponseBody, Message};
 use postgres_protocol::session::{Connection, ConnectionError, Ways};
 use std::alloc::{Allocator, Global};
 
@@ -21,6 +21,8 @@ pub enum Received<A: Allocator = Global> {
     Nothing,
     /// A row of the request.
     Row(DataRowBody<Bytes<A>>),
+    /// An error of the server, with its event.
+    Failed(Event, ErrorResponseBody<Bytes<A>>),
     /// Another message, with its event.
     Other(Event),
 }
@@ -73,12 +75,9 @@ pub fn next_row<A: Memory>(
 fn received_as<A: Memory>(event: Event, message: Message<Bytes<A>>, name: u64) -> Received<A>
     ensures { result ≡ received_as name event (view message) }
 {
-    if event != Event::Part(name) {
-        drop(message);
-        return Received::Other(event);
-    }
     match message {
-        Message::DataRow(row) => Received::Row(row),
+        Message::DataRow(row) if event == Event::Part(name) => Received::Row(row),
+        Message::ErrorResponse(body) => Received::Failed(event, body),
         other => {
             drop(other);
             Received::Other(event)
