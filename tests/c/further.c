@@ -154,6 +154,49 @@ static void integers(void)
     same("a byte more", pgp_get_numeric_int64(B("\0\0\0\0\0\0\0\0!"), &value), PGP_E_NOT_DRAINED); same("as it was", value == 12, 1);
 }
 
+/* Bytes that PostgreSQL 15.18 sent (numeric_send), and their parts by the format; the rejected ones by hand. */
+static void decimals(void)
+{
+    static const struct { const char *text, *bytes; size_t len; uint8_t kind; bool negative; int16_t weight; uint16_t scale, count, digits[3]; } cases[] = {
+        {"12345.678", "\0\3\0\1\0\0\0\3\0\1\x09\x29\x1a\x7c", 14, PGP_NUMERIC_FINITE, false, 1, 3, 3, {1, 2345, 6780}},
+        {"123456789012", "\0\3\0\2\0\0\0\0\4\xd2\x16\x2e\x23\x34", 14, PGP_NUMERIC_FINITE, false, 2, 0, 3, {1234, 5678, 9012}},
+        {"10000", "\0\1\0\1\0\0\0\0\0\1", 10, PGP_NUMERIC_FINITE, false, 1, 0, 1, {1, 0, 0}},
+        {"-9999", "\0\1\0\0\x40\0\0\0\x27\x0f", 10, PGP_NUMERIC_FINITE, true, 0, 0, 1, {9999, 0, 0}},
+        {"-0.0001", "\0\1\xff\xff\x40\0\0\4\0\1", 10, PGP_NUMERIC_FINITE, true, -1, 4, 1, {1, 0, 0}},
+        {"1e-20", "\0\1\xff\xfb\0\0\0\x14\0\1", 10, PGP_NUMERIC_FINITE, false, -5, 20, 1, {1, 0, 0}},
+        {"0", "\0\0\0\0\0\0\0\0", 8, PGP_NUMERIC_FINITE, false, 0, 0, 0, {0, 0, 0}},
+        {"0.000", "\0\0\0\0\0\0\0\3", 8, PGP_NUMERIC_FINITE, false, 0, 3, 0, {0, 0, 0}},
+        {"NaN", "\0\0\0\0\xc0\0\0\0", 8, PGP_NUMERIC_NAN, false, 0, 0, 0, {0, 0, 0}},
+        {"Infinity", "\0\0\0\0\xd0\0\0\x20", 8, PGP_NUMERIC_POS_INFINITY, false, 0, 0, 0, {0, 0, 0}},
+        {"-Infinity", "\0\0\0\0\xf0\0\0\x20", 8, PGP_NUMERIC_NEG_INFINITY, false, 0, 0, 0, {0, 0, 0}} };
+    static const uint16_t digits[3] = {1, 2345, 6780}, wrong[2] = {9999, 10000};
+    static uint16_t many[65536];
+    static uint8_t out[8 + 2 * 65535];
+    struct pgp_numeric v;
+    size_t i, k, n;
+    for (i = 0; i < sizeof cases / sizeof *cases; i++) {
+        const uint8_t *bytes = (const uint8_t *)cases[i].bytes;
+        memset(&v, 7, sizeof v);
+        same(cases[i].text, pgp_get_numeric(bytes, cases[i].len, &v), PGP_OK);
+        same("kind", v.kind, cases[i].kind); same("negative", v.negative, cases[i].negative); same("weight", v.weight == cases[i].weight, 1); same("scale", v.scale, cases[i].scale);
+        same("count", v.count, cases[i].count); same("digits", v.digits, 8);
+        for (k = 0; k < v.count; k++) same("digit", 256u * bytes[v.digits + 2 * k] + bytes[v.digits + 2 * k + 1], cases[i].digits[k]);
+        if (v.kind != PGP_NUMERIC_FINITE) continue;
+        same(cases[i].text, pgp_put_numeric(cases[i].negative, cases[i].weight, cases[i].scale, cases[i].digits, cases[i].count, out, sizeof out, &n), PGP_OK); is(cases[i].text, out, n, bytes, cases[i].len);
+    }
+    WRITER("12345.678", "\0\3\0\1\0\0\0\3\0\1\x09\x29\x1a\x7c", pgp_put_numeric(false, 1, 3, digits, 3, O));
+    WRITER("nothing", "\0\0\0\0\0\0\0\0", pgp_put_numeric(false, 0, 0, NULL, 0, O));
+    WRITER("the least weight, the greatest scale", "\0\1\x80\0\x40\0\x3f\xff\x27\x0f", pgp_put_numeric(true, INT16_MIN, 16383, wrong, 1, O));
+    n = 77; same("a scale", pgp_put_numeric(false, 0, 16384, wrong, 2, out, sizeof out, &n), PGP_E_INVALID_SCALE); same("nothing", n, 0);
+    n = 77; same("a digit", pgp_put_numeric(false, 0, 16383, wrong, 2, out, 0, &n), PGP_E_INVALID_DIGIT); same("nothing", n, 0);
+    n = 77; same("a digit too many", pgp_put_numeric(false, 0, 0, many, 65536, out, sizeof out, &n), PGP_E_OUT_OF_RANGE); same("nothing", n, 0);
+    same("the most digits", pgp_put_numeric(false, 0, 0, many, 65535, out, sizeof out, &n), PGP_OK); same("all of them", n, sizeof out); is("their number", out, 2, "\xff\xff", 2);
+    same("the most digits", pgp_get_numeric(out, n, &v), PGP_OK); same("all of them", v.count, 65535);
+    same("cut", pgp_get_numeric(B("\0\1\0\0\0\0\0\0\0"), &v), PGP_E_UNEXPECTED_EOF); same("a byte more", pgp_get_numeric(B("\0\0\0\0\0\0\0\0!"), &v), PGP_E_NOT_DRAINED);
+    same("a sign", pgp_get_numeric(B("\0\0\0\0\1\0\0\0"), &v), PGP_E_INVALID_SIGN); same("a scale", pgp_get_numeric(B("\0\0\0\0\0\0\x40\0"), &v), PGP_E_INVALID_SCALE);
+    same("a digit", pgp_get_numeric(B("\0\1\0\0\0\0\0\0\x27\x10"), &v), PGP_E_INVALID_DIGIT); same("as it was", v.count, 65535);
+}
+
 static void members(void)
 {
     static const char record[] = "\0\0\0\3\0\0\0\x17\0\0\0\4\0\0\0\1\0\0\2\xc1\0\0\0\1x\0\0\2\xc1\xff\xff\xff\xff"; /* (1,x,) */
@@ -209,4 +252,4 @@ static void names(void)
     is("kind", T(pgp_kind_name(PGP_DATA_ROW)), T("DataRow")); is("kind", T(pgp_kind_name(PGP_FUNCTION_CALL_RESPONSE)), T("FunctionCallResponse")); is("none", T(pgp_kind_name(35)), T("?"));
 }
 
-void further(void) { dialogues(); lists(); values(); integers(); members(); data(); prepared(); names(); }
+void further(void) { dialogues(); lists(); values(); integers(); decimals(); members(); data(); prepared(); names(); }

@@ -73,7 +73,7 @@ enum {
     PGP_E_INVALID_SCALE = 22,           /* a numeric's scale exceeds 16,383                              */
     PGP_E_INVALID_DIGIT = 23,           /* a digit of a numeric exceeds 9,999                            */
     PGP_E_INVALID_TEXT = 24,            /* a text is no decimal number                                   */
-    PGP_E_OUT_OF_RANGE = 25,            /* no numeric holds the text's number, or no integer a numeric's */
+    PGP_E_OUT_OF_RANGE = 25,            /* no numeric holds the text's number or so many digits, or no integer a numeric's */
     PGP_E_WRONG_PHASE = 32,             /* pgp_stream_*: the message is not allowed in this phase        */
     PGP_E_EMPTY_NAME = 33,              /* a parameter of a startup packet has no name                   */
     PGP_E_VERSION = 34,                 /* a startup packet of another version than 3.0 and 3.2          */
@@ -484,6 +484,16 @@ pgp_status pgp_put_numeric_int64(int64_t value, PGP_OUT);
 pgp_status pgp_get_numeric_int64(const uint8_t *bytes, size_t len, int64_t *value);
 pgp_status pgp_put_numeric_int128(int64_t high, uint64_t low, PGP_OUT);
 pgp_status pgp_get_numeric_int128(const uint8_t *bytes, size_t len, int64_t *high, uint64_t *low);
+/* A numeric by its parts, as numeric_send of the server (PostgreSQL 15) sends them, for a decimal type of the caller's. A number with an end (PGP_NUMERIC_FINITE) is `count`
+   digits to the base 10,000, of which the first counts 10,000 to the power `weight`, and shows `scale` decimal places; the digit of index i is
+   256 * bytes[digits + 2 * i] + bytes[digits + 2 * i + 1]. So 12345.678 is the digits 1, 2345 and 6780 with the weight 1 and the scale 3. What has no end has 0 for all
+   but `kind` and `digits`. A get's errors: 7, 8, 21 to 23.
+   A put writes a number with an end, its digits as they are: PGP_E_INVALID_SCALE for more than 16,383 places, PGP_E_OUT_OF_RANGE for more than 65,535 digits,
+   PGP_E_INVALID_DIGIT for one above 9,999. pgp_put_numeric_text writes NaN and the infinities. */
+enum pgp_numeric_kind { PGP_NUMERIC_FINITE = 0, PGP_NUMERIC_NAN = 1, PGP_NUMERIC_POS_INFINITY = 2, PGP_NUMERIC_NEG_INFINITY = 3 };
+struct pgp_numeric { size_t digits; int16_t weight; uint16_t scale, count; uint8_t kind; bool negative; };
+pgp_status pgp_put_numeric(bool negative, int16_t weight, uint16_t scale, const uint16_t *digits, size_t count, PGP_OUT);
+pgp_status pgp_get_numeric(const uint8_t *bytes, size_t len, struct pgp_numeric *value);
 
 /* An interval: months, days and microseconds are apart. A timetz: microseconds since midnight, and seconds west of Greenwich. */
 struct pgp_interval { int64_t microseconds; int32_t days, months; };

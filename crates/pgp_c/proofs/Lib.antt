@@ -16,6 +16,7 @@ mod ListWriting
 mod Listings
 mod Lists
 mod NeverMemory
+mod Numerics
 mod Openings
 mod Pairs
 mod Plain

@@ -17,6 +17,7 @@ pub mod Listings
 pub mod Lists
 pub mod Missing
 pub mod MissingReading
+pub mod Numerics
 pub mod Opening
 pub mod PartPlaces
 pub mod Parts

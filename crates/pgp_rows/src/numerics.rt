@@ -9,8 +9,8 @@ use crate::word::{Words, words_of};
 use bytes::BytesMut;
 use pgp_base::{Buffer, Error};
 use pgp_values::{
-    NumericError, numeric_from_sql, numeric_text_to_sql, numeric_to_i64, numeric_to_i128,
-    numeric_to_sql, numeric_to_text,
+    NumericError, numeric_digits_to_sql, numeric_from_sql, numeric_text_to_sql, numeric_to_i64,
+    numeric_to_i128, numeric_to_sql, numeric_to_text,
 };
 use std::alloc::Global;
 
@@ -26,6 +26,28 @@ pub fn plain_numeric(answer: Result<(), NumericError>, words: &mut Words<'_>) ->
 pub fn write_numeric<B: Buffer>(words: &mut Words<'_>, buf: &mut B) -> Result<(), Error> {
     let text = words.text();
     plain_numeric(numeric_text_to_sql(text, buf), words)
+}
+
+// The number of these parts: its sign, its weight, its scale, and its digits to the base 10,000.
+fn parts_to_sql<B: Buffer>(
+    alloc: Global,
+    words: &mut Words<'_>,
+    buf: &mut B,
+) -> Result<(), NumericError> {
+    let negative = words.takes("minus");
+    let weight = words.number();
+    let scale = words.number();
+    let digits = words.list::<u16>(alloc);
+    numeric_digits_to_sql(negative, weight, scale, &digits, buf)
+}
+
+pub fn write_numeric_digits<B: Buffer>(
+    alloc: Global,
+    words: &mut Words<'_>,
+    buf: &mut B,
+) -> Result<(), Error> {
+    let answer = parts_to_sql(alloc, words, buf);
+    plain_numeric(answer, words)
 }
 
 // The text of the number that these bytes are.
@@ -75,13 +97,17 @@ pub fn show_integer64(bytes: &[u8], out: &mut Shown) {
     }
 }
 
-// The text is rejected so.
+// The text, or the number's parts, are rejected so.
 fn refuses_numeric(alloc: Global, row: &Row<'_>, out: &mut Shown) -> Result<(), Fault> {
-    let (_, text) = row.front();
-    let list = words_of(alloc, text)?;
+    let (name, rest) = row.front();
+    let list = words_of(alloc, rest)?;
     let mut words = Words::new(&list);
     let mut buf = BytesMut::new(alloc);
-    match numeric_text_to_sql(words.text(), &mut buf) {
+    let answer = match name {
+        "numeric_digits" => parts_to_sql(alloc, &mut words, &mut buf),
+        _ => numeric_text_to_sql(words.text(), &mut buf),
+    };
+    match answer {
         Ok(()) => out.word("taken"),
         Err(e) => out.number(e),
     }

@@ -1,12 +1,14 @@
 //! What the codecs share besides `pgp_types::codec`: three parts at once, and numbers in blocks that were read.
 #![tactic(auto, using(pgp_base::proofs::Parts::held_steps))]
 
-ghost use Rattle.std.specs.Prelude.{◌≡◌, ◌<◌, ◌^◌, ◌++◌, length, None, FitsSigned};
+ghost use Rattle.std.specs.Prelude.{◌≡◌, ◌*◌, ◌<◌, ◌^◌, ◌++◌, length, None, FitsSigned, OnOk, OnErr, IfErr};
 ghost use Rattle.std.specs.Int.{w32, w64};
-ghost use Rattle.pgp_base.specs.Cause.{Writes};
+ghost use Rattle.std.specs.List.{flat_map};
+ghost use Rattle.pgp_base.specs.Cause.{Wants, WantsMemory, Writes};
+ghost use Rattle.pgp_base.specs.Held.{◌⊕◌, IsFrontOf};
 ghost use Rattle.pgp_base.specs.Wire.{int16, int32, int64, uint16, uint32, uint64};
 
-use pgp_base::{Buffer, Error};
+use pgp_base::{Buffer, Error, put_u16};
 use pgp_types::codec::{append, append_both};
 
 // All of the three, or nothing.
@@ -23,6 +25,21 @@ pub fn append_three<B: Buffer>(
     if let Err(refused) = append_both(middle, rest, buf) {
         buf.truncate(start);
         return Err(refused);
+    }
+    Ok(())
+}
+
+// Appends numbers, each in two bytes. An error leaves what stood there as a front.
+pub fn put_numbers<B: Buffer>(numbers: &[u16], buf: &mut B) -> Result<(), Error>
+    ensures ok { OnOk result (B.held buf.new ≡ B.held buf.old ⊕ flat_map uint16 numbers.now) }
+    ensures err { OnErr result (IsFrontOf (B.held buf.old) (B.held buf.new)) }
+    ensures cause { IfErr result (WantsMemory (Wants B.Lacks (B.held buf.old) (2 * length numbers.now))) }
+{
+    for i in 0..numbers.len() {
+        match put_u16(buf, numbers[i]) {
+            Ok(()) => {}
+            Err(e) => return Err(e),
+        }
     }
     Ok(())
 }

@@ -7,6 +7,7 @@
 
 mod codec;
 mod decimal;
+mod digits;
 mod error;
 mod formats;
 mod geometry;
@@ -33,6 +34,7 @@ mod tsvector;
 mod written;
 
 pub use decimal::Decimal;
+pub use digits::numeric_digits_to_sql;
 pub use error::NumericError;
 pub use formats::{BinaryFormat, binary_format_of};
 pub use geometry::{

@@ -36,7 +36,7 @@ const INFINITE_SCALE: u16 = 32;
 // The greatest scale, and one past the greatest digit.
 pub(crate) const MAX_SCALE: u16 = 0x3fff;
 
-const BASE: u16 = 10_000;
+pub(crate) const BASE: u16 = 10_000;
 
 /// A `numeric`.
 #[derive(Drop)]

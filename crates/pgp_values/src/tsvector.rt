@@ -16,6 +16,7 @@ ghost use Rattle.pgp_types.specs.Given.{WritesAll};
 ghost use Rattle.pgp_values.specs.ListReading.{places_at, lexeme_at};
 ghost use Rattle.pgp_values.specs.Tsvector.{lexeme, tsvector, shown_lexeme, PlaceAt};
 
+use crate::codec::put_numbers;
 use crate::decimal::digit_at;
 use crate::list::{PutItem, write_list};
 use pgp_base::reading::{text_at, uint16_at};
@@ -47,14 +48,10 @@ fn put_places<B: Buffer>(places: &[u16], buf: &mut B) -> Result<(), Error>
     ensures why { IfErr result (λ e. WantsMemory (Wants B.Lacks (B.held buf.old) (length (uint16 (length places.now) ++ flat_map uint16 places.now))) e ⊎ (count_cause (length places.now) ≡ Some e)) }
 {
     let count = u16_from_usize(places.len())?;
-    put_u16(buf, count)?;
-    for i in 0..places.len() {
-        match put_u16(buf, places[i]) {
-            Ok(()) => {}
-            Err(e) => return Err(e),
-        }
+    match put_u16(buf, count) {
+        Ok(()) => put_numbers(places, buf),
+        Err(e) => Err(e),
     }
-    Ok(())
 }
 
 // Appends a lexeme and its places. An error leaves what stood there as a front.
