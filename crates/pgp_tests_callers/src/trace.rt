@@ -50,7 +50,14 @@ const SHORT: View<'static> = View {
 const BEGINNING: Side<'static> = Side::Server(Phase::Beginning);
 
 /// The bytes of this side, in pieces after the bytes whose bits are set, come to these lines.
-pub fn lists(rt: &impl Abort, alloc: Global, side: Side<'_>, bytes: &[u8], cuts: u16, lines: &str) {
+pub(crate) fn lists(
+    rt: &impl Abort,
+    alloc: Global,
+    side: Side<'_>,
+    bytes: &[u8],
+    cuts: u16,
+    lines: &str,
+) {
     let mut input = PieceReader {
         rest: bytes,
         cuts,

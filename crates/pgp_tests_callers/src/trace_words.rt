@@ -20,7 +20,7 @@ pub struct Outcome<'a> {
 }
 
 /// The program on these words and this input comes to this, where no terminal shows it.
-pub fn comes_to<R: Read>(
+pub(crate) fn comes_to<R: Read>(
     rt: &impl Abort,
     alloc: Global,
     words: &[&str],
@@ -31,7 +31,7 @@ pub fn comes_to<R: Read>(
 }
 
 /// The program on these words and this input comes to this, where a terminal shows it or not.
-pub fn comes_on<R: Read>(
+pub(crate) fn comes_on<R: Read>(
     rt: &impl Abort,
     alloc: Global,
     terminal: bool,
@@ -123,7 +123,7 @@ const JSON_KINDS: &[&str] = &[
 ];
 
 /// Runs the program on these words and bytes: it writes these lines, and nothing else.
-pub fn writes(rt: &impl Abort, alloc: Global, words: &[&str], bytes: &[u8], lines: &str) {
+pub(crate) fn writes(rt: &impl Abort, alloc: Global, words: &[&str], bytes: &[u8], lines: &str) {
     let wanted = Outcome {
         status: 0,
         written: lines,
