@@ -5,6 +5,7 @@ use crate::shown::{Show, Shown, show_walk};
 use bytes::Bytes;
 use pgp_base::Error;
 use pgp_message::{ColumnFormats, DataRowRanges, ErrorField, Field, Message, RowIndex};
+use std::alloc::Allocator;
 use std::ops::Range;
 
 /// A message whose parts can be shown, wherever it keeps them.
@@ -153,15 +154,15 @@ macro_rules! other_parts {
     };
 }
 
-fn other_of_shared(message: &Message<Bytes>, out: &mut Shown) {
+fn other_of_shared<A: Allocator>(message: &Message<Bytes<A>>, out: &mut Shown) {
     other_parts!(message, out)
 }
 
-fn query_of_shared(message: &Message<Bytes>, out: &mut Shown) {
+fn query_of_shared<A: Allocator>(message: &Message<Bytes<A>>, out: &mut Shown) {
     query_parts!(message, out, other_of_shared)
 }
 
-impl Parts for Message<Bytes> {
+impl<A: Allocator> Parts for Message<Bytes<A>> {
     fn show_parts(&self, out: &mut Shown) {
         login_parts!(self, out, query_of_shared)
     }

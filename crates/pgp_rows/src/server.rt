@@ -8,8 +8,9 @@ use crate::word::bytes_of;
 use bytes::{Bytes, BytesMut};
 use pgp_base::Error;
 use pgp_message::{FrameParser, Message, Messages, Storage};
+use pgp_test_alloc::Refusing;
 use postgres_protocol::session::parse_stream;
-use std::alloc::Global;
+use std::alloc::{AllocError, Allocator, Global};
 
 /// More messages than a row has.
 const MOST: usize = 100;
@@ -61,16 +62,50 @@ fn receive(bytes: &[u8], buf: &mut BytesMut, out: &mut Shown) {
     }
 }
 
+/// Shows what was read as `show_step` does. Where an allocation failed the message stays, and reading goes on.
+fn show_read<A: Allocator>(
+    read: Result<Option<Message<Bytes<A>>>, Error>,
+    out: &mut Shown,
+) -> bool {
+    match read {
+        Err(Error::OutOfMemory) => true,
+        read => show_step(read, out),
+    }
+}
+
 /// By repeated `Message::parse`.
-fn by_parse(bytes: &[u8], out: &mut Shown) {
-    let mut buf = BytesMut::new(out.alloc());
-    receive(bytes, &mut buf, out);
+fn by_parse<A: Allocator + Copy>(buf: &mut BytesMut<A>, out: &mut Shown) {
     for _ in 0..MOST {
-        if !show_step(Message::parse(&mut buf), out) {
+        if !show_read(Message::parse(buf), out) {
             break;
         }
     }
     show_rest(buf.as_slice(), out);
+}
+
+/// A buffer that holds the bytes.
+fn buffer<A: Allocator + Copy>(alloc: A, bytes: &[u8]) -> Result<BytesMut<A>, AllocError> {
+    let mut buf = BytesMut::new(alloc);
+    buf.extend_from_slice(bytes)?;
+    Ok(buf)
+}
+
+/// More allocations than a row's messages take.
+const ALLOCATIONS: u64 = 1000;
+
+/// The bytes come to this, whichever allocation fails.
+fn with_each_failing(bytes: &[u8], wanted: &str, out: &mut Shown) -> Result<(), Fault> {
+    for number in 1..ALLOCATIONS {
+        let heap = Refusing::new(out.alloc(), 0);
+        let mut buf: BytesMut<&Refusing<Global>> = buffer(&heap, bytes)?;
+        heap.until_refusal.set(number);
+        by_parse(&mut buf, out);
+        out.received_to(wanted)?;
+        if heap.until_refusal.get() != 0 {
+            return Ok(());
+        }
+    }
+    Err(Fault::Row)
 }
 
 /// The next message, or a row by the call that takes rows alone.
@@ -160,8 +195,7 @@ fn at_each_cut(bytes: &[u8], wanted: &str, out: &mut Shown) -> Result<(), Fault>
 
 /// The bytes come to this, however they are read.
 fn comes_to(bytes: &[u8], wanted: &str, out: &mut Shown) -> Result<(), Fault> {
-    by_parse(bytes, out);
-    out.received_to(wanted)?;
+    with_each_failing(bytes, wanted, out)?;
     in_place(bytes, false, out);
     out.received_to(wanted)?;
     in_place(bytes, true, out);

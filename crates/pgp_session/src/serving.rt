@@ -155,6 +155,14 @@ impl<A: Memory> Serving<A> {
         Ok(event_of(&outcome))
     }
 
+    /// Goes on in this phase, with what the client has to show there.
+    fn go_on(&mut self, phase: ServingPhase, method: Method<A>)
+        ensures { self.new ≡ record { phase = phase; method = method } }
+    {
+        self.method = method;
+        self.phase = phase;
+    }
+
     /// Lets the client in, of whom nothing is asked.
     ///
     /// # Errors
@@ -167,8 +175,7 @@ impl<A: Memory> Serving<A> {
         ensures kept { OnErr result (self.new ≡ self.old) }
     {
         reply::authentication_ok(out)?;
-        self.method = Method::Nothing;
-        self.phase = ServingPhase::Open;
+        self.go_on(ServingPhase::Open, Method::Nothing);
         Ok(())
     }
 
@@ -188,8 +195,7 @@ impl<A: Memory> Serving<A> {
         ensures kept { OnErr result (self.new ≡ self.old) }
     {
         reply::authentication_cleartext_password(out)?;
-        self.method = Method::Password(stored);
-        self.phase = ServingPhase::AwaitsPassword;
+        self.go_on(ServingPhase::AwaitsPassword, Method::Password(stored));
         Ok(())
     }
 
@@ -210,8 +216,7 @@ impl<A: Memory> Serving<A> {
         ensures kept { OnErr result (self.new ≡ self.old) }
     {
         reply::authentication_md5_password(salt, out)?;
-        self.method = Method::Md5 { salt, stored };
-        self.phase = ServingPhase::AwaitsPassword;
+        self.go_on(ServingPhase::AwaitsPassword, Method::Md5 { salt, stored });
         Ok(())
     }
 
@@ -231,8 +236,7 @@ impl<A: Memory> Serving<A> {
         ensures kept { OnErr result (self.new ≡ self.old) }
     {
         offer_scram(out)?;
-        self.method = Method::Exchange(exchange);
-        self.phase = ServingPhase::AwaitsFirst;
+        self.go_on(ServingPhase::AwaitsFirst, Method::Exchange(exchange));
         Ok(())
     }
 

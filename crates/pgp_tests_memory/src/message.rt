@@ -78,11 +78,6 @@ const COPY: Frame<'static> = Frame {
     headers: 0,
 };
 
-#[test]
-fn parse_with_each_allocation_refused(rt: HostRuntime) {
-    holds(&rt, refused(&rt, rt.alloc(), &COPY, Ok(DONE)) > 0);
-}
-
 // The frame's header is remembered.
 #[test]
 fn parser_with_each_allocation_refused(rt: HostRuntime) {
@@ -128,23 +123,6 @@ fn bare_frames_ask_for_no_memory(rt: HostRuntime) {
         (plain(b"\x52\0\0\0\x06\0\0"), Err(Error::UnexpectedEof)),
     ];
     refuse_each(&rt, rt.alloc(), 0..1, &frames);
-}
-
-// A key and an answer about versions keep bytes of their frames: a refused frame stays, and is taken once memory is there.
-#[test]
-fn keys_and_versions_with_each_allocation_refused(rt: HostRuntime) {
-    let frames = [
-        (plain(b"\x4b\0\0\0\x0c\0\0\0\x01\0\0\0\x02"), Ok(DONE)),
-        (
-            plain(b"\x4b\0\0\0\x0d\0\0\0\x01\x01\x02\x03\x04\x05"),
-            Ok(DONE),
-        ),
-        (
-            plain(b"\x76\0\0\0\x13\0\x03\0\0\0\0\0\x01_pq_.x\0"),
-            Ok(DONE),
-        ),
-    ];
-    refuse_each(&rt, rt.alloc(), 1..MANY, &frames);
 }
 
 // What is made of frames that came.
