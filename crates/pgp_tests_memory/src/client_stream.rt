@@ -1,4 +1,5 @@
-//! A client's stream, with fault injection on each allocation.
+//! Each call of a client's stream, with ample memory and with fault injection on each allocation. Expected bytes are from the message
+//! formats of the PostgreSQL manual.
 #![tactic(auto, using(pgp_base::proofs::Parts::held_steps))]
 
 use crate::checks::{holds, same};
@@ -13,18 +14,86 @@ use std::process::Abort;
 /// A startup packet with no parameters.
 const STARTUP: &[u8] = b"\0\0\0\x09\0\x03\0\0\0";
 
-/// Calls that come before a session.
-const REQUESTS: usize = 6;
+/// A call that comes before a session.
+#[derive(Clone, Copy)]
+enum Opening {
+    SslRequest,
+    CancelRequest,
+    CancelRequestKey,
+    Startup,
+    BareStartup,
+    StartupOf32,
+}
 
-/// Calls that come in a session.
-const CALLS: usize = 15;
+/// A call that comes in a session.
+#[derive(Clone, Copy)]
+enum Call {
+    Bind,
+    Close,
+    Describe,
+    Execute,
+    Flush,
+    Parse,
+    Query,
+    Sync,
+    Terminate,
+    CopyDone,
+    CopyData,
+    CopyFail,
+    Password,
+    SaslInitialResponse,
+    SaslResponse,
+}
 
-/// A call, by whether it comes in a session and its number.
 #[derive(Clone, Copy)]
 enum Step {
-    Request(usize),
-    InSession(usize),
+    Opening(Opening),
+    InSession(Call),
 }
+
+/// The calls before a session, and what each writes.
+const OPENINGS: [(Opening, &[u8]); 6] = [
+    (Opening::SslRequest, b"\0\0\0\x08\x04\xd2\x16\x2f"),
+    (
+        Opening::CancelRequest,
+        b"\0\0\0\x10\x04\xd2\x16\x2e\0\0\0\x01\0\0\0\x02",
+    ),
+    (
+        Opening::CancelRequestKey,
+        b"\0\0\0\x11\x04\xd2\x16\x2e\0\0\0\x01\x01\x02\x03\x04\x05",
+    ),
+    (Opening::Startup, b"\0\0\0\x14\0\x03\0\0user\0alice\0\0"),
+    (Opening::BareStartup, STARTUP),
+    (
+        Opening::StartupOf32,
+        b"\0\0\0\x14\0\x03\0\x02user\0alice\0\0",
+    ),
+];
+
+/// The calls in a session, and what each writes. The texts of the SASL exchange are those of the Rust crate's tests.
+const CALLS: [(Call, &[u8]); 15] = [
+    (
+        Call::Bind,
+        b"B\0\0\0\x1d\0s\0\0\x01\0\x01\0\x02\0\0\0\x04\0\0\0\x05\xff\xff\xff\xff\0\x01\0\x01",
+    ),
+    (Call::Close, b"C\0\0\0\x07Ss\0"),
+    (Call::Describe, b"D\0\0\0\x06P\0"),
+    (Call::Execute, b"E\0\0\0\x09\0\0\0\0\0"),
+    (Call::Flush, b"H\0\0\0\x04"),
+    (Call::Parse, b"P\0\0\0\x14\0SELECT 1\0\0\x01\0\0\0\x17"),
+    (Call::Query, b"Q\0\0\0\x0dSELECT 1\0"),
+    (Call::Sync, b"S\0\0\0\x04"),
+    (Call::Terminate, b"X\0\0\0\x04"),
+    (Call::CopyDone, b"c\0\0\0\x04"),
+    (Call::CopyData, b"d\0\0\0\x06ab"),
+    (Call::CopyFail, b"f\0\0\0\x06x\0"),
+    (Call::Password, b"p\0\0\0\x05\0"),
+    (
+        Call::SaslInitialResponse,
+        b"p\0\0\0\x36SCRAM-SHA-256\0\0\0\0\x20n,,n=,r=9IZ2O01zb9IgiIZ1WJ/zgpJB",
+    ),
+    (Call::SaslResponse, b"p\0\0\0\x06ab"),
+];
 
 /// The error of a call, whoever refused. The serializer here is only refused memory.
 fn plain(answer: Result<(), BindError<Error>>) -> Result<(), Error> {
@@ -67,50 +136,52 @@ fn copy_data<B: Buffer>(stream: &mut ClientStream<B>) -> Result<(), Error> {
     }
 }
 
-/// The call of this number, of those that come before a session.
-fn begin<B: Buffer>(number: usize, stream: &mut ClientStream<B>) -> Result<(), Error> {
+fn begin<B: Buffer>(opening: Opening, stream: &mut ClientStream<B>) -> Result<(), Error> {
     if stream.is_open() {
         return Err(Error::InvalidLength);
     }
-    match number {
-        0 => stream.ssl_request(),
-        1 => stream.cancel_request(1, 2),
-        2 => stream.startup_message(&[("user", "alice")]),
-        3 => stream.startup_message(&[]),
-        4 => stream.startup_message_version(ProtocolVersion::V3_2, &[("user", "alice")]),
-        _ => stream.cancel_request_key(1, b"\x01\x02\x03\x04\x05"),
+    match opening {
+        Opening::SslRequest => stream.ssl_request(),
+        Opening::CancelRequest => stream.cancel_request(1, 2),
+        Opening::CancelRequestKey => stream.cancel_request_key(1, b"\x01\x02\x03\x04\x05"),
+        Opening::Startup => stream.startup_message(&[("user", "alice")]),
+        Opening::BareStartup => stream.startup_message(&[]),
+        Opening::StartupOf32 => {
+            stream.startup_message_version(ProtocolVersion::V3_2, &[("user", "alice")])
+        }
     }
 }
 
-/// The call of this number, of those that come in a session.
-fn call<B: Buffer>(number: usize, stream: &mut ClientStream<B>) -> Result<(), Error> {
+fn continue_by<B: Buffer>(call: Call, stream: &mut ClientStream<B>) -> Result<(), Error> {
     if !stream.is_open() {
         return Err(Error::InvalidLength);
     }
-    match number {
-        0 => plain(bind_values(stream)),
-        1 => stream.close(b'S', "s"),
-        2 => stream.describe(b'P', ""),
-        3 => stream.execute("", 0),
-        4 => stream.flush(),
-        5 => stream.parse("", "SELECT 1", Some(23u32)),
-        6 => stream.query("SELECT 1"),
-        7 => stream.sync(),
-        8 => stream.terminate(),
-        9 => stream.copy_done(),
-        10 => copy_data(stream),
-        11 => stream.copy_fail("x"),
-        12 => stream.password_message(b""),
-        13 => stream.sasl_initial_response("SCRAM-SHA-256", b"n,,n=,r=abc"),
-        _ => stream.sasl_response(b"ab"),
+    match call {
+        Call::Bind => plain(bind_values(stream)),
+        Call::Close => stream.close(b'S', "s"),
+        Call::Describe => stream.describe(b'P', ""),
+        Call::Execute => stream.execute("", 0),
+        Call::Flush => stream.flush(),
+        Call::Parse => stream.parse("", "SELECT 1", Some(23u32)),
+        Call::Query => stream.query("SELECT 1"),
+        Call::Sync => stream.sync(),
+        Call::Terminate => stream.terminate(),
+        Call::CopyDone => stream.copy_done(),
+        Call::CopyData => copy_data(stream),
+        Call::CopyFail => stream.copy_fail("x"),
+        Call::Password => stream.password_message(b""),
+        Call::SaslInitialResponse => {
+            stream.sasl_initial_response("SCRAM-SHA-256", b"n,,n=,r=9IZ2O01zb9IgiIZ1WJ/zgpJB")
+        }
+        Call::SaslResponse => stream.sasl_response(b"ab"),
     }
 }
 
 /// Makes the call.
 fn make<B: Buffer>(step: Step, stream: &mut ClientStream<B>) -> Result<(), Error> {
     match step {
-        Step::Request(number) => begin(number, stream),
-        Step::InSession(number) => call(number, stream),
+        Step::Opening(opening) => begin(opening, stream),
+        Step::InSession(call) => continue_by(call, stream),
     }
 }
 
@@ -120,39 +191,48 @@ fn stream_for<A: Allocator + Copy>(
     step: Step,
 ) -> Result<ClientStream<BytesMut<A>>, Error> {
     match step {
-        Step::Request(_) => Ok(ClientStream::new(alloc)),
+        Step::Opening(_) => Ok(ClientStream::new(alloc)),
         Step::InSession(_) => {
             let buf = BytesMut::with_capacity(alloc, STARTUP.len())?;
             let mut stream = ClientStream::over(buf);
-            begin(3, &mut stream)?;
+            begin(Opening::BareStartup, &mut stream)?;
             Ok(stream)
         }
     }
 }
 
-/// A call, and what stands there after it.
+/// A call, and what it writes.
 #[derive(Clone, Copy)]
-struct Made<'a> {
+struct Made {
     step: Step,
-    ample: &'a [u8],
+    written: &'static [u8],
 }
 
-impl Made<'_> {
+impl Made {
+    /// What stands there before the call.
+    fn front(&self) -> &'static [u8] {
+        match self.step {
+            Step::Opening(_) => b"",
+            Step::InSession(_) => STARTUP,
+        }
+    }
+
     /// Whether the stream is as it was before the call.
     fn is_before<B: Buffer>(&self, stream: &ClientStream<B>) -> bool {
         match self.step {
-            Step::Request(_) => stream.bytes().is_empty() && !stream.is_open(),
+            Step::Opening(_) => stream.bytes().is_empty() && !stream.is_open(),
             Step::InSession(_) => stream.bytes() == STARTUP && stream.is_open(),
         }
     }
 
     /// Whether the stream is as it has to be after the call.
     fn is_behind<B: Buffer>(&self, stream: &ClientStream<B>) -> bool {
-        let is_open = match self.step {
-            Step::Request(number) => (2..5).contains(&number),
-            Step::InSession(_) => true,
-        };
-        stream.bytes() == self.ample && stream.is_open() == is_open
+        let is_open = !matches!(
+            self.step,
+            Step::Opening(Opening::SslRequest | Opening::CancelRequest | Opening::CancelRequestKey)
+        );
+        stream.is_open() == is_open
+            && stream.bytes().strip_prefix(self.front()) == Some(self.written)
     }
 
     /// Makes the call, and once more where it is rejected.
@@ -169,7 +249,7 @@ impl Made<'_> {
     }
 }
 
-impl Tried for Made<'_> {
+impl Tried for Made {
     fn outcome<A: Allocator + Copy>(&self, alloc: A, turn: Turn<'_>) -> Result<usize, Error> {
         match stream_for(alloc, self.step) {
             Ok(mut stream) => {
@@ -181,34 +261,24 @@ impl Tried for Made<'_> {
     }
 }
 
-/// The call is refused memory at least once. Made again it comes to the bytes that it comes to with ample memory.
-fn refuse_call(rt: &impl Abort, alloc: Global, step: Step) {
-    match stream_for(alloc, step) {
-        Ok(mut stream) => {
-            same(rt, make(step, &mut stream), Ok(()));
-            let made = Made {
-                step,
-                ample: stream.bytes(),
-            };
-            holds(rt, refused(rt, alloc, &made, Ok(DONE)) > 0);
-        }
-        Err(_) => holds(rt, false),
-    }
+/// The call writes its bytes. Where an allocation fails, which happens at least once, it changes neither the bytes nor the phase, and can be made again.
+fn refuse_call(rt: &impl Abort, alloc: Global, made: Made) {
+    holds(rt, refused(rt, alloc, &made, Ok(DONE)) > 0);
 }
 
-/// A rejected call changes neither the bytes nor the phase, and can be made again.
 #[test]
 fn requests_with_each_allocation_refused(rt: HostRuntime) {
-    for number in 0..REQUESTS {
-        refuse_call(&rt, rt.alloc(), Step::Request(number));
+    for (opening, written) in OPENINGS {
+        let step = Step::Opening(opening);
+        refuse_call(&rt, rt.alloc(), Made { step, written });
     }
 }
 
-/// The same in a session.
 #[test]
 fn calls_with_each_allocation_refused(rt: HostRuntime) {
-    for number in 0..CALLS {
-        refuse_call(&rt, rt.alloc(), Step::InSession(number));
+    for (call, written) in CALLS {
+        let step = Step::InSession(call);
+        refuse_call(&rt, rt.alloc(), Made { step, written });
     }
 }
 
@@ -218,10 +288,10 @@ const SESSION: &[u8] =
 
 /// The calls of that session.
 const SAID: [Step; 4] = [
-    Step::Request(2),
-    Step::InSession(6),
-    Step::InSession(7),
-    Step::InSession(8),
+    Step::Opening(Opening::Startup),
+    Step::InSession(Call::Query),
+    Step::InSession(Call::Sync),
+    Step::InSession(Call::Terminate),
 ];
 
 /// How many calls of that session were rejected, each of which is made again.

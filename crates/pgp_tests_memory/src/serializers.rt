@@ -120,21 +120,29 @@ fn teller(answer: Result<(), BindError<u8>>) -> Reported {
     }
 }
 
-fn write_own<B: Buffer>(writer: u32, buf: &mut B) -> Reported {
-    match writer {
-        0 => teller(bind_own(buf)),
-        1 => teller(array_own(buf)),
-        _ => teller(range_own(buf)),
+// What calls the serializer.
+#[derive(Debug, Clone, Copy, PartialEq, Eq)]
+enum Caller {
+    Bind,
+    Array,
+    Range,
+}
+
+fn write_own<B: Buffer>(caller: Caller, buf: &mut B) -> Reported {
+    match caller {
+        Caller::Bind => teller(bind_own(buf)),
+        Caller::Array => teller(array_own(buf)),
+        Caller::Range => teller(range_own(buf)),
     }
 }
 
 // Who reports the first growth that a buffer with this room asks for, which is refused; nobody, where none was asked for.
-fn reported_in(alloc: Global, writer: u32, room: usize) -> Result<Reported, AllocError> {
+fn reported_in(alloc: Global, caller: Caller, room: usize) -> Result<Reported, AllocError> {
     let heap = Refusing::new(alloc, 0);
     let mut buf: BytesMut<&Refusing<Global>> = BytesMut::with_capacity(&heap, room)?;
     buf.extend_from_slice(SYNC)?;
     heap.until_refusal.set(1);
-    let reported = write_own(writer, &mut buf);
+    let reported = write_own(caller, &mut buf);
     let is_refused = heap.until_refusal.get() == 0;
     match reported {
         Reported::Nobody if is_refused => Ok(Reported::Other),
@@ -145,11 +153,11 @@ fn reported_in(alloc: Global, writer: u32, room: usize) -> Result<Reported, Allo
 
 // How often the serializer reported of the refused growth, and how often the writer; never, where another answer
 // came.
-fn tellers_of(alloc: Global, writer: u32) -> Result<(u32, u32), AllocError> {
+fn tellers_of(alloc: Global, caller: Caller) -> Result<(u32, u32), AllocError> {
     let mut by_serializer = 0u32;
     let mut by_writer = 0u32;
     for room in 5..200usize {
-        match reported_in(alloc, writer, room)? {
+        match reported_in(alloc, caller, room)? {
             Reported::Nobody => {}
             Reported::Serializer => by_serializer = by_serializer.saturating_add(1),
             Reported::Writer => by_writer = by_writer.saturating_add(1),
@@ -163,10 +171,10 @@ fn tellers_of(alloc: Global, writer: u32) -> Result<(u32, u32), AllocError> {
 // have each growth come at their end, so that both are met.
 #[test]
 fn a_serializer_without_memory_is_reported_apart(rt: HostRuntime) {
-    for writer in 0..3u32 {
-        let reported = tellers_of(rt.alloc(), writer);
+    for caller in [Caller::Bind, Caller::Array, Caller::Range] {
+        let reported = tellers_of(rt.alloc(), caller);
         let is_reported =
             matches!(reported, Ok((by_serializer, by_writer)) if by_serializer > 5 && by_writer > 5);
-        same(&rt, (writer, is_reported), (writer, true));
+        same(&rt, (caller, is_reported), (caller, true));
     }
 }

@@ -5,7 +5,7 @@
 ghost use Rattle.pgp_base.specs.Calls.{KeepsValue};
 ghost use Rattle.pgp_base.specs.Held.{items_held};
 
-use crate::checks::{same, same_at};
+use crate::checks::same;
 use bytes::BytesMut;
 use pgp_base::{BindError, Error, IsNull, put_u32};
 use pgp_frontend::{bind, over_bytes, parse, sync};
@@ -24,27 +24,23 @@ fn a_parse_of_too_many_types_is_refused(rt: HostRuntime) {
     same(&rt, buf.len(), 5 + 5 + 2 + 2 + 4 * 65_535);
 }
 
-// The message of this number, with texts in LATIN1, where `é` is the byte E9, and `ñ` F1.
-fn write_latin1(number: usize, buf: &mut BytesMut) -> Result<(), Error> {
-    match number {
-        0 => over_bytes::query(b"S\xe9", buf),
-        1 => over_bytes::parse(b"\xf1", b"\xe9", Some(23u32), buf),
-        2 => over_bytes::close(b'S', b"\xf1", buf),
-        3 => over_bytes::describe(b'P', b"\xe9", buf),
-        4 => over_bytes::execute(b"\xe9", 0, buf),
-        5 => over_bytes::startup_message([(b"user".as_slice(), b"Ren\xe9".as_slice())], buf),
-        6 => over_bytes::copy_fail(b"no \xe9", buf),
-        _ => over_bytes::sasl_initial_response(b"\xe9", b"n", buf),
-    }
+// Messages with texts in LATIN1, where `é` is the byte E9, and `ñ` F1.
+fn write_latin1(buf: &mut BytesMut) -> Result<(), Error> {
+    over_bytes::query(b"S\xe9", buf)?;
+    over_bytes::parse(b"\xf1", b"\xe9", Some(23u32), buf)?;
+    over_bytes::close(b'S', b"\xf1", buf)?;
+    over_bytes::describe(b'P', b"\xe9", buf)?;
+    over_bytes::execute(b"\xe9", 0, buf)?;
+    over_bytes::startup_message([(b"user".as_slice(), b"Ren\xe9".as_slice())], buf)?;
+    over_bytes::copy_fail(b"no \xe9", buf)?;
+    over_bytes::sasl_initial_response(b"\xe9", b"n", buf)
 }
 
 // What isn't UTF-8 is written as it stands.
 #[test]
 fn texts_of_another_encoding(rt: HostRuntime) {
     let mut buf = BytesMut::new(rt.alloc());
-    for number in 0..8usize {
-        same_at(&rt, number, write_latin1(number, &mut buf), Ok(()));
-    }
+    same(&rt, write_latin1(&mut buf), Ok(()));
     same(
         &rt,
         over_bytes::query(b"\xe9\0", &mut buf),
