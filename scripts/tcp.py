@@ -3,8 +3,11 @@ import socket
 import threading
 
 
-def pass_on(source, target):
+def pass_on(source, target, taken=None):
+    """Hands on what comes, and appends it to `taken` where that is given."""
     while piece := source.recv(65536):
+        if taken is not None:
+            taken += piece
         target.sendall(piece)
     try:
         target.shutdown(socket.SHUT_WR)

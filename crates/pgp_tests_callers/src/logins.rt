@@ -2,11 +2,11 @@
 
 use crate::checks::{holds, same, same_at};
 use crate::clients::ERROR;
-use crate::uses::Counting;
 use bytes::BytesMut;
 use pgp_saslprep::SaslPrepRfc4013;
 use pgp_session::client::Event;
 use pgp_session::scram_login::{LoginEvent, LoginFault, LoginPhase, SaslStorage, ScramLogin};
+use pgp_test_alloc::counting::Counting;
 use pgp_uses::login::begin_prepared;
 use pgp_uses::server::answer;
 use postgres_protocol::Error;

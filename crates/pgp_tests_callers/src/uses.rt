@@ -1,13 +1,13 @@
 //! Each example of `pgp_uses` once, on bytes of the message formats of the PostgreSQL manual.
 #![tactic(auto, using(pgp_base::proofs::Parts::held_steps))]
 
-ghost use Rattle.std.specs.Prelude.{ℕ, ◌+◌, ◌%◌, ◌^◌, Some};
-ghost use Rattle.rand_core.specs.Steps.{stream_of, steps_u32};
+ghost use Rattle.std.specs.Prelude.{Some};
 
 use crate::checks::{holds, same};
 use crate::logins::exchange;
 use bytes::BytesMut;
 use pgp_base::Window;
+use pgp_test_alloc::counting::Counting;
 use pgp_uses::columns::{NamesError, column_names};
 use pgp_uses::filter::{FilterError, pass};
 use pgp_uses::login::{begin, equals, respond, set_password};
@@ -22,10 +22,7 @@ use postgres_protocol::message::backend::Message;
 use postgres_protocol::message::frontend;
 use postgres_protocol::session::{ClientStream, StreamParser};
 use postgres_protocol::{BindError, Error};
-use rand_core::Rng;
-use rand_core::utils::{self, NextWord};
 use std::alloc::Global;
-use std::marker::Model;
 use std::ops::Range;
 use std::process::Abort;
 use std::test::Fail;
@@ -348,39 +345,4 @@ fn commands_hold_what_they_are_reported(rt: HostRuntime) -> Result<(), Fail> {
     let part = equals(rt.alloc(), "name", "O'Reilly")?;
     same(&rt, part.as_str(), "\"name\" = 'O''Reilly'");
     Ok(())
-}
-
-/// Each word is greater than the one before by 0x04040404.
-#[derive(Debug, Drop)]
-pub(crate) struct Counting(pub(crate) u32);
-
-impl Model for Counting {
-    ghost Value = { ℕ };
-
-    ghost view = { λ a. a.0 };
-}
-
-impl NextWord<u32> for Counting {
-    ghost step = { λ s. ((s + 0x0404_0404) % 2 ^ 32, (s + 0x0404_0404) % 2 ^ 32) };
-
-    fn next_word(&mut self) -> u32 {
-        self.0 = self.0.wrapping_add(0x0404_0404);
-        self.0
-    }
-}
-
-impl Rng for Counting {
-    ghost stream = { stream_of (steps_u32 (λ s. ((s + 0x0404_0404) % 2 ^ 32, (s + 0x0404_0404) % 2 ^ 32))) };
-
-    fn next_u32(&mut self) -> u32 {
-        self.next_word()
-    }
-
-    fn next_u64(&mut self) -> u64 {
-        utils::next_u64_via_u32(self)
-    }
-
-    fn fill_bytes(&mut self, dst: &mut [u8]) {
-        utils::fill_bytes_via_u32(self, dst)
-    }
 }

@@ -1,11 +1,11 @@
 //! Our client against our server, a thousand times, with nonces that each draws: each channel binding, the right password in turn
 //! with a wrong one.
 
-use super::Counting;
 use crate::checks::same;
 use pgp_auth::authentication::sasl::{
     ChannelBinding, ChannelOffer, NoPrep, ScramServer, ScramSha256, StoredVerifier,
 };
+use pgp_test_alloc::counting::Counting;
 use std::alloc::{AllocError, Global};
 
 // The salt of RFC 7677's example and its password `pencil`, with one round; the keys are python3's.

@@ -2,11 +2,11 @@
 
 ghost use Rattle.std.specs.Prelude.{Some, [], ◌∷◌};
 
-use super::Counting;
 use crate::checks::{holds, made, same};
 use pgp_auth::authentication::sasl::{NoPrep, SaslPrep};
 use pgp_auth::password::{scram_sha_256, scram_sha_256_salt};
 use pgp_base::{Error, Memory};
+use pgp_test_alloc::counting::Counting;
 use std::cell::Cell;
 
 const SALT: [u8; 16] = [1, 2, 3, 4, 5, 6, 7, 8, 9, 10, 11, 12, 13, 14, 15, 16];

@@ -1,9 +1,9 @@
 //! Our client against our server for the counts, salts and bindings at the edges, with nonces that are drawn and with given ones.
 
-use super::Counting;
 use super::drawn::{begins, binding_of, ends, offer_of};
 use crate::checks::same_at;
 use pgp_auth::authentication::sasl::{NoPrep, ScramServer, ScramSha256, StoredVerifier};
+use pgp_test_alloc::counting::Counting;
 use std::alloc::Global;
 
 /// A verifier of `pencil` with so many rounds, and a salt of so many bytes.
