@@ -1,0 +1,12 @@
+//! The text that a server shows of a value in binary format.
+#![tactic(auto)]
+
+pub mod laws;
+mod moment;
+mod number;
+mod object;
+mod plain;
+mod put;
+mod value;
+
+pub use value::put_value;
