@@ -3,9 +3,7 @@
 ghost use Rattle.pgp_value_text.specs.ValueText.{IsShown, IsShownIn, IsTextOf, Tells};
 
 use crate::moment::{put_date, put_interval, put_time, put_timestamp};
-use crate::number::{
-    put_bool, put_int2, put_int4, put_int8, put_numbered, put_numeric, put_xid8,
-};
+use crate::number::{put_bool, put_int2, put_int4, put_int8, put_numbered, put_numeric, put_xid8};
 use crate::object::{put_lsn, put_uuid};
 use crate::plain::{put_bytea, put_jsonb, put_jsonpath, put_text};
 use bytes::BytesMut;
