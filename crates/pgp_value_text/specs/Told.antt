@@ -1,4 +1,4 @@
--- What the answer of a writer of days and times says of whether a text was added.
+-- Private: what the answer of a writer of days and times says of whether a text was added.
 use Rattle.std.specs.Prelude.{◌≡◌, Bool, true, false, Result, Ok, Err, IsErr}
 use Rattle.pgp_calendar.specs.declared.error.TextError.{TextError}
 use Rattle.pgp_calendar.specs.declared.error.TextError.TheVariants.{OutOfMemory, OutOfRange}

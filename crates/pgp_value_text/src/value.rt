@@ -57,14 +57,18 @@ fn put_in<A: Memory>(
     }
 }
 
-/// Adds the text that a server shows of a value in binary format whose type has this number (OID), and returns true. It returns false and adds
-/// nothing where the bytes are no value of the type, or the type has no text here.
+/// Appends the text that a server shows of a value in binary format whose type has this number (OID), and returns true. It returns false and
+/// appends nothing where the bytes are no value of the type, or the type has no text here.
 ///
-/// There is a text of `bool`, `int2`, `int4`, `int8`, `numeric`, `date`, `time`, `timestamp`, `timestamptz`, `interval`, `uuid`, `jsonb`, `oid`,
-/// `xid`, `cid`, `xid8` and `pg_lsn`, as a server shows them under `DateStyle` `ISO`, `IntervalStyle` `iso_8601` and `TimeZone` `UTC`; of a day
-/// outside the years from -9999 to 9999 there is none. Of a `jsonb` it is the text behind the version: a server sends it as it shows it, where a
-/// client may send it with other spaces. A text, a `json` or the like has its text as its bytes. `float4` and `float8` aren't here: no contract
-/// says which digits the kit's `ryu` chooses.
+/// The text is the one that a server shows under `DateStyle` `ISO`, `IntervalStyle` `iso_8601`, `TimeZone` `UTC` and in UTF-8:
+///
+/// - `bool` as `t` or `f`; `int2`, `int4`, `int8`, `oid`, `xid`, `cid`, `xid8` and `numeric` in decimal; `pg_lsn` as `16/B374D848`;
+/// - `text`, `varchar`, `bpchar`, `name`, `json`, `xml`, `refcursor`, `unknown` and the like as their bytes, where these are UTF-8;
+/// - `bytea` in hex, as `\\x00ff`; `uuid` in lower case and groups; `jsonb` and `jsonpath` as the text after the version;
+/// - `date`, `time`, `timestamp`, `timestamptz` (`2026-11-27 10:20:30.5+00`) and `interval` (`P1Y2M3DT4H5M6.5S`).
+///
+/// A day outside the years from -9999 to 9999 has none, nor have `float4`, `float8`, `money`, `timetz`, bits, shapes, addresses, arrays, ranges, records,
+/// the types of text search, and those that name an object (`regclass`).
 ///
 /// # Errors
 ///
