@@ -1,5 +1,5 @@
 -- A value of each format has one text.
-use Rattle.std.proofs.Common.{◌≡◌, ℕ, ℤ, List, Option, Some, None, Ok, Err, refl, sym, ap, ◌∙◌, subst}
+use Rattle.std.proofs.Common.{◌≡◌, ℕ, ℤ, Bool, true, false, List, Option, Some, None, Ok, Err, refl, sym, ap, ◌∙◌, subst}
 use Rattle.std.specs.Prelude.{IfOk, IsErr}
 use Rattle.std.proofs.lemmas.Bool.{false≢true}
 use Rattle.std.specs.Fmt.{decimal, signed_decimal}
@@ -12,7 +12,7 @@ use Rattle.pgp_types.proofs.Spelling.{fixed_sound}
 use Rattle.pgp_types.proofs.Numbers.{int16_spelling, int32_spelling, int64_spelling, uint32_spelling, uint64_spelling}
 use Rattle.pgp_types.proofs.Readings.{all_sound, bool_sound, label_sound, text_sound, whole_sound}
 use Rattle.pgp_values.specs.declared.formats.BinaryFormat.{BinaryFormat}
-use Rattle.pgp_values.specs.declared.formats.BinaryFormat.TheVariants.{Bool as BoolFormat, Bytea as BytesFormat, Date, Int2, Int4, Int8, Interval, Jsonb, Jsonpath, Lsn, Numeric, Oid, Text as TextFormat, Time, Timestamp, Uuid, Xid8}
+use Rattle.pgp_values.specs.declared.formats.BinaryFormat.TheVariants.{Bool as BoolFormat, Bytea as BytesFormat, Date, Float4, Float8, Int2, Int4, Int8, Interval, Jsonb, Jsonpath, Lsn, Numeric, Oid, Text as TextFormat, Time, Timestamp, Uuid, Xid8}
 use Rattle.pgp_values.specs.Decimal.{Numeric as Number, NumericReads}
 use Rattle.pgp_values.specs.DecimalText.{numeric_text}
 use Rattle.pgp_values.specs.Moment.{date_value, timestamp_value}
@@ -28,7 +28,7 @@ use Rattle.pgp_values.proofs.MomentLemmas.{date_value_sound, timestamp_value_sou
 use Rattle.pgp_calendar.specs.Span.{span_text}
 use Rattle.pgp_calendar.specs.Text.{ShowsDay, ShowsInstant, ShowsMoment, ShowsTime}
 use Rattle.pgp_calendar.proofs.Uniqueness.{one_date, one_instant, one_time}
-use Rattle.pgp_value_text.specs.ValueText.{bool_text, hex_text, lsn_text, zone_of, As, IsShown, IsShownIn, Shows, ShowsNumeric}
+use Rattle.pgp_value_text.specs.ValueText.{bool_text, hex_text, lsn_text, zone_of, As, is_float, IsShown, IsShownIn, Shows, ShowsNumeric}
 use Rattle.pgp_value_text.proofs.Texts.{one_as, one_shown}
 
 one_moment : (shows : ℤ → List ℕ → Type 0) → ((n : ℤ) (a b : List ℕ) → shows n a → shows n b → a ≡ b) → (v : Moment ℤ) (a b : List ℕ) → ShowsMoment shows v a → ShowsMoment shows v b → a ≡ b
@@ -45,26 +45,28 @@ one_number bytes a b s t =
 pub number_refused : (bytes : List ℕ) (e : NumericError) → NumericReads bytes (Err e) → (t : List ℕ) → ShowsNumeric bytes t → ⊥
 number_refused bytes e r t s = false≢true (subst IsErr (one_numeric bytes (Err e) (Ok s.0) r s.1) refl)
 
-pub one_formatted : (f : BinaryFormat) (type_oid : ℕ) (bytes a b : List ℕ) → IsShown f type_oid bytes a → IsShown f type_oid bytes b → a ≡ b
-one_formatted BoolFormat n = one_shown bool bool_sound (As bool_text) (one_as bool_text)
-one_formatted BytesFormat n = λ bytes a b s t. one_shown bytea all_sound (As hex_text) (one_as hex_text) bytes a b s.1 t.1
-one_formatted Date n = one_shown date_value date_value_sound (ShowsMoment ShowsDay) (one_moment ShowsDay one_date)
-one_formatted Int2 n = one_shown int2 (fixed_sound int16_spelling) (As signed_decimal) (one_as signed_decimal)
-one_formatted Int4 n = one_shown int4 (fixed_sound int32_spelling) (As signed_decimal) (one_as signed_decimal)
-one_formatted Int8 n = one_shown int8 (fixed_sound int64_spelling) (As signed_decimal) (one_as signed_decimal)
-one_formatted Interval n = one_shown interval interval_sound (As span_text) (one_as span_text)
-one_formatted Jsonb n = one_shown jsonb (label_sound 1) (As (λ text. text)) (one_as (λ text. text))
-one_formatted Jsonpath n = one_shown jsonpath (label_sound 1) (As (λ text. text)) (one_as (λ text. text))
-one_formatted Lsn n = one_shown lsn (fixed_sound uint64_spelling) (As lsn_text) (one_as lsn_text)
-one_formatted Numeric n = one_number
-one_formatted Oid n = λ bytes a b s t. one_shown oid (fixed_sound uint32_spelling) (As decimal) (one_as decimal) bytes a b s.1 t.1
-one_formatted TextFormat n = one_shown text text_sound (As (λ text. text)) (one_as (λ text. text))
-one_formatted Time n = one_shown time (fixed_sound int64_spelling) ShowsTime one_time
-one_formatted Timestamp n = one_shown timestamp_value timestamp_value_sound (ShowsMoment (ShowsInstant (zone_of n))) (one_moment (ShowsInstant (zone_of n)) (one_instant (zone_of n)))
-one_formatted Uuid n = one_shown uuid (whole_sound 16) (As (hyphenated_text lower)) (one_as (hyphenated_text lower))
-one_formatted Xid8 n = one_shown xid8 (fixed_sound uint64_spelling) (As decimal) (one_as decimal)
-one_formatted _ n = λ bytes a b s t. absurd s
+pub one_formatted : (f : BinaryFormat) (type_oid : ℕ) → is_float (Some f) ≡ false → (bytes a b : List ℕ) → IsShown f type_oid bytes a → IsShown f type_oid bytes b → a ≡ b
+one_formatted BoolFormat n h = one_shown bool bool_sound (As bool_text) (one_as bool_text)
+one_formatted BytesFormat n h = λ bytes a b s t. one_shown bytea all_sound (As hex_text) (one_as hex_text) bytes a b s.1 t.1
+one_formatted Date n h = one_shown date_value date_value_sound (ShowsMoment ShowsDay) (one_moment ShowsDay one_date)
+one_formatted Float4 n h = absurd (false≢true (sym h))
+one_formatted Float8 n h = absurd (false≢true (sym h))
+one_formatted Int2 n h = one_shown int2 (fixed_sound int16_spelling) (As signed_decimal) (one_as signed_decimal)
+one_formatted Int4 n h = one_shown int4 (fixed_sound int32_spelling) (As signed_decimal) (one_as signed_decimal)
+one_formatted Int8 n h = one_shown int8 (fixed_sound int64_spelling) (As signed_decimal) (one_as signed_decimal)
+one_formatted Interval n h = one_shown interval interval_sound (As span_text) (one_as span_text)
+one_formatted Jsonb n h = one_shown jsonb (label_sound 1) (As (λ text. text)) (one_as (λ text. text))
+one_formatted Jsonpath n h = one_shown jsonpath (label_sound 1) (As (λ text. text)) (one_as (λ text. text))
+one_formatted Lsn n h = one_shown lsn (fixed_sound uint64_spelling) (As lsn_text) (one_as lsn_text)
+one_formatted Numeric n h = one_number
+one_formatted Oid n h = λ bytes a b s t. one_shown oid (fixed_sound uint32_spelling) (As decimal) (one_as decimal) bytes a b s.1 t.1
+one_formatted TextFormat n h = one_shown text text_sound (As (λ text. text)) (one_as (λ text. text))
+one_formatted Time n h = one_shown time (fixed_sound int64_spelling) ShowsTime one_time
+one_formatted Timestamp n h = one_shown timestamp_value timestamp_value_sound (ShowsMoment (ShowsInstant (zone_of n))) (one_moment (ShowsInstant (zone_of n)) (one_instant (zone_of n)))
+one_formatted Uuid n h = one_shown uuid (whole_sound 16) (As (hyphenated_text lower)) (one_as (hyphenated_text lower))
+one_formatted Xid8 n h = one_shown xid8 (fixed_sound uint64_spelling) (As decimal) (one_as decimal)
+one_formatted _ n h = λ bytes a b s t. absurd s
 
-pub one_in : (f : Option BinaryFormat) (type_oid : ℕ) (bytes a b : List ℕ) → IsShownIn f type_oid bytes a → IsShownIn f type_oid bytes b → a ≡ b
-one_in (Some f) n = one_formatted f n
-one_in None n = λ bytes a b s t. absurd s
+pub one_in : (f : Option BinaryFormat) (type_oid : ℕ) → is_float f ≡ false → (bytes a b : List ℕ) → IsShownIn f type_oid bytes a → IsShownIn f type_oid bytes b → a ≡ b
+one_in (Some f) n h = one_formatted f n h
+one_in None n h = λ bytes a b s t. absurd s

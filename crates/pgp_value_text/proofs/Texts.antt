@@ -35,6 +35,12 @@ module _ {E : Type 0} (lacks : Type 0) (old new : List ℕ) where
   tells_if Holds IsText (Ok false) h w = (λ t s. w.0 t s.1, w.1)
   tells_if Holds IsText (Err e) h w = w
 
+  -- what is said of a text is said of all that it shows
+  pub tells_one : (s : List ℕ) (IsText : List ℕ → Type 0) (r : Result Bool E) → IsText s → Tells (λ x. x ≡ s) lacks old new r → Tells IsText lacks old new r
+  tells_one s IsText (Ok true) h w = (w.0, subst IsText (sym w.1) h, w.2)
+  tells_one s IsText (Ok false) h w = absurd (w.0 s refl)
+  tells_one s IsText (Err e) h w = w
+
   -- the same text by another name
   pub tells_same : (s t : List ℕ) (r : Result Bool E) → s ≡ t → Tells (λ x. x ≡ s) lacks old new r → Tells (λ x. x ≡ t) lacks old new r
   tells_same s t r e = subst (λ t. Tells (λ x. x ≡ t) lacks old new r) e

@@ -1,2 +1,3 @@
+pub mod Float
 pub mod Told
 pub mod ValueText

@@ -2,17 +2,18 @@
 -- settings `DateStyle` `ISO`, `IntervalStyle` `iso_8601` and `TimeZone` `UTC`.
 -- PostgreSQL manual, "Data Types": "Numeric Types", "Character Types", "Binary Data Types", "Date/Time Types", "Boolean Type", "UUID Type", "JSON Types",
 -- "Object Identifier Types", "pg_lsn Type".
-use Rattle.std.specs.Prelude.{◌≡◌, ℕ, ◌/◌, ◌%◌, ◌^◌, nat_eq, ◌||◌, if◌then◌else◌, Bool, true, false, IsTrue, List, [], ◌∷◌, ◌++◌, codes, Option, Some, None, Result, Ok, Err}
+use Rattle.std.specs.Prelude.{◌≡◌, ℕ, from_bits, ◌/◌, ◌%◌, ◌^◌, nat_eq, ◌||◌, if◌then◌else◌, Bool, true, false, IsTrue, List, [], ◌∷◌, ◌++◌, codes, Option, Some, None, Result, Ok, Err}
+use Rattle.std.specs.Float.{binary32, binary64}
 use Rattle.std.specs.Fmt.{decimal, digits, signed_decimal}
 use Rattle.hex.specs.Hex.{encode_lower}
 use Rattle.uuid.specs.Text.{hyphenated_text, lower}
 use Rattle.pgp_types.specs.Format.{Plain}
 use Rattle.pgp_types.specs.Network.{uuid}
-use Rattle.pgp_types.specs.Scalar.{bool, bytea, int2, int4, int8, oid, lsn}
+use Rattle.pgp_types.specs.Scalar.{bool, bytea, int2, int4, int8, oid, lsn, float4, float8}
 use Rattle.pgp_types.specs.Text.{text}
 use Rattle.pgp_types.specs.Time.{time}
 use Rattle.pgp_values.specs.declared.formats.BinaryFormat.{BinaryFormat}
-use Rattle.pgp_values.specs.declared.formats.BinaryFormat.TheVariants.{Bool as BoolFormat, Bytea as BytesFormat, Date, Int2, Int4, Int8, Interval, Jsonb, Jsonpath, Lsn, Numeric, Oid, Text as TextFormat, Time, Timestamp, Uuid, Xid8}
+use Rattle.pgp_values.specs.declared.formats.BinaryFormat.TheVariants.{Bool as BoolFormat, Bytea as BytesFormat, Date, Float4, Float8, Int2, Int4, Int8, Interval, Jsonb, Jsonpath, Lsn, Numeric, Oid, Text as TextFormat, Time, Timestamp, Uuid, Xid8}
 use Rattle.pgp_values.specs.Decimal.{NumericReads}
 use Rattle.pgp_values.specs.DecimalText.{numeric_text}
 use Rattle.pgp_values.specs.Formats.{formats}
@@ -23,6 +24,7 @@ use Rattle.pgp_values.specs.Text.{jsonb, jsonpath}
 use Rattle.pgp_values.specs.Time.{interval}
 use Rattle.pgp_calendar.specs.Span.{span_text}
 use Rattle.pgp_calendar.specs.Text.{ShowsDay, ShowsInstant, ShowsMoment, ShowsTime}
+use Rattle.pgp_value_text.specs.Float.{ShowsFloat}
 
 -- the bytes are read as a value that is shown so
 abbrev pub Shows : {V : Type 0} → Plain V → (V → List ℕ → Type 0) → List ℕ → List ℕ → Type 0
@@ -60,6 +62,8 @@ abbrev pub IsShown : BinaryFormat → ℕ → List ℕ → List ℕ → Type 0
 IsShown BoolFormat type_oid = Shows bool (As bool_text)
 IsShown BytesFormat type_oid = λ bytes text. (type_oid ≡ 17) × Shows bytea (As hex_text) bytes text
 IsShown Date type_oid = Shows date_value (ShowsMoment ShowsDay)
+IsShown Float4 type_oid = Shows float4 (λ bits. ShowsFloat binary32 (from_bits binary32 bits))
+IsShown Float8 type_oid = Shows float8 (λ bits. ShowsFloat binary64 (from_bits binary64 bits))
 IsShown Int2 type_oid = Shows int2 (As signed_decimal)
 IsShown Int4 type_oid = Shows int4 (As signed_decimal)
 IsShown Int8 type_oid = Shows int8 (As signed_decimal)
@@ -83,6 +87,12 @@ IsShownIn None type_oid = λ bytes text. ⊥
 
 abbrev pub IsTextOf : ℕ → List ℕ → List ℕ → Type 0
 IsTextOf type_oid = IsShownIn (format_in formats type_oid) type_oid
+
+-- a floating-point number may have several texts
+abbrev pub is_float : Option BinaryFormat → Bool
+is_float (Some Float4) = true
+is_float (Some Float8) = true
+is_float _ = false
 
 -- What a writer of such a text answers: that it added one, or that there is none, and then it added nothing; nor does it where memory is
 -- refused.

@@ -1,6 +1,7 @@
 //! The text that a server shows of a value in binary format.
 #![tactic(auto)]
 
+mod float;
 pub mod laws;
 mod moment;
 mod number;

@@ -2,6 +2,7 @@
 
 ghost use Rattle.pgp_value_text.specs.ValueText.{IsShown, IsShownIn, IsTextOf, Tells};
 
+use crate::float::{put_float4, put_float8};
 use crate::moment::{put_date, put_interval, put_time, put_timestamp};
 use crate::number::{put_bool, put_int2, put_int4, put_int8, put_numbered, put_numeric, put_xid8};
 use crate::object::{put_lsn, put_uuid};
@@ -24,6 +25,8 @@ fn put_formatted<A: Memory>(
         BinaryFormat::Bool => put_bool(bytes, text),
         BinaryFormat::Bytea => put_bytea(type_oid, bytes, text),
         BinaryFormat::Date => put_date(bytes, text),
+        BinaryFormat::Float4 => put_float4(bytes, text),
+        BinaryFormat::Float8 => put_float8(bytes, text),
         BinaryFormat::Int2 => put_int2(bytes, text),
         BinaryFormat::Int4 => put_int4(bytes, text),
         BinaryFormat::Int8 => put_int8(bytes, text),
@@ -64,7 +67,7 @@ fn put_in<A: Memory>(
 ///
 /// - `bool` as `t` or `f`; `int2`, `int4`, `int8`, `oid`, `xid`, `cid`, `xid8` and `numeric` in decimal; `pg_lsn` as `16/B374D848`;
 /// - `text`, `varchar`, `bpchar`, `name`, `json`, `xml`, `refcursor`, `unknown` and the like as their bytes, where these are UTF-8;
-/// - `bytea` in hex, as `\\x00ff`; `uuid` in lower case and groups; `jsonb` and `jsonpath` as the text after the version;
+/// - `bytea` in hex, as `\x00ff`; `uuid` in lower case and groups; `jsonb` and `jsonpath` as the text after the version;
 /// - `date`, `time`, `timestamp`, `timestamptz` (`2026-11-27 10:20:30.5+00`) and `interval` (`P1Y2M3DT4H5M6.5S`).
 ///
 /// A day outside the years from -9999 to 9999 has none, nor have `float4`, `float8`, `money`, `timetz`, bits, shapes, addresses, arrays, ranges, records,

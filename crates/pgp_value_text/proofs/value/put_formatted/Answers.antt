@@ -50,3 +50,9 @@ returns-in-Uuid g c = rw c.in-Uuid.is c.put_uuid.ensures
 
 pub returns-in-Xid8 : goal.returns-in-Xid8
 returns-in-Xid8 g c = rw c.in-Xid8.is c.put_xid8.ensures
+
+pub returns-in-Float4 : goal.returns-in-Float4
+returns-in-Float4 g c = rw c.in-Float4.is c.put_float4.ensures
+
+pub returns-in-Float8 : goal.returns-in-Float8
+returns-in-Float8 g c = rw c.in-Float8.is c.put_float8.ensures
