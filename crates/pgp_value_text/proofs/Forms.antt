@@ -2,17 +2,18 @@
 use Rattle.std.proofs.Common.{◌≡◌, ℕ, ℤ, Bool, true, false, List, Option, Some, None, Ok, Err, refl, sym, ap, ◌∙◌, subst}
 use Rattle.std.specs.Prelude.{IfOk, IsErr}
 use Rattle.std.proofs.lemmas.Bool.{false≢true}
+use Rattle.std.specs.Int.{w8, cast_unsigned}
 use Rattle.std.specs.Fmt.{decimal, signed_decimal}
 use Rattle.uuid.specs.Text.{hyphenated_text, lower}
 use Rattle.pgp_types.specs.Network.{uuid}
-use Rattle.pgp_types.specs.Scalar.{bool, bytea, int2, int4, int8, oid, lsn}
+use Rattle.pgp_types.specs.Scalar.{bool, bytea, char, int2, int4, int8, oid, lsn}
 use Rattle.pgp_types.specs.Text.{text}
 use Rattle.pgp_types.specs.Time.{time}
 use Rattle.pgp_types.proofs.Spelling.{fixed_sound}
-use Rattle.pgp_types.proofs.Numbers.{int16_spelling, int32_spelling, int64_spelling, uint32_spelling, uint64_spelling}
+use Rattle.pgp_types.proofs.Numbers.{int8_spelling, int16_spelling, int32_spelling, int64_spelling, uint32_spelling, uint64_spelling}
 use Rattle.pgp_types.proofs.Readings.{all_sound, bool_sound, label_sound, text_sound, whole_sound}
 use Rattle.pgp_values.specs.declared.formats.BinaryFormat.{BinaryFormat}
-use Rattle.pgp_values.specs.declared.formats.BinaryFormat.TheVariants.{Bool as BoolFormat, Bytea as BytesFormat, Date, Float4, Float8, Int2, Int4, Int8, Interval, Jsonb, Jsonpath, Lsn, Numeric, Oid, Text as TextFormat, Time, Timestamp, Uuid, Xid8}
+use Rattle.pgp_values.specs.declared.formats.BinaryFormat.TheVariants.{Bool as BoolFormat, Bytea as BytesFormat, Char as CharFormat, Date, Float4, Float8, Int2, Int4, Int8, Interval, Jsonb, Jsonpath, Lsn, Numeric, Oid, Text as TextFormat, Time, Timestamp, Uuid, Xid8}
 use Rattle.pgp_values.specs.Decimal.{Numeric as Number, NumericReads}
 use Rattle.pgp_values.specs.DecimalText.{numeric_text}
 use Rattle.pgp_values.specs.Moment.{date_value, timestamp_value}
@@ -28,7 +29,7 @@ use Rattle.pgp_values.proofs.MomentLemmas.{date_value_sound, timestamp_value_sou
 use Rattle.pgp_calendar.specs.Span.{span_text}
 use Rattle.pgp_calendar.specs.Text.{ShowsDay, ShowsInstant, ShowsMoment, ShowsTime}
 use Rattle.pgp_calendar.proofs.Uniqueness.{one_date, one_instant, one_time}
-use Rattle.pgp_value_text.specs.ValueText.{bool_text, hex_text, lsn_text, zone_of, As, is_float, IsShown, IsShownIn, Shows, ShowsNumeric}
+use Rattle.pgp_value_text.specs.ValueText.{bool_text, char_text, hex_text, lsn_text, zone_of, As, is_float, IsShown, IsShownIn, Shows, ShowsNumeric}
 use Rattle.pgp_value_text.proofs.Texts.{one_as, one_shown}
 
 one_moment : (shows : ℤ → List ℕ → Type 0) → ((n : ℤ) (a b : List ℕ) → shows n a → shows n b → a ≡ b) → (v : Moment ℤ) (a b : List ℕ) → ShowsMoment shows v a → ShowsMoment shows v b → a ≡ b
@@ -48,6 +49,7 @@ number_refused bytes e r t s = false≢true (subst IsErr (one_numeric bytes (Err
 pub one_formatted : (f : BinaryFormat) (type_oid : ℕ) → is_float (Some f) ≡ false → (bytes a b : List ℕ) → IsShown f type_oid bytes a → IsShown f type_oid bytes b → a ≡ b
 one_formatted BoolFormat n h = one_shown bool bool_sound (As bool_text) (one_as bool_text)
 one_formatted BytesFormat n h = λ bytes a b s t. one_shown bytea all_sound (As hex_text) (one_as hex_text) bytes a b s.1 t.1
+one_formatted CharFormat n h = one_shown char (fixed_sound int8_spelling) (As (λ z. char_text (cast_unsigned w8 z))) (one_as (λ z. char_text (cast_unsigned w8 z)))
 one_formatted Date n h = one_shown date_value date_value_sound (ShowsMoment ShowsDay) (one_moment ShowsDay one_date)
 one_formatted Float4 n h = absurd (false≢true (sym h))
 one_formatted Float8 n h = absurd (false≢true (sym h))

@@ -2,18 +2,19 @@
 -- settings `DateStyle` `ISO`, `IntervalStyle` `iso_8601` and `TimeZone` `UTC`.
 -- PostgreSQL manual, "Data Types": "Numeric Types", "Character Types", "Binary Data Types", "Date/Time Types", "Boolean Type", "UUID Type", "JSON Types",
 -- "Object Identifier Types", "pg_lsn Type".
-use Rattle.std.specs.Prelude.{◌≡◌, ℕ, from_bits, ◌/◌, ◌%◌, ◌^◌, nat_eq, ◌||◌, if◌then◌else◌, Bool, true, false, IsTrue, List, [], ◌∷◌, ◌++◌, codes, Option, Some, None, Result, Ok, Err}
+use Rattle.std.specs.Prelude.{◌≡◌, ℕ, from_bits, ◌+◌, ◌/◌, ◌%◌, ◌^◌, nat_eq, nat_lt, ◌==◌, ◌||◌, if◌then◌else◌, Bool, true, false, IsTrue, List, [], ◌∷◌, ◌++◌, codes, Option, Some, None, Result, Ok, Err}
+use Rattle.std.specs.Int.{w8, cast_unsigned}
 use Rattle.std.specs.Float.{binary32, binary64}
 use Rattle.std.specs.Fmt.{decimal, digits, signed_decimal}
 use Rattle.hex.specs.Hex.{encode_lower}
 use Rattle.uuid.specs.Text.{hyphenated_text, lower}
 use Rattle.pgp_types.specs.Format.{Plain}
 use Rattle.pgp_types.specs.Network.{uuid}
-use Rattle.pgp_types.specs.Scalar.{bool, bytea, int2, int4, int8, oid, lsn, float4, float8}
+use Rattle.pgp_types.specs.Scalar.{bool, bytea, char, int2, int4, int8, oid, lsn, float4, float8}
 use Rattle.pgp_types.specs.Text.{text}
 use Rattle.pgp_types.specs.Time.{time}
 use Rattle.pgp_values.specs.declared.formats.BinaryFormat.{BinaryFormat}
-use Rattle.pgp_values.specs.declared.formats.BinaryFormat.TheVariants.{Bool as BoolFormat, Bytea as BytesFormat, Date, Float4, Float8, Int2, Int4, Int8, Interval, Jsonb, Jsonpath, Lsn, Numeric, Oid, Text as TextFormat, Time, Timestamp, Uuid, Xid8}
+use Rattle.pgp_values.specs.declared.formats.BinaryFormat.TheVariants.{Bool as BoolFormat, Bytea as BytesFormat, Char as CharFormat, Date, Float4, Float8, Int2, Int4, Int8, Interval, Jsonb, Jsonpath, Lsn, Numeric, Oid, Text as TextFormat, Time, Timestamp, Uuid, Xid8}
 use Rattle.pgp_values.specs.Decimal.{NumericReads}
 use Rattle.pgp_values.specs.DecimalText.{numeric_text}
 use Rattle.pgp_values.specs.Formats.{formats}
@@ -38,6 +39,11 @@ abbrev pub bool_text : Bool → List ℕ
 bool_text true = codes "t"
 bool_text false = codes "f"
 
+-- a character of ASCII, nothing for 0, and a backslash and three octal digits for any other byte
+abbrev pub char_text : ℕ → List ℕ
+char_text byte = if byte == 0 then [] else if nat_lt byte 128 then byte ∷ []
+    else 92 ∷ (48 + byte / 64) ∷ (48 + byte / 8 % 8) ∷ (48 + byte % 8) ∷ []
+
 -- a backslash, an x, and two digits a byte
 abbrev pub hex_text : List ℕ → List ℕ
 hex_text bytes = 92 ∷ 120 ∷ encode_lower bytes
@@ -61,6 +67,7 @@ zone_of type_oid = if nat_eq type_oid 1184 then codes "+00" else []
 abbrev pub IsShown : BinaryFormat → ℕ → List ℕ → List ℕ → Type 0
 IsShown BoolFormat type_oid = Shows bool (As bool_text)
 IsShown BytesFormat type_oid = λ bytes text. (type_oid ≡ 17) × Shows bytea (As hex_text) bytes text
+IsShown CharFormat type_oid = Shows char (As (λ z. char_text (cast_unsigned w8 z)))
 IsShown Date type_oid = Shows date_value (ShowsMoment ShowsDay)
 IsShown Float4 type_oid = Shows float4 (λ bits. ShowsFloat binary32 (from_bits binary32 bits))
 IsShown Float8 type_oid = Shows float8 (λ bits. ShowsFloat binary64 (from_bits binary64 bits))

@@ -1,15 +1,16 @@
 //! Texts, bytes and documents.
 
 ghost use Rattle.std.specs.Prelude.{◌≡◌};
-ghost use Rattle.pgp_types.specs.Scalar.{bytea};
+ghost use Rattle.std.specs.Int.{w8, cast_unsigned};
+ghost use Rattle.pgp_types.specs.Scalar.{bytea, char};
 ghost use Rattle.pgp_types.specs.Text.{text};
 ghost use Rattle.pgp_values.specs.Text.{jsonb, jsonpath};
-ghost use Rattle.pgp_value_text.specs.ValueText.{hex_text, As, Shows, Tells};
+ghost use Rattle.pgp_value_text.specs.ValueText.{char_text, hex_text, As, Shows, Tells};
 
-use crate::put::put;
+use crate::put::{put, put_raw};
 use bytes::BytesMut;
 use pgp_base::{Memory, Oid};
-use pgp_types::{bytea_from_sql, text_from_sql};
+use pgp_types::{bytea_from_sql, char_from_sql, text_from_sql};
 use pgp_values::{jsonb_from_sql, jsonpath_from_sql};
 use std::alloc::AllocError;
 
@@ -19,6 +20,32 @@ pub(crate) fn put_text<A: Memory>(bytes: &[u8], out: &mut BytesMut<A>) -> Result
 {
     match text_from_sql(bytes) {
         Ok(shown) => put(shown, out),
+        Err(_) => Ok(false),
+    }
+}
+
+// Adds a character of ASCII, nothing for the byte 0, and any other byte as a backslash and three octal digits.
+fn put_byte<A: Memory>(byte: u8, out: &mut BytesMut<A>) -> Result<bool, AllocError>
+    ensures { Tells (λ t. t ≡ char_text byte) A.Lacks out.old.items out.new.items result }
+{
+    if byte == 0 {
+        put_raw(&[], out)
+    } else if byte < 128 {
+        put_raw(&[byte], out)
+    } else {
+        put_raw(
+            &[b'\\', 48 + byte / 64, 48 + byte / 8 % 8, 48 + byte % 8],
+            out,
+        )
+    }
+}
+
+/// Adds the text of a `"char"`.
+pub(crate) fn put_char<A: Memory>(bytes: &[u8], out: &mut BytesMut<A>) -> Result<bool, AllocError>
+    ensures { Tells (Shows char (As (λ z. char_text (cast_unsigned w8 z))) bytes.now) A.Lacks out.old.items out.new.items result }
+{
+    match char_from_sql(bytes) {
+        Ok(c) => put_byte(c.cast_unsigned(), out),
         Err(_) => Ok(false),
     }
 }

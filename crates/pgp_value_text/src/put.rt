@@ -19,6 +19,16 @@ pub(crate) fn put<A: Memory>(shown: &str, text: &mut BytesMut<A>) -> Result<bool
     }
 }
 
+/// Adds bytes.
+pub(crate) fn put_raw<A: Memory>(shown: &[u8], text: &mut BytesMut<A>) -> Result<bool, AllocError>
+    ensures { Tells (λ t. t ≡ shown.now) A.Lacks text.old.items text.new.items result }
+{
+    match A::append(text, shown) {
+        Ok(()) => Ok(true),
+        Err(e) => Err(e),
+    }
+}
+
 /// What a writer of days and times said: out of range there is no text.
 pub(crate) fn told(written: Result<(), TextError>) -> Result<bool, AllocError>
     ensures { Told written result }

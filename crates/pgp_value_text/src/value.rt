@@ -6,7 +6,7 @@ use crate::float::{put_float4, put_float8};
 use crate::moment::{put_date, put_interval, put_time, put_timestamp};
 use crate::number::{put_bool, put_int2, put_int4, put_int8, put_numbered, put_numeric, put_xid8};
 use crate::object::{put_lsn, put_uuid};
-use crate::plain::{put_bytea, put_jsonb, put_jsonpath, put_text};
+use crate::plain::{put_bytea, put_char, put_jsonb, put_jsonpath, put_text};
 use bytes::BytesMut;
 use pgp_base::{Memory, Oid};
 use pgp_values::{BinaryFormat, binary_format_of};
@@ -24,6 +24,7 @@ fn put_formatted<A: Memory>(
     match format {
         BinaryFormat::Bool => put_bool(bytes, text),
         BinaryFormat::Bytea => put_bytea(type_oid, bytes, text),
+        BinaryFormat::Char => put_char(bytes, text),
         BinaryFormat::Date => put_date(bytes, text),
         BinaryFormat::Float4 => put_float4(bytes, text),
         BinaryFormat::Float8 => put_float8(bytes, text),

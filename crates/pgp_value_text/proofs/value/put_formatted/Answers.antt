@@ -56,3 +56,6 @@ returns-in-Float4 g c = rw c.in-Float4.is c.put_float4.ensures
 
 pub returns-in-Float8 : goal.returns-in-Float8
 returns-in-Float8 g c = rw c.in-Float8.is c.put_float8.ensures
+
+pub returns-in-Char : goal.returns-in-Char
+returns-in-Char g c = rw c.in-Char.is c.put_char.ensures
