@@ -1,5 +1,5 @@
--- The text that a server shows of a value whose bytes in binary format are given, by the number (OID) of its type. As it shows it with the
--- settings `DateStyle` `ISO`, `IntervalStyle` `iso_8601` and `TimeZone` `UTC`.
+-- The text of a value whose bytes in binary format are given, by the number (OID) of its type: as a server shows it in UTF-8 with the settings
+-- `DateStyle` `ISO`, `IntervalStyle` `iso_8601` and `TimeZone` `UTC`. Of a floating-point number: a text that reads back as the same.
 -- PostgreSQL manual, "Data Types": "Numeric Types", "Character Types", "Binary Data Types", "Date/Time Types", "Boolean Type", "UUID Type", "JSON Types",
 -- "Object Identifier Types", "pg_lsn Type".
 use Rattle.std.specs.Prelude.{◌≡◌, ℕ, from_bits, ◌+◌, ◌/◌, ◌%◌, ◌^◌, nat_eq, nat_lt, ◌==◌, ◌||◌, if◌then◌else◌, Bool, true, false, IsTrue, List, [], ◌∷◌, ◌++◌, codes, Option, Some, None, Result, Ok, Err}
@@ -101,8 +101,7 @@ is_float (Some Float4) = true
 is_float (Some Float8) = true
 is_float _ = false
 
--- What a writer of such a text answers: that it added one, or that there is none, and then it added nothing; nor does it where memory is
--- refused.
+-- What a writer of such a text returns: that it appended one, or that there is none. Then the buffer is unchanged, as where an allocation failed.
 abbrev pub Tells : {E : Type 0} → (List ℕ → Type 0) → Type 0 → List ℕ → List ℕ → Result Bool E → Type 0
 Tells IsText lacks old new (Ok true) = (shown : List ℕ) × IsText shown × (new ≡ old ++ shown)
 Tells IsText lacks old new (Ok false) = ((shown : List ℕ) → IsText shown → ⊥) × (new ≡ old)

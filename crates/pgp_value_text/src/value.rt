@@ -69,9 +69,12 @@ fn put_in<A: Memory>(
 /// - `bool` as `t` or `f`; `int2`, `int4`, `int8`, `oid`, `xid`, `cid`, `xid8` and `numeric` in decimal; `pg_lsn` as `16/B374D848`;
 /// - `text`, `varchar`, `bpchar`, `name`, `json`, `xml`, `refcursor`, `unknown` and the like as their bytes, where these are UTF-8;
 /// - `bytea` in hex, as `\x00ff`; `uuid` in lower case and groups; `jsonb` and `jsonpath` as the text after the version;
-/// - `date`, `time`, `timestamp`, `timestamptz` (`2026-11-27 10:20:30.5+00`) and `interval` (`P1Y2M3DT4H5M6.5S`).
+/// - `"char"` as its character, if it is one of ASCII, and else as a backslash and three octal digits;
+/// - `date`, `time`, `timestamp`, `timestamptz` (`2026-11-27 10:20:30.5+00`) and `interval` (`P1Y2M3DT4H5M6.5S`);
+/// - `float4` and `float8` as a text that reads back as the same number, though not always in a server's digits and layout (`1.0` for `1`), or as
+///   `NaN`, `Infinity` or `-Infinity`.
 ///
-/// A day outside the years from -9999 to 9999 has none, nor have `float4`, `float8`, `money`, `timetz`, bits, shapes, addresses, arrays, ranges, records,
+/// A day outside the years from -9999 to 9999 has none, nor have `money`, `timetz`, bits, shapes, addresses, arrays, ranges, records,
 /// the types of text search, and those that name an object (`regclass`).
 ///
 /// # Errors
