@@ -1,5 +1,5 @@
 -- What is shown of a floating-point number.
-use Rattle.std.proofs.Common.{◌≡◌, ℕ, List, Bool, true, false, Some, refl, sym, ◌∙◌, from_bits, ltb}
+use Rattle.std.proofs.Common.{◌≡◌, ℕ, List, true, false, Some, refl, sym, ◌∙◌, from_bits, ltb}
 use Rattle.std.specs.Prelude.{codes, ◌%◌, ◌^◌}
 use Rattle.std.specs.Float.{Float, Format, binary32, binary64, float_is_finite, is_sign_negative}
 use Rattle.std.specs.Float.Ieee.{nan, inf, fin}

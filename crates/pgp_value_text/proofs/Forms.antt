@@ -1,5 +1,5 @@
 -- A value of each format has one text.
-use Rattle.std.proofs.Common.{◌≡◌, ℕ, ℤ, Bool, true, false, List, Option, Some, None, Ok, Err, refl, sym, ap, ◌∙◌, subst}
+use Rattle.std.proofs.Common.{◌≡◌, ℕ, ℤ, false, List, Option, Some, None, Ok, Err, refl, sym, ap, ◌∙◌, subst}
 use Rattle.std.specs.Prelude.{IfOk, IsErr}
 use Rattle.std.proofs.lemmas.Bool.{false≢true}
 use Rattle.std.specs.Int.{w8, cast_unsigned}
@@ -14,7 +14,7 @@ use Rattle.pgp_types.proofs.Numbers.{int8_spelling, int16_spelling, int32_spelli
 use Rattle.pgp_types.proofs.Readings.{all_sound, bool_sound, label_sound, text_sound, whole_sound}
 use Rattle.pgp_values.specs.declared.formats.BinaryFormat.{BinaryFormat}
 use Rattle.pgp_values.specs.declared.formats.BinaryFormat.TheVariants.{Bool as BoolFormat, Bytea as BytesFormat, Char as CharFormat, Date, Float4, Float8, Int2, Int4, Int8, Interval, Jsonb, Jsonpath, Lsn, Numeric, Oid, Text as TextFormat, Time, Timestamp, Uuid, Xid8}
-use Rattle.pgp_values.specs.Decimal.{Numeric as Number, NumericReads}
+use Rattle.pgp_values.specs.Decimal.{NumericReads}
 use Rattle.pgp_values.specs.DecimalText.{numeric_text}
 use Rattle.pgp_values.specs.Moment.{date_value, timestamp_value}
 use Rattle.pgp_values.specs.System.{xid8}
@@ -29,7 +29,7 @@ use Rattle.pgp_values.proofs.MomentLemmas.{date_value_sound, timestamp_value_sou
 use Rattle.pgp_calendar.specs.Span.{span_text}
 use Rattle.pgp_calendar.specs.Text.{ShowsDay, ShowsInstant, ShowsMoment, ShowsTime}
 use Rattle.pgp_calendar.proofs.Uniqueness.{one_date, one_instant, one_time}
-use Rattle.pgp_value_text.specs.ValueText.{bool_text, char_text, hex_text, lsn_text, zone_of, As, is_float, IsShown, IsShownIn, Shows, ShowsNumeric}
+use Rattle.pgp_value_text.specs.ValueText.{bool_text, char_text, hex_text, lsn_text, zone_of, As, is_float, IsShown, IsShownIn, ShowsNumeric}
 use Rattle.pgp_value_text.proofs.Texts.{one_as, one_shown}
 
 one_moment : (shows : ℤ → List ℕ → Type 0) → ((n : ℤ) (a b : List ℕ) → shows n a → shows n b → a ≡ b) → (v : Moment ℤ) (a b : List ℕ) → ShowsMoment shows v a → ShowsMoment shows v b → a ≡ b

@@ -1,8 +1,7 @@
 -- What writers of days and times wrote.
-use Rattle.std.proofs.Common.{◌≡◌, ℕ, ℤ, pos, ◌<◌, ◌*ℤ◌, List, Bool, true, false, Result, Ok, Err, refl, sym, ap, subst, arith, inl, inr, ◌⊎◌}
-use Rattle.std.specs.Prelude.{[], ◌++◌, codes, if◌then◌else◌, IsErr}
+use Rattle.std.proofs.Common.{◌≡◌, ℕ, ℤ, ◌<◌, List, Bool, Result, Ok, Err, sym, ap, subst, arith, inl, inr}
+use Rattle.std.specs.Prelude.{[], ◌++◌, codes, nat_eq, if◌then◌else◌}
 use Rattle.std.proofs.lemmas.Bool.{false≢true}
-use Rattle.std.proofs.lemmas.Bool.Decides.{eqb_tells}
 use Rattle.jiff_core.proofs.SignedLemmas.{signed_arith}
 use Rattle.jiff.specs.Words.{IsEpochDay, IsCivilNanos}
 use Rattle.jiff.proofs.Family.{epoch_day_range, civil_nanos_range, time_nanos_bound}
@@ -46,11 +45,8 @@ module _ {E : Type 0} (lacks : Type 0) (old new : List ℕ) (shows : List ℕ �
   tells_told (Err OutOfMemory) (Err e) w _ = (w.0.2.refused.0, w.1.bytes)
 
 -- an instant with its zone, if the type has it
-pub zone_there : (n : ℕ) → n ≡ 1184 → zone_of n ≡ codes "+00"
-zone_there n e = ap zone_of e
-
-pub zone_none : (n : ℕ) → (n ≡ 1184 → ⊥) → zone_of n ≡ []
-zone_none n h = elim (eqb_tells n 1184) [ inl t ↦ absurd (h t.1) | inr t ↦ ap (λ b. if b then codes "+00" else []) t.0 ]
+pub zone_if : (n : ℕ) (b : Bool) → nat_eq n 1184 ≡ b → zone_of n ≡ (if b then codes "+00" else [])
+zone_if n b e = ap (λ b. if b then codes "+00" else []) e
 
 pub tells_instant : {E : Type 0} (lacks : Type 0) (old new : List ℕ) (z zone : List ℕ) (v : Moment ℤ) (w : Result (Unit {0}) TextError) (r : Result Bool E) → z ≡ zone → WritesText (ShowsMoment (ShowsInstant zone) v) (HasText (λ n. IsCivilNanos (nanos_1970 n)) v) (λ _ n. lacks × (0 < n)) (items_held old) (items_held new) w → Told w r → Tells (ShowsMoment (ShowsInstant z) v) lacks old new r
 tells_instant lacks old new z zone v w r e wrote said =

@@ -1,5 +1,6 @@
 //! Dates, times and spans of time.
 
+ghost use Rattle.std.specs.Prelude.{◌≡◌, nat_eq};
 ghost use Rattle.pgp_calendar.specs.Span.{span_text};
 ghost use Rattle.pgp_calendar.specs.Text.{ShowsDay, ShowsInstant, ShowsMoment, ShowsTime};
 ghost use Rattle.pgp_types.specs.Time.{time};
@@ -37,6 +38,13 @@ pub(crate) fn put_time<A: Memory>(bytes: &[u8], text: &mut BytesMut<A>) -> Resul
     }
 }
 
+// Whether the type is `timestamptz`.
+fn has_zone(type_oid: Oid) -> bool
+    ensures { result ≡ nat_eq type_oid 1184 }
+{
+    type_oid == 1184
+}
+
 // Adds the text of a moment, with the zone where the type has one.
 fn put_moment<A: Memory>(
     type_oid: Oid,
@@ -45,7 +53,7 @@ fn put_moment<A: Memory>(
 ) -> Result<bool, AllocError>
     ensures { Tells (ShowsMoment (ShowsInstant (zone_of type_oid)) v) A.Lacks text.old.items text.new.items result }
 {
-    if type_oid == 1184 {
+    if has_zone(type_oid) {
         told(timestamptz_to_text(v, text))
     } else {
         told(timestamp_to_text(v, text))
