@@ -13,24 +13,26 @@ use Rattle.pgp_types.proofs.Spelling.{fixed_sound}
 use Rattle.pgp_types.proofs.Numbers.{int8_spelling, int16_spelling, int32_spelling, int64_spelling, uint32_spelling, uint64_spelling}
 use Rattle.pgp_types.proofs.Readings.{all_sound, bool_sound, label_sound, text_sound, whole_sound}
 use Rattle.pgp_values.specs.declared.formats.BinaryFormat.{BinaryFormat}
-use Rattle.pgp_values.specs.declared.formats.BinaryFormat.TheVariants.{Bool as BoolFormat, Bytea as BytesFormat, Char as CharFormat, Date, Float4, Float8, Int2, Int4, Int8, Interval, Jsonb, Jsonpath, Lsn, Numeric, Oid, Text as TextFormat, Time, Timestamp, Uuid, Xid8}
+use Rattle.pgp_values.specs.declared.formats.BinaryFormat.TheVariants.{Bool as BoolFormat, Bytea as BytesFormat, Char as CharFormat, Date, Float4, Float8, Int2, Int4, Int8, Interval, Jsonb, Jsonpath, Lsn, Numeric, Oid, Text as TextFormat, Time, Timestamp, Timetz, Uuid, Xid8}
 use Rattle.pgp_values.specs.Decimal.{NumericReads}
 use Rattle.pgp_values.specs.DecimalText.{numeric_text}
 use Rattle.pgp_values.specs.Moment.{date_value, timestamp_value}
 use Rattle.pgp_values.specs.System.{xid8}
 use Rattle.pgp_values.specs.Text.{jsonb, jsonpath}
-use Rattle.pgp_values.specs.Time.{interval}
+use Rattle.pgp_values.specs.Time.{interval, timetz}
 use Rattle.pgp_values.specs.declared.error.NumericError.{NumericError}
 use Rattle.pgp_values.specs.declared.moment.Moment.{Moment}
 use Rattle.pgp_values.specs.declared.moment.Moment.TheVariants.{PosInfinity, NegInfinity, Value}
 use Rattle.pgp_values.proofs.DecimalLemmas.{one_numeric}
-use Rattle.pgp_values.proofs.Fixed.{interval_sound}
+use Rattle.pgp_values.proofs.Fixed.{interval_sound, timetz_sound}
 use Rattle.pgp_values.proofs.MomentLemmas.{date_value_sound, timestamp_value_sound}
 use Rattle.pgp_calendar.specs.Span.{span_text}
 use Rattle.pgp_calendar.specs.Text.{ShowsDay, ShowsInstant, ShowsMoment, ShowsTime}
 use Rattle.pgp_calendar.proofs.Uniqueness.{one_date, one_instant, one_time}
 use Rattle.pgp_value_text.specs.ValueText.{bool_text, char_text, hex_text, lsn_text, zone_of, As, is_float, IsShown, IsShownIn, ShowsNumeric}
+use Rattle.pgp_value_text.specs.Zone.{ShowsTimeTz}
 use Rattle.pgp_value_text.proofs.Texts.{one_as, one_shown}
+use Rattle.pgp_value_text.proofs.Zones.{one_zoned}
 
 one_moment : (shows : ℤ → List ℕ → Type 0) → ((n : ℤ) (a b : List ℕ) → shows n a → shows n b → a ≡ b) → (v : Moment ℤ) (a b : List ℕ) → ShowsMoment shows v a → ShowsMoment shows v b → a ≡ b
 one_moment shows h PosInfinity a b s t = s ∙ sym t
@@ -65,6 +67,7 @@ one_formatted Oid n h = λ bytes a b s t. one_shown oid (fixed_sound uint32_spel
 one_formatted TextFormat n h = one_shown text text_sound (As (λ text. text)) (one_as (λ text. text))
 one_formatted Time n h = one_shown time (fixed_sound int64_spelling) ShowsTime one_time
 one_formatted Timestamp n h = one_shown timestamp_value timestamp_value_sound (ShowsMoment (ShowsInstant (zone_of n))) (one_moment (ShowsInstant (zone_of n)) (one_instant (zone_of n)))
+one_formatted Timetz n h = one_shown timetz timetz_sound ShowsTimeTz one_zoned
 one_formatted Uuid n h = one_shown uuid (whole_sound 16) (As (hyphenated_text lower)) (one_as (hyphenated_text lower))
 one_formatted Xid8 n h = one_shown xid8 (fixed_sound uint64_spelling) (As decimal) (one_as decimal)
 one_formatted _ n h = λ bytes a b s t. absurd s

@@ -14,7 +14,7 @@ use Rattle.pgp_types.specs.Scalar.{bool, bytea, char, int2, int4, int8, oid, lsn
 use Rattle.pgp_types.specs.Text.{text}
 use Rattle.pgp_types.specs.Time.{time}
 use Rattle.pgp_values.specs.declared.formats.BinaryFormat.{BinaryFormat}
-use Rattle.pgp_values.specs.declared.formats.BinaryFormat.TheVariants.{Bool as BoolFormat, Bytea as BytesFormat, Char as CharFormat, Date, Float4, Float8, Int2, Int4, Int8, Interval, Jsonb, Jsonpath, Lsn, Numeric, Oid, Text as TextFormat, Time, Timestamp, Uuid, Xid8}
+use Rattle.pgp_values.specs.declared.formats.BinaryFormat.TheVariants.{Bool as BoolFormat, Bytea as BytesFormat, Char as CharFormat, Date, Float4, Float8, Int2, Int4, Int8, Interval, Jsonb, Jsonpath, Lsn, Numeric, Oid, Text as TextFormat, Time, Timestamp, Timetz, Uuid, Xid8}
 use Rattle.pgp_values.specs.Decimal.{NumericReads}
 use Rattle.pgp_values.specs.DecimalText.{numeric_text}
 use Rattle.pgp_values.specs.Formats.{formats}
@@ -22,10 +22,11 @@ use Rattle.pgp_values.specs.FormatTable.{format_in}
 use Rattle.pgp_values.specs.Moment.{date_value, timestamp_value}
 use Rattle.pgp_values.specs.System.{xid8}
 use Rattle.pgp_values.specs.Text.{jsonb, jsonpath}
-use Rattle.pgp_values.specs.Time.{interval}
+use Rattle.pgp_values.specs.Time.{interval, timetz}
 use Rattle.pgp_calendar.specs.Span.{span_text}
 use Rattle.pgp_calendar.specs.Text.{ShowsDay, ShowsInstant, ShowsMoment, ShowsTime}
 use Rattle.pgp_value_text.specs.Float.{ShowsFloat}
+use Rattle.pgp_value_text.specs.Zone.{ShowsTimeTz}
 
 -- the bytes are read as a value that is shown so
 abbrev pub Shows : {V : Type 0} → Plain V → (V → List ℕ → Type 0) → List ℕ → List ℕ → Type 0
@@ -83,6 +84,7 @@ IsShown Oid type_oid = λ bytes text. IsTrue (is_numbered type_oid) × Shows oid
 IsShown TextFormat type_oid = Shows text (As (λ shown. shown))
 IsShown Time type_oid = Shows time ShowsTime
 IsShown Timestamp type_oid = Shows timestamp_value (ShowsMoment (ShowsInstant (zone_of type_oid)))
+IsShown Timetz type_oid = Shows timetz ShowsTimeTz
 IsShown Uuid type_oid = Shows uuid (As (hyphenated_text lower))
 IsShown Xid8 type_oid = Shows xid8 (As decimal)
 IsShown _ type_oid = λ bytes text. ⊥

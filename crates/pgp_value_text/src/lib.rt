@@ -9,5 +9,6 @@ mod object;
 mod plain;
 mod put;
 mod value;
+mod zone;
 
 pub use value::put_value;

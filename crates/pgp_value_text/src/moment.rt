@@ -28,12 +28,22 @@ pub(crate) fn put_date<A: Memory>(bytes: &[u8], text: &mut BytesMut<A>) -> Resul
     }
 }
 
+/// Adds the text of so many microseconds since midnight.
+pub(crate) fn put_clock<A: Memory>(
+    microseconds: i64,
+    text: &mut BytesMut<A>,
+) -> Result<bool, AllocError>
+    ensures { Tells (ShowsTime microseconds) A.Lacks text.old.items text.new.items result }
+{
+    told(time_to_text(microseconds, text))
+}
+
 /// Adds the text of a `time`.
 pub(crate) fn put_time<A: Memory>(bytes: &[u8], text: &mut BytesMut<A>) -> Result<bool, AllocError>
     ensures { Tells (Shows time ShowsTime bytes.now) A.Lacks text.old.items text.new.items result }
 {
     match time_from_sql(bytes) {
-        Ok(microseconds) => told(time_to_text(microseconds, text)),
+        Ok(microseconds) => put_clock(microseconds, text),
         Err(_) => Ok(false),
     }
 }

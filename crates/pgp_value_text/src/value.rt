@@ -7,6 +7,7 @@ use crate::moment::{put_date, put_interval, put_time, put_timestamp};
 use crate::number::{put_bool, put_int2, put_int4, put_int8, put_numbered, put_numeric, put_xid8};
 use crate::object::{put_lsn, put_uuid};
 use crate::plain::{put_bytea, put_char, put_jsonb, put_jsonpath, put_text};
+use crate::zone::put_timetz;
 use bytes::BytesMut;
 use pgp_base::{Memory, Oid};
 use pgp_values::{BinaryFormat, binary_format_of};
@@ -40,6 +41,7 @@ fn put_formatted<A: Memory>(
         BinaryFormat::Text => put_text(bytes, text),
         BinaryFormat::Time => put_time(bytes, text),
         BinaryFormat::Timestamp => put_timestamp(type_oid, bytes, text),
+        BinaryFormat::Timetz => put_timetz(bytes, text),
         BinaryFormat::Uuid => put_uuid(bytes, text),
         BinaryFormat::Xid8 => put_xid8(bytes, text),
         _ => Ok(false),
@@ -70,11 +72,11 @@ fn put_in<A: Memory>(
 /// - `text`, `varchar`, `bpchar`, `name`, `json`, `xml`, `refcursor`, `unknown` and the like as their bytes, where these are UTF-8;
 /// - `bytea` in hex, as `\x00ff`; `uuid` in lower case and groups; `jsonb` and `jsonpath` as the text after the version;
 /// - `"char"` as its character, if it is one of ASCII, and else as a backslash and three octal digits;
-/// - `date`, `time`, `timestamp`, `timestamptz` (`2026-11-27 10:20:30.5+00`) and `interval` (`P1Y2M3DT4H5M6.5S`);
+/// - `date`, `time`, `timetz` (`10:20:30.5+05:30`), `timestamp`, `timestamptz` (`2026-11-27 10:20:30.5+00`) and `interval` (`P1Y2M3DT4H5M6.5S`);
 /// - `float4` and `float8` as a text that reads back as the same number, though not always in a server's digits and layout (`1.0` for `1`), or as
 ///   `NaN`, `Infinity` or `-Infinity`.
 ///
-/// A day outside the years from -9999 to 9999 has none, nor have `money`, `timetz`, bits, shapes, addresses, arrays, ranges, records,
+/// A day outside the years from -9999 to 9999 has none, nor has a time in a zone of 16 hours or more, nor have `money`, bits, shapes, addresses, arrays, ranges, records,
 /// the types of text search, and those that name an object (`regclass`).
 ///
 /// # Errors

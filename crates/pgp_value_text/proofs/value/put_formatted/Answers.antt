@@ -59,3 +59,6 @@ returns-in-Float8 g c = rw c.in-Float8.is c.put_float8.ensures
 
 pub returns-in-Char : goal.returns-in-Char
 returns-in-Char g c = rw c.in-Char.is c.put_char.ensures
+
+pub returns-in-Timetz : goal.returns-in-Timetz
+returns-in-Timetz g c = rw c.in-Timetz.is c.put_timetz.ensures
