@@ -5,7 +5,7 @@ import os, shutil, subprocess, sys
 out = sys.argv[1]
 top = os.path.dirname(os.path.dirname(os.path.dirname(os.path.abspath(__file__))))
 data = os.path.join(top, 'crates/pgp_rows/data')
-stored = ''.join(line for line in open(os.path.join(top, 'crates/pgp_rows/stdout')) if not line.startswith('calendar.rows'))
+stored = ''.join(line for line in open(os.path.join(top, 'crates/pgp_rows/stdout')) if not line.startswith(('calendar.rows', 'value_text.rows')))
 target = os.environ['CARGO_TARGET_DIR']
 
 # A module of src/proved, a text of it, and the fault.

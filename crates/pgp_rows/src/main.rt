@@ -29,6 +29,7 @@ mod server;
 mod shapes;
 mod shown;
 mod texts;
+mod value_text;
 mod values;
 mod word;
 
@@ -71,9 +72,10 @@ enum Family {
     Values,
     Formats,
     Calendar,
+    ValueText,
 }
 
-const FILES: [(&str, Family); 24] = [
+const FILES: [(&str, Family); 25] = [
     ("client.rows", Family::Client),
     ("client_read.rows", Family::ClientRead),
     ("client_replaced.rows", Family::ClientRead),
@@ -98,6 +100,7 @@ const FILES: [(&str, Family); 24] = [
     ("values.rows", Family::Values),
     ("formats.rows", Family::Formats),
     ("calendar.rows", Family::Calendar),
+    ("value_text.rows", Family::ValueText),
 ];
 
 /// Makes the call of a row.
@@ -125,6 +128,7 @@ fn check(alloc: Global, family: Family, row: &Row<'_>, out: &mut Shown) -> Resul
         Family::Values => check_value::<Values>(alloc, row, out),
         Family::Formats => check_answer::<formats::Formats>(alloc, row, out),
         Family::Calendar => calendar::check_calendar(alloc, row, out),
+        Family::ValueText => check_answer::<value_text::ValueTexts>(alloc, row, out),
     }
 }
 

@@ -1,0 +1,7 @@
+use Rattle.std.proofs.Common.{subst}
+use Rattle.pgp_value_text.specs.ValueText.{IsShownIn, Tells}
+use Rattle.pgp_value_text.proofs.value.put_value.Goals as goal
+
+pub returns : goal.returns
+returns g c =
+    subst (λ f. Tells (IsShownIn f c.args.type_oid c.args.bytes.now) g.A.Memory.Lacks c.args.text.now.items c.put_in.new.text.items c.put_in.result) c.binary_format_of.ensures c.put_in.ensures
