@@ -3,6 +3,7 @@ pub mod Naming
 pub mod Roles
 pub mod KindsLeft
 pub mod Marked
+pub mod Summed
 pub mod FrameLists
 pub mod ChunkLists
 pub mod Sessions
