@@ -1,3 +1,4 @@
 mod Places
 mod Sorting
 mod Skips
+mod Tallies

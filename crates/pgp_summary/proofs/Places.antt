@@ -1,11 +1,11 @@
 -- Where a name or a statement stands.
-use Rattle.std.proofs.Common.{◌≡◌, ℕ, zero, suc, ◌+◌, ◌<◌, Bool, true, false, List, [], ◌∷◌, ◌++◌, length, get_or, take, drop, Option, Some, None, refl, sym, ap, arith, ◌∙◌}
-use Rattle.std.specs.Prelude.{◌&&◌, not, if◌then◌else◌}
+use Rattle.std.proofs.Common.{◌≡◌, ℕ, zero, suc, ◌<◌, Bool, true, false, List, [], ◌∷◌, length, get_or, take, Some, None, refl, sym, ap, arith}
+use Rattle.std.specs.Prelude.{◌&&◌, not}
 use Rattle.std.specs.List.{list_all}
 use Rattle.std.specs.Str.{bytes_eq}
 use Rattle.pgp_summary.specs.Places.{StandsIn, StandsUnder}
-use Rattle.pgp_summary.specs.Runs.{Run, Tally, grown, tallied}
-use Rattle.pgp_summary.specs.Summary.{Text, named, text_under}
+use Rattle.pgp_summary.specs.Runs.{Tally}
+use Rattle.pgp_summary.specs.Summary.{Text}
 
 -- of another name
 abbrev pub is_other : List ℕ → Text → Bool

@@ -1,6 +1,5 @@
 -- Requests that are passed over.
-use Rattle.std.proofs.Common.{◌≡◌, ℕ, Bool, true, false, List, [], ◌∷◌, drop, refl, sym}
-use Rattle.std.specs.Prelude.{nat_lt, if◌then◌else◌}
+use Rattle.std.proofs.Common.{◌≡◌, ℕ, true, false, List, [], ◌∷◌, drop, refl}
 use Rattle.pgp_summary.specs.Summary.{Request, is_first_before, skipped}
 
 pub one_skipped : (number : ℕ) (list : List Request) → is_first_before number list ≡ true → skipped number (drop 1 list) ≡ skipped number list

@@ -1,6 +1,6 @@
 -- Numbers in ascending order have no other one.
-use Rattle.std.proofs.Common.{◌≡◌, ℕ, zero, suc, ◌+◌, ◌<◌, ◌≤◌, Bool, true, false, List, [], ◌∷◌, ◌++◌, length, get_or, refl, sym, ap, subst, arith, ◌∙◌, inl, inr}
-use Rattle.std.specs.Prelude.{◌⊎◌, nat_lt, if◌then◌else◌}
+use Rattle.std.proofs.Common.{◌≡◌, ℕ, zero, suc, ◌+◌, ◌<◌, ◌≤◌, true, false, List, [], ◌∷◌, length, get_or, refl, sym, ap, arith, ◌∙◌, inl, inr}
+use Rattle.std.specs.Prelude.{nat_lt}
 use Rattle.std.specs.List.{sum_by}
 use Rattle.std.specs.List.Sorted.{IsNonDecreasing, IsPermutation, IsSorted}
 use Rattle.std.specs.Ordering.{nat_cmp}

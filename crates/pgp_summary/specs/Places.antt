@@ -1,6 +1,6 @@
 -- Private: where a name or a statement stands.
 use Rattle.std.specs.Prelude.{◌≡◌, ◌<◌, ℕ, List, [], ◌∷◌, ◌++◌, length, get_or, slice_set, Option, Some, None}
-use Rattle.pgp_summary.specs.Runs.{Run, Tally, begun, grown, tallied}
+use Rattle.pgp_summary.specs.Runs.{Tally, grown, tallied}
 use Rattle.pgp_summary.specs.Summary.{Text, named, text_under, unknown}
 
 abbrev pub StandsUnder : List ℕ → List Text → Option ℕ → Type 0

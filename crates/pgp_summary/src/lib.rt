@@ -3,6 +3,7 @@
 #![tactic(auto)]
 
 mod entry;
+pub mod laws;
 mod named;
 mod summary;
 mod waiting;

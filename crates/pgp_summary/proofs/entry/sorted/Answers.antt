@@ -1,4 +1,3 @@
-use Rattle.std.proofs.Common.{◌≡◌}
 use Rattle.pgp_summary.proofs.Sorting.{sorted_is}
 use Rattle.pgp_summary.proofs.entry.sorted.Goals as goal
 
