@@ -77,15 +77,19 @@ fn view_by<'a, A: Memory>(settings: &'a Settings<'_, A>) -> View<'a>
     ensures { view_of result ≡ settings_view settings.now }
 {
     let options = &settings.options;
-    let only = if settings.marking.summed {
-        NO_NAME
-    } else {
-        options.only.as_slice()
-    };
+    let style = style_of(options.json, options.full, options.secrets);
+    let colored = options.colored;
+    if settings.marking.summed {
+        return View {
+            style,
+            only: NO_NAME,
+            colored,
+        };
+    }
     View {
-        style: style_of(options.json, options.full, options.secrets),
-        only,
-        colored: options.colored,
+        style,
+        only: options.only.as_slice(),
+        colored,
     }
 }
 
