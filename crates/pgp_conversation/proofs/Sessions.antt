@@ -331,7 +331,7 @@ last_is view held talk k =
     ∙ ap (λ s. ends (last_of view told Client talk.client.stopped (left talk.client) ++ last_of view told Server s held.server.left)) k.server.stopped
     ∙ ap (λ n. ends (last_of view told Client talk.client.stopped (left talk.client) ++ last_of view told Server talk.server.stopped n)) k.server.count
     ∙ ap (λ (known : Known). ending_by view.style (summary_in known.numbers)
-        (last_of view (unnumbered known.numbers) Client talk.client.stopped (left talk.client) ++ last_of view (unnumbered known.numbers) Server talk.server.stopped (left talk.server))) k.known
+    (last_of view (unnumbered known.numbers) Client talk.client.stopped (left talk.client) ++ last_of view (unnumbered known.numbers) Server talk.server.stopped (left talk.server))) k.known
 
 hints_are : (held : HeldTalk) (talk : Talk) → Keeps held talk → (hint_of held.known.client held.client.left ≡ hint_of talk.known.client (left talk.client)) × (hint_of held.known.server held.server.left ≡ hint_of talk.known.server (left talk.server))
 hints_are held talk k = (

@@ -145,11 +145,7 @@ fn note_work<A: Memory>(
 fn behind(frame: &[u8]) -> &[u8]
     ensures { result.now ≡ drop 5 frame.now }
 {
-    if frame.len() < 5 {
-        &[]
-    } else {
-        &frame[5..]
-    }
+    if frame.len() < 5 { &[] } else { &frame[5..] }
 }
 
 /// The text that stands first, and what stands after it.

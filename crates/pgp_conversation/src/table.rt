@@ -15,6 +15,7 @@ use std::alloc::AllocError;
 
 /// How many characters a count of runs takes, and how many a count of rows, or a time.
 const COUNT: usize = 8;
+
 const WIDTH: usize = 10;
 
 /// Adds the table of a summary: a line for each statement that ran.

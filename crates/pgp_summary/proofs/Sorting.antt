@@ -122,9 +122,9 @@ heads x y a b =
     elim (cases_Bool (nat_lt x y)) [
       | inl less ↦ absurd (a (lt_from x y less))
       | inr more ↦ elim (cases_Bool (nat_lt y x)) [
-          | inl less ↦ absurd (b (lt_from y x less))
-          | inr most ↦ (let h = le_from x y more in let k = le_from y x most in omega (arith, h, k))
-        ]
+        | inl less ↦ absurd (b (lt_from y x less))
+        | inr most ↦ (let h = le_from x y more in let k = le_from y x most in omega (arith, h, k))
+      ]
     ]
 
 one_order : (xs ys : List ℕ) → Rises xs → Rises ys → ((n : ℕ) → times_in n xs ≡ times_in n ys) → xs ≡ ys

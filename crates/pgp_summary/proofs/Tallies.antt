@@ -79,9 +79,9 @@ found_more text run (e ∷ more) =
     elim (cases_Bool (bytes_eq e.text run.text)) [
       | inl same ↦ (let t : bytes_eq e.text text ≡ bytes_eq run.text text = ap (λ n. bytes_eq n text) (same_text e.text run.text same) in rw (same, t) (both_ways (bytes_eq run.text text) run e (found text more)))
       | inr other ↦ rw other (elim (cases_Bool (bytes_eq e.text text)) [
-          | inl here ↦ rw (here, apart e.text run.text text other here) refl
-          | inr there ↦ rw there (found_more text run more)
-        ])
+        | inl here ↦ rw (here, apart e.text run.text text other here) refl
+        | inr there ↦ rw there (found_more text run more)
+      ])
     ]
 
 abbrev joined_all : List ℕ → Option Tally → List Run → Option Tally

@@ -89,11 +89,7 @@ impl<A: Memory> Summary<A> {
     fn rows_of(&self, number: u64) -> u64
         ensures { result ≡ rows_of number self.now }
     {
-        if self.counted == number {
-            self.rows
-        } else {
-            0
-        }
+        if self.counted == number { self.rows } else { 0 }
     }
 
     /// Takes note of a message that ends the answer to the request of this number, so many microseconds after it. Another request than the one that this

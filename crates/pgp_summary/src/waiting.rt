@@ -90,11 +90,7 @@ pub(crate) fn take<A: Memory>(
 }
 
 /// Whether the first has this number, and this ends its answer.
-fn is_first_ended<A: Memory>(
-    number: u64,
-    reply: Reply,
-    waiting: &VecDeque<Asked<A>, A>,
-) -> bool
+fn is_first_ended<A: Memory>(number: u64, reply: Reply, waiting: &VecDeque<Asked<A>, A>) -> bool
     ensures { result ≡ is_first_ended number reply waiting.now.items }
 {
     match waiting.front() {
