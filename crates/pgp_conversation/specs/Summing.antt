@@ -3,7 +3,7 @@ use Rattle.std.specs.Prelude.{ℕ, ◌-◌, if◌then◌else◌, List, [], Optio
 use Rattle.pgp_frontend.specs.ClientMessage.{ClientMessage, Bind, Execute, Parse, Query}
 use Rattle.pgp_frontend_read.specs.declared.error.ClientError.{ClientError}
 use Rattle.pgp_line.specs.declared.style.Style.{Style}
-use Rattle.pgp_summary.specs.Summary.{Request, State, asked, ended, row}
+use Rattle.pgp_summary.specs.Summary.{State, asked, ended, row}
 use Rattle.pgp_summary.specs.declared.work.Work.{Work}
 use Rattle.pgp_summary.specs.declared.work.Work.TheVariants as works
 use Rattle.pgp_summary.specs.declared.work.Reply.{Reply}
