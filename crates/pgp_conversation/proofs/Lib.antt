@@ -12,7 +12,6 @@ pub mod EachSide
 pub mod Turns
 pub mod PrintedMarks
 pub mod PrintedObjects
-pub mod PrintedTables
 pub mod Secrets
 pub mod SettingLemmas
 pub mod Endings

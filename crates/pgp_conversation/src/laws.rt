@@ -7,7 +7,6 @@ ghost use Rattle.pgp_line.specs.Quoting.{IsPrinted};
 ghost use Rattle.pgp_line.specs.declared.style.Form.{Form};
 ghost use Rattle.pgp_line.specs.declared.style.Form.TheVariants.{Columns};
 ghost use Rattle.pgp_line.specs.declared.style.Style.{Style};
-ghost use Rattle.pgp_summary.specs.Runs.{Tally};
 ghost use Rattle.pgp_trace.specs.Listing.{LineOf};
 ghost use Rattle.pgp_trace.specs.Secrets.{quietly};
 ghost use Rattle.pgp_trace.specs.Sides.{Side};
@@ -23,7 +22,6 @@ ghost use Rattle.pgp_conversation.specs.Recording.{Chunk};
 ghost use Rattle.pgp_conversation.specs.Requests.{Numbers};
 ghost use Rattle.pgp_conversation.specs.Secrets.{AlikeIn};
 ghost use Rattle.pgp_conversation.specs.Session.{IsListing};
-ghost use Rattle.pgp_conversation.specs.Tables.{heading, row_of};
 ghost use Rattle.pgp_conversation.specs.Turns.{AreTrue, turns_in};
 
 /// A recording has one listing, and one end.
@@ -51,12 +49,6 @@ pub fn marked_lines_are_printable()
         (text : List ℕ) × (marked form (mark form who (since start micros) ++ word form told) line ≡ text ++ 10 ∷ []) × IsPrinted text }
     ensures marks { (form : Form) (who : Sender) (start micros : ℕ) (told : Option Told) → IsPrinted (mark form who (since start micros) ++ word form told) }
     ensures last { (form : Form) (who : Sender) (told : Option Told) → IsPrinted (last_mark form who ++ word form told) }
-{}
-
-/// A line of a table has characters alone that a terminal prints, before its newline.
-pub fn table_lines_are_printable()
-    ensures rows { (style : Style) (tally : Tally) → (text : List ℕ) × (row_of style tally ≡ text ++ 10 ∷ []) × IsPrinted text }
-    ensures heading { (text : List ℕ) × (heading Columns ≡ text ++ 10 ∷ []) × IsPrinted text }
 {}
 
 /// A frame that differs from another one of its side in its secrets alone has the same text in a listing, and the same is known after it, unless secrets are
