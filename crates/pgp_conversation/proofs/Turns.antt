@@ -152,7 +152,7 @@ goes_on t to (Hears k e ∷ turns) some f =
 
 -- ---- a listing
 
-note_kept : (n : Noted) (known : Known) → (note n known).numbers ≡ known.numbers
+pub note_kept : (n : Noted) (known : Known) → (note n known).numbers ≡ known.numbers
 note_kept (noted.Asks kind) known = refl
 note_kept (noted.Requests x) known = refl
 note_kept noted.Answers known = refl
