@@ -12,6 +12,7 @@ pub mod EachSide
 pub mod Turns
 pub mod PrintedMarks
 pub mod PrintedObjects
+pub mod PrintedTables
 pub mod Summaries
 pub mod Secrets
 pub mod SettingLemmas

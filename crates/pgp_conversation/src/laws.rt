@@ -7,6 +7,7 @@ ghost use Rattle.pgp_line.specs.Quoting.{IsPrinted};
 ghost use Rattle.pgp_line.specs.declared.style.Form.{Form};
 ghost use Rattle.pgp_line.specs.declared.style.Form.TheVariants.{Columns};
 ghost use Rattle.pgp_line.specs.declared.style.Style.{Style};
+ghost use Rattle.pgp_summary.specs.Runs.{Tally};
 ghost use Rattle.pgp_summary.specs.Summary.{State};
 ghost use Rattle.pgp_trace.specs.Listing.{LineOf};
 ghost use Rattle.pgp_trace.specs.Secrets.{quietly};
@@ -24,7 +25,7 @@ ghost use Rattle.pgp_conversation.specs.Requests.{Numbers, summary_in};
 ghost use Rattle.pgp_conversation.specs.Secrets.{AlikeIn};
 ghost use Rattle.pgp_conversation.specs.Session.{IsListing};
 ghost use Rattle.pgp_conversation.specs.Settings.{summarized};
-ghost use Rattle.pgp_conversation.specs.Tables.{table};
+ghost use Rattle.pgp_conversation.specs.Tables.{heading, row_of, table};
 ghost use Rattle.pgp_conversation.specs.Turns.{AreTrue, turns_in};
 
 /// A recording has one listing, and one end.
@@ -58,6 +59,12 @@ pub fn marked_lines_are_printable()
 pub fn summaries_are_tables()
     ensures { (view : View) (marking : Marking) (bytes output : List ℕ) (end : End) → marking.numbered ≡ true → marking.summed ≡ true → (listing : IsListing (summarized true view) marking bytes end output)
         → (summary : State) × (summary_in listing.talk.known.numbers ≡ Some summary) × (output ≡ table view.style summary.tallies) }
+{}
+
+/// A line of a table has characters alone that a terminal prints, before its newline.
+pub fn table_lines_are_printable()
+    ensures rows { (style : Style) (tally : Tally) → (text : List ℕ) × (row_of style tally ≡ text ++ 10 ∷ []) × IsPrinted text }
+    ensures heading { (text : List ℕ) × (heading Columns ≡ text ++ 10 ∷ []) × IsPrinted text }
 {}
 
 /// A frame that differs from another one of its side in its secrets alone has the same text in a listing, and the same is known after it, unless secrets are
