@@ -17,6 +17,8 @@ use Rattle.pgp_conversation.specs.declared.known.Known as code_known
 use Rattle.pgp_conversation.specs.declared.role.Role.{Role}
 use Rattle.pgp_conversation.specs.declared.told.Told.{Told}
 use Rattle.pgp_conversation.specs.Conversation.{Known, ListsFrame, ListsFrames, NoFrames, OneFrame, as_standby, note, noted_in, other, replicates_in, side_in, text_of, with_kind, with_numbers, with_side}
+use Rattle.pgp_conversation.specs.Summing.{Asking, asking_in, summed}
+use Rattle.pgp_conversation.proofs.Summed.{asking_side, name_asks}
 use Rattle.pgp_conversation.specs.Marks.{word}
 use Rattle.pgp_conversation.specs.Requests.{Numbers, role_in, told_in}
 use Rattle.pgp_conversation.specs.Roles.{client_role, role_by}
@@ -36,17 +38,19 @@ numbers_kept Client old side = refl
 numbers_kept Server old side = refl
 
 -- a frame with its line, and what is known after it
-pub lists_one : (view : View) (mark : List ℕ) (who : Sender) (place : ℕ) (old mid new : Known) (role : Role) (told : Option Told) (numbers : Option Numbers) (bytes behind line name before after : List ℕ)
+pub lists_one : (view : View) (mark : List ℕ) (who : Sender) (place : ℕ) (old mid new : Known) (role : Role) (told : Option Told) (asking : Option Asking) (numbers : Option Numbers) (bytes behind line name before after : List ℕ)
     → (has : HasLine view.style place (side_in who old) bytes behind line (side_in who mid) name) → mid ≡ with_side who old (side_in who mid)
-    → role ≡ role_from (side_in who old) name has.frame → told_in role mid.numbers ≡ (told, numbers)
-    → after ≡ before ++ text_of view (mark ++ word view.style.form told) place mid.requests name line → new ≡ note (noted_by name) (with_numbers numbers mid) → ListsOneFrame view mark who place old bytes behind before after new
-lists_one view mark who place old mid new role told numbers bytes behind line name before after has same is tells grown noted =
+    → role ≡ role_from (side_in who old) name has.frame → told_in role mid.numbers ≡ (told, numbers) → asking ≡ asking_side (side_in who old) name has.frame
+    → after ≡ before ++ text_of view (mark ++ word view.style.form told) place mid.requests name line → new ≡ note (noted_by name) (with_numbers (summed told asking name numbers) mid) → ListsOneFrame view mark who place old bytes behind before after new
+lists_one view mark who place old mid new role told asking numbers bytes behind line name before after has same is tells asked grown noted =
     let waiting : mid.requests ≡ old.requests = ap (λ (k : Known). k.requests) same ∙ requests_kept who old (side_in who mid) in
     let counted : mid.numbers ≡ old.numbers = ap (λ (k : Known). k.numbers) same ∙ numbers_kept who old (side_in who mid) in
     let from = side_in who old in
     let to = side_in who mid in
     let stamp = mark ++ word view.style.form told in
     let named = name_in view.style place from has.frame line to has.reported in
+    let asks : asking_side from named has.frame ≡ asking_in view.style place from has.frame line to has.reported = name_asks view.style place from has.frame line to has.reported in
+    let now = summed told (asking_in view.style place from has.frame line to has.reported) named numbers in
     let roles : role ≡ role_in view.style place from has.frame line to has.reported = is ∙ ap (λ n. role_from from n has.frame) has.named ∙ name_role view.style place from has.frame line to has.reported in
     record {
       frame = has.frame;
@@ -61,8 +65,11 @@ lists_one view mark who place old mid new role told numbers bytes behind line na
         reported = has.reported;
         numbered = ap (λ r. told_in r old.numbers) (sym roles) ∙ ap (told_in role) (sym counted) ∙ tells;
         is = refl;
-        behind = noted ∙ ap (λ n. note (noted_by n) (with_numbers numbers mid)) has.named ∙ ap (λ n. note n (with_numbers numbers mid)) (name_noted view.style place from has.frame line to has.reported)
-            ∙ ap (λ k. note (noted_in view.style place from has.frame line to has.reported) (with_numbers numbers k)) same;
+        behind = noted ∙ ap (λ a. note (noted_by name) (with_numbers (summed told a name numbers) mid)) asked
+            ∙ ap (λ n. note (noted_by n) (with_numbers (summed told (asking_side from n has.frame) n numbers) mid)) has.named
+            ∙ ap (λ a. note (noted_by named) (with_numbers (summed told a named numbers) mid)) asks
+            ∙ ap (λ n. note n (with_numbers now mid)) (name_noted view.style place from has.frame line to has.reported)
+            ∙ ap (λ k. note (noted_in view.style place from has.frame line to has.reported) (with_numbers now k)) same;
       };
       grown = grown ∙ ap (λ r. before ++ text_of view stamp place r name line) waiting ∙ ap (λ n. before ++ text_of view stamp place old.requests n line) has.named;
     }
@@ -161,4 +168,4 @@ pub other_ends : (view : View) (mark : List ℕ) (who : Sender) (start : ℕ) (f
 other_ends view mark who start from [] [] _ stopped rest NoFrames e = e
 other_ends view mark who start from _ _ to stopped rest (OneFrame {bytes = bytes} {lines = lines} {here = here} frame text before one) e =
     subst (λ k. Ends (side_in (other who) k) stopped rest) (sym one.behind)
-    (other_note who here one.after one.numbers (noted_in view.style (place_behind (start + length bytes)) (side_in who here) frame one.line one.after one.reported) stopped rest (other_ends view mark who start from bytes lines here stopped rest before e))
+    (other_note who here one.after (summed one.told (asking_in view.style (place_behind (start + length bytes)) (side_in who here) frame one.line one.after one.reported) (name_in view.style (place_behind (start + length bytes)) (side_in who here) frame one.line one.after one.reported) one.numbers) (noted_in view.style (place_behind (start + length bytes)) (side_in who here) frame one.line one.after one.reported) stopped rest (other_ends view mark who start from bytes lines here stopped rest before e))

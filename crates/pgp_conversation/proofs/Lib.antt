@@ -3,6 +3,7 @@ pub mod Naming
 pub mod Roles
 pub mod KindsLeft
 pub mod Marked
+pub mod Summed
 pub mod FrameLists
 pub mod ChunkLists
 pub mod Sessions
@@ -11,6 +12,8 @@ pub mod EachSide
 pub mod Turns
 pub mod PrintedMarks
 pub mod PrintedObjects
+pub mod PrintedTables
+pub mod Summaries
 pub mod Secrets
 pub mod SettingLemmas
 pub mod Endings

@@ -20,6 +20,8 @@ use Rattle.pgp_conversation.specs.declared.marking.Marking.{Marking}
 use Rattle.pgp_conversation.specs.declared.told.Told.{Told}
 use Rattle.pgp_conversation.specs.Marks.{mark, since, word}
 use Rattle.pgp_conversation.specs.Requests.{Numbers, role_in, told_in}
+use Rattle.pgp_conversation.specs.Summing.{asking_in, summed}
+use Rattle.pgp_conversation.proofs.Summed.{asking_side, name_asks}
 use Rattle.pgp_conversation.specs.Conversation.{first_time}
 use Rattle.pgp_conversation.specs.Recording.{Chunk, EndsBy, IsChunk, IsNoChunk, IsPartial, IsShort, Records, arrow, chunk_bytes, magic}
 use Rattle.pgp_conversation.specs.Session.{HasLines, IsListing}
@@ -49,13 +51,21 @@ lists_one view m who place here to too f g text another x y a b e =
     let same : (a.told, a.numbers) ≡ (b.told, b.numbers) = sym a.numbered ∙ ap (λ r. told_in r here.numbers) roles ∙ b.numbered in
     let told : a.told ≡ b.told = ap (λ (x : Option Told × Option Numbers). x.0) same in
     let numbers : a.numbers ≡ b.numbers = ap (λ (x : Option Told × Option Numbers). x.1) same in
+    let asks : asking_in view.style place from f a.line a.after a.reported ≡ asking_in view.style place from g b.line b.after b.reported =
+    sym (name_asks view.style place from f a.line a.after a.reported) ∙ ap (λ n. asking_side from n f) one.1 ∙ ap (asking_side from named) one.0.frames ∙ name_asks view.style place from g b.line b.after b.reported in
+    let first = name_in view.style place from f a.line a.after a.reported in
+    let sum = summed b.told (asking_in view.style place from g b.line b.after b.reported) named b.numbers in
+    let sums : summed a.told (asking_in view.style place from f a.line a.after a.reported) first a.numbers ≡ sum =
+    ap (λ t. summed t (asking_in view.style place from f a.line a.after a.reported) first a.numbers) told ∙ ap (λ x. summed b.told x first a.numbers) asks
+    ∙ ap (λ n. summed b.told (asking_in view.style place from g b.line b.after b.reported) n a.numbers) one.1 ∙ ap (λ n. summed b.told (asking_in view.style place from g b.line b.after b.reported) named n) numbers in
     record {
       frames = one.0.frames;
       texts = a.is ∙ ap (λ t. text_of view (m ++ word view.style.form t) place here.requests (name_in view.style place from f a.line a.after a.reported) a.line) told
           ∙ ap (λ n. text_of view (m ++ word view.style.form b.told) place here.requests n a.line) one.1 ∙ ap (λ l. text_of view (m ++ word view.style.form b.told) place here.requests named l) one.0.lines ∙ sym b.is;
       rests = one.0.rests;
-      knowns = a.behind ∙ ap (λ n. note n (with_numbers a.numbers (with_side who here a.after))) noted ∙ ap (λ n. note notes (with_numbers n (with_side who here a.after))) numbers
-          ∙ ap (λ s. note notes (with_numbers b.numbers (with_side who here s))) one.0.sides ∙ sym b.behind;
+      knowns = a.behind ∙ ap (λ n. note n (with_numbers (summed a.told (asking_in view.style place from f a.line a.after a.reported) first a.numbers) (with_side who here a.after))) noted
+          ∙ ap (λ n. note notes (with_numbers n (with_side who here a.after))) sums
+          ∙ ap (λ s. note notes (with_numbers sum (with_side who here s))) one.0.sides ∙ sym b.behind;
     }
 
 data Rows (view : View) (m : List ℕ) (who : Sender) (to : Known) : ℕ → Known → List ℕ → List ℕ → Type 0 where

@@ -16,7 +16,7 @@ use Rattle.pgp_conversation.specs.Marks.{between, last_mark, later, mark, member
 abbrev Plain : List ℕ → Type 0
 Plain text = list_all is_visible text ≡ true
 
-seconds : (n : ℕ) → Plain (number n)
+pub seconds : (n : ℕ) → Plain (number n)
 unfolding number
 seconds n =
     let a = decimal (n / 1000000) ++ codes "." in
@@ -51,7 +51,7 @@ around Json who time a = plain_join (codes "\"time\":" ++ time) (member who) (pl
 
 -- ---- what it says of requests
 
-thousandths : (n : ℕ) → Plain (millis n)
+pub thousandths : (n : ℕ) → Plain (millis n)
 unfolding millis
 thousandths n =
     let a = decimal (n / 1000) ++ codes "." in

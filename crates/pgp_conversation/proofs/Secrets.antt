@@ -21,6 +21,8 @@ use Rattle.pgp_trace.proofs.Streams.{AreFrames, line_hidden, one_last}
 use Rattle.pgp_conversation.specs.declared.chunk.Sender.{Sender}
 use Rattle.pgp_conversation.specs.Conversation.{Known, ListsFrame, note, noted_in, side_in, text_of, with_numbers, with_side}
 use Rattle.pgp_conversation.specs.Requests.{asked_by, asking, heard_as, kind_by, role_in, told_in}
+use Rattle.pgp_conversation.specs.Summing.{asking_in, summed}
+use Rattle.pgp_conversation.proofs.Summed.{answers_ask}
 use Rattle.pgp_conversation.specs.Roles.{server_role}
 use Rattle.pgp_conversation.specs.Secrets.{AlikeIn, AlikeReceived, AlikeSent}
 use Rattle.pgp_conversation.specs.Steps.{noted_by}
@@ -34,6 +36,7 @@ record Hidden (style : Style) (place : ℕ) (from : Side) (frame other line : Li
   same : LineOf (quiet style) place from other line to
   named : name_in (quiet style) place from frame line to is ≡ name_in (quiet style) place from other line to same
   role : role_in (quiet style) place from frame line to is ≡ role_in (quiet style) place from other line to same
+  asks : asking_in (quiet style) place from frame line to is ≡ asking_in (quiet style) place from other line to same
 
 -- ---- a server's
 
@@ -70,12 +73,12 @@ no_answer frame other byte a e = absurd (omega (arith, ap length e, ap length a.
 messages_hidden : (style : Style) (place : ℕ) (frame other line : List ℕ) (to : Side) → AlikeReceived frame other → (is : LineOf (quiet style) place (Server Messages) frame line to) → Hidden style place (Server Messages) frame other line to is
 messages_hidden style place frame other line to a is =
     let h = server_hidden style place false frame other line a is.0 in
-    record { same = (h.same, is.1 ∙ ap server_at h.behind); named = h.named; role = server_roles is.0.first.tag h.same.first.tag is.0.reported.result h.same.reported.result h.named }
+    record { same = (h.same, is.1 ∙ ap server_at h.behind); named = h.named; role = server_roles is.0.first.tag h.same.first.tag is.0.reported.result h.same.reported.result h.named; asks = refl }
 
 replicating_hidden : (style : Style) (place : ℕ) (frame other line : List ℕ) (to : Side) → AlikeReceived frame other → (is : LineOf (quiet style) place (Server Replicating) frame line to) → Hidden style place (Server Replicating) frame other line to is
 replicating_hidden style place frame other line to a is =
     let h = server_hidden style place true frame other line a is.0 in
-    record { same = (h.same, is.1 ∙ ap server_at h.behind); named = h.named; role = server_roles is.0.first.tag h.same.first.tag is.0.reported.result h.same.reported.result h.named }
+    record { same = (h.same, is.1 ∙ ap server_at h.behind); named = h.named; role = server_roles is.0.first.tag h.same.first.tag is.0.reported.result h.same.reported.result h.named; asks = refl }
 
 beginning_hidden : (style : Style) (place : ℕ) (frame other line : List ℕ) (to : Side) → AlikeReceived frame other → (is : LineOf (quiet style) place (Server Beginning) frame line to) → Hidden style place (Server Beginning) frame other line to is
 beginning_hidden style place frame other line to a (inl answer) = absurd (no_answer frame other answer.reported.byte a answer.reported.whole)
@@ -85,6 +88,7 @@ beginning_hidden style place frame other line to a (inr is) =
       same = inr (record { reported = h.same; none = sym h.starts ∙ is.none; behind = is.behind ∙ ap server_at h.behind });
       named = h.named;
       role = server_roles is.reported.first.tag h.same.first.tag is.reported.reported.result h.same.reported.result h.named;
+      asks = refl;
     }
 
 -- ---- a client's
@@ -128,6 +132,7 @@ client_hidden style place opened kinds replicating frame other line to a is =
       same = h.is;
       named = sent.names_alike (is_reported kinds) is.reported.result h.is.reported.result h.same;
       role = ap asking (client_roles opened is.now kinds frame other is.reported.result h.is.reported.result a is.reported.step h.same);
+      asks = answers_ask is.reported.result h.is.reported.result h.same;
     }
 
 -- ---- both
@@ -155,5 +160,7 @@ frames_hidden view mark who place here to frame other text alike l =
       reported = h.same;
       numbered = ap (λ r. told_in r here.numbers) (sym h.role) ∙ l.numbered;
       is = l.is ∙ ap (λ n. text_of (quietly view) (mark ++ word view.style.form l.told) place here.requests n l.line) h.named;
-      behind = l.behind ∙ ap (λ n. note n (with_numbers l.numbers (with_side who here l.after))) noted;
+      behind = l.behind ∙ ap (λ n. note n (with_numbers (summed l.told (asking_in style place from frame l.line l.after l.reported) (name_in style place from frame l.line l.after l.reported) l.numbers) (with_side who here l.after))) noted
+          ∙ ap (λ a. note (noted_in style place from other l.line l.after h.same) (with_numbers (summed l.told a (name_in style place from frame l.line l.after l.reported) l.numbers) (with_side who here l.after))) h.asks
+          ∙ ap (λ n. note (noted_in style place from other l.line l.after h.same) (with_numbers (summed l.told (asking_in style place from other l.line l.after h.same) n l.numbers) (with_side who here l.after))) h.named;
     }

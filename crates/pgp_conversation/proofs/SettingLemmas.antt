@@ -16,9 +16,9 @@ use Rattle.pgp_trace.proofs.OptionLemmas.{Received, one_first, received_all, rec
 use Rattle.pgp_conversation.specs.declared.marking.Marking.{Marking}
 use Rattle.pgp_conversation.specs.declared.options.Clock.{Clock}
 use Rattle.pgp_conversation.specs.declared.options.Setting.{Setting}
-use Rattle.pgp_conversation.specs.declared.options.Setting.TheVariants.{Listing, Requests, Time}
+use Rattle.pgp_conversation.specs.declared.options.Setting.TheVariants.{Listing, Requests, Summary, Time}
 use Rattle.pgp_conversation.specs.Chosen.{Chooses, Flags, Sets}
-use Rattle.pgp_conversation.specs.Settings.{AreNoSettings, AreSettings, BeginsWithNoSetting, IsCommon, IsSetting, SaysNoClock, clock_in, first_of, is_absolute, is_requests, listing_in, spelled_by}
+use Rattle.pgp_conversation.specs.Settings.{AreNoSettings, AreSettings, BeginsWithNoSetting, IsCommon, IsSetting, SaysNoClock, clock_in, first_of, is_absolute, is_requests, is_summary, listing_in, spelled_by, summarized}
 
 -- the options of a listing among them, with whatever stands after them
 abbrev Listings : (terminal : Bool) → List Setting → Flags → Type 0
@@ -32,17 +32,19 @@ pub record Came (terminal : Bool) (all rest : List (List ℕ)) (f : Flags) (mark
   pub listing : Listings terminal settings f
   pub clock : marking.absolute ≡ last_of false (flat_map clock_in settings)
   pub requests : marking.numbered ≡ list_any is_requests settings
+  pub summary : marking.summed ≡ list_any is_summary settings
   pub none : (f.resume ≡ false) × (f.replicating ≡ false) × (f.kinds ≡ [])
 
 pub came_none : (terminal : Bool) (all : List (List ℕ)) (f : Flags) → f ≡ record { json = false; full = false; secrets = false; resume = false; replicating = false; only = []; colored = terminal; kinds = [] }
-    → Came terminal all all f (record { absolute = false; numbered = false })
-came_none terminal all f e = subst (λ (x : Flags). Came terminal all all x (record { absolute = false; numbered = false })) (sym e) (record {
+    → Came terminal all all f (record { absolute = false; numbered = false; summed = false })
+came_none terminal all f e = subst (λ (x : Flags). Came terminal all all x (record { absolute = false; numbered = false; summed = false })) (sym e) (record {
   settings = [];
   whole = refl;
   each = tt;
   listing = λ tail. received_none terminal tail [] [] refl refl;
   clock = refl;
   requests = refl;
+  summary = refl;
   none = (refl, refl, refl);
 })
 
@@ -117,8 +119,14 @@ or_true false = refl
 none_asked : (settings : List Setting) (s : Setting) (was : Bool) → list_any is_requests (s ∷ []) ≡ false → was ≡ list_any is_requests settings → was ≡ list_any is_requests (settings ++ s ∷ [])
 none_asked settings s was none e = e ∙ sym (list_any-append is_requests settings (s ∷ []) ∙ ap (λ b. list_any is_requests settings || b) none ∙ or_false (list_any is_requests settings))
 
-one_asked : (settings : List Setting) → list_any is_requests (settings ++ Requests ∷ []) ≡ true
-one_asked settings = list_any-append is_requests settings (Requests ∷ []) ∙ or_true (list_any is_requests settings)
+one_asked : (settings : List Setting) (s : Setting) → list_any is_requests (s ∷ []) ≡ true → list_any is_requests (settings ++ s ∷ []) ≡ true
+one_asked settings s is = list_any-append is_requests settings (s ∷ []) ∙ ap (λ b. list_any is_requests settings || b) is ∙ or_true (list_any is_requests settings)
+
+none_summed : (settings : List Setting) (s : Setting) (was : Bool) → list_any is_summary (s ∷ []) ≡ false → was ≡ list_any is_summary settings → was ≡ list_any is_summary (settings ++ s ∷ [])
+none_summed settings s was none e = e ∙ sym (list_any-append is_summary settings (s ∷ []) ∙ ap (λ b. list_any is_summary settings || b) none ∙ or_false (list_any is_summary settings))
+
+one_summed : (settings : List Setting) → list_any is_summary (settings ++ Summary ∷ []) ≡ true
+one_summed settings = list_any-append is_summary settings (Summary ∷ []) ∙ or_true (list_any is_summary settings)
 
 one_whole : (terminal : Bool) (all rest behind : List (List ℕ)) (settings : List Setting) (s : Setting) → all ≡ flat_map spelled_by settings ++ rest → rest ≡ spelled_by s ++ behind → all ≡ flat_map spelled_by (settings ++ s ∷ []) ++ behind
 one_whole terminal all rest behind settings s whole is =
@@ -135,6 +143,7 @@ came_more terminal all rest behind (Listing c) old new was now came is fits sets
   listing = listing_more terminal came.settings c old new came.listing sets.0;
   clock = clock_kept came.settings (Listing c) was.absolute refl came.clock;
   requests = none_asked came.settings (Listing c) was.numbered refl came.requests;
+  summary = none_summed came.settings (Listing c) was.summed refl came.summary;
   none = (sets.0.resume ∙ common_resume c old.resume fits ∙ came.none.0, sets.0.replicating ∙ common_replication c old.replicating fits ∙ came.none.1, sets.0.kinds ∙ ap (λ l. old.kinds ++ l) (common_kinds c fits) ∙ append-nil old.kinds ∙ came.none.2);
 })
 came_more terminal all rest behind (Time clock) old new was now came is fits sets = subst (Came terminal all behind new) (sym sets.1) (record {
@@ -144,6 +153,7 @@ came_more terminal all rest behind (Time clock) old new was now came is fits set
   listing = none_listed terminal came.settings (Time clock) old new refl came.listing sets.0;
   clock = sym (ap (last_of false) (flat_more clock_in came.settings (Time clock)) ∙ last_more false (flat_map clock_in came.settings) (is_absolute clock));
   requests = none_asked came.settings (Time clock) was.numbered refl came.requests;
+  summary = none_summed came.settings (Time clock) was.summed refl came.summary;
   none = flags_kept old new sets.0 came.none;
 })
 came_more terminal all rest behind Requests old new was now came is fits sets = subst (Came terminal all behind new) (sym sets.1) (record {
@@ -152,12 +162,23 @@ came_more terminal all rest behind Requests old new was now came is fits sets = 
   each = each_more came.settings Requests came.each fits;
   listing = none_listed terminal came.settings Requests old new refl came.listing sets.0;
   clock = clock_kept came.settings Requests was.absolute refl came.clock;
-  requests = sym (one_asked came.settings);
+  requests = sym (one_asked came.settings Requests refl);
+  summary = none_summed came.settings Requests was.summed refl came.summary;
+  none = flags_kept old new sets.0 came.none;
+})
+came_more terminal all rest behind Summary old new was now came is fits sets = subst (Came terminal all behind new) (sym sets.1) (record {
+  settings = came.settings ++ Summary ∷ [];
+  whole = one_whole terminal all rest behind came.settings Summary came.whole is;
+  each = each_more came.settings Summary came.each fits;
+  listing = none_listed terminal came.settings Summary old new refl came.listing sets.0;
+  clock = clock_kept came.settings Summary was.absolute refl came.clock;
+  requests = sym (one_asked came.settings Summary refl);
+  summary = sym (one_summed came.settings);
   none = flags_kept old new sets.0 came.none;
 })
 
 -- all came
-pub came_all : (terminal : Bool) (all rest : List (List ℕ)) (f : Flags) (marking : Marking) (style : Style) → Came terminal all rest f marking → rest ≡ [] → style ≡ style_of f.json f.full f.secrets → AreSettings terminal all (record { style = style; only = f.only; colored = f.colored }) marking
+pub came_all : (terminal : Bool) (all rest : List (List ℕ)) (f : Flags) (marking : Marking) (style : Style) → Came terminal all rest f marking → rest ≡ [] → style ≡ style_of f.json f.full f.secrets → AreSettings terminal all (summarized marking.summed (record { style = style; only = f.only; colored = f.colored })) marking
 came_all terminal all rest f marking style came end shown =
     let words = flat_map spelled (flat_map listing_in came.settings) in
     let view : View = record { style = style; only = f.only; colored = f.colored } in
@@ -166,9 +187,12 @@ came_all terminal all rest f marking style came end shown =
       settings = came.settings;
       spelling = came.whole ∙ ap (λ l. flat_map spelled_by came.settings ++ l) end ∙ append-nil (flat_map spelled_by came.settings);
       each = came.each;
+      plain = view;
       listing = subst (λ l. AreOptions terminal l view [] false false) (append-nil words) (subst (λ ks. AreOptions terminal (words ++ []) view ks false false) came.none.2 (subst (λ r. AreOptions terminal (words ++ []) view f.kinds false r) came.none.1 (subst (λ b. AreOptions terminal (words ++ []) view f.kinds b f.replicating) came.none.0 are)));
+      shown = refl;
       clock = came.clock;
       requests = came.requests;
+      summary = came.summary;
     }
 
 -- ---- words spell options in one way
@@ -201,6 +225,26 @@ requests_other (Kind kind) x y e = let h : 112 ≡ 114 = ap third_letter e in om
 requests_time : (clock : Clock) (x y : List (List ℕ)) → spelled_by (Time clock) ++ x ≡ codes "--requests" ∷ y → ⊥
 requests_time clock x y e = let h : 6 ≡ 10 = ap first_long e in omega (arith, h)
 
+-- and so are those of the others than `--summary`
+abbrev fourth_letter : List (List ℕ) → ℕ
+fourth_letter words = get_or (first_of words) 3 0
+
+summary_other : (c : Choice) (x y : List (List ℕ)) → spelled c ++ x ≡ codes "--summary" ∷ y → ⊥
+summary_other AsJson x y e = let h : 6 ≡ 9 = ap first_long e in omega (arith, h)
+summary_other Full x y e = let h : 6 ≡ 9 = ap first_long e in omega (arith, h)
+summary_other Secrets x y e = let h : 101 ≡ 117 = ap fourth_letter e in omega (arith, h)
+summary_other Resume x y e = let h : 8 ≡ 9 = ap first_long e in omega (arith, h)
+summary_other Replication x y e = let h : 13 ≡ 9 = ap first_long e in omega (arith, h)
+summary_other (Only names) x y e = let h : 6 ≡ 9 = ap first_long e in omega (arith, h)
+summary_other (Color when) x y e = let h : 7 ≡ 9 = ap first_long e in omega (arith, h)
+summary_other (Kind kind) x y e = let h : 15 ≡ 9 = ap first_long e in omega (arith, h)
+
+summary_time : (clock : Clock) (x y : List (List ℕ)) → spelled_by (Time clock) ++ x ≡ codes "--summary" ∷ y → ⊥
+summary_time clock x y e = let h : 6 ≡ 9 = ap first_long e in omega (arith, h)
+
+summary_requests : (x y : List (List ℕ)) → codes "--requests" ∷ x ≡ codes "--summary" ∷ y → ⊥
+summary_requests x y e = let h : 10 ≡ 9 = ap first_long e in omega (arith, h)
+
 -- the same stands after the first option of each
 one_setting : (s t : Setting) (x y : List (List ℕ)) → spelled_by s ++ x ≡ spelled_by t ++ y → x ≡ y
 one_setting (Listing c) (Listing d) x y e = (one_first c d x y e).2
@@ -212,11 +256,19 @@ one_setting Requests (Listing d) x y e = absurd (requests_other d y x (sym e))
 one_setting (Time k) Requests x y e = absurd (requests_time k x y e)
 one_setting Requests (Time j) x y e = absurd (requests_time j y x (sym e))
 one_setting Requests Requests x y e = ap (λ l. drop 1 l) e
+one_setting (Listing c) Summary x y e = absurd (summary_other c x y e)
+one_setting Summary (Listing d) x y e = absurd (summary_other d y x (sym e))
+one_setting (Time k) Summary x y e = absurd (summary_time k x y e)
+one_setting Summary (Time j) x y e = absurd (summary_time j y x (sym e))
+one_setting Requests Summary x y e = absurd (summary_requests x y e)
+one_setting Summary Requests x y e = absurd (summary_requests y x (sym e))
+one_setting Summary Summary x y e = ap (λ l. drop 1 l) e
 
 setting_long : (s : Setting) (x : List (List ℕ)) → spelled_by s ++ x ≡ [] → ⊥
 setting_long (Listing c) x e = spelled_long c x e
 setting_long (Time k) x e = let h : suc (suc (length x)) ≡ 0 = ap length e in absurd (omega (arith, h))
 setting_long Requests x e = let h : suc (length x) ≡ 0 = ap length e in absurd (omega (arith, h))
+setting_long Summary x e = let h : suc (length x) ≡ 0 = ap length e in absurd (omega (arith, h))
 
 split : (cs : List Setting) (c : Setting) (rest : List (List ℕ)) → flat_map spelled_by (c ∷ cs) ++ rest ≡ spelled_by c ++ (flat_map spelled_by cs ++ rest)
 split cs c rest = ap (λ l. l ++ rest) (flat_map-cons spelled_by c cs) ∙ append_assoc (spelled_by c) (flat_map spelled_by cs) rest
@@ -264,6 +316,7 @@ other_letter words letter is j f s o c t r (Listing (Color when)) more fits e = 
 other_letter words letter is j f s o c t r (Listing (Kind kind)) more fits e = fits
 other_letter words letter is j f s o c t r (Time clock) more fits e = t (sym is ∙ ap letters e)
 other_letter words letter is j f s o c t r Requests more fits e = r (ap first_long e)
+other_letter words letter is j f s o c t r Summary more fits e = s (sym is ∙ ap letters e)
 
 pub no_replication : (words rest : List (List ℕ)) (word : List ℕ) → words ≡ word ∷ rest → word ≡ codes "--replication" → BeginsWithNoSetting words
 no_replication words rest word is same = other_letter words 114 (ap letters (is ∙ ap (λ w. w ∷ rest) same)) (λ e. let h : 114 ≡ 106 = e in omega (arith, h)) (λ e. let h : 114 ≡ 102 = e in omega (arith, h)) (λ e. let h : 114 ≡ 115 = e in omega (arith, h)) (λ e. let h : 114 ≡ 111 = e in omega (arith, h)) (λ e. let h : 114 ≡ 99 = e in omega (arith, h)) (λ e. let h : 114 ≡ 116 = e in omega (arith, h)) (λ e. let h : 13 ≡ 10 = sym (ap first_long (is ∙ ap (λ w. w ∷ rest) same)) ∙ e in omega (arith, h))
@@ -288,10 +341,11 @@ common_first (Only names) words more is r p k = tt
 common_first (Color when) words more is r p k = tt
 common_first (Kind kind) words more is r p k = k (ap first_of is)
 
-pub no_listing : (words : List (List ℕ)) → BeginsWithNone words → first_of words ≢ codes "--time" → first_of words ≢ codes "--requests" → BeginsWithNoSetting words
-no_listing words none time requests (Listing c) more fits e = none c more e
-no_listing words none time requests (Time clock) more fits e = time (ap first_of e)
-no_listing words none time requests Requests more fits e = requests (ap first_of e)
+pub no_listing : (words : List (List ℕ)) → BeginsWithNone words → first_of words ≢ codes "--time" → first_of words ≢ codes "--requests" → first_of words ≢ codes "--summary" → BeginsWithNoSetting words
+no_listing words none time requests summary (Listing c) more fits e = none c more e
+no_listing words none time requests summary (Time clock) more fits e = time (ap first_of e)
+no_listing words none time requests summary Requests more fits e = requests (ap first_of e)
+no_listing words none time requests summary Summary more fits e = summary (ap first_of e)
 
 -- after the word of times
 pub no_clock : (words rest : List (List ℕ)) (word : List ℕ) → words ≡ word ∷ rest → SaysNoClock word → BeginsWithNoSetting (codes "--time" ∷ words)
@@ -308,6 +362,7 @@ no_clock words rest word is none (Listing c) more fits e = absurd (time_first c 
     time_first (Kind kind) words more e = let h : 116 ≡ 112 = ap third_letter e in omega (arith, h)
 no_clock words rest word is none (Time clock) more fits e = none clock (ap first_of (sym is ∙ ap (λ l. drop 1 l) e))
 no_clock words rest word is none Requests more fits e = let h : 6 ≡ 10 = ap first_long e in absurd (omega (arith, h))
+no_clock words rest word is none Summary more fits e = let h : 6 ≡ 9 = ap first_long e in absurd (omega (arith, h))
 
 pub lone_time : (words : List (List ℕ)) → words ≡ [] → BeginsWithNoSetting (codes "--time" ∷ words)
 lone_time words none (Listing c) more fits e = absurd (alone c more (ap (λ l. codes "--time" ∷ l) (sym none) ∙ e))
@@ -323,6 +378,7 @@ lone_time words none (Listing c) more fits e = absurd (alone c more (ap (λ l. c
     alone (Kind kind) more e = let h : 116 ≡ 112 = ap third_letter e in omega (arith, h)
 lone_time words none (Time clock) more fits e = let h : 1 ≡ suc (suc (length more)) = ap length (ap (λ l. codes "--time" ∷ l) (sym none) ∙ e) in absurd (omega (arith, h))
 lone_time words none Requests more fits e = let h : 6 ≡ 10 = ap first_long e in absurd (omega (arith, h))
+lone_time words none Summary more fits e = let h : 6 ≡ 9 = ap first_long e in absurd (omega (arith, h))
 
 pub left_words : {X : Type 0} (word : X → List ℕ) (words : List X) (at : ℕ) → at < length words → map word (drop at words) ≢ []
 left_words word words at less e = absurd (omega (arith, less, length-drop at words, length-map (drop at words) word, ap length e))

@@ -25,6 +25,9 @@ use Rattle.pgp_conversation.specs.Conversation.{Known, ListsChunks, ListsFrames,
 use Rattle.pgp_conversation.specs.Marks.{mark, since}
 use Rattle.pgp_conversation.specs.Recording.{Chunk}
 use Rattle.pgp_conversation.specs.Requests.{Numbers, at_time, first_numbers, placed, role_in, tell, told_in}
+use Rattle.pgp_conversation.specs.Summing.{Asking, asking_in, summed}
+use Rattle.pgp_trace.specs.Listing.{name_in}
+use Rattle.pgp_summary.specs.Summary.{State}
 use Rattle.pgp_conversation.specs.Turns.{AreTrue, hears, turn_of, turns_at, turns_in, turns_of}
 
 -- each message of these turns is taken, this is reported of it, and this is the dialogue after them
@@ -49,9 +52,15 @@ abbrev pub Come : Option Numbers → List Turn → Type 0
 Come None turns = Unit {0}
 Come (Some n) turns = Reached n.dialogue turns
 
-pub none_came : (numbered : Bool) → Come (first_numbers numbered) []
-none_came true = refl
-none_came false = tt
+pub none_came : (numbered summed : Bool) → Come (first_numbers numbered summed) []
+none_came true summed = refl
+none_came false summed = tt
+
+-- a summary leaves the dialogue as it is
+pub sum_came : (told : Option Told) (asking : Option Asking) (name : List ℕ) (n : Option Numbers) (turns : List Turn) → Come n turns → Come (summed told asking name n) turns
+sum_came told asking name None turns c = tt
+sum_came None asking name (Some n) turns c = c
+sum_came (Some told) asking name (Some n) turns c = c
 
 pub time_came : (micros : ℕ) (n : Option Numbers) (turns : List Turn) → Come n turns → Come (at_time micros n) turns
 time_came micros None turns c = tt
@@ -61,19 +70,19 @@ heard : (kind : Kind) (d : Talk) (r : Result (Event × Talk) Refusal) (turns : L
 heard kind d (Ok x) turns is f = both_follow start d x.1 turns (Hears kind x.0 ∷ []) f (x.1, is, refl)
 heard kind d (Err e) turns is f = tt
 
-told_more : (sent : List ℕ) (now : ℕ) (o : Option Talk) (turns : List Turn) (r : Role) → Reached o turns
-    → Reached (tell r (record { dialogue = o; sent = sent; now = now })).1.dialogue (turns ++ turn_of r (record { dialogue = o; sent = sent; now = now }))
-told_more sent now None turns (role.Request q) c = tt
-told_more sent now (Some d) turns (role.Request q) c = both_follow start d (asked d (record { request = q; name = length sent + 1 })) turns (Asks (record { request = q; name = length sent + 1 }) ∷ []) c refl
-told_more sent now None turns (role.Message kind) c = tt
-told_more sent now (Some d) turns (role.Message kind) c = heard kind d (taken d kind) turns refl c
-told_more sent now o turns role.Fault c = tt
-told_more sent now None turns role.Other c = tt
-told_more sent now (Some d) turns role.Other c = subst (λ l. FollowsTo start l d) (sym (append-nil turns)) c
+told_more : (sent : List ℕ) (now : ℕ) (summary : Option State) (o : Option Talk) (turns : List Turn) (r : Role) → Reached o turns
+    → Reached (tell r (record { dialogue = o; sent = sent; now = now; summary = summary })).1.dialogue (turns ++ turn_of r (record { dialogue = o; sent = sent; now = now; summary = summary }))
+told_more sent now summary None turns (role.Request q) c = tt
+told_more sent now summary (Some d) turns (role.Request q) c = both_follow start d (asked d (record { request = q; name = length sent + 1 })) turns (Asks (record { request = q; name = length sent + 1 }) ∷ []) c refl
+told_more sent now summary None turns (role.Message kind) c = tt
+told_more sent now summary (Some d) turns (role.Message kind) c = heard kind d (taken d kind) turns refl c
+told_more sent now summary o turns role.Fault c = tt
+told_more sent now summary None turns role.Other c = tt
+told_more sent now summary (Some d) turns role.Other c = subst (λ l. FollowsTo start l d) (sym (append-nil turns)) c
 
 pub frame_came : (r : Role) (here : Option Numbers) (told : Option Told) (numbers : Option Numbers) (turns : List Turn) → told_in r here ≡ (told, numbers) → Come here turns → Come numbers (turns ++ turns_at r here)
 frame_came r None told numbers turns e c = subst (λ n. Come n (turns ++ [])) (ap (λ (x : Option Told × Option Numbers). x.1) e) tt
-frame_came r (Some n) told numbers turns e c = subst (λ m. Come m (turns ++ turn_of r n)) (ap (λ (x : Option Told × Option Numbers). x.1) e) (told_more n.sent n.now n.dialogue turns r c)
+frame_came r (Some n) told numbers turns e c = subst (λ m. Come m (turns ++ turn_of r n)) (ap (λ (x : Option Told × Option Numbers). x.1) e) (told_more n.sent n.now n.summary n.dialogue turns r c)
 
 -- ---- the end
 
@@ -143,7 +152,7 @@ goes_on t to (Hears k e ∷ turns) some f =
 
 -- ---- a listing
 
-note_kept : (n : Noted) (known : Known) → (note n known).numbers ≡ known.numbers
+pub note_kept : (n : Noted) (known : Known) → (note n known).numbers ≡ known.numbers
 note_kept (noted.Asks kind) known = refl
 note_kept (noted.Requests x) known = refl
 note_kept noted.Answers known = refl
@@ -158,11 +167,15 @@ frames_come view m who place from _ _ to (OneFrame {bytes = bytes} {lines = line
     let noting = noted_in view.style at (side_in who here) frame one.line one.after one.reported in
     let front = turns_of view m who place from bytes lines here before in
     let came = frame_came r here.numbers one.told one.numbers (turns ++ front) one.numbered (frames_come view m who place from bytes lines here before turns c) in
-    let same : to.numbers ≡ one.numbers = ap (λ (k : Known). k.numbers) one.behind ∙ note_kept noting (with_numbers one.numbers (with_side who here one.after)) in
-    subst (Come to.numbers) (append_assoc turns front (turns_at r here.numbers)) (subst (λ n. Come n ((turns ++ front) ++ turns_at r here.numbers)) (sym same) came)
+    let asking = asking_in view.style at (side_in who here) frame one.line one.after one.reported in
+    let name = name_in view.style at (side_in who here) frame one.line one.after one.reported in
+    let sum = summed one.told asking name one.numbers in
+    let same : to.numbers ≡ sum = ap (λ (k : Known). k.numbers) one.behind ∙ note_kept noting (with_numbers sum (with_side who here one.after)) in
+    subst (Come to.numbers) (append_assoc turns front (turns_at r here.numbers))
+    (subst (λ n. Come n ((turns ++ front) ++ turns_at r here.numbers)) (sym same) (sum_came one.told asking name one.numbers ((turns ++ front) ++ turns_at r here.numbers) came))
 
 chunks_come : (view : View) (marking : Marking) (chunks : List Chunk) (lines : List ℕ) (to : Listed) (l : ListsChunks view (begins marking) chunks lines to) → Come to.known.numbers (turns_in view (begins marking) chunks lines to l)
-chunks_come view marking [] [] _ NoChunkListed = none_came marking.numbered
+chunks_come view marking [] [] _ NoChunkListed = none_came marking.numbered marking.summed
 chunks_come view marking _ _ to (OneChunkListed {chunks = chunks} {lines = lines} {here = here} chunk text before one) =
     let turns = turns_in view (begins marking) chunks lines here before in
     frames_come view (mark view.style.form chunk.sender (since (first_time here.start chunk.micros) chunk.micros)) chunk.sender (half_in chunk.sender here).passed (now_at chunk.micros here.known) one.front text to.known one.each turns

@@ -25,7 +25,9 @@ use Rattle.pgp_conversation.specs.declared.noted.Noted.TheVariants.{Asks, Reques
 use Rattle.pgp_conversation.specs.Recording.{Chunk}
 use Rattle.pgp_conversation.specs.declared.told.Told.{Told}
 use Rattle.pgp_conversation.specs.Marks.{last_mark, mark, marked, since, word}
-use Rattle.pgp_conversation.specs.Requests.{Numbers, at_time, first_numbers, role_in, told_in, unnumbered}
+use Rattle.pgp_conversation.specs.Requests.{Numbers, at_time, first_numbers, role_in, summary_in, told_in, unnumbered}
+use Rattle.pgp_conversation.specs.Summing.{asking_in, summed}
+use Rattle.pgp_conversation.specs.Tables.{ending_by}
 
 -- ---- what is known of both sides
 
@@ -37,8 +39,8 @@ pub record Known : Type 0 where
   pub numbers : Option Numbers
 
 -- before the first byte of a connection
-abbrev pub at_first : (numbered : Bool) → Known
-at_first numbered = record { client = side.Client false [] false; server = side.Server Beginning; requests = []; numbers = first_numbers numbered }
+abbrev pub at_first : (numbered summed : Bool) → Known
+at_first numbered summed = record { client = side.Client false [] false; server = side.Server Beginning; requests = []; numbers = first_numbers numbered summed }
 
 abbrev pub side_in : Sender → Known → Side
 side_in Client known = known.client
@@ -162,7 +164,8 @@ pub record ListsFrame (view : View) (mark : List ℕ) (sender : Sender) (place :
   pub reported : LineOf view.style place (side_in sender here) frame line after
   pub numbered : told_in (role_in view.style place (side_in sender here) frame line after reported) here.numbers ≡ (told, numbers)
   pub is : text ≡ text_of view (mark ++ word view.style.form told) place here.requests (name_in view.style place (side_in sender here) frame line after reported) line
-  pub behind : to ≡ note (noted_in view.style place (side_in sender here) frame line after reported) (with_numbers numbers (with_side sender here after))
+  pub behind : to ≡ note (noted_in view.style place (side_in sender here) frame line after reported)
+      (with_numbers (summed told (asking_in view.style place (side_in sender here) frame line after reported) (name_in view.style place (side_in sender here) frame line after reported) numbers) (with_side sender here after))
 
 -- These bytes, after so many others, are complete frames of this side, and each has its line, in order.
 pub data ListsFrames (view : View) (mark : List ℕ) (sender : Sender) (start : ℕ) (from : Known) : List ℕ → List ℕ → Known → Type 0 where
@@ -194,7 +197,7 @@ first_start absolute = if absolute then Some 0 else None
 
 -- before the first chunk
 abbrev pub begins : Marking → Talk
-begins marking = record { known = at_first marking.numbered; client = nothing; server = nothing; start = first_start marking.absolute }
+begins marking = record { known = at_first marking.numbered marking.summed; client = nothing; server = nothing; start = first_start marking.absolute }
 
 abbrev pub half_in : Sender → Talk → Half
 half_in Client talk = talk.client
@@ -233,5 +236,7 @@ last_of view told sender stopped n = if n == 0 then [] else marked view.style.fo
 abbrev pub left : Half → ℕ
 left half = place_behind (length half.rest)
 
+-- the last lines of both sides, or the table of a summary in their place
 abbrev pub last_lines : View → Talk → List ℕ
-last_lines view talk = last_of view (unnumbered talk.known.numbers) Client talk.client.stopped (left talk.client) ++ last_of view (unnumbered talk.known.numbers) Server talk.server.stopped (left talk.server)
+last_lines view talk = ending_by view.style (summary_in talk.known.numbers)
+    (last_of view (unnumbered talk.known.numbers) Client talk.client.stopped (left talk.client) ++ last_of view (unnumbered talk.known.numbers) Server talk.server.stopped (left talk.server))

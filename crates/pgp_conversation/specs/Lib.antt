@@ -1,6 +1,9 @@
 pub mod Recording
 pub mod Marks
 pub mod Requests
+pub mod Summing
+pub mod Askings
+pub mod Tables
 pub mod Roles
 pub mod Conversation
 pub mod Steps

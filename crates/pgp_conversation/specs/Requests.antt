@@ -17,6 +17,7 @@ use Rattle.pgp_client.specs.declared.request.Asked.{Asked}
 use Rattle.pgp_client.specs.declared.request.Request.{Request}
 use Rattle.pgp_line.specs.declared.style.Style.{Style}
 use Rattle.pgp_trace.specs.Listing.{LineOf}
+use Rattle.pgp_summary.specs.Summary.{State, nothing}
 use Rattle.pgp_trace.specs.Sides as side
 use Rattle.pgp_trace.specs.Sides.{Side}
 use Rattle.pgp_trace.specs.declared.side.Phase.TheVariants.{Beginning, Messages, Replicating, Encrypted}
@@ -57,25 +58,34 @@ role_in style place (side.Client opened kinds replicating) frame line to is = as
 
 -- ---- what is known of the requests
 
--- The dialogue that they and the server's messages are, up to the first message that has no place there; when each request was sent, in order; and when the
--- present chunk came.
+-- The dialogue that they and the server's messages are, up to the first message that has no place there; when each request was sent, in order; when the
+-- present chunk came; and what they ran, where a summary is asked for.
 pub record Numbers : Type 0 where
   pub dialogue : Option Talk
   pub sent : List ℕ
   pub now : ℕ
+  pub summary : Option State
+
+abbrev pub first_summary : (summed : Bool) → Option State
+first_summary summed = if summed then Some nothing else None
 
 -- before the first
-abbrev pub no_numbers : Numbers
-no_numbers = record { dialogue = Some start; sent = []; now = 0 }
+abbrev pub no_numbers : (summed : Bool) → Numbers
+no_numbers summed = record { dialogue = Some start; sent = []; now = 0; summary = first_summary summed }
 
 -- nothing is known where they aren't numbered
-abbrev pub first_numbers : (numbered : Bool) → Option Numbers
-first_numbers numbered = if numbered then Some no_numbers else None
+abbrev pub first_numbers : (numbered summed : Bool) → Option Numbers
+first_numbers numbered summed = if numbered then Some (no_numbers summed) else None
+
+-- what they ran, where that is known
+abbrev pub summary_in : Option Numbers → Option State
+summary_in None = None
+summary_in (Some n) = n.summary
 
 -- a chunk comes at this time
 abbrev pub at_time : ℕ → Option Numbers → Option Numbers
 at_time micros None = None
-at_time micros (Some n) = Some (record { dialogue = n.dialogue; sent = n.sent; now = micros })
+at_time micros (Some n) = Some (record { dialogue = n.dialogue; sent = n.sent; now = micros; summary = n.summary })
 
 -- ---- a request
 
@@ -89,7 +99,7 @@ next_number n = length n.sent + 1
 
 -- one more request, which is sent now
 abbrev pub ask : Request → Numbers → Numbers
-ask request n = record { dialogue = asks (record { request = request; name = next_number n }) n.dialogue; sent = n.sent ++ n.now ∷ []; now = n.now }
+ask request n = record { dialogue = asks (record { request = request; name = next_number n }) n.dialogue; sent = n.sent ++ n.now ∷ []; now = n.now; summary = n.summary }
 
 -- ---- a message of the server
 
@@ -103,7 +113,7 @@ place kind None = (None, None)
 place kind (Some dialogue) = placed (taken dialogue kind)
 
 abbrev pub with_dialogue : Option Talk → Numbers → Numbers
-with_dialogue dialogue n = record { dialogue = dialogue; sent = n.sent; now = n.now }
+with_dialogue dialogue n = record { dialogue = dialogue; sent = n.sent; now = n.now; summary = n.summary }
 
 -- What its mark says, where requests were sent at these times: the number of its request, and when that and this came. An error that ends the session
 -- belongs to none.

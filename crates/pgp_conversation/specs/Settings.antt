@@ -9,7 +9,7 @@ use Rattle.pgp_conversation.specs.declared.marking.Marking.{Marking}
 use Rattle.pgp_conversation.specs.declared.options.Clock.{Clock}
 use Rattle.pgp_conversation.specs.declared.options.Clock.TheVariants.{Absolute, Relative}
 use Rattle.pgp_conversation.specs.declared.options.Setting.{Setting}
-use Rattle.pgp_conversation.specs.declared.options.Setting.TheVariants.{Listing, Requests, Time}
+use Rattle.pgp_conversation.specs.declared.options.Setting.TheVariants.{Listing, Requests, Summary, Time}
 
 abbrev pub clock_word : Clock → List ℕ
 clock_word Absolute = codes "absolute"
@@ -20,6 +20,7 @@ abbrev pub spelled_by : Setting → List (List ℕ)
 spelled_by (Listing choice) = spelled choice
 spelled_by (Time clock) = codes "--time" ∷ clock_word clock ∷ []
 spelled_by Requests = codes "--requests" ∷ []
+spelled_by Summary = codes "--summary" ∷ []
 
 -- A recording begins with its connection, and the server says in it which a client's messages of tag `p` are, and whether the stream is one of replication.
 abbrev pub IsCommon : Choice → Type 0
@@ -36,12 +37,14 @@ abbrev pub IsSetting : Setting → Type 0
 IsSetting (Listing choice) = IsCommon choice
 IsSetting (Time clock) = ⊤
 IsSetting Requests = ⊤
+IsSetting Summary = ⊤
 
 -- those that a listing of one side has too
 abbrev pub listing_in : Setting → List Choice
 listing_in (Listing choice) = choice ∷ []
 listing_in (Time clock) = []
 listing_in Requests = []
+listing_in Summary = []
 
 abbrev pub is_absolute : Clock → Bool
 is_absolute Absolute = true
@@ -51,21 +54,37 @@ abbrev pub clock_in : Setting → List Bool
 clock_in (Listing choice) = []
 clock_in (Time clock) = is_absolute clock ∷ []
 clock_in Requests = []
+clock_in Summary = []
 
 abbrev pub is_requests : Setting → Bool
 is_requests (Listing choice) = false
 is_requests (Time clock) = false
 is_requests Requests = true
+is_requests Summary = true
+
+abbrev pub is_summary : Setting → Bool
+is_summary (Listing choice) = false
+is_summary (Time clock) = false
+is_summary Requests = false
+is_summary Summary = true
+
+-- With a table no line of a message is written: its name would have to be empty.
+abbrev pub summarized : (summed : Bool) → View → View
+summarized true view = record { style = view.style; only = [] ∷ []; colored = view.colored }
+summarized false view = view
 
 -- The words are options, one after another, in any order. Those of a listing ask for one that looks so, of those of times the last counts, which says
--- whether they are counted from 1970 on, and requests are numbered where one of them asks for it.
+-- whether they are counted from 1970 on, requests are numbered where one of them asks for it, or for a summary, and that stands in the place of the lines.
 pub record AreSettings (terminal : Bool) (words : List (List ℕ)) (view : View) (marking : Marking) : Type 0 where
   pub settings : List Setting
   pub spelling : words ≡ flat_map spelled_by settings
   pub each : AllByRecursion IsSetting settings
-  pub listing : AreOptions terminal (flat_map spelled (flat_map listing_in settings)) view [] false false
+  pub plain : View
+  pub listing : AreOptions terminal (flat_map spelled (flat_map listing_in settings)) plain [] false false
+  pub shown : view ≡ summarized marking.summed plain
   pub clock : marking.absolute ≡ last_of false (flat_map clock_in settings)
   pub requests : marking.numbered ≡ list_any is_requests settings
+  pub summary : marking.summed ≡ list_any is_summary settings
 
 -- the words are no options
 abbrev pub AreNoSettings : List (List ℕ) → Type 0

@@ -92,7 +92,7 @@ talk_in None = None
 talk_in (Some kept) = Some (dialogue.shown (λ q. q.items) kept)
 
 abbrev pub numbers_of : {A : Type 0} → code_numbers.Numbers A → Numbers
-numbers_of numbers = record { dialogue = talk_in numbers.dialogue; sent = numbers.sent.items; now = numbers.now }
+numbers_of numbers = record { dialogue = talk_in numbers.dialogue; sent = numbers.sent.items; now = numbers.now; summary = numbers.summary }
 
 abbrev pub numbers_in : {A : Type 0} → Option (code_numbers.Numbers A) → Option Numbers
 numbers_in None = None

@@ -11,6 +11,7 @@ use crate::known::{Known, next_line, note};
 use crate::mark::put_marked;
 use crate::noted::{Encryption, note_of};
 use crate::numbers::tell_frame;
+use crate::summing::sum_frame;
 use crate::told::Told;
 use crate::word::put_stamp;
 use pgp_base::Memory;
@@ -109,6 +110,7 @@ fn list_next<'b, A: Memory>(
         Next::Line(name) => {
             let frame = front_of(bytes, behind);
             let told = tell_frame(sender, opened, name, frame, &mut known.numbers)?;
+            sum_frame(sender, name, frame, told, &mut known.numbers)?;
             list_line(view, place, name, told, known.requests.as_slice(), texts)?;
             note(note_of(name), known)?;
             Ok((next, behind))

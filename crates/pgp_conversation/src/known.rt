@@ -33,16 +33,16 @@ pub struct Known<A: Memory> {
     pub numbers: Option<Numbers<A>>,
 }
 
-/// Before a connection's first byte, where requests are numbered or not.
-pub fn at_first<A: Memory>(alloc: A, numbered: bool) -> Known<A>
-    ensures { known_of result ≡ at_first numbered }
+/// Before a connection's first byte, where requests are numbered or not, and summed up or not.
+pub fn at_first<A: Memory>(alloc: A, numbered: bool, summed: bool) -> Known<A>
+    ensures { known_of result ≡ at_first numbered summed }
 {
     Known {
         opened: false,
         kinds: Vec::new(alloc),
         phase: Phase::Beginning,
         requests: Vec::new(alloc),
-        numbers: first_numbers(alloc, numbered),
+        numbers: first_numbers(alloc, numbered, summed),
     }
 }
 

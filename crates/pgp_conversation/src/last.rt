@@ -3,11 +3,16 @@
 ghost use Rattle.std.specs.Prelude.{◌≡◌, ◌++◌, OnErr, OnOk, string_bytes};
 ghost use Rattle.pgp_trace.specs.Steps.{view_of};
 ghost use Rattle.pgp_conversation.specs.Conversation.{last_of};
+ghost use Rattle.pgp_conversation.specs.Pieces.{held_last};
+ghost use Rattle.pgp_conversation.specs.Requests.{summary_in, unnumbered};
+ghost use Rattle.pgp_conversation.specs.Steps.{kept_of, numbers_in};
 
 use crate::chunk::Sender;
 use crate::frames::Texts;
 use crate::mark::{put_last_mark, put_marked};
-use crate::talk::Half;
+use crate::numbers::{summary_of, unnumbered};
+use crate::table::put_table;
+use crate::talk::{Half, Talk};
 use crate::told::Told;
 use crate::word::put_word;
 use pgp_base::Memory;
@@ -16,12 +21,47 @@ use pgp_trace::stream::put_rest;
 use pgp_trace::view::View;
 use std::alloc::AllocError;
 
+/// Adds what stands at the end of a recording: the last lines of both sides, or the table of a summary.
+///
+/// # Errors
+///
+/// Returns `AllocError` if there is no memory for it.
+pub fn add_end<A: Memory>(
+    view: View<'_>,
+    talk: &Talk<A>,
+    texts: &mut Texts<A>,
+) -> Result<(), AllocError>
+    ensures text { OnOk result (string_bytes texts.new.lines ≡ string_bytes texts.old.lines ++ held_last (view_of view.entry) (kept_of talk.now)) }
+    ensures lacks { OnErr result A.Lacks }
+{
+    match summary_of(&talk.known.numbers) {
+        Some(summary) => put_table(view.style, summary, &mut texts.word, &mut texts.lines),
+        None => add_both(view, talk, texts),
+    }
+}
+
+/// Adds the last lines of both sides.
+fn add_both<A: Memory>(
+    view: View<'_>,
+    talk: &Talk<A>,
+    texts: &mut Texts<A>,
+) -> Result<(), AllocError>
+    ensures text { OnOk result (string_bytes texts.new.lines ≡ string_bytes texts.old.lines
+        ++ (last_of (view_of view.entry) (unnumbered (numbers_in talk.now.known.numbers)) Sender.Client talk.now.client.stopped talk.now.client.left
+        ++ last_of (view_of view.entry) (unnumbered (numbers_in talk.now.known.numbers)) Sender.Server talk.now.server.stopped talk.now.server.left)) }
+    ensures lacks { OnErr result A.Lacks }
+{
+    let told = unnumbered(&talk.known.numbers);
+    add_last(view, told, Sender::Client, &talk.client, texts)?;
+    add_last(view, told, Sender::Server, &talk.server, texts)
+}
+
 /// Adds the last line of a side, if bytes are left of it, with a mark that says this of requests.
 ///
 /// # Errors
 ///
 /// Returns `AllocError` if there is no memory for it.
-pub fn add_last<A: Memory>(
+fn add_last<A: Memory>(
     view: View<'_>,
     told: Option<Told>,
     sender: Sender,

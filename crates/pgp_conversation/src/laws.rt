@@ -1,12 +1,14 @@
 //! Laws of listings.
 
-ghost use Rattle.std.specs.Prelude.{◌≡◌, ◌≢◌, ◌∷◌, ◌++◌, [], ℕ, List, Option, Some};
+ghost use Rattle.std.specs.Prelude.{◌≡◌, ◌≢◌, ◌∷◌, ◌++◌, [], ℕ, List, Option, Some, true};
 ghost use Rattle.pgp_client.specs.Talk.{Talk as Dialogue};
 ghost use Rattle.pgp_client.specs.declared.stage.Stage.TheVariants.{Over};
 ghost use Rattle.pgp_line.specs.Quoting.{IsPrinted};
 ghost use Rattle.pgp_line.specs.declared.style.Form.{Form};
 ghost use Rattle.pgp_line.specs.declared.style.Form.TheVariants.{Columns};
 ghost use Rattle.pgp_line.specs.declared.style.Style.{Style};
+ghost use Rattle.pgp_summary.specs.Runs.{Tally};
+ghost use Rattle.pgp_summary.specs.Summary.{State};
 ghost use Rattle.pgp_trace.specs.Listing.{LineOf};
 ghost use Rattle.pgp_trace.specs.Secrets.{quietly};
 ghost use Rattle.pgp_trace.specs.Sides.{Side};
@@ -19,9 +21,11 @@ ghost use Rattle.pgp_conversation.specs.Conversation.{Known, ListsChunks, ListsF
 ghost use Rattle.pgp_conversation.specs.Marks.{last_mark, mark, marked, since, word};
 ghost use Rattle.pgp_conversation.specs.Order.{IsSplit};
 ghost use Rattle.pgp_conversation.specs.Recording.{Chunk};
-ghost use Rattle.pgp_conversation.specs.Requests.{Numbers};
+ghost use Rattle.pgp_conversation.specs.Requests.{Numbers, summary_in};
 ghost use Rattle.pgp_conversation.specs.Secrets.{AlikeIn};
 ghost use Rattle.pgp_conversation.specs.Session.{IsListing};
+ghost use Rattle.pgp_conversation.specs.Settings.{summarized};
+ghost use Rattle.pgp_conversation.specs.Tables.{heading, row_of, table};
 ghost use Rattle.pgp_conversation.specs.Turns.{AreTrue, turns_in};
 
 /// A recording has one listing, and one end.
@@ -49,6 +53,18 @@ pub fn marked_lines_are_printable()
         (text : List ℕ) × (marked form (mark form who (since start micros) ++ word form told) line ≡ text ++ 10 ∷ []) × IsPrinted text }
     ensures marks { (form : Form) (who : Sender) (start micros : ℕ) (told : Option Told) → IsPrinted (mark form who (since start micros) ++ word form told) }
     ensures last { (form : Form) (who : Sender) (told : Option Told) → IsPrinted (last_mark form who ++ word form told) }
+{}
+
+/// Where a summary is asked for, nothing but its table is written.
+pub fn summaries_are_tables()
+    ensures { (view : View) (marking : Marking) (bytes output : List ℕ) (end : End) → marking.numbered ≡ true → marking.summed ≡ true → (listing : IsListing (summarized true view) marking bytes end output)
+        → (summary : State) × (summary_in listing.talk.known.numbers ≡ Some summary) × (output ≡ table view.style summary.tallies) }
+{}
+
+/// A line of a table has characters alone that a terminal prints, before its newline.
+pub fn table_lines_are_printable()
+    ensures rows { (style : Style) (tally : Tally) → (text : List ℕ) × (row_of style tally ≡ text ++ 10 ∷ []) × IsPrinted text }
+    ensures heading { (text : List ℕ) × (heading Columns ≡ text ++ 10 ∷ []) × IsPrinted text }
 {}
 
 /// A frame that differs from another one of its side in its secrets alone has the same text in a listing, and the same is known after it, unless secrets are

@@ -19,6 +19,8 @@ pub mod outcome;
 pub mod role;
 pub mod run;
 pub mod session;
+pub mod summing;
+pub mod table;
 pub mod talk;
 pub mod told;
 pub mod word;

@@ -53,8 +53,12 @@ pub fn put_since<A: Memory>(start: u64, micros: u64, text: &mut String<A>) -> Re
 }
 
 /// Adds so many microseconds as seconds.
+///
+/// # Errors
+///
+/// Returns `AllocError` if there is no memory for them.
 #[tactic(auto, unfolding(crate::specs::Marks::number))]
-fn put_number<A: Memory>(n: u64, text: &mut String<A>) -> Result<(), AllocError>
+pub fn put_number<A: Memory>(n: u64, text: &mut String<A>) -> Result<(), AllocError>
     ensures text { OnOk result (string_bytes text.new ≡ string_bytes text.old ++ number n) }
     ensures lacks { OnErr result A.Lacks }
 {

@@ -7,4 +7,6 @@ pub struct Marking {
     pub absolute: bool,
     /// Whether requests are numbered.
     pub numbered: bool,
+    /// Whether a table of what they ran stands in the place of the lines.
+    pub summed: bool,
 }

@@ -1,8 +1,8 @@
 //! The client's requests, and to which of them a message of the server belongs.
 
-ghost use Rattle.std.specs.Prelude.{◌≡◌, ◌-◌, get_or, IfOk, OnErr, OnOk};
+ghost use Rattle.std.specs.Prelude.{◌≡◌, ◌-◌, get_or, option_map, IfOk, OnErr, OnOk};
 ghost use Rattle.pgp_client.specs.Telling.{start};
-ghost use Rattle.pgp_conversation.specs.Requests.{asks, at_time, first_numbers, no_numbers, place, tell, told_in, told_of, unnumbered};
+ghost use Rattle.pgp_conversation.specs.Requests.{asks, at_time, first_numbers, first_summary, no_numbers, place, tell, summary_in, told_in, told_of, unnumbered};
 ghost use Rattle.pgp_conversation.specs.Roles.{role_by};
 ghost use Rattle.pgp_conversation.specs.Steps.{numbers_in, numbers_of, talk_in};
 
@@ -11,6 +11,7 @@ use crate::role::{Role, role_of};
 use crate::told::Told;
 use pgp_base::Memory;
 use pgp_client::{Asked, Dialogue, Event, Kind, Request};
+use pgp_summary::Summary;
 use std::alloc::AllocError;
 use std::collections::VecDeque;
 
@@ -23,27 +24,41 @@ pub struct Numbers<A: Memory> {
     pub sent: Vec<u64, A>,
     /// When the present chunk came.
     pub now: u64,
+    /// What they ran, where a summary is asked for.
+    pub summary: Option<Summary<A>>,
 }
 
 /// Before the first request, where requests are numbered.
-pub fn first_numbers<A: Memory>(alloc: A, numbered: bool) -> Option<Numbers<A>>
-    ensures { numbers_in result ≡ first_numbers numbered }
+pub fn first_numbers<A: Memory>(alloc: A, numbered: bool, summed: bool) -> Option<Numbers<A>>
+    ensures { numbers_in result ≡ first_numbers numbered summed }
 {
     if numbered {
-        Some(no_numbers(alloc))
+        Some(no_numbers(alloc, summed))
     } else {
         None
     }
 }
 
 /// Before the first request.
-fn no_numbers<A: Memory>(alloc: A) -> Numbers<A>
-    ensures { numbers_of result ≡ no_numbers }
+fn no_numbers<A: Memory>(alloc: A, summed: bool) -> Numbers<A>
+    ensures { numbers_of result ≡ no_numbers summed }
 {
     Numbers {
         dialogue: Some(Dialogue::new(alloc)),
         sent: Vec::new(alloc),
         now: 0,
+        summary: first_summary(alloc, summed),
+    }
+}
+
+/// Before the first request, where a summary is asked for.
+fn first_summary<A: Memory>(alloc: A, summed: bool) -> Option<Summary<A>>
+    ensures { result ≡ first_summary summed }
+{
+    if summed {
+        Some(Summary::new(alloc))
+    } else {
+        None
     }
 }
 
@@ -63,6 +78,16 @@ pub fn unnumbered<A: Memory>(numbers: &Option<Numbers<A>>) -> Option<Told>
 {
     match numbers {
         Some(_) => Some(Told::Nothing),
+        None => None,
+    }
+}
+
+/// What the requests ran, where that is known.
+pub fn summary_of<A: Memory>(numbers: &Option<Numbers<A>>) -> Option<&Summary<A>>
+    ensures { option_map (λ summary. summary.now) result ≡ summary_in (numbers_in numbers.now) }
+{
+    match numbers {
+        Some(numbers) => numbers.summary.as_ref(),
         None => None,
     }
 }

@@ -26,6 +26,8 @@ pub enum Setting<'a> {
     Time(Clock),
     /// Requests are numbered.
     Requests,
+    /// A table of what requests ran stands in the place of the lines.
+    Summary,
 }
 
 /// What the options come to.
@@ -64,6 +66,7 @@ pub fn settings_of<'a, A: Memory>(
         marking: Marking {
             absolute: false,
             numbered: false,
+            summed: false,
         },
     };
     let mut at = 0;
@@ -96,6 +99,11 @@ fn set<'a, A: Memory>(
             settings.marking.numbered = true;
             Ok(())
         }
+        Setting::Summary => {
+            settings.marking.numbered = true;
+            settings.marking.summed = true;
+            Ok(())
+        }
     }
 }
 
@@ -117,6 +125,7 @@ fn long(setting: Setting<'_>) -> usize
         Setting::Listing(choice) => len(choice),
         Setting::Time(_) => 2,
         Setting::Requests => 1,
+        Setting::Summary => 1,
     }
 }
 
@@ -132,6 +141,7 @@ fn first_setting<'a>(words: &[&'a str]) -> Option<Setting<'a>>
     match *word {
         "--time" => first_clock(rest),
         "--requests" => Some(Setting::Requests),
+        "--summary" => Some(Setting::Summary),
         "--resume" => None,
         "--replication" => None,
         "--password-kind" => None,
@@ -147,6 +157,7 @@ fn first_listing<'a>(words: &[&'a str]) -> Option<Setting<'a>>
     requires kind { first_of (map (λ word. word.now) words.now) ≢ codes "--password-kind" }
     requires time { first_of (map (λ word. word.now) words.now) ≢ codes "--time" }
     requires requests { first_of (map (λ word. word.now) words.now) ≢ codes "--requests" }
+    requires summary { first_of (map (λ word. word.now) words.now) ≢ codes "--summary" }
     ensures some { IfSome result (λ setting. IsSetting setting × (map (λ word. word.now) words.now ≡ spelled_by setting ++ map (λ word. word.now) (drop (length (spelled_by setting)) words.now))) }
     ensures none { IfNone result (BeginsWithNoSetting (map (λ word. word.now) words.now)) }
 {

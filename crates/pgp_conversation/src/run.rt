@@ -69,6 +69,30 @@ fn list<A: Memory, R: Input, W: Output>(
     list_session(alloc, view, marking, input, output)
 }
 
+/// No message has this name.
+const NO_NAME: &[&str] = &[""];
+
+/// How a listing with these options looks. With a summary no line of a message is written.
+fn view_by<'a, A: Memory>(settings: &'a Settings<'_, A>) -> View<'a>
+    ensures { view_of result ≡ settings_view settings.now }
+{
+    let options = &settings.options;
+    let style = style_of(options.json, options.full, options.secrets);
+    let colored = options.colored;
+    if settings.marking.summed {
+        return View {
+            style,
+            only: NO_NAME,
+            colored,
+        };
+    }
+    View {
+        style,
+        only: options.only.as_slice(),
+        colored,
+    }
+}
+
 /// Lists a recording, and says how that ended.
 fn perform<A: Memory, R: Input, W: Output>(
     alloc: A,
@@ -86,13 +110,7 @@ fn perform<A: Memory, R: Input, W: Output>(
         (record { input = R.remaining input.new; output = W.contents output.new })
         result.status (result.first.now ++ result.second.now ++ result.third.now) }
 {
-    let options = &settings.options;
-    let view = View {
-        style: style_of(options.json, options.full, options.secrets),
-        only: options.only.as_slice(),
-        colored: options.colored,
-    };
-    match list(alloc, view, settings.marking, input, output) {
+    match list(alloc, view_by(settings), settings.marking, input, output) {
         Ok(said) => Ended {
             status: status_of(said.end),
             first: said.client,

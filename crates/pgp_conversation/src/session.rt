@@ -14,14 +14,13 @@ ghost use Rattle.pgp_conversation.specs.Recording.{complaint_of};
 ghost use Rattle.pgp_conversation.specs.Session.{IsCutShort, ReadsWhenReady, WasListed, WritesListing};
 ghost use Rattle.pgp_conversation.specs.Steps.{end_of, half_of, kept_of};
 
-use crate::chunk::{Part, Sender, first_part};
+use crate::chunk::{Part, first_part};
 use crate::ending::{End, end_of};
 use crate::frames::{Texts, no_texts};
 use crate::hint::hint_of;
 use crate::known::{at_first, is_replicating};
-use crate::last::add_last;
+use crate::last::add_end;
 use crate::marking::Marking;
-use crate::numbers::unnumbered;
 use crate::talk::{Half, Talk, list_chunk};
 use bytes::{Buf, BytesMut};
 use pgp_base::Memory;
@@ -84,7 +83,7 @@ pub fn list_session<A: Memory, R: Input, W: Output>(
     ensures cause { IfErr result (Caused A.Lacks (GivesUp R.Fails R.Called) (GivesUp W.Fails W.Interrupted)) }
 {
     let mut piece = A::list_filled(alloc, 0, PIECE)?;
-    let mut held = held_at_first(alloc, marking.numbered);
+    let mut held = held_at_first(alloc, marking.numbered, marking.summed);
     list_pieces(
         view,
         marking,
@@ -95,26 +94,26 @@ pub fn list_session<A: Memory, R: Input, W: Output>(
     )
 }
 
-/// Before the first byte of a recording, whose requests are numbered or not.
-fn held_at_first<A: Memory>(alloc: A, numbered: bool) -> Held<A>
+/// Before the first byte of a recording, whose requests are numbered or not, and summed up or not.
+fn held_at_first<A: Memory>(alloc: A, numbered: bool, summed: bool) -> Held<A>
     ensures begun { result.begun ≡ false }
-    ensures talk { kept_of result.talk ≡ held_first (record { absolute = false; numbered = numbered }) }
+    ensures talk { kept_of result.talk ≡ held_first (record { absolute = false; numbered = numbered; summed = summed }) }
     ensures bytes { result.bytes.items ≡ [] }
 {
     Held {
         begun: false,
-        talk: talk_at_first(alloc, numbered),
+        talk: talk_at_first(alloc, numbered, summed),
         bytes: BytesMut::new(alloc),
         texts: no_texts(alloc),
     }
 }
 
 /// Before the first chunk.
-fn talk_at_first<A: Memory>(alloc: A, numbered: bool) -> Talk<A>
-    ensures { kept_of result ≡ held_first (record { absolute = false; numbered = numbered }) }
+fn talk_at_first<A: Memory>(alloc: A, numbered: bool, summed: bool) -> Talk<A>
+    ensures { kept_of result ≡ held_first (record { absolute = false; numbered = numbered; summed = summed }) }
 {
     Talk {
-        known: at_first(alloc, numbered),
+        known: at_first(alloc, numbered, summed),
         client: half_at_first(alloc),
         server: half_at_first(alloc),
         start: None,
@@ -150,7 +149,7 @@ fn list_pieces<A: Memory, R: Input, W: Output>(
 ) -> Result<Said, Fault>
     requires some { 0 < length piece.old }
     requires begun { held.old.begun ≡ false }
-    requires talk { kept_of held.old.talk ≡ held_first (record { absolute = false; numbered = marking.numbered }) }
+    requires talk { kept_of held.old.talk ≡ held_first (record { absolute = false; numbered = marking.numbered; summed = marking.summed }) }
     requires bytes { held.old.bytes.items ≡ [] }
     requires live { ReadsWhenReady R.remaining W.contents W.Passed R.MayRead (view_of view) marking input.old output.old }
     ensures listed { IfOk result (λ said. WritesListing (view_of view.entry) marking
@@ -275,21 +274,7 @@ fn list_last<A: Memory, W: Output>(
     ensures cause { IfErr result (Caused A.Lacks ⊥ (GivesUp W.Fails W.Interrupted)) }
 {
     held.texts.lines.clear();
-    let told = unnumbered(&held.talk.known.numbers);
-    add_last(
-        view,
-        told,
-        Sender::Client,
-        &held.talk.client,
-        &mut held.texts,
-    )?;
-    add_last(
-        view,
-        told,
-        Sender::Server,
-        &held.talk.server,
-        &mut held.texts,
-    )?;
+    add_end(view, &held.talk, &mut held.texts)?;
     put_lines(held.texts.lines.as_str(), output)?;
     let known = &held.talk.known;
     let client = Side::Client {

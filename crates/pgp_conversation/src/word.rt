@@ -124,8 +124,12 @@ fn put_later<A: Memory>(sent: u64, now: u64, text: &mut String<A>) -> Result<(),
 }
 
 /// Adds so many microseconds as milliseconds.
+///
+/// # Errors
+///
+/// Returns `AllocError` if there is no memory for them.
 #[tactic(auto, unfolding(crate::specs::Marks::millis))]
-fn put_millis<A: Memory>(n: u64, text: &mut String<A>) -> Result<(), AllocError>
+pub fn put_millis<A: Memory>(n: u64, text: &mut String<A>) -> Result<(), AllocError>
     ensures text { OnOk result (string_bytes text.new ≡ string_bytes text.old ++ millis n) }
     ensures lacks { OnErr result A.Lacks }
 {

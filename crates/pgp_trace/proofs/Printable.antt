@@ -226,13 +226,13 @@ escapes form bytes =
     join (flat_map (escaped_char form) (chars (take n bytes))) (broken form (drop n bytes))
     (each_char form (chars (take n bytes)) (scalars-chars (take n bytes) (front_utf8 bytes))) (plain (broken form (drop n bytes)) (no_character form (drop n bytes)))
 
-quote : (form : Form) (bytes : List ℕ) → IsPrinted (quoted form bytes)
+pub quote : (form : Form) (bytes : List ℕ) → IsPrinted (quoted form bytes)
 quote form bytes = join (34 ∷ []) (escaped form bytes ++ 34 ∷ []) (plain (34 ∷ []) refl) (join (escaped form bytes) (34 ∷ []) (escapes form bytes) (plain (34 ∷ []) refl))
 
 hexes : (bytes : List ℕ) → IsPrinted (digits bytes)
 hexes bytes = plain (digits bytes) (cons 92 (120 ∷ flat_map hex_byte bytes) refl (cons 120 (flat_map hex_byte bytes) refl (each hex_byte hex bytes)))
 
-cut : (show : List ℕ → List ℕ) → ((bytes : List ℕ) → IsPrinted (show bytes)) → (limit : ℕ) (bytes : List ℕ) → IsPrinted (up_to limit show bytes)
+pub cut : (show : List ℕ → List ℕ) → ((bytes : List ℕ) → IsPrinted (show bytes)) → (limit : ℕ) (bytes : List ℕ) → IsPrinted (up_to limit show bytes)
 unfolding up_to
 cut show all limit bytes = either (nat_le (length bytes) limit) (show bytes) (show (take limit bytes) ++ codes " of " ++ decimal (length bytes) ++ codes " bytes") (all bytes)
     (join (show (take limit bytes) ++ codes " of " ++ decimal (length bytes)) (codes " bytes")
@@ -266,7 +266,7 @@ json_digit limit bytes =
     either (nat_le (length bytes) limit) (json_digits bytes ++ 125 ∷ []) (json_digits (take limit bytes) ++ long (length bytes))
     (join (json_digits bytes) (125 ∷ []) (json_hexes bytes) (plain (125 ∷ []) refl)) (join (json_digits (take limit bytes)) (long (length bytes)) (json_hexes (take limit bytes)) (how_long (length bytes)))
 
-json_val : (limit : ℕ) (bytes : List ℕ) → IsPrinted (json_value limit bytes)
+pub json_val : (limit : ℕ) (bytes : List ℕ) → IsPrinted (json_value limit bytes)
 unfolding json_value
 json_val limit bytes = either (is_text bytes) (json_text limit bytes) (json_hex limit bytes) (json_texts limit bytes) (json_digit limit bytes)
 

@@ -7,8 +7,11 @@ use Rattle.pgp_conversation.specs.Conversation.{note, text_of, with_numbers}
 use Rattle.pgp_conversation.specs.Marks.{word}
 use Rattle.pgp_conversation.specs.Requests.{told_in}
 use Rattle.pgp_conversation.specs.Roles.{role_by}
+use Rattle.pgp_conversation.specs.Askings.{asking_from}
+use Rattle.pgp_conversation.specs.Summing.{Asking, summed}
 use Rattle.pgp_conversation.specs.Steps.{KnowsNext, known_of, noted_by, numbers_in}
 use Rattle.pgp_conversation.proofs.FrameLists.{front_is, front_long, lists_one, role_side}
+use Rattle.pgp_conversation.proofs.Summed.{asks_side}
 use Rattle.pgp_conversation.proofs.frames.list_next.Goals as goal
 
 pub front_of-frame-requires : goal.front_of-frame-requires
@@ -34,8 +37,13 @@ returns-in_ok-note-in-Line-clause-each g c =
     let knows : KnowsNext c.args.view.style c.args.sender c.args.place old c.args.bytes.now c.in_ok-next.behind.now line mid (Line c.in-Line.name) = search rules in
     let has = knows.listed in
     let grown : after ≡ before ++ text_of view (mark ++ word view.style.form told) c.args.place c.as_slice.result.now name line = c.in_ok-list_line-in-Line.ensures.text in
-    let noted : new ≡ note (noted_by name) (with_numbers numbers mid) = c.in_ok-note-in-Line.ensures.noted ∙ ap (λ n. note n (with_numbers numbers mid)) c.note_of.ensures in
+    let asking : Option Asking = asking_from c.args.sender name frame in
+    let sum = numbers_in c.sum_frame.new.numbers in
+    let sums : sum ≡ summed told asking name numbers = c.in_ok-sum_frame-in-Line.ensures.summed in
+    let noted : new ≡ note (noted_by name) (with_numbers (summed told asking name numbers) mid) =
+    c.in_ok-note-in-Line.ensures.noted ∙ ap (λ n. note n (with_numbers sum mid)) c.note_of.ensures ∙ ap (λ n. note (noted_by name) (with_numbers n mid)) sums in
+    let is = c.front_of-frame.ensures ∙ front_is c.args.bytes.now has.frame c.in_ok-next.behind.now has.whole in
     let tells : told_in role mid.numbers ≡ (told, numbers) = c.in_ok-told-in-Line.ensures.told in
-    rw c.in-Line.is (lists_one view mark c.args.sender c.args.place old mid new role told numbers c.args.bytes.now c.in_ok-next.behind.now line name before after has knows.same
-    (role_side c.args.sender c.args.known.now name frame has.frame (c.front_of-frame.ensures ∙ front_is c.args.bytes.now has.frame c.in_ok-next.behind.now has.whole)) tells
+    rw c.in-Line.is (lists_one view mark c.args.sender c.args.place old mid new role told asking numbers c.args.bytes.now c.in_ok-next.behind.now line name before after has knows.same
+    (role_side c.args.sender c.args.known.now name frame has.frame is) tells (asks_side c.args.sender c.args.known.now name frame has.frame is)
     (grown ∙ ap (λ r. before ++ text_of view (mark ++ word view.style.form told) c.args.place r name line) c.as_slice.ensures.value) noted)

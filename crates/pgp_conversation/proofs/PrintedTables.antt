@@ -1,0 +1,71 @@
+-- The lines of a table are printable.
+use Rattle.std.proofs.Common.{◌≡◌, ℕ, ◌-◌, true, List, [], ◌∷◌, ◌++◌, length, refl}
+use Rattle.std.specs.Prelude.{codes, decimal}
+use Rattle.std.specs.List.{list_all}
+use Rattle.pgp_line.specs.Line.{blanks}
+use Rattle.pgp_line.specs.Quoting.{IsPrinted, is_visible, json_value, quoted, up_to}
+use Rattle.pgp_line.specs.declared.style.Form.{Form}
+use Rattle.pgp_line.specs.declared.style.Form.TheVariants.{Columns, Json}
+use Rattle.pgp_line.specs.declared.style.Style.{Style}
+use Rattle.pgp_summary.specs.Runs.{Tally, line_of}
+use Rattle.pgp_summary.specs.declared.entry.Line.{Line}
+use Rattle.pgp_trace.proofs.Printable.{blank, cut, join, json_val, plain, plain_join, plain_number, quote}
+use Rattle.pgp_conversation.specs.Marks.{millis, number}
+use Rattle.pgp_conversation.specs.Tables.{cell, columns, counts, heading, members, row_by, row_of, times}
+use Rattle.pgp_conversation.proofs.PrintedMarks.{seconds, thousandths}
+
+abbrev Plain : List ℕ → Type 0
+Plain text = list_all is_visible text ≡ true
+
+-- a line, without the newline at its end
+abbrev pub IsPrintedLine : List ℕ → Type 0
+IsPrintedLine line = (text : List ℕ) × (line ≡ text ++ 10 ∷ []) × IsPrinted text
+
+in_cell : (width : ℕ) (text : List ℕ) → Plain text → Plain (cell width text)
+in_cell width text p = plain_join (blanks (width - length text) ++ text) (32 ∷ []) (plain_join (blanks (width - length text)) text (blank (width - length text)) p) refl
+
+in_columns : (l : Line) → Plain (columns l)
+in_columns l =
+    let a = cell 8 (decimal l.count) in
+    let b = a ++ cell 10 (decimal l.rows) in
+    let c = b ++ cell 10 (millis l.least) in
+    let d = c ++ cell 10 (millis l.median) in
+    let pa : Plain a = in_cell 8 (decimal l.count) (plain_number l.count) in
+    let pb : Plain b = plain_join a (cell 10 (decimal l.rows)) pa (in_cell 10 (decimal l.rows) (plain_number l.rows)) in
+    let pc : Plain c = plain_join b (cell 10 (millis l.least)) pb (in_cell 10 (millis l.least) (thousandths l.least)) in
+    let pd : Plain d = plain_join c (cell 10 (millis l.median)) pc (in_cell 10 (millis l.median) (thousandths l.median)) in
+    plain_join d (cell 10 (millis l.greatest)) pd (in_cell 10 (millis l.greatest) (thousandths l.greatest))
+
+in_counts : (l : Line) → Plain (counts l)
+in_counts l =
+    let a = codes "{\"count\":" ++ decimal l.count in
+    let b = a ++ codes ",\"rows\":" in
+    let pa : Plain a = plain_join (codes "{\"count\":") (decimal l.count) refl (plain_number l.count) in
+    plain_join b (decimal l.rows) (plain_join a (codes ",\"rows\":") pa refl) (plain_number l.rows)
+
+in_times : (l : Line) → Plain (times l)
+in_times l =
+    let a = codes ",\"least\":" ++ number l.least in
+    let b = a ++ codes ",\"median\":" in
+    let c = b ++ number l.median in
+    let d = c ++ codes ",\"greatest\":" in
+    let pa : Plain a = plain_join (codes ",\"least\":") (number l.least) refl (seconds l.least) in
+    let pb : Plain b = plain_join a (codes ",\"median\":") pa refl in
+    let pc : Plain c = plain_join b (number l.median) pb (seconds l.median) in
+    let pd : Plain d = plain_join c (codes ",\"greatest\":") pc refl in
+    plain_join d (number l.greatest) pd (seconds l.greatest)
+
+in_members : (l : Line) → Plain (members l)
+in_members l = plain_join (counts l ++ times l) (codes ",\"statement\":") (plain_join (counts l) (times l) (in_counts l) (in_times l)) refl
+
+row_printed : (form : Form) (limit : ℕ) (l : Line) (text : List ℕ) → IsPrintedLine (row_by form limit l text)
+row_printed Columns limit l text = (columns l ++ up_to limit (quoted Columns) text, refl, join (columns l) (up_to limit (quoted Columns) text) (plain (columns l) (in_columns l)) (cut (quoted Columns) (quote Columns) limit text))
+row_printed Json limit l text =
+    let front = members l ++ json_value limit text in
+    (front ++ codes "}", refl, join front (codes "}") (join (members l) (json_value limit text) (plain (members l) (in_members l)) (json_val limit text)) (plain (codes "}") refl))
+
+pub rows_printed : (style : Style) (e : Tally) → IsPrintedLine (row_of style e)
+rows_printed style e = row_printed style.form style.limit (line_of e) e.text
+
+pub heading_printed : IsPrintedLine (heading Columns)
+heading_printed = (codes "   count       rows      least     median   greatest ms", refl, plain (codes "   count       rows      least     median   greatest ms") refl)

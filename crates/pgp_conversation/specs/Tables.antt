@@ -1,0 +1,52 @@
+-- The table of a summary.
+use Rattle.std.specs.Prelude.{ℕ, ◌-◌, List, [], ◌∷◌, ◌++◌, length, Option, Some, None, codes, decimal}
+use Rattle.std.specs.List.{flat_map}
+use Rattle.pgp_line.specs.Line.{blanks}
+use Rattle.pgp_line.specs.Quoting.{json_value, quoted, up_to}
+use Rattle.pgp_line.specs.declared.style.Form.{Form}
+use Rattle.pgp_line.specs.declared.style.Form.TheVariants.{Columns, Json}
+use Rattle.pgp_line.specs.declared.style.Style.{Style}
+use Rattle.pgp_summary.specs.Runs.{Tally, line_of}
+use Rattle.pgp_summary.specs.Summary.{State}
+use Rattle.pgp_summary.specs.declared.entry.Line.{Line}
+use Rattle.pgp_conversation.specs.Marks.{millis, number}
+
+-- a text at the right of so many characters, and a blank after it
+abbrev pub cell : (width : ℕ) → List ℕ → List ℕ
+cell width text = blanks (width - length text) ++ text ++ 32 ∷ []
+
+-- how often a statement ran, its rows, and the least, the median and the greatest of its times, in milliseconds
+abbrev pub columns : Line → List ℕ
+columns l = cell 8 (decimal l.count) ++ cell 10 (decimal l.rows) ++ cell 10 (millis l.least) ++ cell 10 (millis l.median) ++ cell 10 (millis l.greatest)
+
+-- the same as members of an object, the times in seconds
+
+abbrev pub counts : Line → List ℕ
+counts l = codes "{\"count\":" ++ decimal l.count ++ codes ",\"rows\":" ++ decimal l.rows
+
+abbrev pub times : Line → List ℕ
+times l = codes ",\"least\":" ++ number l.least ++ codes ",\"median\":" ++ number l.median ++ codes ",\"greatest\":" ++ number l.greatest
+
+abbrev pub members : Line → List ℕ
+members l = counts l ++ times l ++ codes ",\"statement\":"
+
+-- with the statement, which is cut past a limit as in a listing
+abbrev pub row_by : Form → (limit : ℕ) → Line → (text : List ℕ) → List ℕ
+row_by Columns limit l text = columns l ++ up_to limit (quoted Columns) text ++ 10 ∷ []
+row_by Json limit l text = members l ++ json_value limit text ++ codes "}" ++ 10 ∷ []
+
+abbrev pub row_of : Style → Tally → List ℕ
+row_of style e = row_by style.form style.limit (line_of e) e.text
+
+abbrev pub heading : Form → List ℕ
+heading Columns = codes "   count       rows      least     median   greatest ms" ++ 10 ∷ []
+heading Json = []
+
+-- a line for each statement that ran
+abbrev pub table : Style → List Tally → List ℕ
+table style tallies = heading style.form ++ flat_map (row_of style) tallies
+
+-- what stands at the end of a recording: the table, where one is asked for; or the last lines of both sides
+abbrev pub ending_by : Style → Option State → (lines : List ℕ) → List ℕ
+ending_by style None lines = lines
+ending_by style (Some s) lines = table style s.tallies

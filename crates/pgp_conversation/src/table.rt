@@ -1,0 +1,188 @@
+//! The table of a summary.
+
+ghost use Rattle.std.specs.Prelude.{◌≡◌, ◌++◌, ◌∷◌, [], OnErr, OnOk, decimal, string_bytes};
+ghost use Rattle.std.specs.List.{flat_map};
+ghost use Rattle.pgp_conversation.specs.Marks.{millis, number};
+ghost use Rattle.pgp_conversation.specs.Tables.{cell, columns, counts, heading, members, row_by, row_of, table, times};
+
+use crate::mark::{put_blanks, put_number};
+use crate::word::put_millis;
+use pgp_base::Memory;
+use pgp_line::quote::{put_cut_text, put_json};
+use pgp_line::style::{Form, Style};
+use pgp_summary::{Entry, Line, Summary};
+use std::alloc::AllocError;
+
+/// How many characters a count of runs takes, and how many a count of rows, or a time.
+const COUNT: usize = 8;
+
+const WIDTH: usize = 10;
+
+/// Adds the table of a summary: a line for each statement that ran.
+///
+/// # Errors
+///
+/// Returns `AllocError` if there is no memory for it.
+pub fn put_table<A: Memory>(
+    style: Style,
+    summary: &Summary<A>,
+    part: &mut String<A>,
+    text: &mut String<A>,
+) -> Result<(), AllocError>
+    ensures text { OnOk result (string_bytes text.new ≡ string_bytes text.old ++ table style summary.now.tallies) }
+    ensures lacks { OnErr result A.Lacks }
+{
+    put_heading(style.form, text)?;
+    put_rows(summary.memory(), style, summary.entries(), part, text)
+}
+
+/// Adds the line above the others.
+fn put_heading<A: Memory>(form: Form, text: &mut String<A>) -> Result<(), AllocError>
+    ensures text { OnOk result (string_bytes text.new ≡ string_bytes text.old ++ heading form) }
+    ensures lacks { OnErr result A.Lacks }
+{
+    match form {
+        Form::Columns => A::push_str(
+            text,
+            "   count       rows      least     median   greatest ms\n",
+        ),
+        Form::Json => Ok(()),
+    }
+}
+
+/// Adds the lines of statements.
+fn put_rows<A: Memory>(
+    alloc: A,
+    style: Style,
+    entries: &[Entry<A>],
+    part: &mut String<A>,
+    text: &mut String<A>,
+) -> Result<(), AllocError>
+    ensures text { OnOk result (string_bytes text.new ≡ string_bytes text.old ++ flat_map (row_of style) entries.now) }
+    ensures lacks { OnErr result A.Lacks }
+{
+    for entry in entries {
+        let line = entry.line(alloc)?;
+        put_row(style, line, entry.text(), part, text)?;
+    }
+    Ok(())
+}
+
+/// Adds the line of a statement.
+fn put_row<A: Memory>(
+    style: Style,
+    line: Line,
+    statement: &[u8],
+    part: &mut String<A>,
+    text: &mut String<A>,
+) -> Result<(), AllocError>
+    ensures text { OnOk result (string_bytes text.new ≡ string_bytes text.old ++ row_by style.form style.limit line statement.now) }
+    ensures lacks { OnErr result A.Lacks }
+{
+    match style.form {
+        Form::Columns => {
+            put_columns(line, part, text)?;
+            put_cut_text(style.limit, statement, text)?;
+            A::push_char(text, '\n')
+        }
+        Form::Json => {
+            put_members(line, text)?;
+            put_json(style.limit, statement, text)?;
+            A::push_str(text, "}\n")
+        }
+    }
+}
+
+/// Adds counts and times in columns.
+fn put_columns<A: Memory>(
+    line: Line,
+    part: &mut String<A>,
+    text: &mut String<A>,
+) -> Result<(), AllocError>
+    ensures text { OnOk result (string_bytes text.new ≡ string_bytes text.old ++ columns line) }
+    ensures lacks { OnErr result A.Lacks }
+{
+    put_count(COUNT, line.count, part, text)?;
+    put_count(WIDTH, line.rows, part, text)?;
+    put_time(line.least, part, text)?;
+    put_time(line.median, part, text)?;
+    put_time(line.greatest, part, text)
+}
+
+/// Adds a count at the right of so many characters.
+fn put_count<A: Memory>(
+    width: usize,
+    n: u64,
+    part: &mut String<A>,
+    text: &mut String<A>,
+) -> Result<(), AllocError>
+    ensures text { OnOk result (string_bytes text.new ≡ string_bytes text.old ++ cell width (decimal n)) }
+    ensures lacks { OnErr result A.Lacks }
+{
+    part.clear();
+    A::push_shown(part, format_args!("{n}"))?;
+    put_cell(width, part.as_str(), text)
+}
+
+/// Adds so many microseconds as milliseconds, at the right of their column.
+fn put_time<A: Memory>(
+    micros: u64,
+    part: &mut String<A>,
+    text: &mut String<A>,
+) -> Result<(), AllocError>
+    ensures text { OnOk result (string_bytes text.new ≡ string_bytes text.old ++ cell 10 (millis micros)) }
+    ensures lacks { OnErr result A.Lacks }
+{
+    part.clear();
+    put_millis(micros, part)?;
+    put_cell(WIDTH, part.as_str(), text)
+}
+
+/// Adds a text at the right of so many characters, and a blank.
+fn put_cell<A: Memory>(width: usize, part: &str, text: &mut String<A>) -> Result<(), AllocError>
+    ensures text { OnOk result (string_bytes text.new ≡ string_bytes text.old ++ cell width part.now) }
+    ensures lacks { OnErr result A.Lacks }
+{
+    put_blanks(width.saturating_sub(part.len()), text)?;
+    A::push_str(text, part)?;
+    A::push_char(text, ' ')
+}
+
+/// Adds counts and times as members of an object.
+fn put_members<A: Memory>(line: Line, text: &mut String<A>) -> Result<(), AllocError>
+    ensures text { OnOk result (string_bytes text.new ≡ string_bytes text.old ++ members line) }
+    ensures lacks { OnErr result A.Lacks }
+{
+    put_counts(line, text)?;
+    put_times(line, text)?;
+    A::push_str(text, ",\"statement\":")
+}
+
+/// Adds the counts.
+fn put_counts<A: Memory>(line: Line, text: &mut String<A>) -> Result<(), AllocError>
+    ensures text { OnOk result (string_bytes text.new ≡ string_bytes text.old ++ counts line) }
+    ensures lacks { OnErr result A.Lacks }
+{
+    let count = line.count;
+    let rows = line.rows;
+    A::push_shown(text, format_args!("{{\"count\":{count},\"rows\":{rows}"))
+}
+
+/// Adds the times.
+fn put_times<A: Memory>(line: Line, text: &mut String<A>) -> Result<(), AllocError>
+    ensures text { OnOk result (string_bytes text.new ≡ string_bytes text.old ++ times line) }
+    ensures lacks { OnErr result A.Lacks }
+{
+    put_member(",\"least\":", line.least, text)?;
+    put_member(",\"median\":", line.median, text)?;
+    put_member(",\"greatest\":", line.greatest, text)
+}
+
+/// Adds a time after its name.
+fn put_member<A: Memory>(name: &str, micros: u64, text: &mut String<A>) -> Result<(), AllocError>
+    ensures text { OnOk result (string_bytes text.new ≡ string_bytes text.old ++ name.now ++ number micros) }
+    ensures lacks { OnErr result A.Lacks }
+{
+    A::push_str(text, name)?;
+    put_number(micros, text)
+}

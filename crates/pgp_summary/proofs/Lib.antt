@@ -1,0 +1,4 @@
+mod Places
+mod Sorting
+mod Skips
+mod Tallies

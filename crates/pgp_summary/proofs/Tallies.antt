@@ -1,0 +1,150 @@
+-- Each run is tallied, among those of its statement.
+use Rattle.std.proofs.Common.{◌≡◌, ℕ, ◌+◌, ◌<◌, ◌^◌, ◌-◌, Bool, true, false, List, [], ◌∷◌, ◌++◌, min, Option, Some, None, refl, sym, ap, arith, ◌∙◌, inl, inr, append_assoc}
+use Rattle.std.specs.Prelude.{if◌then◌else◌}
+use Rattle.std.specs.Str.{bytes_eq}
+use Rattle.std.proofs.lemmas.Bool.{cases_Bool}
+use Rattle.std.proofs.lemmas.List.{append-nil}
+use Rattle.std.proofs.lemmas.Slice.Eq.{bytes_eq-Decides}
+use Rattle.pgp_summary.specs.Calls.{AreApart, AreCounted, Call, Ask, Row, End, after, all_rows, called, found, run_by, run_in, run_of, runs_in, said_of, stands_in, times_of}
+use Rattle.pgp_summary.specs.Runs.{Run, Tally, begun, capped, grown, tallied, tally, tally_after}
+use Rattle.pgp_summary.specs.Summary.{Request, State, done, nothing, skipped, taken, with_waiting}
+use Rattle.pgp_summary.specs.declared.work.Work.{Work}
+use Rattle.pgp_summary.specs.declared.work.Work.TheVariants.{Query, Parse, Bind, Execute}
+
+-- ---- calls
+
+did_tally : (w : Work) (r : Request) (micros : ℕ) (waiting : List Request) (s : State) → (done (Some (record { number = r.number; work = w; first = r.first; second = r.second })) micros (with_waiting waiting s)).tallies ≡ tally_after s.tallies (run_by w r micros s)
+did_tally Query r micros waiting s = refl
+did_tally Parse r micros waiting s = refl
+did_tally Bind r micros waiting s = refl
+did_tally Execute r micros waiting s = refl
+
+done_tally : (o : Option Request) (micros : ℕ) (waiting : List Request) (s : State) → (done o micros (with_waiting waiting s)).tallies ≡ tally_after s.tallies (run_of o micros s)
+done_tally None micros waiting s = refl
+done_tally (Some r) micros waiting s = did_tally r.work r micros waiting s
+
+call_tally : (call : Call) (s : State) → (called call s).tallies ≡ tally_after s.tallies (run_in call s)
+call_tally (Ask request) s = refl
+call_tally (Row number) s = refl
+call_tally (End number reply micros) s = done_tally (taken number reply (skipped number s.waiting)).0 micros (taken number reply (skipped number s.waiting)).1 s
+
+tally_join : (tallies : List Tally) (xs ys : List Run) → tally_after (tally_after tallies xs) ys ≡ tally_after tallies (xs ++ ys)
+tally_join tallies [] ys = refl
+tally_join tallies (x ∷ xs) ys = tally_join (tallied x tallies) xs ys
+
+calls_tally : (s : State) (calls : List Call) → (after s calls).tallies ≡ tally_after s.tallies (runs_in s calls)
+calls_tally s [] = refl
+calls_tally s (call ∷ more) =
+    calls_tally (called call s) more ∙ ap (λ l. tally_after l (runs_in (called call s) more)) (call_tally call s) ∙ tally_join s.tallies (run_in call s) (runs_in (called call s) more)
+
+pub all_tallied : (calls : List Call) → (after nothing calls).tallies ≡ tally (runs_in nothing calls)
+all_tallied calls = calls_tally nothing calls
+
+-- ---- statements
+
+same_text : (x y : List ℕ) → bytes_eq x y ≡ true → x ≡ y
+same_text x y e = (bytes_eq-Decides x y).0 e
+
+not_both : (b : Bool) → b ≡ true → b ≡ false → ⊥
+not_both true e f = cc
+not_both false e f = cc
+
+-- one that differs from one of two that are the same differs from the other
+apart : (x s name : List ℕ) → bytes_eq x s ≡ false → bytes_eq x name ≡ true → bytes_eq s name ≡ false
+apart x s name other is =
+    elim (cases_Bool (bytes_eq s name)) [
+      | inl same ↦ absurd (not_both (bytes_eq x s) ((bytes_eq-Decides x s).1 (same_text x name is ∙ sym (same_text s name same))) other)
+      | inr differs ↦ differs
+    ]
+
+differs_back : (x y : List ℕ) → bytes_eq x y ≡ false → bytes_eq y x ≡ false
+differs_back x y e =
+    elim (cases_Bool (bytes_eq y x)) [
+      | inl same ↦ absurd (not_both (bytes_eq x y) ((bytes_eq-Decides x y).1 (sym (same_text y x same))) e)
+      | inr differs ↦ differs
+    ]
+
+-- the statement of a run has it more
+abbrev joined : Run → Option Tally → Tally
+joined run None = begun run
+joined run (Some e) = grown run e
+
+both_ways : (b : Bool) (run : Run) (e : Tally) (x : Option Tally) → (if b then Some (grown run e) else x) ≡ (if b then Some (joined run (if b then Some e else x)) else (if b then Some e else x))
+both_ways true run e x = refl
+both_ways false run e x = refl
+
+found_more : (text : List ℕ) (run : Run) (tallies : List Tally) → found text (tallied run tallies) ≡ (if bytes_eq run.text text then Some (joined run (found text tallies)) else found text tallies)
+found_more text run [] = refl
+found_more text run (e ∷ more) =
+    elim (cases_Bool (bytes_eq e.text run.text)) [
+      | inl same ↦ (let t : bytes_eq e.text text ≡ bytes_eq run.text text = ap (λ n. bytes_eq n text) (same_text e.text run.text same) in rw (same, t) (both_ways (bytes_eq run.text text) run e (found text more)))
+      | inr other ↦ rw other (elim (cases_Bool (bytes_eq e.text text)) [
+        | inl here ↦ rw (here, apart e.text run.text text other here) refl
+        | inr there ↦ rw there (found_more text run more)
+      ])
+    ]
+
+abbrev joined_all : List ℕ → Option Tally → List Run → Option Tally
+joined_all text o [] = o
+joined_all text o (run ∷ more) = joined_all text (if bytes_eq run.text text then Some (joined run o) else o) more
+
+found_all : (text : List ℕ) (tallies : List Tally) (runs : List Run) → found text (tally_after tallies runs) ≡ joined_all text (found text tallies) runs
+found_all text tallies [] = refl
+found_all text tallies (run ∷ more) = found_all text (tallied run tallies) more ∙ ap (λ o. joined_all text o more) (found_more text run tallies)
+
+capped_sum : (m n k : ℕ) → m ≡ min n (2 ^ 64 - 1) → min (m + k) (2 ^ 64 - 1) ≡ min (n + k) (2 ^ 64 - 1)
+capped_sum m n k e = omega (arith, e)
+
+tally_is : (e : Tally) (text times : List ℕ) (rows : ℕ) → e.text ≡ text → e.rows ≡ rows → e.times ≡ times → Some e ≡ Some (record { text = text; rows = rows; times = times })
+tally_is e text times rows a b c =
+    ap (λ t. Some (let x : Tally = record { text = t; rows = e.rows; times = e.times } in x)) a ∙ ap (λ n. Some (let x : Tally = record { text = text; rows = n; times = e.times } in x)) b
+    ∙ ap (λ l. Some (let x : Tally = record { text = text; rows = rows; times = l } in x)) c
+
+some_joined : (text : List ℕ) (e : Tally) (n : ℕ) (runs : List Run) → e.text ≡ text → e.rows ≡ capped n → joined_all text (Some e) runs ≡ Some (record { text = text; rows = capped (n + all_rows text runs); times = e.times ++ times_of text runs })
+some_joined text e n [] is counted = tally_is e text (e.times ++ []) (capped (n + 0)) is (counted ∙ ap capped (omega arith)) (sym (append-nil e.times))
+some_joined text e n (run ∷ more) is counted =
+    elim (cases_Bool (bytes_eq run.text text)) [
+      | inl same ↦ rw same (some_joined text (grown run e) (n + run.rows) more is (capped_sum e.rows n run.rows counted)
+          ∙ ap (λ k. Some (let x : Tally = record { text = text; rows = capped k; times = (e.times ++ run.micros ∷ []) ++ times_of text more } in x)) (omega arith)
+          ∙ ap (λ l. Some (let x : Tally = record { text = text; rows = capped (n + (run.rows + all_rows text more)); times = l } in x)) (append_assoc e.times (run.micros ∷ []) (times_of text more)))
+      | inr other ↦ rw other (some_joined text e n more is counted)
+    ]
+
+small : (n : ℕ) → n < 2 ^ 64 → n ≡ min n (2 ^ 64 - 1)
+small n less = omega (arith, less)
+
+none_joined : (text : List ℕ) (runs : List Run) → AreCounted runs → joined_all text None runs ≡ said_of text runs
+none_joined text [] counted = refl
+none_joined text (run ∷ more) counted =
+    elim (cases_Bool (bytes_eq run.text text)) [
+      | inl same ↦ rw same (some_joined text (begun run) run.rows more (same_text run.text text same) (small run.rows counted.0))
+      | inr other ↦ rw other (none_joined text more counted.1)
+    ]
+
+pub all_found : (runs : List Run) (text : List ℕ) → AreCounted runs → found text (tally runs) ≡ said_of text runs
+all_found runs text counted = found_all text [] runs ∙ none_joined text runs counted
+
+-- ---- apart
+
+stands_kept : (text : List ℕ) (run : Run) (tallies : List Tally) → bytes_eq run.text text ≡ false → stands_in text (tallied run tallies) ≡ stands_in text tallies
+stands_kept text run [] other = rw other refl
+stands_kept text run (e ∷ more) other =
+    elim (cases_Bool (bytes_eq e.text run.text)) [
+      | inl same ↦ rw same refl
+      | inr differs ↦ rw differs (ap (λ b. if bytes_eq e.text text then true else b) (stands_kept text run more other))
+    ]
+
+apart_more : (run : Run) (tallies : List Tally) → AreApart tallies → AreApart (tallied run tallies)
+apart_more run [] a = (refl, tt)
+apart_more run (e ∷ more) a =
+    elim (cases_Bool (bytes_eq e.text run.text)) [
+      | inl same ↦ rw same a
+      | inr differs ↦ rw differs (stands_kept e.text run more (differs_back e.text run.text differs) ∙ a.0, apart_more run more a.1)
+    ]
+
+apart_after : (tallies : List Tally) (runs : List Run) → AreApart tallies → AreApart (tally_after tallies runs)
+apart_after tallies [] a = a
+apart_after tallies (run ∷ more) a = apart_after (tallied run tallies) more (apart_more run tallies a)
+
+pub all_apart : (runs : List Run) → AreApart (tally runs)
+all_apart runs = apart_after [] runs tt

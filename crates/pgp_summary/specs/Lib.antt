@@ -1,0 +1,4 @@
+pub mod Runs
+pub mod Summary
+pub mod Places
+pub mod Calls

@@ -1,0 +1,151 @@
+-- What requests ran, by the messages that ended their answers.
+use Rattle.std.specs.Prelude.{ℕ, ◌+◌, Bool, true, false, ◌&&◌, ◌==◌, nat_lt, if◌then◌else◌, List, [], ◌∷◌, ◌++◌, Option, None, Some, codes}
+use Rattle.std.specs.Str.{bytes_eq}
+use Rattle.pgp_summary.specs.Runs.{Run, Tally, capped, tallied}
+use Rattle.pgp_summary.specs.declared.work.Work.{Work}
+use Rattle.pgp_summary.specs.declared.work.Work.TheVariants.{Query, Parse, Bind, Execute}
+use Rattle.pgp_summary.specs.declared.work.Reply.{Reply}
+use Rattle.pgp_summary.specs.declared.work.Reply.TheVariants.{ParseComplete, BindComplete, ExecuteEnd, ReadyForQuery}
+
+-- ---- texts by their names
+
+-- a statement or a portal, and its text
+pub record Text : Type 0 where
+  pub name : List ℕ
+  pub text : List ℕ
+
+-- what stands for the text of what has none
+abbrev pub unknown : List ℕ
+unknown = codes "?"
+
+abbrev pub text_under : List ℕ → List Text → List ℕ
+text_under name [] = unknown
+text_under name (x ∷ more) = if bytes_eq x.name name then x.text else text_under name more
+
+-- a name has this text from now on
+abbrev pub named : (name text : List ℕ) → List Text → List Text
+named name text [] = record { name = name; text = text } ∷ []
+named name text (x ∷ more) = if bytes_eq x.name name then record { name = name; text = text } ∷ more else x ∷ named name text more
+
+-- ---- requests
+
+-- its number; and a Query's text, a Parse's statement and text, a Bind's portal and statement, or an Execute's portal
+pub record Request : Type 0 where
+  pub number : ℕ
+  pub work : Work
+  pub first : List ℕ
+  pub second : List ℕ
+
+abbrev pub is_ready : Reply → Bool
+is_ready ParseComplete = false
+is_ready BindComplete = false
+is_ready ExecuteEnd = false
+is_ready ReadyForQuery = true
+
+abbrev pub is_parsed : Reply → Bool
+is_parsed ParseComplete = true
+is_parsed BindComplete = false
+is_parsed ExecuteEnd = false
+is_parsed ReadyForQuery = false
+
+abbrev pub is_bound : Reply → Bool
+is_bound ParseComplete = false
+is_bound BindComplete = true
+is_bound ExecuteEnd = false
+is_bound ReadyForQuery = false
+
+abbrev pub is_end : Reply → Bool
+is_end ParseComplete = false
+is_end BindComplete = false
+is_end ExecuteEnd = true
+is_end ReadyForQuery = false
+
+-- whether a message ends the answer to what does this, and it took effect: a Parse and a Bind that fail have no such end
+abbrev pub ends : Work → Reply → Bool
+ends Query reply = is_ready reply
+ends Parse reply = is_parsed reply
+ends Bind reply = is_bound reply
+ends Execute reply = is_end reply
+
+-- whether a request has this number, and is ended so
+abbrev pub is_ended : ℕ → Reply → Request → Bool
+is_ended number reply r = (r.number == number) && ends r.work reply
+
+-- a server answers requests in order: those before the one that is answered get no answer any more
+abbrev pub skipped : ℕ → List Request → List Request
+skipped number [] = []
+skipped number (first ∷ more) = if nat_lt first.number number then skipped number more else first ∷ more
+
+abbrev pub is_first_before : ℕ → List Request → Bool
+is_first_before number [] = false
+is_first_before number (first ∷ more) = nat_lt first.number number
+
+abbrev pub is_first_ended : ℕ → Reply → List Request → Bool
+is_first_ended number reply [] = false
+is_first_ended number reply (first ∷ more) = is_ended number reply first
+
+-- the first of them, where it is ended so, and what is left
+abbrev pub taken : ℕ → Reply → List Request → Option Request × List Request
+taken number reply [] = (None, [])
+taken number reply (first ∷ more) = if is_ended number reply first then (Some first, more) else (None, first ∷ more)
+
+-- ---- what is known of the requests
+
+-- The texts of statements and portals; the requests whose answers aren't complete, in order; how many rows of which request came; and the statements that ran.
+pub record State : Type 0 where
+  pub statements : List Text
+  pub portals : List Text
+  pub waiting : List Request
+  pub counted : ℕ
+  pub rows : ℕ
+  pub tallies : List Tally
+
+-- before the first request
+abbrev pub nothing : State
+nothing = record { statements = []; portals = []; waiting = []; counted = 0; rows = 0; tallies = [] }
+
+-- one more request
+abbrev pub asked : Request → State → State
+asked r s = record { statements = s.statements; portals = s.portals; waiting = s.waiting ++ r ∷ []; counted = s.counted; rows = s.rows; tallies = s.tallies }
+
+-- the rows of the request of this number, so far
+abbrev pub rows_of : ℕ → State → ℕ
+rows_of number s = if s.counted == number then s.rows else 0
+
+-- a row of it
+abbrev pub row : ℕ → State → State
+row number s = record { statements = s.statements; portals = s.portals; waiting = s.waiting; counted = number; rows = capped (rows_of number s + 1); tallies = s.tallies }
+
+abbrev pub with_waiting : List Request → State → State
+with_waiting waiting s = record { statements = s.statements; portals = s.portals; waiting = waiting; counted = s.counted; rows = s.rows; tallies = s.tallies }
+
+abbrev pub with_statement : (name text : List ℕ) → State → State
+with_statement name text s = record { statements = named name text s.statements; portals = s.portals; waiting = s.waiting; counted = s.counted; rows = s.rows; tallies = s.tallies }
+
+abbrev pub with_portal : (name text : List ℕ) → State → State
+with_portal name text s = record { statements = s.statements; portals = named name text s.portals; waiting = s.waiting; counted = s.counted; rows = s.rows; tallies = s.tallies }
+
+abbrev pub with_run : Run → State → State
+with_run run s = record { statements = s.statements; portals = s.portals; waiting = s.waiting; counted = s.counted; rows = s.rows; tallies = tallied run s.tallies }
+
+-- a run of this text by the request of this number
+abbrev pub ran : (text : List ℕ) (number micros : ℕ) → State → State
+ran text number micros s = with_run (record { text = text; rows = rows_of number s; micros = micros }) s
+
+-- what a request did that took so long
+abbrev pub did : Work → Request → (micros : ℕ) → State → State
+did Query r micros s = ran r.first r.number micros s
+did Parse r micros s = with_statement r.first r.second s
+did Bind r micros s = with_portal r.first (text_under r.second s.statements) s
+did Execute r micros s = ran (text_under r.first s.portals) r.number micros s
+
+abbrev pub done : Option Request → (micros : ℕ) → State → State
+done None micros s = s
+done (Some r) micros s = did r.work r micros s
+
+abbrev pub ended_by : Option Request × List Request → (micros : ℕ) → State → State
+ended_by x micros s = done x.0 micros (with_waiting x.1 s)
+
+-- the answer to the request of this number ends so, and it took so long
+abbrev pub ended : (number : ℕ) → Reply → (micros : ℕ) → State → State
+ended number reply micros s = ended_by (taken number reply (skipped number s.waiting)) micros s

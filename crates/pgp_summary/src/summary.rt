@@ -1,0 +1,166 @@
+//! What the requests of a connection ran.
+
+ghost use Rattle.std.specs.Prelude.{◌≡◌, IfErr, OnErr, OnOk};
+ghost use Rattle.pgp_summary.specs.Summary.{asked, did, ended, nothing, ran, row, rows_of, text_under, with_portal};
+
+use crate::entry::{Entry, plus, tally};
+use crate::named::{Named, put, text_under};
+use crate::waiting::{Asked, push, skip, take};
+use crate::work::{Reply, Work};
+use pgp_base::Memory;
+use std::alloc::{AllocError, Global};
+use std::collections::VecDeque;
+use std::marker::Model;
+
+/// What the requests of a connection ran. It keeps the texts that prepared statements and portals have, those of the requests whose answers aren't complete,
+/// and of each statement that ran its text and 8 bytes a run.
+#[derive(Drop)]
+pub struct Summary<A: Memory = Global> {
+    alloc: A,
+    statements: Vec<Named<A>, A>,
+    portals: Vec<Named<A>, A>,
+    waiting: VecDeque<Asked<A>, A>,
+    counted: u64,
+    rows: u64,
+    entries: Vec<Entry<A>, A>,
+}
+
+impl<A: Memory> Model for Summary<A> {
+    ghost use Rattle.pgp_summary.specs.Summary.{State};
+
+    ghost Value = { State };
+
+    ghost view = { λ x. record { statements = x.statements.items; portals = x.portals.items; waiting = x.waiting.items; counted = x.counted; rows = x.rows; tallies = x.entries.items } };
+}
+
+impl<A: Memory> Summary<A> {
+    /// Before the first request.
+    pub fn new(alloc: A) -> Summary<A>
+        ensures { result ≡ nothing }
+    {
+        Summary {
+            alloc,
+            statements: Vec::new(alloc),
+            portals: Vec::new(alloc),
+            waiting: VecDeque::new(alloc),
+            counted: 0,
+            rows: 0,
+            entries: Vec::new(alloc),
+        }
+    }
+
+    /// Takes note of the request of this number: a Query by its text, a Parse by its statement's name and its text, a Bind by its portal and its statement, an
+    /// Execute by its portal. It takes effect once its answer is complete.
+    ///
+    /// # Errors
+    ///
+    /// Returns `AllocError` if there is no memory for it; on error nothing changes.
+    pub fn ask(
+        &mut self,
+        number: u64,
+        work: Work,
+        first: &[u8],
+        second: &[u8],
+    ) -> Result<(), AllocError>
+        ensures asked { OnOk result (self.new ≡ asked (record { number = number; work = work; first = first.now; second = second.now }) self.old) }
+        ensures same { OnErr result (self.new ≡ self.old) }
+        ensures lacks { OnErr result A.Lacks }
+    {
+        let first = self.alloc.list_of(first)?;
+        let second = self.alloc.list_of(second)?;
+        let asked = Asked {
+            number,
+            work,
+            first,
+            second,
+        };
+        push(asked, &mut self.waiting)
+    }
+
+    /// Takes note of a DataRow that belongs to the request of this number.
+    pub fn row(&mut self, number: u64)
+        ensures { self.new ≡ row number self.old }
+    {
+        self.rows = plus(self.rows_of(number), 1);
+        self.counted = number;
+    }
+
+    /// The rows of the request of this number, so far.
+    fn rows_of(&self, number: u64) -> u64
+        ensures { result ≡ rows_of number self.now }
+    {
+        if self.counted == number { self.rows } else { 0 }
+    }
+
+    /// Takes note of a message that ends the answer to the request of this number, so many microseconds after it. Another request than the one that this
+    /// ends isn't changed.
+    ///
+    /// # Errors
+    ///
+    /// Returns `AllocError` if there is no memory for what the request did; then the summary is no longer that of the requests.
+    pub fn end(&mut self, number: u64, reply: Reply, micros: u64) -> Result<(), AllocError>
+        ensures ended { OnOk result (self.new ≡ ended number reply micros self.old) }
+        ensures lacks { OnErr result A.Lacks }
+    {
+        skip(number, &mut self.waiting);
+        match take(number, reply, &mut self.waiting) {
+            Some(asked) => self.finish(asked, micros),
+            None => Ok(()),
+        }
+    }
+
+    /// Does what a request did that took so long.
+    fn finish(&mut self, asked: Asked<A>, micros: u64) -> Result<(), AllocError>
+        ensures done { OnOk result (self.new ≡ did asked.work asked micros self.old) }
+        ensures lacks { OnErr result A.Lacks }
+    {
+        match asked.work {
+            Work::Query => self.run(asked.first.as_slice(), asked.number, micros),
+            Work::Parse => put(asked.first, asked.second, &mut self.statements),
+            Work::Bind => self.bind(asked.first, asked.second.as_slice()),
+            Work::Execute => self.execute(asked.first.as_slice(), asked.number, micros),
+        }
+    }
+
+    /// Gives a portal the text of a statement.
+    fn bind(&mut self, portal: Vec<u8, A>, statement: &[u8]) -> Result<(), AllocError>
+        ensures bound { OnOk result (self.new ≡ with_portal portal.items (text_under statement.now self.old.statements) self.old) }
+        ensures lacks { OnErr result A.Lacks }
+    {
+        let text = self
+            .alloc
+            .list_of(text_under(statement, self.statements.as_slice()))?;
+        put(portal, text, &mut self.portals)
+    }
+
+    /// A run of what a portal has.
+    fn execute(&mut self, portal: &[u8], number: u64, micros: u64) -> Result<(), AllocError>
+        ensures ran { OnOk result (self.new ≡ ran (text_under portal.now self.old.portals) number micros self.old) }
+        ensures lacks { OnErr result A.Lacks }
+    {
+        let rows = self.rows_of(number);
+        let text = text_under(portal, self.portals.as_slice());
+        tally(self.alloc, text, rows, micros, &mut self.entries)
+    }
+
+    /// A run of this text.
+    fn run(&mut self, text: &[u8], number: u64, micros: u64) -> Result<(), AllocError>
+        ensures ran { OnOk result (self.new ≡ ran text.now number micros self.old) }
+        ensures lacks { OnErr result A.Lacks }
+    {
+        let rows = self.rows_of(number);
+        tally(self.alloc, text, rows, micros, &mut self.entries)
+    }
+
+    /// Where it takes its memory from.
+    pub fn memory(&self) -> A {
+        self.alloc
+    }
+
+    /// The statements that ran, in the order in which the first run of each ended.
+    pub fn entries(&self) -> &[Entry<A>]
+        ensures { result.now ≡ self.now.tallies }
+    {
+        self.entries.as_slice()
+    }
+}

@@ -1,0 +1,100 @@
+//! The requests whose answers aren't complete.
+
+ghost use Rattle.std.specs.Prelude.{◌≡◌, ◌++◌, ◌∷◌, [], nat_lt, OnErr, OnOk};
+ghost use Rattle.pgp_summary.specs.Summary.{is_ended, is_first_before, is_first_ended, skipped, taken};
+
+use crate::work::{Reply, Work, ends};
+use pgp_base::Memory;
+use std::alloc::{AllocError, Allocator};
+use std::collections::VecDeque;
+use std::marker::Model;
+
+/// A request, by its number: a Query's text, a Parse's statement and text, a Bind's portal and statement, or an Execute's portal.
+#[derive(Drop)]
+pub(crate) struct Asked<A: Allocator> {
+    pub(crate) number: u64,
+    pub(crate) work: Work,
+    pub(crate) first: Vec<u8, A>,
+    pub(crate) second: Vec<u8, A>,
+}
+
+impl<A: Allocator> Model for Asked<A> {
+    ghost use Rattle.pgp_summary.specs.Summary.{Request};
+
+    ghost Value = { Request };
+
+    ghost view = { λ x. record { number = x.number; work = x.work; first = x.first.items; second = x.second.items } };
+}
+
+impl<A: Memory> Asked<A> {
+    /// Whether it was sent before that of this number.
+    fn is_before(&self, number: u64) -> bool
+        ensures { result ≡ nat_lt self.now.number number }
+    {
+        self.number < number
+    }
+
+    /// Whether it has this number, and this ends its answer.
+    fn is_ended(&self, number: u64, reply: Reply) -> bool
+        ensures { result ≡ is_ended number reply self.now }
+    {
+        self.number == number && ends(self.work, reply)
+    }
+}
+
+/// Adds a request.
+pub(crate) fn push<A: Memory>(
+    asked: Asked<A>,
+    waiting: &mut VecDeque<Asked<A>, A>,
+) -> Result<(), AllocError>
+    ensures pushed { OnOk result (waiting.new.items ≡ waiting.old.items ++ asked ∷ []) }
+    ensures same { OnErr result (waiting.new.items ≡ waiting.old.items) }
+    ensures lacks { OnErr result A.Lacks }
+{
+    A::push_back(waiting, asked)?;
+    Ok(())
+}
+
+/// Lets those go that were sent before that of this number: the server has passed them over.
+pub(crate) fn skip<A: Memory>(number: u64, waiting: &mut VecDeque<Asked<A>, A>)
+    ensures { waiting.new.items ≡ skipped number waiting.old.items }
+{
+    'each: while is_first_before(number, waiting) {
+        drop(waiting.pop_front());
+    }
+}
+
+/// Whether the first was sent before that of this number.
+fn is_first_before<A: Memory>(number: u64, waiting: &VecDeque<Asked<A>, A>) -> bool
+    ensures { result ≡ is_first_before number waiting.now.items }
+{
+    match waiting.front() {
+        Some(asked) => asked.is_before(number),
+        None => false,
+    }
+}
+
+/// Takes the first, if it has this number and this ends its answer.
+pub(crate) fn take<A: Memory>(
+    number: u64,
+    reply: Reply,
+    waiting: &mut VecDeque<Asked<A>, A>,
+) -> Option<Asked<A>>
+    ensures { (result, waiting.new.items) ≡ taken number reply waiting.old.items }
+{
+    if is_first_ended(number, reply, waiting) {
+        waiting.pop_front()
+    } else {
+        None
+    }
+}
+
+/// Whether the first has this number, and this ends its answer.
+fn is_first_ended<A: Memory>(number: u64, reply: Reply, waiting: &VecDeque<Asked<A>, A>) -> bool
+    ensures { result ≡ is_first_ended number reply waiting.now.items }
+{
+    match waiting.front() {
+        Some(asked) => asked.is_ended(number, reply),
+        None => false,
+    }
+}
