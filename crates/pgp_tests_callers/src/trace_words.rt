@@ -52,7 +52,7 @@ const OPEN: &str =
 
 /// What `--help` writes, and what is said on standard error of other words.
 pub const USAGE: &str =
-    "usage: pgtrace server [--json] [--full] [--secrets] [--resume] [--only NAME[,NAME]..] [--color auto|always|never] | client [--json] [--full] [--secrets] [--resume] [--only NAME[,NAME]..] [--color auto|always|never] [--password-kind password|initial|response].. [--replication] | session [--json] [--full] [--secrets] [--requests] [--time absolute|relative] [--only NAME[,NAME]..] [--color auto|always|never] | --help | --version\n";
+    "usage: pgtrace server [--json] [--full] [--secrets] [--resume] [--only NAME[,NAME]..] [--color auto|always|never] | client [--json] [--full] [--secrets] [--resume] [--only NAME[,NAME]..] [--color auto|always|never] [--password-kind password|initial|response].. [--replication] | session [--json] [--full] [--secrets] [--requests] [--raw] [--summary] [--time absolute|relative] [--only NAME[,NAME]..] [--color auto|always|never] | --help | --version\n";
 
 #[test]
 fn words_decide_what_runs(rt: HostRuntime) {

@@ -36,7 +36,7 @@ Asks terminal words Help = words ≡ codes "--help" ∷ []
 Asks terminal words Version = words ≡ codes "--version" ∷ []
 
 abbrev pub usage : List ℕ
-usage = codes "usage: pgtrace server [--json] [--full] [--secrets] [--resume] [--only NAME[,NAME]..] [--color auto|always|never] | client [--json] [--full] [--secrets] [--resume] [--only NAME[,NAME]..] [--color auto|always|never] [--password-kind password|initial|response].. [--replication] | session [--json] [--full] [--secrets] [--requests] [--time absolute|relative] [--only NAME[,NAME]..] [--color auto|always|never] | --help | --version" ++ 10 ∷ []
+usage = codes "usage: pgtrace server [--json] [--full] [--secrets] [--resume] [--only NAME[,NAME]..] [--color auto|always|never] | client [--json] [--full] [--secrets] [--resume] [--only NAME[,NAME]..] [--color auto|always|never] [--password-kind password|initial|response].. [--replication] | session [--json] [--full] [--secrets] [--requests] [--raw] [--summary] [--time absolute|relative] [--only NAME[,NAME]..] [--color auto|always|never] | --help | --version" ++ 10 ∷ []
 
 abbrev pub version : List ℕ
 version = codes "pgtrace 0.1.0" ++ 10 ∷ []
