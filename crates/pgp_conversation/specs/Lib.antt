@@ -2,6 +2,11 @@ pub mod Recording
 pub mod Marks
 pub mod Requests
 pub mod Roles
+pub mod Shelves
+pub mod Types
+pub mod TypesKept
+pub mod Typed
+pub mod TypedLines
 pub mod Conversation
 pub mod Steps
 pub mod Hints

@@ -9,7 +9,7 @@ use Rattle.pgp_conversation.specs.declared.marking.Marking.{Marking}
 use Rattle.pgp_conversation.specs.declared.options.Clock.{Clock}
 use Rattle.pgp_conversation.specs.declared.options.Clock.TheVariants.{Absolute, Relative}
 use Rattle.pgp_conversation.specs.declared.options.Setting.{Setting}
-use Rattle.pgp_conversation.specs.declared.options.Setting.TheVariants.{Listing, Requests, Time}
+use Rattle.pgp_conversation.specs.declared.options.Setting.TheVariants.{Listing, Raw, Requests, Time}
 
 abbrev pub clock_word : Clock → List ℕ
 clock_word Absolute = codes "absolute"
@@ -20,6 +20,7 @@ abbrev pub spelled_by : Setting → List (List ℕ)
 spelled_by (Listing choice) = spelled choice
 spelled_by (Time clock) = codes "--time" ∷ clock_word clock ∷ []
 spelled_by Requests = codes "--requests" ∷ []
+spelled_by Raw = codes "--raw" ∷ []
 
 -- A recording begins with its connection, and the server says in it which a client's messages of tag `p` are, and whether the stream is one of replication.
 abbrev pub IsCommon : Choice → Type 0
@@ -36,12 +37,14 @@ abbrev pub IsSetting : Setting → Type 0
 IsSetting (Listing choice) = IsCommon choice
 IsSetting (Time clock) = ⊤
 IsSetting Requests = ⊤
+IsSetting Raw = ⊤
 
 -- those that a listing of one side has too
 abbrev pub listing_in : Setting → List Choice
 listing_in (Listing choice) = choice ∷ []
 listing_in (Time clock) = []
 listing_in Requests = []
+listing_in Raw = []
 
 abbrev pub is_absolute : Clock → Bool
 is_absolute Absolute = true
@@ -51,14 +54,22 @@ abbrev pub clock_in : Setting → List Bool
 clock_in (Listing choice) = []
 clock_in (Time clock) = is_absolute clock ∷ []
 clock_in Requests = []
+clock_in Raw = []
 
 abbrev pub is_requests : Setting → Bool
 is_requests (Listing choice) = false
 is_requests (Time clock) = false
 is_requests Requests = true
+is_requests Raw = false
+
+abbrev pub is_raw : Setting → Bool
+is_raw (Listing choice) = false
+is_raw (Time clock) = false
+is_raw Requests = false
+is_raw Raw = true
 
 -- The words are options, one after another, in any order. Those of a listing ask for one that looks so, of those of times the last counts, which says
--- whether they are counted from 1970 on, and requests are numbered where one of them asks for it.
+-- whether they are counted from 1970 on, and requests are numbered, and values in binary format shown as their bytes, where one of them asks for it.
 pub record AreSettings (terminal : Bool) (words : List (List ℕ)) (view : View) (marking : Marking) : Type 0 where
   pub settings : List Setting
   pub spelling : words ≡ flat_map spelled_by settings
@@ -66,6 +77,7 @@ pub record AreSettings (terminal : Bool) (words : List (List ℕ)) (view : View)
   pub listing : AreOptions terminal (flat_map spelled (flat_map listing_in settings)) view [] false false
   pub clock : marking.absolute ≡ last_of false (flat_map clock_in settings)
   pub requests : marking.numbered ≡ list_any is_requests settings
+  pub raw : marking.raw ≡ list_any is_raw settings
 
 -- the words are no options
 abbrev pub AreNoSettings : List (List ℕ) → Type 0

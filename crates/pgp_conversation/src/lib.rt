@@ -2,9 +2,14 @@
 //! `pgtrace` runs for `session`, with all else of `pgp_trace`.
 #![tactic(auto)]
 
+pub mod ask;
+pub mod awaited;
 pub mod chunk;
+pub mod column;
 pub mod ending;
+pub mod fields;
 pub mod frames;
+pub mod hear;
 pub mod hint;
 pub mod kinds;
 pub mod known;
@@ -17,8 +22,13 @@ pub mod numbers;
 pub mod options;
 pub mod outcome;
 pub mod role;
+pub mod row;
 pub mod run;
 pub mod session;
+pub mod shelf;
 pub mod talk;
 pub mod told;
+pub mod typed;
+pub mod types;
+pub mod value;
 pub mod word;

@@ -7,4 +7,6 @@ pub struct Marking {
     pub absolute: bool,
     /// Whether requests are numbered.
     pub numbered: bool,
+    /// Whether values in binary format are shown as their bytes.
+    pub raw: bool,
 }

@@ -26,6 +26,8 @@ pub enum Setting<'a> {
     Time(Clock),
     /// Requests are numbered.
     Requests,
+    /// Values in binary format are shown as their bytes.
+    Raw,
 }
 
 /// What the options come to.
@@ -64,6 +66,7 @@ pub fn settings_of<'a, A: Memory>(
         marking: Marking {
             absolute: false,
             numbered: false,
+            raw: false,
         },
     };
     let mut at = 0;
@@ -96,6 +99,10 @@ fn set<'a, A: Memory>(
             settings.marking.numbered = true;
             Ok(())
         }
+        Setting::Raw => {
+            settings.marking.raw = true;
+            Ok(())
+        }
     }
 }
 
@@ -117,6 +124,7 @@ fn long(setting: Setting<'_>) -> usize
         Setting::Listing(choice) => len(choice),
         Setting::Time(_) => 2,
         Setting::Requests => 1,
+        Setting::Raw => 1,
     }
 }
 
@@ -132,6 +140,7 @@ fn first_setting<'a>(words: &[&'a str]) -> Option<Setting<'a>>
     match *word {
         "--time" => first_clock(rest),
         "--requests" => Some(Setting::Requests),
+        "--raw" => Some(Setting::Raw),
         "--resume" => None,
         "--replication" => None,
         "--password-kind" => None,
@@ -147,6 +156,7 @@ fn first_listing<'a>(words: &[&'a str]) -> Option<Setting<'a>>
     requires kind { first_of (map (λ word. word.now) words.now) ≢ codes "--password-kind" }
     requires time { first_of (map (λ word. word.now) words.now) ≢ codes "--time" }
     requires requests { first_of (map (λ word. word.now) words.now) ≢ codes "--requests" }
+    requires raw { first_of (map (λ word. word.now) words.now) ≢ codes "--raw" }
     ensures some { IfSome result (λ setting. IsSetting setting × (map (λ word. word.now) words.now ≡ spelled_by setting ++ map (λ word. word.now) (drop (length (spelled_by setting)) words.now))) }
     ensures none { IfNone result (BeginsWithNoSetting (map (λ word. word.now) words.now)) }
 {

@@ -23,6 +23,7 @@ use crate::last::add_last;
 use crate::marking::Marking;
 use crate::numbers::unnumbered;
 use crate::talk::{Half, Talk, list_chunk};
+use crate::told::told_by;
 use bytes::{Buf, BytesMut};
 use pgp_base::Memory;
 use pgp_program::fault::Fault;
@@ -84,7 +85,7 @@ pub fn list_session<A: Memory, R: Input, W: Output>(
     ensures cause { IfErr result (Caused A.Lacks (GivesUp R.Fails R.Called) (GivesUp W.Fails W.Interrupted)) }
 {
     let mut piece = A::list_filled(alloc, 0, PIECE)?;
-    let mut held = held_at_first(alloc, marking.numbered);
+    let mut held = held_at_first(alloc, marking);
     list_pieces(
         view,
         marking,
@@ -95,26 +96,26 @@ pub fn list_session<A: Memory, R: Input, W: Output>(
     )
 }
 
-/// Before the first byte of a recording, whose requests are numbered or not.
-fn held_at_first<A: Memory>(alloc: A, numbered: bool) -> Held<A>
+/// Before the first byte of a recording.
+fn held_at_first<A: Memory>(alloc: A, marking: Marking) -> Held<A>
     ensures begun { result.begun ≡ false }
-    ensures talk { kept_of result.talk ≡ held_first (record { absolute = false; numbered = numbered }) }
+    ensures talk { kept_of result.talk ≡ held_first (record { absolute = false; numbered = marking.numbered; raw = marking.raw }) }
     ensures bytes { result.bytes.items ≡ [] }
 {
     Held {
         begun: false,
-        talk: talk_at_first(alloc, numbered),
+        talk: talk_at_first(alloc, marking),
         bytes: BytesMut::new(alloc),
         texts: no_texts(alloc),
     }
 }
 
 /// Before the first chunk.
-fn talk_at_first<A: Memory>(alloc: A, numbered: bool) -> Talk<A>
-    ensures { kept_of result ≡ held_first (record { absolute = false; numbered = numbered }) }
+fn talk_at_first<A: Memory>(alloc: A, marking: Marking) -> Talk<A>
+    ensures { kept_of result ≡ held_first (record { absolute = false; numbered = marking.numbered; raw = marking.raw }) }
 {
     Talk {
-        known: at_first(alloc, numbered),
+        known: at_first(alloc, marking),
         client: half_at_first(alloc),
         server: half_at_first(alloc),
         start: None,
@@ -150,7 +151,7 @@ fn list_pieces<A: Memory, R: Input, W: Output>(
 ) -> Result<Said, Fault>
     requires some { 0 < length piece.old }
     requires begun { held.old.begun ≡ false }
-    requires talk { kept_of held.old.talk ≡ held_first (record { absolute = false; numbered = marking.numbered }) }
+    requires talk { kept_of held.old.talk ≡ held_first (record { absolute = false; numbered = marking.numbered; raw = marking.raw }) }
     requires bytes { held.old.bytes.items ≡ [] }
     requires live { ReadsWhenReady R.remaining W.contents W.Passed R.MayRead (view_of view) marking input.old output.old }
     ensures listed { IfOk result (λ said. WritesListing (view_of view.entry) marking
@@ -275,7 +276,7 @@ fn list_last<A: Memory, W: Output>(
     ensures cause { IfErr result (Caused A.Lacks ⊥ (GivesUp W.Fails W.Interrupted)) }
 {
     held.texts.lines.clear();
-    let told = unnumbered(&held.talk.known.numbers);
+    let told = told_by(held.talk.known.marked, unnumbered(&held.talk.known.numbers));
     add_last(
         view,
         told,

@@ -1,0 +1,62 @@
+-- Values of a row and columns of a description, one at a time.
+use Rattle.std.proofs.Common.{◌≡◌, ℕ, List, [], ◌∷◌, ◌++◌, drop, Option, Some, None, refl, sym, ap, subst, ◌∙◌, append_assoc}
+use Rattle.std.specs.Prelude.{map}
+use Rattle.std.specs.Option.{option_map}
+use Rattle.std.specs.declared.ops.Range.{Range}
+use Rattle.std.proofs.lemmas.List.{append-nil}
+use Rattle.pgp_base.specs.Walk.{Walk, TakesItem, IsFinished, IsRefused}
+use Rattle.pgp_base.specs.declared.error.Error.{Error}
+use Rattle.pgp_message.specs.Items.{FieldPart}
+use Rattle.pgp_line.specs.Line.{ListEnds, followed}
+use Rattle.pgp_line.specs.declared.style.Style.{Style}
+use Rattle.pgp_trace.specs.Shown.{ending, refused}
+use Rattle.pgp_conversation.specs.Typed.{ShowsValues, column_first, column_of, columns_of}
+use Rattle.pgp_conversation.specs.TypedLines.{AddsValue, AddsValues}
+use Rattle.pgp_conversation.specs.declared.column.Column.{Column}
+
+-- ---- values
+
+module _ (style : Style) (columns : List Column) (value : Option (Range ℕ) → Option (List ℕ)) (before after : Walk (Option (Range ℕ))) where
+  pub values_more : (x : Option (Range ℕ)) (old mid new : List ℕ) → TakesItem before x after → AddsValue style (column_first columns) (value x) old mid
+      → AddsValues style (drop 1 columns) (map value after.items) after.end mid new → AddsValues style columns (map value before.items) before.end old new
+  values_more x old mid new takes adds rest = record {
+    last = rest.last;
+    each = subst (λ l. ShowsValues style columns (map value l) old rest.last) (sym takes.items)
+        (adds.shown, adds.under, subst (λ l. ShowsValues style (drop 1 columns) (map value after.items) l rest.last) adds.text rest.each);
+    text = rest.text ∙ ap (λ e. followed style rest.last (ending ListEnds e)) takes.end;
+  }
+
+  pub values_end : (old new : List ℕ) → IsFinished before after → new ≡ followed style old (ListEnds ∷ []) → AddsValues style columns (map value before.items) before.end old new
+  values_end old new ends grown = record {
+    last = old;
+    each = subst (λ l. ShowsValues style columns (map value l) old old) (sym ends.items) refl;
+    text = grown ∙ ap (λ e. followed style old (ending ListEnds e)) (sym ends.end);
+  }
+
+  pub values_fault : (e : Error) (old new : List ℕ) → IsRefused before e after → new ≡ followed style old (ListEnds ∷ refused e) → AddsValues style columns (map value before.items) before.end old new
+  values_fault e old new ends grown = record {
+    last = old;
+    each = subst (λ l. ShowsValues style columns (map value l) old old) (sym ends.items) refl;
+    text = grown ∙ ap (λ e. followed style old (ending ListEnds e)) (sym ends.end);
+  }
+
+-- ---- columns
+
+abbrev with_front : List Column → Option (List Column) → Option (List Column)
+with_front front columns = option_map (λ rest. front ++ rest) columns
+
+front_more : (front : List Column) (x : FieldPart) (fields : List FieldPart) (end : Option Error) → with_front (front ++ column_of x ∷ []) (columns_of fields end) ≡ with_front front (columns_of (x ∷ fields) end)
+front_more front x fields None = ap (λ l. Some l) (append_assoc front (column_of x ∷ []) (map column_of fields))
+front_more front x fields (Some e) = refl
+
+module _ (front : List Column) (before after : Walk FieldPart) (all : Option (List Column)) where
+  pub columns_more : (x : FieldPart) → with_front front (columns_of before.items before.end) ≡ all → TakesItem before x after → with_front (front ++ column_of x ∷ []) (columns_of after.items after.end) ≡ all
+  columns_more x so_far takes =
+      front_more front x after.items after.end ∙ ap (λ e. with_front front (columns_of (x ∷ after.items) e)) takes.end ∙ ap (λ l. with_front front (columns_of l before.end)) (sym takes.items) ∙ so_far
+
+  pub columns_end : with_front front (columns_of before.items before.end) ≡ all → IsFinished before after → Some front ≡ all
+  columns_end so_far ends =
+      ap (λ l. Some l) (sym (append-nil front)) ∙ ap (λ e. with_front front (columns_of [] e)) (sym ends.end) ∙ ap (λ l. with_front front (columns_of l before.end)) (sym ends.items) ∙ so_far
+
+  pub columns_cut : (e : Error) → with_front front (columns_of before.items before.end) ≡ all → IsRefused before e after → None ≡ all
+  columns_cut e so_far ends = ap (λ x. with_front front (columns_of before.items x)) (sym ends.end) ∙ so_far

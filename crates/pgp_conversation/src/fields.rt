@@ -1,0 +1,65 @@
+//! The columns that a description tells, and the formats that a Bind asks for.
+
+ghost use Rattle.std.specs.Prelude.{◌≡◌, map, IfOk, OnErr};
+ghost use Rattle.std.specs.Option.{option_map};
+ghost use Rattle.pgp_conversation.specs.Shelves.{is_binary};
+ghost use Rattle.pgp_conversation.specs.Typed.{column_of, columns_of};
+
+use crate::column::{Column, is_binary};
+use pgp_base::{FallibleIterator, Memory};
+use pgp_frontend_read::Formats;
+use pgp_message::{Field, Fields};
+use std::alloc::AllocError;
+
+/// The columns of a description, if it doesn't break off.
+///
+/// # Errors
+///
+/// Returns `AllocError` if there is no memory for them.
+pub fn columns_of<A: Memory>(
+    alloc: A,
+    mut fields: Fields<'_>,
+) -> Result<Option<Vec<Column, A>>, AllocError>
+    ensures columns { IfOk result (λ columns. option_map (λ list. list.items) columns ≡ columns_of fields.entry.items fields.entry.end) }
+    ensures lacks { OnErr result A.Lacks }
+{
+    let mut columns = Vec::new(alloc);
+    'fields: loop {
+        match fields.next() {
+            Ok(Some(field)) => A::push(&mut columns, column_of(&field))?,
+            Ok(None) => return Ok(Some(columns)),
+            Err(_) => return Ok(None),
+        }
+    }
+}
+
+fn column_of(field: &Field<'_>) -> Column
+    ensures { result ≡ column_of field.now }
+{
+    Column {
+        oid: field.type_oid(),
+        binary: is_binary(field.format()),
+    }
+}
+
+/// Which of the formats are binary.
+///
+/// # Errors
+///
+/// Returns `AllocError` if there is no memory for them.
+pub fn binaries_of<A: Memory>(
+    alloc: A,
+    mut formats: Formats<'_>,
+) -> Result<Vec<bool, A>, AllocError>
+    ensures formats { IfOk result (λ list. list.items ≡ map is_binary formats.entry) }
+    ensures lacks { OnErr result A.Lacks }
+{
+    let mut list = Vec::new(alloc);
+    'formats: loop {
+        match formats.next() {
+            Ok(Some(format)) => A::push(&mut list, is_binary(format))?,
+            Ok(None) => return Ok(list),
+            Err(_) => return Ok(list),
+        }
+    }
+}
