@@ -1,18 +1,30 @@
 -- Values of a row and columns of a description, one at a time.
-use Rattle.std.proofs.Common.{◌≡◌, ℕ, List, [], ◌∷◌, ◌++◌, drop, Option, Some, None, refl, sym, ap, subst, ◌∙◌, append_assoc}
-use Rattle.std.specs.Prelude.{map}
+use Rattle.std.proofs.Common.{◌≡◌, ℕ, List, [], ◌∷◌, ◌++◌, drop, Option, Some, None, Result, Ok, Err, refl, sym, ap, subst, ◌∙◌, append_assoc}
+use Rattle.std.specs.Prelude.{OnOk, map}
 use Rattle.std.specs.Option.{option_map}
 use Rattle.std.specs.declared.ops.Range.{Range}
 use Rattle.std.proofs.lemmas.List.{append-nil}
 use Rattle.pgp_base.specs.Walk.{Walk, TakesItem, IsFinished, IsRefused}
 use Rattle.pgp_base.specs.declared.error.Error.{Error}
 use Rattle.pgp_message.specs.Items.{FieldPart}
-use Rattle.pgp_line.specs.Line.{ListEnds, followed}
+use Rattle.pgp_message.specs.Parts.{CountedBytes}
+use Rattle.pgp_message.specs.Table.{HasPlaces, value_at}
+use Rattle.pgp_line.specs.Line.{ListEnds, closing, followed}
 use Rattle.pgp_line.specs.declared.style.Style.{Style}
 use Rattle.pgp_trace.specs.Shown.{ending, refused}
-use Rattle.pgp_conversation.specs.Typed.{ShowsValues, column_first, column_of, columns_of}
+use Rattle.pgp_conversation.specs.Typed.{IsRowLine, ShowsValues, column_first, column_of, columns_of, row_front}
 use Rattle.pgp_conversation.specs.TypedLines.{AddsValue, AddsValues}
 use Rattle.pgp_conversation.specs.declared.column.Column.{Column}
+
+-- ---- what a call returns
+
+pub ok_then : {T E P Q : Type 0} (r : Result T E) → (P → Q) → OnOk r P → OnOk r Q
+ok_then (Ok x) f p = f p
+ok_then (Err e) f p = tt
+
+pub ok_both : {T E P Q S : Type 0} (r : Result T E) → (P → Q → S) → OnOk r P → OnOk r Q → OnOk r S
+ok_both (Ok x) f p q = f p q
+ok_both (Err e) f p q = tt
 
 -- ---- values
 
@@ -39,6 +51,17 @@ module _ (style : Style) (columns : List Column) (value : Option (Range ℕ) →
     each = subst (λ l. ShowsValues style columns (map value l) old old) (sym ends.items) refl;
     text = grown ∙ ap (λ e. followed style old (ending ListEnds e)) (sym ends.end);
   }
+
+pub row_line : (style : Style) (place len : ℕ) (columns : List Column) (row : CountedBytes) (places : List (Option (Range ℕ))) (end : Option Error) (buffer front text line : List ℕ) → HasPlaces row places end → buffer ≡ row.storage → front ≡ row_front style place len row.count
+    → AddsValues style columns (map (value_at buffer) places) end front text → line ≡ text ++ closing style ++ 10 ∷ [] → IsRowLine style place len columns row line
+row_line style place len columns row places end buffer front text line has stands begins adds ended = record {
+  places = places;
+  end = end;
+  values = adds.last;
+  list = has;
+  each = subst (λ f. ShowsValues style columns (map (value_at row.storage) places) f adds.last) begins (subst (λ b. ShowsValues style columns (map (value_at b) places) front adds.last) stands adds.each);
+  is = ended ∙ ap (λ t. t ++ closing style ++ 10 ∷ []) adds.text;
+}
 
 -- ---- columns
 

@@ -16,6 +16,7 @@ use std::alloc::AllocError;
 /// # Errors
 ///
 /// Returns `AllocError` if there is no memory for them.
+#[tactic(auto, using(crate::proofs::RowLemmas::columns_more, crate::proofs::RowLemmas::columns_end, crate::proofs::RowLemmas::columns_cut))]
 pub fn columns_of<A: Memory>(
     alloc: A,
     mut fields: Fields<'_>,

@@ -94,6 +94,8 @@ fn learn<A: Memory>(
             end(ready.status(), types);
             Ok(())
         }
+        // a request that failed changes nothing
+        Message::ErrorResponse(_) => Ok(()),
         Message::DataRow(_) => Ok(()),
         Message::AuthenticationCleartextPassword
         | Message::AuthenticationGss
@@ -113,7 +115,6 @@ fn learn<A: Memory>(
         | Message::CopyInResponse(_)
         | Message::CopyOutResponse(_)
         | Message::EmptyQueryResponse
-        | Message::ErrorResponse(_)
         | Message::NegotiateProtocolVersion(_)
         | Message::NoticeResponse(_)
         | Message::NotificationResponse(_)

@@ -94,6 +94,7 @@ fn put_row<A: Memory>(
 }
 
 /// Adds the values of a row, each under the column at its place.
+#[tactic(auto, using(crate::proofs::RowLemmas::values_more, crate::proofs::RowLemmas::values_end, crate::proofs::RowLemmas::values_fault))]
 fn put_values<A: Memory>(
     style: Style,
     columns: &[Column],

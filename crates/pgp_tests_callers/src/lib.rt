@@ -31,6 +31,8 @@ mod trace_replication;
 #[cfg(test)]
 mod trace_session;
 #[cfg(test)]
+mod trace_types;
+#[cfg(test)]
 mod trace_words;
 #[cfg(test)]
 mod uses;

@@ -1,4 +1,4 @@
-use Rattle.std.proofs.Common.{Ok, None, Some, rules, subst, absurd}
+use Rattle.std.proofs.Common.{[], Ok, None, Some, rules, subst}
 use Rattle.pgp_frontend_read.specs.Step.{Step}
 use Rattle.pgp_frontend_read.specs.Views.{kind_view, view}
 use Rattle.pgp_conversation.specs.TypesKept.{types_of}

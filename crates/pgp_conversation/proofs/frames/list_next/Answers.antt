@@ -1,6 +1,7 @@
 use Rattle.std.proofs.Common.{◌≡◌, ◌++◌, ◌∙◌, Option, ap, rules, subst, sym}
 use Rattle.std.specs.Prelude.{string_bytes}
 use Rattle.pgp_frontend_read.specs.Views.{kind_view}
+use Rattle.pgp_trace.specs.Sides.{expected}
 use Rattle.pgp_trace.specs.Steps.{view_of}
 use Rattle.pgp_trace.specs.declared.frame.Next.TheVariants.{Line}
 use Rattle.pgp_conversation.specs.declared.told.Told.{Told}
@@ -42,10 +43,11 @@ returns-in_ok-note-in-Line-clause-each g c =
     let has = knows.listed in
     let whole = c.front_of-frame.ensures ∙ front_is c.args.bytes.now has.frame c.in_ok-next.behind.now has.whole in
     let shown : TypesFrame style c.args.place c.args.sender c.args.known.now.opened (kind_view c.expected-kind.result) told frame mid.types types line typed = c.in_ok-type_frame-in-Line.ensures.types in
-    let typing = line_typed style c.args.place c.args.known.now (kind_view c.expected-kind.result) told has.frame line typed _ mid.types types ? c.args.sender has.reported (subst (λ f. TypesFrame style c.args.place c.args.sender c.args.known.now.opened (kind_view c.expected-kind.result) told f mid.types types line typed) whole shown) in
-    let grown : after ≡ before ++ text_of view (mark ++ word view.style.form (told_by mid.marked told)) c.args.place c.as_slice-2.result.now name typed = ? in
+    let typing = line_typed style c.args.place c.args.known.now (kind_view c.expected-kind.result) told has.frame line typed _ mid.types types (c.expected-kind.ensures ∙ ap expected c.as_slice.ensures.value) c.args.sender has.reported (subst (λ f. TypesFrame style c.args.place c.args.sender c.args.known.now.opened (kind_view c.expected-kind.result) told f mid.types types line typed) whole shown) in
+    let grown : after ≡ before ++ text_of view (mark ++ word view.style.form (told_by mid.marked told)) c.args.place c.as_slice-in-Line.result.now name typed =
+    c.in_ok-list_line-in-Line.ensures.text ∙ ap (λ t. before ++ text_of view (mark ++ word view.style.form t) c.args.place c.as_slice-in-Line.result.now name typed) c.told_by-told.ensures in
     let noted : new ≡ note (noted_by name) (with_types types (with_numbers numbers mid)) = c.in_ok-note-in-Line.ensures.noted ∙ ap (λ n. note n (with_types types (with_numbers numbers mid))) c.note_of.ensures in
     let tells : told_in role mid.numbers ≡ (told, numbers) = c.in_ok-told-in-Line.ensures.told in
     rw c.in-Line.is (lists_one view mark c.args.sender c.args.place old mid new role told numbers types c.args.bytes.now c.in_ok-next.behind.now line typed name before after has knows.same
     (role_side c.args.sender c.args.known.now name frame has.frame whole) tells typing.0 typing.1
-    (grown ∙ ap (λ r. before ++ text_of view (mark ++ word view.style.form (told_by mid.marked told)) c.args.place r name typed) c.as_slice-2.ensures.value) noted)
+    (grown ∙ ap (λ r. before ++ text_of view (mark ++ word view.style.form (told_by mid.marked told)) c.args.place r name typed) c.as_slice-in-Line.ensures.value) noted)

@@ -4,7 +4,7 @@ use Rattle.pgp_conversation.specs.Typed.{has_binary}
 use Rattle.pgp_conversation.proofs.row.has_binary.Given as goal
 
 abbrev pub invariant-columns : goal.invariant-columns
-invariant-columns g l = has_binary l.rest ≡ has_binary l.fn.columns
+invariant-columns l = has_binary l.rest ≡ has_binary l.fn.columns
 
 abbrev pub decreases-columns : goal.decreases-columns
-decreases-columns g l = length l.rest
+decreases-columns l = length l.rest
