@@ -1,26 +1,29 @@
 -- What a frame tells of types is one thing, and so is its line, since a value has one text.
-use Rattle.std.proofs.Common.{◌≡◌, ℕ, Bool, true, false, List, [], ◌∷◌, drop, length, Option, Some, None, Result, Ok, Err, inl, inr, refl, sym, ap, subst, ◌∙◌}
-use Rattle.std.specs.Prelude.{map, ◌++◌}
+use Rattle.std.proofs.Common.{◌≡◌, ℕ, ℤ, Bool, true, false, List, [], ◌∷◌, drop, length, Option, Some, None, Result, Ok, Err, inl, inr, refl, sym, ap, subst, ◌∙◌}
+use Rattle.std.specs.Prelude.{map, ◌++◌, codes}
 use Rattle.std.specs.declared.ops.Range.{Range}
 use Rattle.pgp_base.specs.declared.error.Error.{Error}
 use Rattle.pgp_base.specs.OneList.{HasOneCountedList}
 use Rattle.pgp_base.proofs.OneLists.{one_counted_list}
-use Rattle.pgp_message.specs.BackendMessage.{Message, BindComplete, CloseComplete, DataRow, NoData, ParseComplete, ReadyForQuery, RowDescription}
-use Rattle.pgp_message.specs.Items.{FieldSpelled, FieldRefused, RangeSpelled, RangeRefused}
-use Rattle.pgp_message.specs.ItemReading.{field_at, range_at}
+use Rattle.pgp_message.specs.BackendMessage.{Message, BindComplete, CloseComplete, DataRow, NoData, ParameterDescription, ParseComplete, ReadyForQuery, RowDescription}
+use Rattle.pgp_message.specs.Items.{FieldSpelled, FieldRefused, RangeSpelled, RangeRefused, TypeSpelled, TypeRefused}
+use Rattle.pgp_message.specs.ItemReading.{field_at, range_at, type_at}
 use Rattle.pgp_message.specs.Parts.{CountedBytes}
 use Rattle.pgp_message.specs.Table.{value_at}
 use Rattle.pgp_message.proofs.FieldLemmas.{field_reader}
+use Rattle.pgp_message.proofs.NumberLemmas.{type_reader}
 use Rattle.pgp_message.proofs.RangeLemmas.{range_reader}
+use Rattle.pgp_frontend.specs.ClientMessage.{ClientMessage, Bind}
 use Rattle.pgp_line.specs.Line.{ListEnds, Value, closing, followed}
 use Rattle.pgp_line.specs.declared.style.Style.{Style}
+use Rattle.pgp_trace.specs.Client.{counted, signed_part}
 use Rattle.pgp_trace.specs.Shown.{ending}
 use Rattle.pgp_value_text.specs.ValueText.{IsTextOf}
 use Rattle.pgp_conversation.specs.declared.column.Column.{Column}
 use Rattle.pgp_conversation.specs.declared.told.Told.{Told}
 use Rattle.pgp_conversation.specs.declared.told.Told.TheVariants as told
-use Rattle.pgp_conversation.specs.Typed.{Heard, Hears, IsRowLine, Learns, Lists, Said, Sent, ShowsBytes, ShowsFitting, ShowsHeard, ShowsRow, ShowsTyped, ShowsValue, ShowsValues, asked, column_first, columns_of, fits, row_front}
-use Rattle.pgp_conversation.specs.Types.{Awaited, Types, described, first, reached, rows_of}
+use Rattle.pgp_conversation.specs.Typed.{Gives, Heard, Hears, IsBindLine, IsRowLine, Learns, Lists, Said, Sent, ShowsBound, ShowsBytes, ShowsFitting, ShowsHeard, ShowsRow, ShowsSent, ShowsTyped, ShowsValue, ShowsValues, bind_front, column_first, columns_of, fits, has_binary, parameters_in, row_front}
+use Rattle.pgp_conversation.specs.Types.{Awaited, Types, described, first, reached, rows_of, tells}
 
 -- ---- what is told
 
@@ -35,8 +38,17 @@ columns_one row x y a b =
     let same = fields.one row.count row.storage a.fields b.fields a.end b.end a.list b.list in
     a.is ∙ ap (λ l. columns_of l a.end) same.0 ∙ ap (columns_of b.fields) same.1 ∙ sym b.is
 
+types : HasOneCountedList TypeSpelled TypeRefused
+types = one_counted_list TypeSpelled TypeRefused (λ place. type_at) type_reader
+
+parameters_one : (row : CountedBytes) (x y : Option (List Column)) → Gives row x → Gives row y → x ≡ y
+parameters_one row x y a b =
+    let same = types.one row.count row.storage a.types b.types a.end b.end a.list b.list in
+    a.is ∙ ap (λ l. parameters_in l a.end) same.0 ∙ ap (parameters_in b.types) same.1 ∙ sym b.is
+
 hears_one : (m : Message) (a : Option Awaited) (old x y : Types) → Hears m a old x → Hears m a old y → x ≡ y
 hears_one (RowDescription row) a old x y p q = p.2 ∙ ap (λ c. described a c old) (columns_one row p.0 q.0 p.1 q.1) ∙ sym q.2
+hears_one (ParameterDescription row) a old x y p q = p.2 ∙ ap (λ c. tells a c old) (parameters_one row p.0 q.0 p.1 q.1) ∙ sym q.2
 hears_one m a old x y p q = p ∙ sym q
 
 pub learns_one : (told : Option Told) (said : Said) (old x y : Option Types) → Learns told said old x → Learns told said old y → x ≡ y
@@ -89,6 +101,22 @@ module _ (one_text : OneText) where
   heard_one style place len (DataRow row) a types old x y p q = rows_one style place len (rows_of a types) row old x y p q
   heard_one style place len m a types old x y p q = p ∙ sym q
 
+  bind_one : (style : Style) (place len : ℕ) (parameters : List Column) (portal statement : List ℕ) (formats : List ℤ) (values : List (Option (List ℕ))) (results : List ℤ) (x y : List ℕ) → IsBindLine style place len parameters portal statement formats values results x
+      → IsBindLine style place len parameters portal statement formats values results y → x ≡ y
+  bind_one style place len parameters portal statement formats values results x y a b =
+      let texts = values_one style parameters values (bind_front style place len portal statement formats (length values)) a.texts b.texts a.each b.each in
+      a.is ∙ ap (λ l. followed style (followed style l (ListEnds ∷ [])) (counted (codes "results") (codes "result_formats") signed_part results) ++ closing style ++ 10 ∷ []) texts ∙ sym b.is
+
+  bound_one : (binary : Bool) (style : Style) (place len : ℕ) (parameters : List Column) (portal statement : List ℕ) (formats : List ℤ) (values : List (Option (List ℕ))) (results : List ℤ) (old x y : List ℕ)
+      → ShowsBound binary style place len parameters portal statement formats values results old x → ShowsBound binary style place len parameters portal statement formats values results old y → x ≡ y
+  bound_one true style place len parameters portal statement formats values results old x y a b = bind_one style place len parameters portal statement formats values results x y a b
+  bound_one false style place len parameters portal statement formats values results old x y a b = a ∙ sym b
+
+  sent_one : (style : Style) (place len : ℕ) (m : ClientMessage) (types : Types) (old x y : List ℕ) → ShowsSent style place len m types old x → ShowsSent style place len m types old y → x ≡ y
+  sent_one style place len (Bind portal statement formats values results) types old x y p q = bound_one (has_binary types.binds) style place len types.binds portal statement formats values results old x y p q
+  sent_one style place len m types old x y p q = p ∙ sym q
+
   pub shows_one : (style : Style) (place len : ℕ) (told : Option Told) (said : Said) (types : Option Types) (old x y : List ℕ) → ShowsTyped style place len told said types old x → ShowsTyped style place len told said types old y → x ≡ y
   shows_one style place len (Some (told.Answer n sent now)) (Heard (Ok m)) (Some types) old x y p q = heard_one style place len m (first n types.awaited) types old x y p q
+  shows_one style place len (Some (told.Number n)) (Sent (Ok m)) (Some types) old x y p q = sent_one style place len m types old x y p q
   shows_one style place len told said types old x y p q = p ∙ sym q

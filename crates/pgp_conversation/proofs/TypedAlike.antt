@@ -9,8 +9,8 @@ use Rattle.pgp_trace.specs.ClientSecrets.{AlikeAnswers, AlikeMessages}
 use Rattle.pgp_trace.specs.Secrets.{Alike, AlikeResults}
 use Rattle.pgp_conversation.specs.declared.told.Told.{Told}
 use Rattle.pgp_conversation.specs.declared.told.Told.TheVariants as told
-use Rattle.pgp_conversation.specs.Typed.{Heard, Hears, HearsAt, Learns, Said, Sent, ShowsHeard, ShowsTyped, Unsaid, asked}
-use Rattle.pgp_conversation.specs.Types.{Awaited, Types, first, reached, waits}
+use Rattle.pgp_conversation.specs.Typed.{Heard, Hears, HearsAt, Learns, Said, Sent, ShowsHeard, ShowsSent, ShowsTyped, Unsaid, sends}
+use Rattle.pgp_conversation.specs.Types.{Awaited, Types, first, reached}
 
 -- frames are read as things that differ in their secrets alone
 abbrev pub AlikeSaid : Said → Said → Type 0
@@ -21,28 +21,36 @@ AlikeSaid x y = ⊥
 
 -- ---- requests
 
-password_asked : (n : ℕ) (a : List ℕ) (y : ClientMessage) → AlikeMessages (PasswordMessage a) y → asked n (PasswordMessage a) ≡ asked n y
-password_asked n a (PasswordMessage b) e = refl
-password_asked n a y e = ap (asked n) e
+-- what is changed by the one is changed by the other, and what is shown of the one is shown of the other
+record SameSent (x y : ClientMessage) : Type 0 where
+  changes : (n : ℕ) (t : Types) → sends n x t ≡ sends n y t
+  shows : (style : Style) (place len : ℕ) (types : Types) (old new : List ℕ) → ShowsSent style place len x types old new → ShowsSent style place len y types old new
 
-initial_asked : (n : ℕ) (m a : List ℕ) (y : ClientMessage) → AlikeMessages (SaslInitialResponse m (Some a)) y → asked n (SaslInitialResponse m (Some a)) ≡ asked n y
-initial_asked n m a (SaslInitialResponse k (Some b)) e = refl
-initial_asked n m a y e = ap (asked n) e
+same_sent : (x y : ClientMessage) → x ≡ y → SameSent x y
+same_sent x y e = record { changes = λ n t. ap (λ m. sends n m t) e; shows = λ style place len types old new s. subst (λ m. ShowsSent style place len m types old new) e s }
 
-response_asked : (n : ℕ) (a : List ℕ) (y : ClientMessage) → AlikeMessages (SaslResponse a) y → asked n (SaslResponse a) ≡ asked n y
-response_asked n a (SaslResponse b) e = refl
-response_asked n a y e = ap (asked n) e
+password_sent : (a : List ℕ) (y : ClientMessage) → AlikeMessages (PasswordMessage a) y → SameSent (PasswordMessage a) y
+password_sent a (PasswordMessage b) e = record { changes = λ n t. refl; shows = λ style place len types old new s. s }
+password_sent a y e = same_sent (PasswordMessage a) y e
 
-cancel_asked : (n : ℕ) (process : _) (a : List ℕ) (y : ClientMessage) → AlikeMessages (CancelRequest process a) y → asked n (CancelRequest process a) ≡ asked n y
-cancel_asked n p a (CancelRequest q b) e = refl
-cancel_asked n p a y e = ap (asked n) e
+initial_sent : (m a : List ℕ) (y : ClientMessage) → AlikeMessages (SaslInitialResponse m (Some a)) y → SameSent (SaslInitialResponse m (Some a)) y
+initial_sent m a (SaslInitialResponse k (Some b)) e = record { changes = λ n t. refl; shows = λ style place len types old new s. s }
+initial_sent m a y e = same_sent (SaslInitialResponse m (Some a)) y e
 
-asked_alike : (n : ℕ) (x y : ClientMessage) → AlikeMessages x y → asked n x ≡ asked n y
-asked_alike n (PasswordMessage a) y e = password_asked n a y e
-asked_alike n (SaslInitialResponse m (Some a)) y e = initial_asked n m a y e
-asked_alike n (SaslResponse a) y e = response_asked n a y e
-asked_alike n (CancelRequest p a) y e = cancel_asked n p a y e
-asked_alike n x y e = ap (asked n) e
+response_sent : (a : List ℕ) (y : ClientMessage) → AlikeMessages (SaslResponse a) y → SameSent (SaslResponse a) y
+response_sent a (SaslResponse b) e = record { changes = λ n t. refl; shows = λ style place len types old new s. s }
+response_sent a y e = same_sent (SaslResponse a) y e
+
+cancel_sent : (p : _) (a : List ℕ) (y : ClientMessage) → AlikeMessages (CancelRequest p a) y → SameSent (CancelRequest p a) y
+cancel_sent p a (CancelRequest q b) e = record { changes = λ n t. refl; shows = λ style place len types old new s. s }
+cancel_sent p a y e = same_sent (CancelRequest p a) y e
+
+sent_alike : (x y : ClientMessage) → AlikeMessages x y → SameSent x y
+sent_alike (PasswordMessage a) y e = password_sent a y e
+sent_alike (SaslInitialResponse m (Some a)) y e = initial_sent m a y e
+sent_alike (SaslResponse a) y e = response_sent a y e
+sent_alike (CancelRequest p a) y e = cancel_sent p a y e
+sent_alike x y e = same_sent x y e
 
 -- ---- answers
 
@@ -88,7 +96,7 @@ told_alike m k e = same_told m k e
 -- ---- frames
 
 number_alike : (n : ℕ) (x y : Said) → AlikeSaid x y → (old new : Option Types) → Learns (Some (told.Number n)) x old new → Learns (Some (told.Number n)) y old new
-number_alike n (Sent (Ok x)) (Sent (Ok y)) e (Some old) new l = l ∙ ap (λ a. Some (waits a old)) (asked_alike n x y e)
+number_alike n (Sent (Ok x)) (Sent (Ok y)) e (Some old) new l = l ∙ ap (λ t. Some t) ((sent_alike x y e).changes n old)
 number_alike n (Sent (Ok x)) (Sent (Ok y)) e None new l = l
 number_alike n (Sent (Err d)) (Sent (Err f)) e old new l = l
 number_alike n (Sent (Ok x)) (Sent (Err f)) e old new l = absurd e
@@ -140,9 +148,24 @@ module _ (style : Style) (place len : ℕ) where
   answer_shown n sent now Unsaid (Heard s) e types old new l = absurd e
   answer_shown n sent now Unsaid (Sent s) e types old new l = absurd e
 
+  number_shown : (n : ℕ) (x y : Said) → AlikeSaid x y → (types : Option Types) (old new : List ℕ) → ShowsTyped style place len (Some (told.Number n)) x types old new → ShowsTyped style place len (Some (told.Number n)) y types old new
+  number_shown n (Sent (Ok x)) (Sent (Ok y)) e (Some types) old new l = (sent_alike x y e).shows style place len types old new l
+  number_shown n (Sent (Ok x)) (Sent (Ok y)) e None old new l = l
+  number_shown n (Sent (Err d)) (Sent (Err f)) e types old new l = l
+  number_shown n (Sent (Ok x)) (Sent (Err f)) e types old new l = absurd e
+  number_shown n (Sent (Err d)) (Sent (Ok y)) e types old new l = absurd e
+  number_shown n (Sent r) (Heard s) e types old new l = absurd e
+  number_shown n (Sent r) Unsaid e types old new l = absurd e
+  number_shown n (Heard r) (Heard s) e types old new l = l
+  number_shown n (Heard r) (Sent s) e types old new l = absurd e
+  number_shown n (Heard r) Unsaid e types old new l = absurd e
+  number_shown n Unsaid Unsaid e types old new l = l
+  number_shown n Unsaid (Heard s) e types old new l = absurd e
+  number_shown n Unsaid (Sent s) e types old new l = absurd e
+
   pub shows_alike : (told : Option Told) (x y : Said) → AlikeSaid x y → (types : Option Types) (old new : List ℕ) → ShowsTyped style place len told x types old new → ShowsTyped style place len told y types old new
   shows_alike None x y e types old new l = l
   shows_alike (Some told.Lost) x y e types old new l = l
   shows_alike (Some told.Nothing) x y e types old new l = l
-  shows_alike (Some (told.Number n)) x y e types old new l = l
+  shows_alike (Some (told.Number n)) x y e types old new l = number_shown n x y e types old new l
   shows_alike (Some (told.Answer n sent now)) x y e types old new l = answer_shown n sent now x y e types old new l

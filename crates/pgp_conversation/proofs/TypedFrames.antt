@@ -18,9 +18,9 @@ use Rattle.pgp_trace.specs.Steps.{IsFrameOf}
 use Rattle.pgp_conversation.specs.declared.chunk.Sender.{Sender}
 use Rattle.pgp_conversation.specs.declared.chunk.Sender.TheVariants.{Client, Server}
 use Rattle.pgp_conversation.specs.declared.told.Told.TheVariants as told
-use Rattle.pgp_conversation.specs.Typed.{Heard, HearsAt, Learns, Said, Sent, ShowsHeard, ShowsTyped, Unsaid, asked}
+use Rattle.pgp_conversation.specs.Typed.{Heard, HearsAt, Learns, Said, Sent, ShowsHeard, ShowsSent, ShowsTyped, Unsaid, sends}
 use Rattle.pgp_conversation.specs.TypedLines.{AnswersFrame, AsksFrame, HearsFrame, ReadsSo}
-use Rattle.pgp_conversation.specs.Types.{Types, first, waits}
+use Rattle.pgp_conversation.specs.Types.{Types, first}
 
 -- ---- a server's frame has one result
 
@@ -110,10 +110,19 @@ abbrev unread : List ℕ → Bool → client.Unread
 unread bytes opened = record { bytes = bytes; opened = opened }
 
 module _ {T E : Type 0} (kind : PasswordKind) (opened : Bool) (frame : List ℕ) (new : client.Unread) (n : ℕ) (from to : Types) where
-  pub ask_read : (r : Result T E) (x : ClientMessage) → client.Step kind (unread frame opened) (Ok (Some x)) new → OnOk r (to ≡ waits (asked n x) from)
-      → OnOk r ((m : ClientMessage) (now : Bool) → client.Step kind (unread frame opened) (step_of (Ok m)) (unread [] now) → to ≡ waits (asked n m) from)
-  ask_read (Ok t) x step is = λ m now stands. is ∙ ap (λ k. waits (asked n k) from) (sent_one kind (unread frame opened) new (unread [] now) x m step stands)
+  pub ask_read : (r : Result T E) (x : ClientMessage) → client.Step kind (unread frame opened) (Ok (Some x)) new → OnOk r (to ≡ sends n x from)
+      → OnOk r ((m : ClientMessage) (now : Bool) → client.Step kind (unread frame opened) (step_of (Ok m)) (unread [] now) → to ≡ sends n m from)
+  ask_read (Ok t) x step is = λ m now stands. is ∙ ap (λ k. sends n k from) (sent_one kind (unread frame opened) new (unread [] now) x m step stands)
   ask_read (Err e) x step is = tt
+
+  pub show_read : (r : Result T E) (style : Style) (place : ℕ) (types : Types) (old to_line : List ℕ) (x : ClientMessage) → client.Step kind (unread frame opened) (Ok (Some x)) new → OnOk r (ShowsSent style place (length frame) x types old to_line)
+      → OnOk r ((m : ClientMessage) (now : Bool) → client.Step kind (unread frame opened) (step_of (Ok m)) (unread [] now) → ShowsSent style place (length frame) m types old to_line)
+  show_read (Ok t) style place types old to_line x step is = λ m now stands. subst (λ k. ShowsSent style place (length frame) k types old to_line) (sent_one kind (unread frame opened) new (unread [] now) x m step stands) is
+  show_read (Err e) style place types old to_line x step is = tt
+
+  pub show_only : (r : Result T E) (old to_line : List ℕ) (x : ClientMessage) → client.Step kind (unread frame opened) (Ok (Some x)) new → OnOk r ((e : ClientError) (now : Bool) → client.Step kind (unread frame opened) (step_of (Err e)) (unread [] now) → to_line ≡ old)
+  show_only (Ok t) old to_line x step = λ e now stands. absurd (sent_fault kind (unread frame opened) new (unread [] now) x e step stands)
+  show_only (Err e) old to_line x step = tt
 
   pub ask_only : (r : Result T E) (x : ClientMessage) → client.Step kind (unread frame opened) (Ok (Some x)) new → OnOk r ((e : ClientError) (now : Bool) → client.Step kind (unread frame opened) (step_of (Err e)) (unread [] now) → to ≡ from)
   ask_only (Ok t) x step = λ e now stands. absurd (sent_fault kind (unread frame opened) new (unread [] now) x e step stands)
@@ -121,25 +130,28 @@ module _ {T E : Type 0} (kind : PasswordKind) (opened : Bool) (frame : List ℕ)
 
 -- ---- by what is told of requests
 
-pub asks_so : (n : ℕ) (opened : Bool) (kind : PasswordKind) (frame : List ℕ) (from to : Types)
-    → ((m : ClientMessage) (now : Bool) → client.Step kind (record { bytes = frame; opened = opened }) (step_of (Ok m)) (record { bytes = []; opened = now }) → to ≡ waits (asked n m) from)
-    → ((e : ClientError) (now : Bool) → client.Step kind (record { bytes = frame; opened = opened }) (step_of (Err e)) (record { bytes = []; opened = now }) → to ≡ from)
-    → AsksFrame Client n opened kind frame (Some from) (Some to)
-asks_so n opened kind frame from to read rejected (Sent (Ok m)) is = ap (λ t. Some t) (read m is.0 is.1)
-asks_so n opened kind frame from to read rejected (Sent (Err e)) is = ap (λ t. Some t) (rejected e is.0 is.1)
-asks_so n opened kind frame from to read rejected (Heard r) is = absurd is
-asks_so n opened kind frame from to read rejected Unsaid is = absurd is
+module _ (style : Style) (place n : ℕ) (opened : Bool) (kind : PasswordKind) (frame : List ℕ) where
+  pub asks_so : (from to : Types) (old new : List ℕ)
+      → ((m : ClientMessage) (now : Bool) → client.Step kind (record { bytes = frame; opened = opened }) (step_of (Ok m)) (record { bytes = []; opened = now }) → to ≡ sends n m from)
+      → ((e : ClientError) (now : Bool) → client.Step kind (record { bytes = frame; opened = opened }) (step_of (Err e)) (record { bytes = []; opened = now }) → to ≡ from)
+      → ((m : ClientMessage) (now : Bool) → client.Step kind (record { bytes = frame; opened = opened }) (step_of (Ok m)) (record { bytes = []; opened = now }) → ShowsSent style place (length frame) m to old new)
+      → ((e : ClientError) (now : Bool) → client.Step kind (record { bytes = frame; opened = opened }) (step_of (Err e)) (record { bytes = []; opened = now }) → new ≡ old)
+      → AsksFrame style place Client n opened kind frame (Some from) (Some to) old new
+  asks_so from to old new read rejected shows same (Sent (Ok m)) is = (ap (λ t. Some t) (read m is.0 is.1), shows m is.0 is.1)
+  asks_so from to old new read rejected shows same (Sent (Err e)) is = (ap (λ t. Some t) (rejected e is.0 is.1), same e is.0 is.1)
+  asks_so from to old new read rejected shows same (Heard r) is = absurd is
+  asks_so from to old new read rejected shows same Unsaid is = absurd is
 
-pub asks_nothing : (n : ℕ) (opened : Bool) (kind : PasswordKind) (frame : List ℕ) → AsksFrame Client n opened kind frame None None
-asks_nothing n opened kind frame (Sent (Ok m)) is = refl
-asks_nothing n opened kind frame (Sent (Err e)) is = refl
-asks_nothing n opened kind frame (Heard r) is = refl
-asks_nothing n opened kind frame Unsaid is = refl
+  pub asks_nothing : (old : List ℕ) → AsksFrame style place Client n opened kind frame None None old old
+  asks_nothing old (Sent (Ok m)) is = (refl, refl)
+  asks_nothing old (Sent (Err e)) is = (refl, refl)
+  asks_nothing old (Heard r) is = (refl, refl)
+  asks_nothing old Unsaid is = (refl, refl)
 
-pub server_asks : (n : ℕ) (opened : Bool) (kind : PasswordKind) (frame : List ℕ) (from : Option Types) → AsksFrame Server n opened kind frame from from
-server_asks n opened kind frame from (Sent r) is = absurd is
-server_asks n opened kind frame from (Heard r) is = refl
-server_asks n opened kind frame from Unsaid is = refl
+  pub server_asks : (from : Option Types) (old : List ℕ) → AsksFrame style place Server n opened kind frame from from old old
+  server_asks from old (Sent r) is = absurd is
+  server_asks from old (Heard r) is = (refl, refl)
+  server_asks from old Unsaid is = (refl, refl)
 
 pub answers_so : (style : Style) (place n : ℕ) (frame : List ℕ) (from to : Types) (old new : List ℕ) → HearsFrame style place n frame from to old new → AnswersFrame style place Server n frame (Some from) (Some to) old new
 answers_so style place n frame from to old new h opened kind sent now (Heard (Ok m)) is = let told = h.heard m is in ((to, told.0, refl), told.1)

@@ -1,18 +1,19 @@
 -- Values as texts: what each frame changes of what is known of types, and the lines of frames with values whose types are known.
 -- PostgreSQL manual, "Extended Query", "Message Formats".
-use Rattle.std.specs.Prelude.{◌≡◌, ◌⊎◌, ℕ, Bool, true, false, ◌==◌, ◌&&◌, ◌||◌, if◌then◌else◌, List, [], ◌∷◌, ◌++◌, drop, length, map, Option, None, Some, Result, Ok, Err, codes}
+use Rattle.std.specs.Prelude.{◌≡◌, ◌⊎◌, ℕ, ℤ, Bool, true, false, ◌==◌, ◌&&◌, ◌||◌, if◌then◌else◌, List, [], ◌∷◌, ◌++◌, drop, length, map, Option, None, Some, Result, Ok, Err, codes}
 use mathlib.Core.Logic.{inl, inr}
 use Rattle.std.specs.declared.ops.Range.{Range}
 use Rattle.pgp_base.specs.declared.error.Error.{Error}
 use Rattle.pgp_base.specs.Items.{CountedItems}
-use Rattle.pgp_message.specs.BackendMessage.{Message, BindComplete, CloseComplete, DataRow, NoData, ParseComplete, ReadyForQuery, RowDescription}
-use Rattle.pgp_message.specs.Items.{FieldPart, FieldRefused, FieldSpelled}
+use Rattle.pgp_message.specs.BackendMessage.{Message, BindComplete, CloseComplete, DataRow, NoData, ParameterDescription, ParseComplete, ReadyForQuery, RowDescription}
+use Rattle.pgp_message.specs.Items.{FieldPart, FieldRefused, FieldSpelled, TypeRefused, TypeSpelled}
 use Rattle.pgp_message.specs.Parts.{CountedBytes}
 use Rattle.pgp_message.specs.Table.{HasPlaces, value_at}
-use Rattle.pgp_frontend.specs.ClientMessage.{ClientMessage, Bind, Close, Describe, Execute, Parse, Query}
+use Rattle.pgp_frontend.specs.ClientMessage.{ClientMessage, Bind, Close, Describe, Execute, Parse, Query, Sync}
 use Rattle.pgp_frontend_read.specs.declared.error.ClientError.{ClientError}
-use Rattle.pgp_line.specs.Line.{Part, Count, Length, ListEnds, Name, Tag, Value, closing, followed, key, opening}
+use Rattle.pgp_line.specs.Line.{Count, Length, ListEnds, Name, Tag, Text, Value, closing, followed, key, opening}
 use Rattle.pgp_line.specs.declared.style.Style.{Style}
+use Rattle.pgp_trace.specs.Client.{counted, signed_part}
 use Rattle.pgp_trace.specs.Listing.{LineOf}
 use Rattle.pgp_trace.specs.Shown.{ending}
 use Rattle.pgp_trace.specs.Sides as side
@@ -24,8 +25,8 @@ use Rattle.pgp_conversation.specs.declared.awaited.Object.TheVariants.{Statement
 use Rattle.pgp_conversation.specs.declared.column.Column.{Column}
 use Rattle.pgp_conversation.specs.declared.told.Told.{Told}
 use Rattle.pgp_conversation.specs.declared.told.Told.TheVariants as told
-use Rattle.pgp_conversation.specs.Shelves.{is_binary}
-use Rattle.pgp_conversation.specs.Types.{Awaited, Types, bound, described, ended, first, no_types, reached, rows_of, waits}
+use Rattle.pgp_conversation.specs.Shelves.{formatted, is_binary}
+use Rattle.pgp_conversation.specs.Types.{Awaited, Types, binds, bound, closed, described, ended, first, no_types, parameters_of, parsed, parses, reached, rows_of, syncs, tells, waits}
 
 -- what a frame was read as
 pub data Said : Type 0 where
@@ -48,7 +49,7 @@ first_types raw = if raw then None else Some no_types
 -- ---- a request
 
 abbrev pub about : ℕ → Object → List ℕ → Awaited
-about n object name = record { number = n; object = object; name = name; statement = []; formats = [] }
+about n object name = record { number = n; object = object; name = name; statement = []; formats = []; parameters = [] }
 
 -- what a Describe or a Close is about, by its letter
 abbrev pub about_by : ℕ → (variant : ℕ) → List ℕ → Option Awaited
@@ -57,15 +58,29 @@ about_by n variant name =
     else if variant == 80 then Some (about n Portal name)  -- P
     else None
 
+-- a parameter of this type
+abbrev pub parameter : ℕ → Column
+parameter oid = record { oid = oid; binary = false }
+
 -- What a request is about. A Query's rows come from the portal without a name.
 abbrev pub asked : ℕ → ClientMessage → Option Awaited
-asked n (Parse name query types) = Some (about n Statement name)
-asked n (Bind portal statement formats values results) = Some (record { number = n; object = Portal; name = portal; statement = statement; formats = map is_binary results })
+asked n (Parse name query types) = Some (record { number = n; object = Statement; name = name; statement = []; formats = []; parameters = map parameter types })
+asked n (Bind portal statement formats values results) = Some (record { number = n; object = Portal; name = portal; statement = statement; formats = map is_binary results; parameters = [] })
 asked n (Describe variant name) = about_by n variant name
 asked n (Close variant name) = about_by n variant name
 asked n (Execute portal max_rows) = Some (about n Portal portal)
 asked n (Query query) = Some (about n Portal [])
 asked n m = None
+
+-- what it changes when it is sent
+abbrev pub announces : ℕ → ClientMessage → Types → Types
+announces n (Parse name query types) t = parses n name (map parameter types) t
+announces n (Bind portal statement formats values results) t = binds (formatted (map is_binary formats) (parameters_of statement t)) t
+announces n Sync t = syncs t
+announces n m t = t
+
+abbrev pub sends : ℕ → ClientMessage → Types → Types
+sends n m t = waits (asked n m) (announces n m t)
 
 -- ---- a message of the server
 
@@ -84,11 +99,23 @@ pub record Lists (row : CountedBytes) (columns : Option (List Column)) : Type 0 
   pub list : CountedItems FieldSpelled FieldRefused row.count row.storage fields end
   pub is : columns ≡ columns_of fields end
 
+-- what a description of parameters says; none are known where it breaks off
+abbrev pub parameters_in : List ℕ → Option Error → Option (List Column)
+parameters_in types None = Some (map parameter types)
+parameters_in types (Some e) = None
+
+pub record Gives (row : CountedBytes) (parameters : Option (List Column)) : Type 0 where
+  pub types : List ℕ
+  pub end : Option Error
+  pub list : CountedItems TypeSpelled TypeRefused row.count row.storage types end
+  pub is : parameters ≡ parameters_in types end
+
 -- what a message that answers this request changes
 abbrev pub Hears : Message → Option Awaited → (old new : Types) → Type 0
 Hears (RowDescription row) a old new = (columns : Option (List Column)) × Lists row columns × (new ≡ described a columns old)
-Hears ParseComplete a old new = new ≡ described a None old
-Hears CloseComplete a old new = new ≡ described a None old
+Hears (ParameterDescription row) a old new = (parameters : Option (List Column)) × Gives row parameters × (new ≡ tells a parameters old)
+Hears ParseComplete a old new = new ≡ parsed a old
+Hears CloseComplete a old new = new ≡ closed a old
 Hears NoData a old new = new ≡ described a None old
 Hears BindComplete a old new = new ≡ bound a old
 Hears (ReadyForQuery status) a old new = new ≡ ended status old
@@ -103,7 +130,7 @@ HearsAt n m old new = Hears m (first n (reached n old).awaited) (reached n old) 
 -- what a frame changes, by what is told of requests: nothing is known of types from the first message on that has no place
 abbrev pub Learns : Option Told → Said → (old new : Option Types) → Type 0
 Learns (Some told.Lost) said old new = new ≡ None
-Learns (Some (told.Number n)) (Sent (Ok m)) (Some old) new = new ≡ Some (waits (asked n m) old)
+Learns (Some (told.Number n)) (Sent (Ok m)) (Some old) new = new ≡ Some (sends n m old)
 Learns (Some (told.Answer n sent now)) (Heard (Ok m)) (Some old) new = (types : Types) × HearsAt n m old types × (new ≡ Some types)
 Learns told said old new = new ≡ old
 
@@ -166,7 +193,29 @@ abbrev pub ShowsHeard : Style → (place len : ℕ) → Message → Option Await
 ShowsHeard style place len (DataRow row) a types old new = ShowsRow style place len (rows_of a types) row old new
 ShowsHeard style place len m a types old new = new ≡ old
 
+abbrev pub bind_front : Style → (place len : ℕ) → (portal statement : List ℕ) → (formats : List ℤ) → (count : ℕ) → List ℕ
+bind_front style place len portal statement formats count =
+    followed style (followed style (followed style (followed style (opening style place) (Length len ∷ Tag 66 ∷ Name false (codes "Bind") ∷ [])) (key (codes "portal") ∷ Text portal ∷ key (codes "statement") ∷ Text statement ∷ []))
+    (counted (codes "formats") (codes "formats") signed_part formats)) (key (codes "values") ∷ Count count ∷ [])
+
+-- the line of a Bind with these parameters
+pub record IsBindLine (style : Style) (place len : ℕ) (parameters : List Column) (portal statement : List ℕ) (formats : List ℤ) (values : List (Option (List ℕ))) (results : List ℤ) (line : List ℕ) : Type 0 where
+  pub texts : List ℕ
+  pub each : ShowsValues style parameters values (bind_front style place len portal statement formats (length values)) texts
+  pub is : line ≡ followed style (followed style texts (ListEnds ∷ [])) (counted (codes "results") (codes "result_formats") signed_part results) ++ closing style ++ 10 ∷ []
+
+abbrev pub ShowsBound : (binary : Bool) → Style → (place len : ℕ) → List Column → (portal statement : List ℕ) → List ℤ → List (Option (List ℕ)) → List ℤ → (old new : List ℕ) → Type 0
+ShowsBound true style place len parameters portal statement formats values results old new = IsBindLine style place len parameters portal statement formats values results new
+ShowsBound false style place len parameters portal statement formats values results old new = new ≡ old
+
+-- the line of a request
+abbrev pub ShowsSent : Style → (place len : ℕ) → ClientMessage → Types → (old new : List ℕ) → Type 0
+ShowsSent style place len (Bind portal statement formats values results) types old new =
+    ShowsBound (has_binary types.binds) style place len types.binds portal statement formats values results old new
+ShowsSent style place len m types old new = new ≡ old
+
 -- the line of a frame, where so much is known after it
 abbrev pub ShowsTyped : Style → (place len : ℕ) → Option Told → Said → Option Types → (old new : List ℕ) → Type 0
 ShowsTyped style place len (Some (told.Answer n sent now)) (Heard (Ok m)) (Some types) old new = ShowsHeard style place len m (first n types.awaited) types old new
+ShowsTyped style place len (Some (told.Number n)) (Sent (Ok m)) (Some types) old new = ShowsSent style place len m types old new
 ShowsTyped style place len told said types old new = new ≡ old

@@ -54,8 +54,9 @@ abbrev pub TypesFrame : Style → (place : ℕ) → Sender → (opened : Bool) �
 TypesFrame style place who opened kind told frame from to old new = (said : Said) → ReadsSo who opened kind frame said → Learns told said from to × ShowsTyped style place (length frame) told said to old new
 
 -- the same of a request and of an answer
-abbrev pub AsksFrame : Sender → (number : ℕ) → (opened : Bool) → PasswordKind → (frame : List ℕ) → (from to : Option Types) → Type 0
-AsksFrame who number opened kind frame from to = (said : Said) → ReadsSo who opened kind frame said → Learns (Some (told.Number number)) said from to
+abbrev pub AsksFrame : Style → (place : ℕ) → Sender → (number : ℕ) → (opened : Bool) → PasswordKind → (frame : List ℕ) → (from to : Option Types) → (old new : List ℕ) → Type 0
+AsksFrame style place who number opened kind frame from to old new = (said : Said) → ReadsSo who opened kind frame said
+    → Learns (Some (told.Number number)) said from to × ShowsTyped style place (length frame) (Some (told.Number number)) said to old new
 
 abbrev pub AnswersFrame : Style → (place : ℕ) → Sender → (number : ℕ) → (frame : List ℕ) → (from to : Option Types) → (old new : List ℕ) → Type 0
 AnswersFrame style place who number frame from to old new = (opened : Bool) (kind : PasswordKind) (sent now : ℕ) (said : Said) → ReadsSo who opened kind frame said

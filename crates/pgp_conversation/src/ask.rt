@@ -1,20 +1,22 @@
 //! What a client's requests are about.
 
-ghost use Rattle.std.specs.Prelude.{◌≡◌, Bool, false, true, [], Ok, Err, OnErr, OnOk};
+ghost use Rattle.std.specs.Prelude.{◌≡◌, Bool, false, true, [], Ok, Err, Some, map, OnErr, OnOk};
 ghost use Rattle.pgp_frontend.specs.ClientMessage.{ClientMessage as Message};
 ghost use Rattle.pgp_frontend_read.specs.Pieces.{step_of};
 ghost use Rattle.pgp_frontend_read.specs.Step.{Step};
 ghost use Rattle.pgp_frontend_read.specs.Views.{kind_view, view};
 ghost use Rattle.pgp_frontend_read.specs.declared.error.ClientError.{ClientError as Fault};
-ghost use Rattle.pgp_conversation.specs.Typed.{about_by, asked};
-ghost use Rattle.pgp_conversation.specs.Types.{waits};
+ghost use Rattle.pgp_conversation.specs.Shelves.{formatted, is_binary};
+ghost use Rattle.pgp_conversation.specs.Typed.{about_by, sends};
+ghost use Rattle.pgp_conversation.specs.Types.{binds, parameters_of, waits};
 ghost use Rattle.pgp_conversation.specs.TypesKept.{types_of};
 
 use crate::awaited::{Object, wait, wait_bound};
-use crate::fields::binaries_of;
-use crate::types::Types;
+use crate::fields::{binaries_of, given_types};
+use crate::shelf::formatted;
+use crate::types::{Types, parameters_of, parse, sync};
 use pgp_base::Memory;
-use pgp_frontend_read::{ClientMessage, ClientMessages, PasswordKind};
+use pgp_frontend_read::{ClientMessage, ClientMessages, Formats, PasswordKind};
 use std::alloc::AllocError;
 
 /// Takes note of a client's frame, which is the request of this number, where a startup packet came before it or not.
@@ -29,7 +31,7 @@ pub fn ask_frame<A: Memory>(
     frame: &[u8],
     types: &mut Types<A>,
 ) -> Result<(), AllocError>
-    ensures asked { OnOk result ((m : Message) (now : Bool) → Step (kind_view kind) (record { bytes = frame.now; opened = opened }) (step_of (Ok m)) (record { bytes = []; opened = now }) → types_of types.new ≡ waits (asked number m) (types_of types.old)) }
+    ensures asked { OnOk result ((m : Message) (now : Bool) → Step (kind_view kind) (record { bytes = frame.now; opened = opened }) (step_of (Ok m)) (record { bytes = []; opened = now }) → types_of types.new ≡ sends number m (types_of types.old)) }
     ensures rejected { OnOk result ((e : Fault) (now : Bool) → Step (kind_view kind) (record { bytes = frame.now; opened = opened }) (step_of (Err e)) (record { bytes = []; opened = now }) → types_of types.new ≡ types_of types.old) }
     ensures lacks { OnErr result A.Lacks }
 {
@@ -47,29 +49,29 @@ fn ask<A: Memory>(
     message: ClientMessage<'_>,
     types: &mut Types<A>,
 ) -> Result<(), AllocError>
-    ensures asked { OnOk result (types_of types.new ≡ waits (asked number (view message.entry)) (types_of types.old)) }
+    ensures asked { OnOk result (types_of types.new ≡ sends number (view message.entry) (types_of types.old)) }
     ensures lacks { OnErr result A.Lacks }
 {
     match message {
-        ClientMessage::Parse { name, .. } => {
-            wait(number, Object::Statement, name, &mut types.awaited)
+        ClientMessage::Parse {
+            name,
+            param_types,
+            ..
+        } => {
+            let alloc = *types.awaited.allocator();
+            let parameters = given_types(alloc, param_types)?;
+            parse(number, name, parameters, types)
         }
         ClientMessage::Bind {
             portal,
             statement,
+            formats,
             result_formats,
             ..
-        } => {
-            let alloc = *types.awaited.allocator();
-            let formats = binaries_of(alloc, result_formats)?;
-            wait_bound(
-                number,
-                Object::Portal,
-                portal,
-                statement,
-                formats,
-                &mut types.awaited,
-            )
+        } => ask_bind(number, portal, statement, formats, result_formats, types),
+        ClientMessage::Sync => {
+            sync(types);
+            Ok(())
         }
         ClientMessage::Describe { variant, name } => ask_by(number, variant, name, types),
         ClientMessage::Close { variant, name } => ask_by(number, variant, name, types),
@@ -89,9 +91,35 @@ fn ask<A: Memory>(
         | ClientMessage::SaslResponse(_)
         | ClientMessage::SslRequest
         | ClientMessage::Startup { .. }
-        | ClientMessage::Sync
         | ClientMessage::Terminate => Ok(()),
     }
+}
+
+/// Takes note of a Bind.
+fn ask_bind<A: Memory>(
+    number: u64,
+    portal: &[u8],
+    statement: &[u8],
+    formats: Formats<'_>,
+    results: Formats<'_>,
+    types: &mut Types<A>,
+) -> Result<(), AllocError>
+    ensures asked { OnOk result (types_of types.new ≡ waits (Some (record { number = number; object = Object.Portal; name = portal.now; statement = statement.now; formats = map is_binary results.entry; parameters = [] })) (binds (formatted (map is_binary formats.entry) (parameters_of statement.now (types_of types.old))) (types_of types.old))) }
+    ensures lacks { OnErr result A.Lacks }
+{
+    let alloc = *types.awaited.allocator();
+    let results = binaries_of(alloc, results)?;
+    let binaries = binaries_of(alloc, formats)?;
+    types.binds = formatted(alloc, binaries.as_slice(), parameters_of(statement, types))?;
+    wait_bound(
+        number,
+        Object::Portal,
+        portal,
+        statement,
+        results,
+        Vec::new(alloc),
+        &mut types.awaited,
+    )
 }
 
 /// Takes note of a Describe or a Close, by its letter.

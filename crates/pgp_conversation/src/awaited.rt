@@ -5,6 +5,7 @@ ghost use Rattle.std.specs.Option.{option_map};
 ghost use Rattle.pgp_conversation.specs.Types.{first, since};
 ghost use Rattle.pgp_conversation.specs.TypesKept.{awaited_of, queue_of};
 
+use crate::column::Column;
 use pgp_base::Memory;
 use std::alloc::AllocError;
 use std::collections::VecDeque;
@@ -25,6 +26,8 @@ pub struct Awaited<A: Memory> {
     /// Of a Bind: the statement, and which formats of the columns are binary.
     pub statement: Vec<u8, A>,
     pub formats: Vec<bool, A>,
+    /// Of a Parse the parameters that it gives.
+    pub parameters: Vec<Column, A>,
 }
 
 /// Lets the requests before this number go: their answers are over.
@@ -66,11 +69,19 @@ pub fn wait<A: Memory>(
     name: &[u8],
     awaited: &mut VecDeque<Awaited<A>, A>,
 ) -> Result<(), AllocError>
-    ensures asked { OnOk result (queue_of awaited.new.items ≡ queue_of awaited.old.items ++ record { number = number; object = object; name = name.now; statement = []; formats = [] } ∷ []) }
+    ensures asked { OnOk result (queue_of awaited.new.items ≡ queue_of awaited.old.items ++ record { number = number; object = object; name = name.now; statement = []; formats = []; parameters = [] } ∷ []) }
     ensures lacks { OnErr result A.Lacks }
 {
     let alloc = *awaited.allocator();
-    wait_bound(number, object, name, &[], Vec::new(alloc), awaited)
+    wait_bound(
+        number,
+        object,
+        name,
+        &[],
+        Vec::new(alloc),
+        Vec::new(alloc),
+        awaited,
+    )
 }
 
 /// Adds a request with all its parts.
@@ -84,9 +95,10 @@ pub fn wait_bound<A: Memory>(
     name: &[u8],
     statement: &[u8],
     formats: Vec<bool, A>,
+    parameters: Vec<Column, A>,
     awaited: &mut VecDeque<Awaited<A>, A>,
 ) -> Result<(), AllocError>
-    ensures asked { OnOk result (queue_of awaited.new.items ≡ queue_of awaited.old.items ++ record { number = number; object = object; name = name.now; statement = statement.now; formats = formats.items } ∷ []) }
+    ensures asked { OnOk result (queue_of awaited.new.items ≡ queue_of awaited.old.items ++ record { number = number; object = object; name = name.now; statement = statement.now; formats = formats.items; parameters = parameters.items } ∷ []) }
     ensures lacks { OnErr result A.Lacks }
 {
     let alloc = *awaited.allocator();
@@ -100,6 +112,7 @@ pub fn wait_bound<A: Memory>(
             name,
             statement,
             formats,
+            parameters,
         },
     )?;
     Ok(())

@@ -3,12 +3,12 @@
 ghost use Rattle.std.specs.Prelude.{◌≡◌, map, IfOk, OnErr};
 ghost use Rattle.std.specs.Option.{option_map};
 ghost use Rattle.pgp_conversation.specs.Shelves.{is_binary};
-ghost use Rattle.pgp_conversation.specs.Typed.{column_of, columns_of};
+ghost use Rattle.pgp_conversation.specs.Typed.{column_of, columns_of, parameter, parameters_in};
 
 use crate::column::{Column, is_binary};
 use pgp_base::{FallibleIterator, Memory};
-use pgp_frontend_read::Formats;
-use pgp_message::{Field, Fields};
+use pgp_frontend_read::{Formats, ParamTypes};
+use pgp_message::{Field, Fields, Parameters};
 use std::alloc::AllocError;
 
 /// The columns of a description, if it doesn't break off.
@@ -61,6 +61,58 @@ pub fn binaries_of<A: Memory>(
             Ok(Some(format)) => A::push(&mut list, is_binary(format))?,
             Ok(None) => return Ok(list),
             Err(_) => return Ok(list),
+        }
+    }
+}
+
+/// A parameter of this type.
+fn parameter(oid: u32) -> Column
+    ensures { result ≡ parameter oid }
+{
+    Column { oid, binary: false }
+}
+
+/// The parameters that a Parse gives.
+///
+/// # Errors
+///
+/// Returns `AllocError` if there is no memory for them.
+pub fn given_types<A: Memory>(
+    alloc: A,
+    mut types: ParamTypes<'_>,
+) -> Result<Vec<Column, A>, AllocError>
+    ensures types { IfOk result (λ list. list.items ≡ map parameter types.entry) }
+    ensures lacks { OnErr result A.Lacks }
+{
+    let mut list = Vec::new(alloc);
+    'types: loop {
+        match types.next() {
+            Ok(Some(oid)) => A::push(&mut list, parameter(oid))?,
+            Ok(None) => return Ok(list),
+            Err(_) => return Ok(list),
+        }
+    }
+}
+
+/// The parameters that a server describes, if that doesn't break off.
+///
+/// # Errors
+///
+/// Returns `AllocError` if there is no memory for them.
+#[tactic(auto, using(crate::proofs::RowLemmas::parameters_more, crate::proofs::RowLemmas::parameters_end, crate::proofs::RowLemmas::parameters_cut))]
+pub fn described_types<A: Memory>(
+    alloc: A,
+    mut types: Parameters<'_>,
+) -> Result<Option<Vec<Column, A>>, AllocError>
+    ensures types { IfOk result (λ list. option_map (λ all. all.items) list ≡ parameters_in types.entry.items types.entry.end) }
+    ensures lacks { OnErr result A.Lacks }
+{
+    let mut list = Vec::new(alloc);
+    'types: loop {
+        match types.next() {
+            Ok(Some(oid)) => A::push(&mut list, parameter(oid))?,
+            Ok(None) => return Ok(Some(list)),
+            Err(_) => return Ok(None),
         }
     }
 }

@@ -1,20 +1,20 @@
 //! What a server's messages tell of types, and the lines of its rows.
 
 ghost use Rattle.std.specs.Prelude.{OnErr, OnOk, string_bytes};
-ghost use Rattle.pgp_message.specs.BackendMessage.{RowDescription};
+ghost use Rattle.pgp_message.specs.BackendMessage.{ParameterDescription, RowDescription};
 ghost use Rattle.pgp_message.specs.Views.{view};
 ghost use Rattle.pgp_conversation.specs.Typed.{Hears, HearsAt, ShowsHeard};
 ghost use Rattle.pgp_conversation.specs.TypedLines.{HearsFrame};
 ghost use Rattle.pgp_conversation.specs.Types.{first};
 ghost use Rattle.pgp_conversation.specs.TypesKept.{types_of};
 
-use crate::fields::columns_of;
+use crate::fields::{columns_of, described_types};
 use crate::row::type_row;
-use crate::types::{Types, bind, describe, end, reach_answer, rows_of};
+use crate::types::{Types, bind, close, describe, end, finish, reach_answer, rows_of, tell};
 use bytes::BytesMut;
 use pgp_base::Memory;
 use pgp_line::style::Style;
-use pgp_message::{Message, Messages, RowDescriptionBody};
+use pgp_message::{Message, Messages, ParameterDescriptionBody, RowDescriptionBody};
 use std::alloc::AllocError;
 
 /// Takes note of a server's frame that answers the request of this number, and writes the line of a row anew where its types are known.
@@ -86,8 +86,9 @@ fn learn<A: Memory>(
 {
     match message {
         Message::RowDescription(row) => describe_row(number, row, types),
-        Message::ParseComplete => describe(number, None, types),
-        Message::CloseComplete => describe(number, None, types),
+        Message::ParameterDescription(row) => tell_types(number, row, types),
+        Message::ParseComplete => finish(number, types),
+        Message::CloseComplete => close(number, types),
         Message::NoData => describe(number, None, types),
         Message::BindComplete => bind(number, types),
         Message::ReadyForQuery(ready) => {
@@ -118,7 +119,6 @@ fn learn<A: Memory>(
         | Message::NegotiateProtocolVersion(_)
         | Message::NoticeResponse(_)
         | Message::NotificationResponse(_)
-        | Message::ParameterDescription(_)
         | Message::ParameterStatus(_)
         | Message::PortalSuspended => Ok(()),
     }
@@ -137,6 +137,22 @@ fn describe_row<A: Memory>(
     match columns_of(alloc, row.fields())? {
         Some(columns) => describe(number, Some(columns.as_slice()), types),
         None => describe(number, None, types),
+    }
+}
+
+/// The statement of a request has the parameters that are described.
+fn tell_types<A: Memory>(
+    number: u64,
+    row: &ParameterDescriptionBody<&[u8]>,
+    types: &mut Types<A>,
+) -> Result<(), AllocError>
+    ensures hears { OnOk result (Hears (ParameterDescription row.now) (first number (types_of types.old).awaited) (types_of types.old) (types_of types.new)) }
+    ensures lacks { OnErr result A.Lacks }
+{
+    let alloc = *types.awaited.allocator();
+    match described_types(alloc, row.parameters())? {
+        Some(parameters) => tell(number, Some(parameters.as_slice()), types),
+        None => tell(number, None, types),
     }
 }
 

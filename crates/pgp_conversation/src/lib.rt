@@ -4,6 +4,7 @@
 
 pub mod ask;
 pub mod awaited;
+pub mod bound;
 pub mod chunk;
 pub mod column;
 pub mod ending;

@@ -58,7 +58,7 @@ fn fits(columns: &[Column], row: &DataRowBody<&[u8]>) -> bool
 }
 
 /// Whether some of the columns are in binary format.
-fn has_binary(columns: &[Column]) -> bool
+pub fn has_binary(columns: &[Column]) -> bool
     ensures { result ≡ has_binary columns.now }
 {
     let mut rest = columns;

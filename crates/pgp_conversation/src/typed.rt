@@ -1,13 +1,14 @@
 //! What a frame tells of the types of values, and its line, with texts for values whose types are known.
 
-ghost use Rattle.std.specs.Prelude.{◌≡◌, OnErr, OnOk, string_bytes};
+ghost use Rattle.std.specs.Prelude.{◌≡◌, Some, OnErr, OnOk, string_bytes};
 ghost use Rattle.pgp_frontend_read.specs.Views.{kind_view};
 ghost use Rattle.pgp_trace.specs.Sides.{expected};
 ghost use Rattle.pgp_conversation.specs.Typed.{first_types};
 ghost use Rattle.pgp_conversation.specs.TypedLines.{AnswersFrame, AsksFrame, TypesFrame};
-ghost use Rattle.pgp_conversation.specs.TypesKept.{types_in};
+ghost use Rattle.pgp_conversation.specs.TypesKept.{types_in, types_of};
 
 use crate::ask::ask_frame;
+use crate::bound::show_frame;
 use crate::chunk::Sender;
 use crate::hear::hear_frame;
 use crate::told::Told;
@@ -62,7 +63,9 @@ pub fn type_frame<A: Memory>(
             *types = None;
             Ok(())
         }
-        Some(Told::Number(number)) => type_request(sender, number, opened, kind, frame, types),
+        Some(Told::Number(number)) => type_request(
+            style, place, sender, number, opened, kind, frame, types, text, line,
+        ),
         Some(Told::Answer { number, .. }) => {
             type_answer(style, place, sender, number, frame, types, text, line)
         }
@@ -71,23 +74,46 @@ pub fn type_frame<A: Memory>(
 
 /// Takes note of a request of this number.
 fn type_request<A: Memory>(
+    style: Style,
+    place: u64,
     sender: Sender,
     number: u64,
     opened: bool,
     kind: PasswordKind,
     frame: &[u8],
     types: &mut Option<Types<A>>,
+    text: &mut BytesMut<A>,
+    line: &mut String<A>,
 ) -> Result<(), AllocError>
-    ensures types { OnOk result (AsksFrame sender number opened (kind_view kind) frame.now (types_in types.old) (types_in types.new)) }
+    ensures types { OnOk result (AsksFrame style place sender number opened (kind_view kind) frame.now (types_in types.old) (types_in types.new) (string_bytes line.old) (string_bytes line.new)) }
     ensures lacks { OnErr result A.Lacks }
 {
     match sender {
         Sender::Client => match types {
-            Some(types) => ask_frame(number, opened, kind, frame, types),
+            Some(types) => type_sent(style, place, number, opened, kind, frame, types, text, line),
             None => Ok(()),
         },
         Sender::Server => Ok(()),
     }
+}
+
+/// Takes note of a client's frame, and writes its line anew.
+fn type_sent<A: Memory>(
+    style: Style,
+    place: u64,
+    number: u64,
+    opened: bool,
+    kind: PasswordKind,
+    frame: &[u8],
+    types: &mut Types<A>,
+    text: &mut BytesMut<A>,
+    line: &mut String<A>,
+) -> Result<(), AllocError>
+    ensures types { OnOk result (AsksFrame style place Sender.Client number opened (kind_view kind) frame.now (Some (types_of types.old)) (Some (types_of types.new)) (string_bytes line.old) (string_bytes line.new)) }
+    ensures lacks { OnErr result A.Lacks }
+{
+    ask_frame(number, opened, kind, frame, types)?;
+    show_frame(style, place, opened, kind, frame, types, text, line)
 }
 
 /// Takes note of an answer to the request of this number.

@@ -49,3 +49,51 @@ fn rows_are_shown_by_their_types(rt: HostRuntime) {
         comes_to(&rt, rt.alloc(), words, &mut input, &wanted);
     }
 }
+
+/// After a log-in a statement `s` is prepared, with an `int4` as the type of its first parameter and none of its second, and bound before its answer comes, in
+/// binary format. Then come Binds of it with a format each, with a null, with a byte in the place of four, and as texts. It is described, as of an `int4` and an
+/// `int8`, and bound; a Parse under its name fails, and a Bind that was sent before that was known has no types; nor are there any until it is described again.
+const BOUND: &[u8] = b"pgtrace recording 1\n\
+    >\0\0\0\0\0\x0fB@\0\0\0\x10\0\0\0\x10\0\x03\0\0user\0a\0\0\
+    <\0\0\0\0\0\x0fB@\0\0\0\x0fR\0\0\0\x08\0\0\0\0Z\0\0\0\x05I\
+    >\0\0\0\0\0\x0fB@\0\0\0?P\0\0\0\x12s\0a\0\0\x02\0\0\0\x17\0\0\0\0B\0\0\0\x1c\0s\0\0\x01\0\x01\0\x02\0\0\0\x04\0\0\x01\x02\0\0\0\x01\x01\0\0E\0\0\0\x09\0\0\0\0\0S\0\0\0\x04\
+    <\0\0\0\0\0\x0fB@\0\0\0\x1e1\0\0\0\x042\0\0\0\x04C\0\0\0\x0dSELECT 0\0Z\0\0\0\x05I\
+    >\0\0\0\0\0\x0fB@\0\0\0rB\0\0\0!\0s\0\0\x02\0\x01\0\0\0\x02\0\0\0\x04\0\0\x01\x02\0\0\0\x04\0\0\x01\x02\0\0B\0\0\0\x18\0s\0\0\x01\0\x01\0\x02\xff\xff\xff\xff\0\0\0\x01x\0\0B\0\0\0\x19\0s\0\0\x01\0\x01\0\x02\0\0\0\x01\x01\0\0\0\x01x\0\0B\0\0\0\x17\0s\0\0\0\0\x02\0\0\0\x017\0\0\0\x01x\0\0S\0\0\0\x04\
+    <\0\0\0\0\0\x0fB@\0\0\0\x1a2\0\0\0\x042\0\0\0\x042\0\0\0\x042\0\0\0\x04Z\0\0\0\x05I\
+    >\0\0\0\0\0\x0fB@\0\0\0\x0dD\0\0\0\x07Ss\0S\0\0\0\x04\
+    <\0\0\0\0\0\x0fB@\0\0\0\x1at\0\0\0\x0e\0\x02\0\0\0\x17\0\0\0\x14n\0\0\0\x04Z\0\0\0\x05I\
+    >\0\0\0\0\0\x0fB@\0\0\0)B\0\0\0#\0s\0\0\x01\0\x01\0\x02\0\0\0\x04\0\0\x01\x02\0\0\0\x08\xff\xff\xff\xff\xff\xff\xff\xff\0\0S\0\0\0\x04\
+    <\0\0\0\0\0\x0fB@\0\0\0\x0b2\0\0\0\x04Z\0\0\0\x05I\
+    >\0\0\0\0\0\x0fB@\0\0\0=P\0\0\0\x0es\0b\0\0\x01\0\0\0\x10S\0\0\0\x04B\0\0\0#\0s\0\0\x01\0\x01\0\x02\0\0\0\x04\0\0\x01\x02\0\0\0\x08\xff\xff\xff\xff\xff\xff\xff\xff\0\0S\0\0\0\x04\
+    <\0\0\0\0\0\x0fB@\0\0\0(E\0\0\0\x16SERROR\0C42P05\0Mx\0\0Z\0\0\0\x05I2\0\0\0\x04Z\0\0\0\x05I\
+    >\0\0\0\0\0\x0fB@\0\0\0\x0dD\0\0\0\x07Ss\0S\0\0\0\x04\
+    <\0\0\0\0\0\x0fB@\0\0\0\x1at\0\0\0\x0e\0\x02\0\0\0\x17\0\0\0\x14n\0\0\0\x04Z\0\0\0\x05I\
+    >\0\0\0\0\0\x0fB@\0\0\0)B\0\0\0#\0s\0\0\x01\0\x01\0\x02\0\0\0\x04\0\0\x01\x02\0\0\0\x08\xff\xff\xff\xff\xff\xff\xff\xff\0\0S\0\0\0\x04\
+    <\0\0\0\0\0\x0fB@\0\0\0\x0b2\0\0\0\x04Z\0\0\0\x05I";
+
+const BINDS: &str =
+    "    0.000000 >         35       29 B Bind                 portal \"\" statement \"s\" formats 1 1 values 2 \"258\" \"\\x01\" results 0\n    0.000000 >         79       34 B Bind                 portal \"\" statement \"s\" formats 2 1 0 values 2 \"258\" \\x00000102 results 0\n    0.000000 >        113       25 B Bind                 portal \"\" statement \"s\" formats 1 1 values 2 NULL \"x\" results 0\n    0.000000 >        138       26 B Bind                 portal \"\" statement \"s\" formats 1 1 values 2 \"\\x01\" \"x\" results 0\n    0.000000 >        164       24 B Bind                 portal \"\" statement \"s\" formats 0 values 2 \"7\" \"x\" results 0\n    0.000000 >        206       36 B Bind                 portal \"\" statement \"s\" formats 1 1 values 2 \"258\" \"-1\" results 0\n    0.000000 >        267       36 B Bind                 portal \"\" statement \"s\" formats 1 1 values 2 \\x00000102 \\xffffffffffffffff results 0\n    0.000000 >        321       36 B Bind                 portal \"\" statement \"s\" formats 1 1 values 2 \"258\" \"-1\" results 0\n";
+
+const RAW_BINDS: &str =
+    "    0.000000 >         35       29 B Bind                 portal \"\" statement \"s\" formats 1 1 values 2 \\x00000102 \"\\x01\" results 0\n    0.000000 >         79       34 B Bind                 portal \"\" statement \"s\" formats 2 1 0 values 2 \\x00000102 \\x00000102 results 0\n    0.000000 >        113       25 B Bind                 portal \"\" statement \"s\" formats 1 1 values 2 NULL \"x\" results 0\n    0.000000 >        138       26 B Bind                 portal \"\" statement \"s\" formats 1 1 values 2 \"\\x01\" \"x\" results 0\n    0.000000 >        164       24 B Bind                 portal \"\" statement \"s\" formats 0 values 2 \"7\" \"x\" results 0\n    0.000000 >        206       36 B Bind                 portal \"\" statement \"s\" formats 1 1 values 2 \\x00000102 \\xffffffffffffffff results 0\n    0.000000 >        267       36 B Bind                 portal \"\" statement \"s\" formats 1 1 values 2 \\x00000102 \\xffffffffffffffff results 0\n    0.000000 >        321       36 B Bind                 portal \"\" statement \"s\" formats 1 1 values 2 \\x00000102 \\xffffffffffffffff results 0\n";
+
+const BIND_OBJECTS: &str =
+    "{\"time\":0.000000,\"from\":\"client\",\"offset\":35,\"length\":29,\"tag\":\"B\",\"name\":\"Bind\",\"portal\":\"\",\"statement\":\"s\",\"formats\":[1],\"values\":[\"258\",\"\\u0001\"],\"result_formats\":[]}\n{\"time\":0.000000,\"from\":\"client\",\"offset\":79,\"length\":34,\"tag\":\"B\",\"name\":\"Bind\",\"portal\":\"\",\"statement\":\"s\",\"formats\":[1,0],\"values\":[\"258\",{\"hex\":\"00000102\"}],\"result_formats\":[]}\n{\"time\":0.000000,\"from\":\"client\",\"offset\":113,\"length\":25,\"tag\":\"B\",\"name\":\"Bind\",\"portal\":\"\",\"statement\":\"s\",\"formats\":[1],\"values\":[null,\"x\"],\"result_formats\":[]}\n{\"time\":0.000000,\"from\":\"client\",\"offset\":138,\"length\":26,\"tag\":\"B\",\"name\":\"Bind\",\"portal\":\"\",\"statement\":\"s\",\"formats\":[1],\"values\":[\"\\u0001\",\"x\"],\"result_formats\":[]}\n{\"time\":0.000000,\"from\":\"client\",\"offset\":164,\"length\":24,\"tag\":\"B\",\"name\":\"Bind\",\"portal\":\"\",\"statement\":\"s\",\"formats\":[],\"values\":[\"7\",\"x\"],\"result_formats\":[]}\n{\"time\":0.000000,\"from\":\"client\",\"offset\":206,\"length\":36,\"tag\":\"B\",\"name\":\"Bind\",\"portal\":\"\",\"statement\":\"s\",\"formats\":[1],\"values\":[\"258\",\"-1\"],\"result_formats\":[]}\n{\"time\":0.000000,\"from\":\"client\",\"offset\":267,\"length\":36,\"tag\":\"B\",\"name\":\"Bind\",\"portal\":\"\",\"statement\":\"s\",\"formats\":[1],\"values\":[{\"hex\":\"00000102\"},{\"hex\":\"ffffffffffffffff\"}],\"result_formats\":[]}\n{\"time\":0.000000,\"from\":\"client\",\"offset\":321,\"length\":36,\"tag\":\"B\",\"name\":\"Bind\",\"portal\":\"\",\"statement\":\"s\",\"formats\":[1],\"values\":[\"258\",\"-1\"],\"result_formats\":[]}\n";
+
+#[test]
+fn parameters_are_shown_by_their_types(rt: HostRuntime) {
+    let runs: [(&[&str], &str); 3] = [
+        (&["session", "--only", "Bind"], BINDS),
+        (&["session", "--only", "Bind", "--raw"], RAW_BINDS),
+        (&["session", "--only", "Bind", "--json"], BIND_OBJECTS),
+    ];
+    for (words, written) in runs {
+        let wanted = Outcome {
+            status: 0,
+            written,
+            reported: "",
+        };
+        let mut input = BOUND;
+        comes_to(&rt, rt.alloc(), words, &mut input, &wanted);
+    }
+}
