@@ -97,30 +97,7 @@ fn learn<A: Memory>(
         }
         // a request that failed changes nothing
         Message::ErrorResponse(_) => Ok(()),
-        Message::DataRow(_) => Ok(()),
-        Message::AuthenticationCleartextPassword
-        | Message::AuthenticationGss
-        | Message::AuthenticationGssContinue(_)
-        | Message::AuthenticationKerberosV5
-        | Message::AuthenticationMd5Password(_)
-        | Message::AuthenticationOk
-        | Message::AuthenticationSasl(_)
-        | Message::AuthenticationSaslContinue(_)
-        | Message::AuthenticationSaslFinal(_)
-        | Message::AuthenticationScmCredential
-        | Message::AuthenticationSspi
-        | Message::BackendKeyData(_)
-        | Message::CommandComplete(_)
-        | Message::CopyData(_)
-        | Message::CopyDone
-        | Message::CopyInResponse(_)
-        | Message::CopyOutResponse(_)
-        | Message::EmptyQueryResponse
-        | Message::NegotiateProtocolVersion(_)
-        | Message::NoticeResponse(_)
-        | Message::NotificationResponse(_)
-        | Message::ParameterStatus(_)
-        | Message::PortalSuspended => Ok(()),
+        _ => Ok(()),
     }
 }
 
@@ -180,36 +157,6 @@ fn show<A: Memory>(
             text,
             line,
         ),
-        Message::AuthenticationCleartextPassword
-        | Message::AuthenticationGss
-        | Message::AuthenticationGssContinue(_)
-        | Message::AuthenticationKerberosV5
-        | Message::AuthenticationMd5Password(_)
-        | Message::AuthenticationOk
-        | Message::AuthenticationSasl(_)
-        | Message::AuthenticationSaslContinue(_)
-        | Message::AuthenticationSaslFinal(_)
-        | Message::AuthenticationScmCredential
-        | Message::AuthenticationSspi
-        | Message::BackendKeyData(_)
-        | Message::BindComplete
-        | Message::CloseComplete
-        | Message::CommandComplete(_)
-        | Message::CopyData(_)
-        | Message::CopyDone
-        | Message::CopyInResponse(_)
-        | Message::CopyOutResponse(_)
-        | Message::EmptyQueryResponse
-        | Message::ErrorResponse(_)
-        | Message::NegotiateProtocolVersion(_)
-        | Message::NoticeResponse(_)
-        | Message::NotificationResponse(_)
-        | Message::ParameterDescription(_)
-        | Message::ParameterStatus(_)
-        | Message::NoData
-        | Message::ParseComplete
-        | Message::PortalSuspended
-        | Message::ReadyForQuery(_)
-        | Message::RowDescription(_) => Ok(()),
+        _ => Ok(()),
     }
 }

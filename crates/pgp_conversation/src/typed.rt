@@ -57,16 +57,39 @@ pub fn type_frame<A: Memory>(
     ensures lacks { OnErr result A.Lacks }
 {
     match told {
+        Some(told) => type_told(
+            style, place, sender, opened, kind, told, frame, types, text, line,
+        ),
         None => Ok(()),
-        Some(Told::Nothing) => Ok(()),
-        Some(Told::Lost) => {
+    }
+}
+
+/// Takes note of a frame of which this is told.
+fn type_told<A: Memory>(
+    style: Style,
+    place: u64,
+    sender: Sender,
+    opened: bool,
+    kind: PasswordKind,
+    told: Told,
+    frame: &[u8],
+    types: &mut Option<Types<A>>,
+    text: &mut BytesMut<A>,
+    line: &mut String<A>,
+) -> Result<(), AllocError>
+    ensures types { OnOk result (TypesFrame style place sender opened (kind_view kind) (Some told) frame.now (types_in types.old) (types_in types.new) (string_bytes line.old) (string_bytes line.new)) }
+    ensures lacks { OnErr result A.Lacks }
+{
+    match told {
+        Told::Nothing => Ok(()),
+        Told::Lost => {
             *types = None;
             Ok(())
         }
-        Some(Told::Number(number)) => type_request(
+        Told::Number(number) => type_request(
             style, place, sender, number, opened, kind, frame, types, text, line,
         ),
-        Some(Told::Answer { number, .. }) => {
+        Told::Answer { number, .. } => {
             type_answer(style, place, sender, number, frame, types, text, line)
         }
     }
