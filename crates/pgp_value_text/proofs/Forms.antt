@@ -1,17 +1,77 @@
--- Each type has one form.
-use Rattle.std.proofs.Common.{◌≡◌, ℕ, List}
+-- A value of each format has one text.
+use Rattle.std.proofs.Common.{◌≡◌, ℕ, ℤ, false, List, Option, Some, None, Ok, Err, refl, sym, ap, ◌∙◌, subst}
+use Rattle.std.specs.Prelude.{IfOk, IsErr}
+use Rattle.std.proofs.lemmas.Bool.{false≢true}
+use Rattle.std.specs.Int.{w8, cast_unsigned}
 use Rattle.std.specs.Fmt.{decimal, signed_decimal}
-use Rattle.pgp_types.specs.Scalar.{bool, int2, int4, int8, oid}
+use Rattle.uuid.specs.Text.{hyphenated_text, lower}
+use Rattle.pgp_types.specs.Network.{uuid}
+use Rattle.pgp_types.specs.Scalar.{bool, bytea, char, int2, int4, int8, oid, lsn}
+use Rattle.pgp_types.specs.Text.{text}
+use Rattle.pgp_types.specs.Time.{time}
 use Rattle.pgp_types.proofs.Spelling.{fixed_sound}
-use Rattle.pgp_types.proofs.Numbers.{int16_spelling, int32_spelling, int64_spelling, uint32_spelling}
-use Rattle.pgp_types.proofs.Readings.{bool_sound}
-use Rattle.pgp_value_text.specs.ValueText.{Form, as_bool, as_int2, as_int4, as_int8, as_oid, unshown, bool_text, IsShownAs}
-use Rattle.pgp_value_text.proofs.Texts.{one_shown}
+use Rattle.pgp_types.proofs.Numbers.{int8_spelling, int16_spelling, int32_spelling, int64_spelling, uint32_spelling, uint64_spelling}
+use Rattle.pgp_types.proofs.Readings.{all_sound, bool_sound, label_sound, text_sound, whole_sound}
+use Rattle.pgp_values.specs.declared.formats.BinaryFormat.{BinaryFormat}
+use Rattle.pgp_values.specs.declared.formats.BinaryFormat.TheVariants.{Bool as BoolFormat, Bytea as BytesFormat, Char as CharFormat, Date, Float4, Float8, Int2, Int4, Int8, Interval, Jsonb, Jsonpath, Lsn, Numeric, Oid, Text as TextFormat, Time, Timestamp, Timetz, Uuid, Xid8}
+use Rattle.pgp_values.specs.Decimal.{NumericReads}
+use Rattle.pgp_values.specs.DecimalText.{numeric_text}
+use Rattle.pgp_values.specs.Moment.{date_value, timestamp_value}
+use Rattle.pgp_values.specs.System.{xid8}
+use Rattle.pgp_values.specs.Text.{jsonb, jsonpath}
+use Rattle.pgp_values.specs.Time.{interval, timetz}
+use Rattle.pgp_values.specs.declared.error.NumericError.{NumericError}
+use Rattle.pgp_values.specs.declared.moment.Moment.{Moment}
+use Rattle.pgp_values.specs.declared.moment.Moment.TheVariants.{PosInfinity, NegInfinity, Value}
+use Rattle.pgp_values.proofs.DecimalLemmas.{one_numeric}
+use Rattle.pgp_values.proofs.Fixed.{interval_sound, timetz_sound}
+use Rattle.pgp_values.proofs.MomentLemmas.{date_value_sound, timestamp_value_sound}
+use Rattle.pgp_calendar.specs.Span.{span_text}
+use Rattle.pgp_calendar.specs.Text.{ShowsDay, ShowsInstant, ShowsMoment, ShowsTime}
+use Rattle.pgp_calendar.proofs.Uniqueness.{one_date, one_instant, one_time}
+use Rattle.pgp_value_text.specs.ValueText.{bool_text, char_text, hex_text, lsn_text, zone_of, As, is_float, IsShown, IsShownIn, ShowsNumeric}
+use Rattle.pgp_value_text.specs.Zone.{ShowsTimeTz}
+use Rattle.pgp_value_text.proofs.Texts.{one_as, one_shown}
+use Rattle.pgp_value_text.proofs.Zones.{one_zoned}
 
-pub one_as : (f : Form) (bytes a b : List ℕ) → IsShownAs f bytes a → IsShownAs f bytes b → a ≡ b
-one_as as_bool = one_shown bool bool_sound bool_text
-one_as as_int8 = one_shown int8 (fixed_sound int64_spelling) signed_decimal
-one_as as_int2 = one_shown int2 (fixed_sound int16_spelling) signed_decimal
-one_as as_int4 = one_shown int4 (fixed_sound int32_spelling) signed_decimal
-one_as as_oid = one_shown oid (fixed_sound uint32_spelling) decimal
-one_as unshown = λ bytes a b s t. absurd s
+one_moment : (shows : ℤ → List ℕ → Type 0) → ((n : ℤ) (a b : List ℕ) → shows n a → shows n b → a ≡ b) → (v : Moment ℤ) (a b : List ℕ) → ShowsMoment shows v a → ShowsMoment shows v b → a ≡ b
+one_moment shows h PosInfinity a b s t = s ∙ sym t
+one_moment shows h NegInfinity a b s t = s ∙ sym t
+one_moment shows h (Value n) a b s t = h n a b s t
+
+one_number : (bytes a b : List ℕ) → ShowsNumeric bytes a → ShowsNumeric bytes b → a ≡ b
+one_number bytes a b s t =
+    let same : s.0 ≡ t.0 = subst (λ r. IfOk r (λ v. s.0 ≡ v)) (one_numeric bytes (Ok s.0) (Ok t.0) s.1 t.1) refl in
+    s.2 ∙ (ap numeric_text same ∙ sym t.2)
+
+-- bytes that are no number have no text
+pub number_refused : (bytes : List ℕ) (e : NumericError) → NumericReads bytes (Err e) → (t : List ℕ) → ShowsNumeric bytes t → ⊥
+number_refused bytes e r t s = false≢true (subst IsErr (one_numeric bytes (Err e) (Ok s.0) r s.1) refl)
+
+pub one_formatted : (f : BinaryFormat) (type_oid : ℕ) → is_float (Some f) ≡ false → (bytes a b : List ℕ) → IsShown f type_oid bytes a → IsShown f type_oid bytes b → a ≡ b
+one_formatted BoolFormat n h = one_shown bool bool_sound (As bool_text) (one_as bool_text)
+one_formatted BytesFormat n h = λ bytes a b s t. one_shown bytea all_sound (As hex_text) (one_as hex_text) bytes a b s.1 t.1
+one_formatted CharFormat n h = one_shown char (fixed_sound int8_spelling) (As (λ z. char_text (cast_unsigned w8 z))) (one_as (λ z. char_text (cast_unsigned w8 z)))
+one_formatted Date n h = one_shown date_value date_value_sound (ShowsMoment ShowsDay) (one_moment ShowsDay one_date)
+one_formatted Float4 n h = absurd (false≢true (sym h))
+one_formatted Float8 n h = absurd (false≢true (sym h))
+one_formatted Int2 n h = one_shown int2 (fixed_sound int16_spelling) (As signed_decimal) (one_as signed_decimal)
+one_formatted Int4 n h = one_shown int4 (fixed_sound int32_spelling) (As signed_decimal) (one_as signed_decimal)
+one_formatted Int8 n h = one_shown int8 (fixed_sound int64_spelling) (As signed_decimal) (one_as signed_decimal)
+one_formatted Interval n h = one_shown interval interval_sound (As span_text) (one_as span_text)
+one_formatted Jsonb n h = one_shown jsonb (label_sound 1) (As (λ text. text)) (one_as (λ text. text))
+one_formatted Jsonpath n h = one_shown jsonpath (label_sound 1) (As (λ text. text)) (one_as (λ text. text))
+one_formatted Lsn n h = one_shown lsn (fixed_sound uint64_spelling) (As lsn_text) (one_as lsn_text)
+one_formatted Numeric n h = one_number
+one_formatted Oid n h = λ bytes a b s t. one_shown oid (fixed_sound uint32_spelling) (As decimal) (one_as decimal) bytes a b s.1 t.1
+one_formatted TextFormat n h = one_shown text text_sound (As (λ text. text)) (one_as (λ text. text))
+one_formatted Time n h = one_shown time (fixed_sound int64_spelling) ShowsTime one_time
+one_formatted Timestamp n h = one_shown timestamp_value timestamp_value_sound (ShowsMoment (ShowsInstant (zone_of n))) (one_moment (ShowsInstant (zone_of n)) (one_instant (zone_of n)))
+one_formatted Timetz n h = one_shown timetz timetz_sound ShowsTimeTz one_zoned
+one_formatted Uuid n h = one_shown uuid (whole_sound 16) (As (hyphenated_text lower)) (one_as (hyphenated_text lower))
+one_formatted Xid8 n h = one_shown xid8 (fixed_sound uint64_spelling) (As decimal) (one_as decimal)
+one_formatted _ n h = λ bytes a b s t. absurd s
+
+pub one_in : (f : Option BinaryFormat) (type_oid : ℕ) → is_float f ≡ false → (bytes a b : List ℕ) → IsShownIn f type_oid bytes a → IsShownIn f type_oid bytes b → a ≡ b
+one_in (Some f) n h = one_formatted f n h
+one_in None n h = λ bytes a b s t. absurd s

@@ -1,2 +1,5 @@
 pub mod Texts
+pub mod Written
+pub mod Zones
+pub mod Floats
 pub mod Forms

@@ -1,1 +1,4 @@
+pub mod Float
+pub mod Told
 pub mod ValueText
+pub mod Zone

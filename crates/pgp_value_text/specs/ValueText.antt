@@ -1,48 +1,109 @@
--- The text that a server shows of a value whose bytes in binary format are given, by the number (OID) of its type.
--- PostgreSQL manual, "Boolean Type", "Numeric Types", "Object Identifier Types".
-use Rattle.std.specs.Prelude.{◌≡◌, ℕ, nat_eq, if◌then◌else◌, Bool, true, false, List, ◌++◌, codes, Result, Ok, Err}
-use Rattle.std.specs.Fmt.{decimal, signed_decimal}
+-- The text of a value whose bytes in binary format are given, by the number (OID) of its type: as a server shows it in UTF-8 with the settings
+-- `DateStyle` `ISO`, `IntervalStyle` `iso_8601` and `TimeZone` `UTC`. Of a floating-point number: a text that reads back as the same.
+-- PostgreSQL manual, "Data Types": "Numeric Types", "Character Types", "Binary Data Types", "Date/Time Types", "Boolean Type", "UUID Type", "JSON Types",
+-- "Object Identifier Types", "pg_lsn Type".
+use Rattle.std.specs.Prelude.{◌≡◌, ℕ, from_bits, ◌+◌, ◌/◌, ◌%◌, ◌^◌, nat_eq, nat_lt, ◌==◌, ◌||◌, if◌then◌else◌, Bool, true, false, IsTrue, List, [], ◌∷◌, ◌++◌, codes, Option, Some, None, Result, Ok, Err}
+use Rattle.std.specs.Int.{w8, cast_unsigned}
+use Rattle.std.specs.Float.{binary32, binary64}
+use Rattle.std.specs.Fmt.{decimal, digits, signed_decimal}
+use Rattle.hex.specs.Hex.{encode_lower}
+use Rattle.uuid.specs.Text.{hyphenated_text, lower}
 use Rattle.pgp_types.specs.Format.{Plain}
-use Rattle.pgp_types.specs.Scalar.{bool, int2, int4, int8, oid}
+use Rattle.pgp_types.specs.Network.{uuid}
+use Rattle.pgp_types.specs.Scalar.{bool, bytea, char, int2, int4, int8, oid, lsn, float4, float8}
+use Rattle.pgp_types.specs.Text.{text}
+use Rattle.pgp_types.specs.Time.{time}
+use Rattle.pgp_values.specs.declared.formats.BinaryFormat.{BinaryFormat}
+use Rattle.pgp_values.specs.declared.formats.BinaryFormat.TheVariants.{Bool as BoolFormat, Bytea as BytesFormat, Char as CharFormat, Date, Float4, Float8, Int2, Int4, Int8, Interval, Jsonb, Jsonpath, Lsn, Numeric, Oid, Text as TextFormat, Time, Timestamp, Timetz, Uuid, Xid8}
+use Rattle.pgp_values.specs.Decimal.{NumericReads}
+use Rattle.pgp_values.specs.DecimalText.{numeric_text}
+use Rattle.pgp_values.specs.Formats.{formats}
+use Rattle.pgp_values.specs.FormatTable.{format_in}
+use Rattle.pgp_values.specs.Moment.{date_value, timestamp_value}
+use Rattle.pgp_values.specs.System.{xid8}
+use Rattle.pgp_values.specs.Text.{jsonb, jsonpath}
+use Rattle.pgp_values.specs.Time.{interval, timetz}
+use Rattle.pgp_calendar.specs.Span.{span_text}
+use Rattle.pgp_calendar.specs.Text.{ShowsDay, ShowsInstant, ShowsMoment, ShowsTime}
+use Rattle.pgp_value_text.specs.Float.{ShowsFloat}
+use Rattle.pgp_value_text.specs.Zone.{ShowsTimeTz}
 
--- the bytes are read as a value, and the value is shown so
-abbrev pub Shows : {V : Type 0} → Plain V → (V → List ℕ) → List ℕ → List ℕ → Type 0
-Shows f shown bytes text = (v : _) × f.Reads bytes (Ok v) × (text ≡ shown v)
+-- the bytes are read as a value that is shown so
+abbrev pub Shows : {V : Type 0} → Plain V → (V → List ℕ → Type 0) → List ℕ → List ℕ → Type 0
+Shows f shown bytes text = (v : _) × f.Reads bytes (Ok v) × shown v text
+
+-- by this text alone
+abbrev pub As : {V : Type 0} → (V → List ℕ) → V → List ℕ → Type 0
+As text_of v text = text ≡ text_of v
 
 abbrev pub bool_text : Bool → List ℕ
 bool_text true = codes "t"
 bool_text false = codes "f"
 
--- how a value is shown
-pub data Form : Type 0 where
-  as_bool : Form
-  as_int8 : Form
-  as_int2 : Form
-  as_int4 : Form
-  as_oid : Form
-  unshown : Form
+-- a character of ASCII, nothing for 0, and a backslash and three octal digits for any other byte
+abbrev pub char_text : ℕ → List ℕ
+char_text byte = if byte == 0 then [] else if nat_lt byte 128 then byte ∷ []
+    else 92 ∷ (48 + byte / 64) ∷ (48 + byte / 8 % 8) ∷ (48 + byte % 8) ∷ []
 
-abbrev pub form_of : ℕ → Form
-form_of type_oid =
-    if nat_eq type_oid 16 then as_bool else
-    if nat_eq type_oid 20 then as_int8 else
-    if nat_eq type_oid 21 then as_int2 else
-    if nat_eq type_oid 23 then as_int4 else
-    if nat_eq type_oid 26 then as_oid else unshown
+-- a backslash, an x, and two digits a byte
+abbrev pub hex_text : List ℕ → List ℕ
+hex_text bytes = 92 ∷ 120 ∷ encode_lower bytes
 
-abbrev pub IsShownAs : Form → List ℕ → List ℕ → Type 0
-IsShownAs as_bool = Shows bool bool_text
-IsShownAs as_int8 = Shows int8 signed_decimal
-IsShownAs as_int2 = Shows int2 signed_decimal
-IsShownAs as_int4 = Shows int4 signed_decimal
-IsShownAs as_oid = Shows oid decimal
-IsShownAs unshown = λ bytes text. ⊥
+abbrev pub ShowsNumeric : List ℕ → List ℕ → Type 0
+ShowsNumeric bytes text = (v : _) × NumericReads bytes (Ok v) × (text ≡ numeric_text v)
+
+-- the upper and the lower 32 bits in hex
+unfoldable pub lsn_text : ℕ → List ℕ
+lsn_text n = digits 16 true (n / 2 ^ 32) ++ 47 ∷ digits 16 true (n % 2 ^ 32)
+
+-- `oid`, `xid` and `cid` are shown as numbers; the types that name an object, as `regclass`, by its name
+abbrev pub is_numbered : ℕ → Bool
+is_numbered type_oid = nat_eq type_oid 26 || nat_eq type_oid 28 || nat_eq type_oid 29
+
+-- after the time of a `timestamptz`
+abbrev pub zone_of : ℕ → List ℕ
+zone_of type_oid = if nat_eq type_oid 1184 then codes "+00" else []
+
+-- the text of a type with this format; where types share one and are shown otherwise, by the type
+abbrev pub IsShown : BinaryFormat → ℕ → List ℕ → List ℕ → Type 0
+IsShown BoolFormat type_oid = Shows bool (As bool_text)
+IsShown BytesFormat type_oid = λ bytes text. (type_oid ≡ 17) × Shows bytea (As hex_text) bytes text
+IsShown CharFormat type_oid = Shows char (As (λ z. char_text (cast_unsigned w8 z)))
+IsShown Date type_oid = Shows date_value (ShowsMoment ShowsDay)
+IsShown Float4 type_oid = Shows float4 (λ bits. ShowsFloat binary32 (from_bits binary32 bits))
+IsShown Float8 type_oid = Shows float8 (λ bits. ShowsFloat binary64 (from_bits binary64 bits))
+IsShown Int2 type_oid = Shows int2 (As signed_decimal)
+IsShown Int4 type_oid = Shows int4 (As signed_decimal)
+IsShown Int8 type_oid = Shows int8 (As signed_decimal)
+IsShown Interval type_oid = Shows interval (As span_text)
+IsShown Jsonb type_oid = Shows jsonb (As (λ document. document))
+IsShown Jsonpath type_oid = Shows jsonpath (As (λ path. path))
+IsShown Lsn type_oid = Shows lsn (As lsn_text)
+IsShown Numeric type_oid = ShowsNumeric
+IsShown Oid type_oid = λ bytes text. IsTrue (is_numbered type_oid) × Shows oid (As decimal) bytes text
+IsShown TextFormat type_oid = Shows text (As (λ shown. shown))
+IsShown Time type_oid = Shows time ShowsTime
+IsShown Timestamp type_oid = Shows timestamp_value (ShowsMoment (ShowsInstant (zone_of type_oid)))
+IsShown Timetz type_oid = Shows timetz ShowsTimeTz
+IsShown Uuid type_oid = Shows uuid (As (hyphenated_text lower))
+IsShown Xid8 type_oid = Shows xid8 (As decimal)
+IsShown _ type_oid = λ bytes text. ⊥
+
+-- a type that isn't known has none
+abbrev pub IsShownIn : Option BinaryFormat → ℕ → List ℕ → List ℕ → Type 0
+IsShownIn (Some format) type_oid = IsShown format type_oid
+IsShownIn None type_oid = λ bytes text. ⊥
 
 abbrev pub IsTextOf : ℕ → List ℕ → List ℕ → Type 0
-IsTextOf type_oid = IsShownAs (form_of type_oid)
+IsTextOf type_oid = IsShownIn (format_in formats type_oid) type_oid
 
--- What a writer of such a text answers: that it added one, or that there is none, and then it added nothing; nor does it where memory is
--- refused.
+-- a floating-point number may have several texts
+abbrev pub is_float : Option BinaryFormat → Bool
+is_float (Some Float4) = true
+is_float (Some Float8) = true
+is_float _ = false
+
+-- What a writer of such a text returns: that it appended one, or that there is none. Then the buffer is unchanged, as where an allocation failed.
 abbrev pub Tells : {E : Type 0} → (List ℕ → Type 0) → Type 0 → List ℕ → List ℕ → Result Bool E → Type 0
 Tells IsText lacks old new (Ok true) = (shown : List ℕ) × IsText shown × (new ≡ old ++ shown)
 Tells IsText lacks old new (Ok false) = ((shown : List ℕ) → IsText shown → ⊥) × (new ≡ old)

@@ -1,0 +1,17 @@
+use Rattle.std.proofs.Common.{refl}
+use Rattle.jiff.specs.Words.{IsEpochDay}
+use Rattle.pgp_calendar.specs.Numbers.{day_1970}
+use Rattle.pgp_calendar.specs.Text.{ShowsDay, ShowsMoment, HasText}
+use Rattle.pgp_values.specs.Moment.{date_value}
+use Rattle.pgp_values.proofs.MomentLemmas.{date_value_sound}
+use Rattle.pgp_value_text.proofs.Texts.{refused, tells_read}
+use Rattle.pgp_value_text.proofs.Written.{day_in_range, moment_in_range, tells_told}
+use Rattle.pgp_value_text.proofs.moment.put_date.Goals as goal
+
+pub returns-in-Ok : goal.returns-in-Ok
+returns-in-Ok g c =
+    tells_read date_value date_value_sound (ShowsMoment ShowsDay) _ c.args.bytes.now c.in-Ok.v _ _ c.told.result c.in-Ok.ensures
+    (tells_told _ _ _ (ShowsMoment ShowsDay c.in-Ok.v) (HasText (λ days. IsEpochDay (day_1970 days)) c.in-Ok.v) (moment_in_range ShowsDay (λ days. IsEpochDay (day_1970 days)) day_in_range c.in-Ok.v) c.date_to_text.result c.told.result c.date_to_text.ensures c.told.ensures)
+
+pub returns-in-Err : goal.returns-in-Err
+returns-in-Err g c = (refused date_value date_value_sound (ShowsMoment ShowsDay) _ _ c.in-Err.ensures, refl)

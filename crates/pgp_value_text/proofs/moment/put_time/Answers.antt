@@ -1,0 +1,15 @@
+use Rattle.std.proofs.Common.{refl}
+use Rattle.std.proofs.Math.Facts.{to_z-of_z}
+use Rattle.pgp_calendar.specs.Text.{ShowsTime}
+use Rattle.pgp_types.specs.Time.{time}
+use Rattle.pgp_types.proofs.Spelling.{fixed_sound}
+use Rattle.pgp_types.proofs.Numbers.{int64_spelling}
+use Rattle.pgp_value_text.proofs.Texts.{refused, tells_read}
+use Rattle.pgp_value_text.proofs.moment.put_time.Goals as goal
+
+pub returns-in-Ok : goal.returns-in-Ok
+returns-in-Ok g c =
+    tells_read time (fixed_sound int64_spelling) ShowsTime _ c.args.bytes.now c.in-Ok.microseconds _ _ c.put_clock.result c.in-Ok.ensures (rw (to_z-of_z c.in-Ok.ensures.0) at c.put_clock.ensures)
+
+pub returns-in-Err : goal.returns-in-Err
+returns-in-Err g c = (refused time (fixed_sound int64_spelling) ShowsTime _ _ c.in-Err.ensures, refl)

@@ -1,0 +1,64 @@
+use Rattle.pgp_value_text.proofs.value.put_formatted.Goals as goal
+
+pub returns-in-Bool : goal.returns-in-Bool
+returns-in-Bool g c = rw c.in-Bool.is c.put_bool.ensures
+
+pub returns-in-Bytea : goal.returns-in-Bytea
+returns-in-Bytea g c = rw c.in-Bytea.is c.put_bytea.ensures
+
+pub returns-in-Date : goal.returns-in-Date
+returns-in-Date g c = rw c.in-Date.is c.put_date.ensures
+
+pub returns-in-Int2 : goal.returns-in-Int2
+returns-in-Int2 g c = rw c.in-Int2.is c.put_int2.ensures
+
+pub returns-in-Int4 : goal.returns-in-Int4
+returns-in-Int4 g c = rw c.in-Int4.is c.put_int4.ensures
+
+pub returns-in-Int8 : goal.returns-in-Int8
+returns-in-Int8 g c = rw c.in-Int8.is c.put_int8.ensures
+
+pub returns-in-Interval : goal.returns-in-Interval
+returns-in-Interval g c = rw c.in-Interval.is c.put_interval.ensures
+
+pub returns-in-Jsonb : goal.returns-in-Jsonb
+returns-in-Jsonb g c = rw c.in-Jsonb.is c.put_jsonb.ensures
+
+pub returns-in-Jsonpath : goal.returns-in-Jsonpath
+returns-in-Jsonpath g c = rw c.in-Jsonpath.is c.put_jsonpath.ensures
+
+pub returns-in-Lsn : goal.returns-in-Lsn
+returns-in-Lsn g c = rw c.in-Lsn.is c.put_lsn.ensures
+
+pub returns-in-Numeric : goal.returns-in-Numeric
+returns-in-Numeric g c = rw c.in-Numeric.is c.put_numeric.ensures
+
+pub returns-in-Oid : goal.returns-in-Oid
+returns-in-Oid g c = rw c.in-Oid.is c.put_numbered.ensures
+
+pub returns-in-Text : goal.returns-in-Text
+returns-in-Text g c = rw c.in-Text.is c.put_text.ensures
+
+pub returns-in-Time : goal.returns-in-Time
+returns-in-Time g c = rw c.in-Time.is c.put_time.ensures
+
+pub returns-in-Timestamp : goal.returns-in-Timestamp
+returns-in-Timestamp g c = rw c.in-Timestamp.is c.put_timestamp.ensures
+
+pub returns-in-Uuid : goal.returns-in-Uuid
+returns-in-Uuid g c = rw c.in-Uuid.is c.put_uuid.ensures
+
+pub returns-in-Xid8 : goal.returns-in-Xid8
+returns-in-Xid8 g c = rw c.in-Xid8.is c.put_xid8.ensures
+
+pub returns-in-Float4 : goal.returns-in-Float4
+returns-in-Float4 g c = rw c.in-Float4.is c.put_float4.ensures
+
+pub returns-in-Float8 : goal.returns-in-Float8
+returns-in-Float8 g c = rw c.in-Float8.is c.put_float8.ensures
+
+pub returns-in-Char : goal.returns-in-Char
+returns-in-Char g c = rw c.in-Char.is c.put_char.ensures
+
+pub returns-in-Timetz : goal.returns-in-Timetz
+returns-in-Timetz g c = rw c.in-Timetz.is c.put_timetz.ensures
