@@ -18,7 +18,9 @@ use Rattle.pgp_line.specs.Line.{ListEnds, Value, closing, followed}
 use Rattle.pgp_line.specs.declared.style.Style.{Style}
 use Rattle.pgp_trace.specs.Client.{counted, signed_part}
 use Rattle.pgp_trace.specs.Shown.{ending}
-use Rattle.pgp_value_text.specs.ValueText.{IsTextOf}
+use Rattle.pgp_values.specs.Formats.{formats as known_formats}
+use Rattle.pgp_values.specs.FormatTable.{format_in}
+use Rattle.pgp_value_text.specs.ValueText.{IsTextOf, is_float}
 use Rattle.pgp_conversation.specs.declared.column.Column.{Column}
 use Rattle.pgp_conversation.specs.declared.told.Told.{Told}
 use Rattle.pgp_conversation.specs.declared.told.Told.TheVariants as told
@@ -38,12 +40,12 @@ columns_one row x y a b =
     let same = fields.one row.count row.storage a.fields b.fields a.end b.end a.list b.list in
     a.is ∙ ap (λ l. columns_of l a.end) same.0 ∙ ap (columns_of b.fields) same.1 ∙ sym b.is
 
-types : HasOneCountedList TypeSpelled TypeRefused
-types = one_counted_list TypeSpelled TypeRefused (λ place. type_at) type_reader
+given : HasOneCountedList TypeSpelled TypeRefused
+given = one_counted_list TypeSpelled TypeRefused (λ place. type_at) type_reader
 
 parameters_one : (row : CountedBytes) (x y : Option (List Column)) → Gives row x → Gives row y → x ≡ y
 parameters_one row x y a b =
-    let same = types.one row.count row.storage a.types b.types a.end b.end a.list b.list in
+    let same = given.one row.count row.storage a.types b.types a.end b.end a.list b.list in
     a.is ∙ ap (λ l. parameters_in l a.end) same.0 ∙ ap (parameters_in b.types) same.1 ∙ sym b.is
 
 hears_one : (m : Message) (a : Option Awaited) (old x y : Types) → Hears m a old x → Hears m a old y → x ≡ y
@@ -59,14 +61,14 @@ learns_one told said old x y p q = p ∙ sym q
 
 -- ---- what is shown
 
--- a value has one text
+-- a value has one text, but of a floating-point number
 abbrev pub OneText : Type 0
-OneText = (type_oid : ℕ) (bytes a b : List ℕ) → IsTextOf type_oid bytes a → IsTextOf type_oid bytes b → a ≡ b
+OneText = (type_oid : ℕ) → is_float (format_in known_formats type_oid) ≡ false → (bytes a b : List ℕ) → IsTextOf type_oid bytes a → IsTextOf type_oid bytes b → a ≡ b
 
 module _ (one_text : OneText) where
   bytes_one : (binary : Bool) (oid : ℕ) (bytes : List ℕ) (x y : Option (List ℕ)) → ShowsBytes binary oid bytes x → ShowsBytes binary oid bytes y → x ≡ y
   bytes_one false oid bytes x y a b = a ∙ sym b
-  bytes_one true oid bytes x y (inl a) (inl b) = a.2 ∙ ap (λ t. Some t) (one_text oid bytes a.0 b.0 a.1 b.1) ∙ sym b.2
+  bytes_one true oid bytes x y (inl a) (inl b) = a.2 ∙ ap (λ t. Some t) (one_text oid a.1.0 bytes a.0 b.0 a.1.1 b.1.1) ∙ sym b.2
   bytes_one true oid bytes x y (inl a) (inr b) = absurd (b.0 a.0 a.1)
   bytes_one true oid bytes x y (inr a) (inl b) = absurd (a.0 b.0 b.1)
   bytes_one true oid bytes x y (inr a) (inr b) = a.1 ∙ sym b.1

@@ -19,7 +19,9 @@ use Rattle.pgp_trace.specs.Shown.{ending}
 use Rattle.pgp_trace.specs.Sides as side
 use Rattle.pgp_trace.specs.Sides.{Side}
 use Rattle.pgp_trace.specs.declared.side.Phase.TheVariants.{Beginning, Messages, Replicating, Encrypted}
-use Rattle.pgp_value_text.specs.ValueText.{IsTextOf}
+use Rattle.pgp_values.specs.Formats.{formats as known_formats}
+use Rattle.pgp_values.specs.FormatTable.{format_in}
+use Rattle.pgp_value_text.specs.ValueText.{IsTextOf, is_float}
 use Rattle.pgp_conversation.specs.declared.awaited.Object.{Object}
 use Rattle.pgp_conversation.specs.declared.awaited.Object.TheVariants.{Statement, Portal}
 use Rattle.pgp_conversation.specs.declared.column.Column.{Column}
@@ -136,12 +138,16 @@ Learns told said old new = new ≡ old
 
 -- ---- lines
 
+-- The text of a value in binary format. A floating-point number has none here, since it may have several.
+abbrev pub IsOneText : ℕ → List ℕ → List ℕ → Type 0
+IsOneText oid bytes text = (is_float (format_in known_formats oid) ≡ false) × IsTextOf oid bytes text
+
 -- A value of this type in this format: where that is the binary one, its text, if it has one.
 abbrev pub ShowsBytes : (binary : Bool) (oid : ℕ) (bytes : List ℕ) (shown : Option (List ℕ)) → Type 0
 ShowsBytes false oid bytes shown = shown ≡ Some bytes
 ShowsBytes true oid bytes shown =
-    ((text : List ℕ) × IsTextOf oid bytes text × (shown ≡ Some text))
-    ⊎ (((text : List ℕ) → IsTextOf oid bytes text → ⊥) × (shown ≡ Some bytes))
+    ((text : List ℕ) × IsOneText oid bytes text × (shown ≡ Some text))
+    ⊎ (((text : List ℕ) → IsOneText oid bytes text → ⊥) × (shown ≡ Some bytes))
 
 abbrev pub ShowsValue : Column → (value shown : Option (List ℕ)) → Type 0
 ShowsValue c None shown = shown ≡ None
