@@ -1,11 +1,10 @@
 -- What a frame tells of types is one thing, and so is its line, since a value has one text.
-use Rattle.std.proofs.Common.{◌≡◌, ℕ, ℤ, Bool, true, false, List, [], ◌∷◌, drop, length, Option, Some, None, Result, Ok, Err, inl, inr, refl, sym, ap, subst, ◌∙◌}
+use Rattle.std.proofs.Common.{◌≡◌, ℕ, ℤ, Bool, true, false, List, [], ◌∷◌, drop, length, Option, Some, None, Ok, inl, inr, sym, ap, subst, ◌∙◌}
 use Rattle.std.specs.Prelude.{map, ◌++◌, codes}
 use Rattle.std.specs.declared.ops.Range.{Range}
-use Rattle.pgp_base.specs.declared.error.Error.{Error}
 use Rattle.pgp_base.specs.OneList.{HasOneCountedList}
 use Rattle.pgp_base.proofs.OneLists.{one_counted_list}
-use Rattle.pgp_message.specs.BackendMessage.{Message, BindComplete, CloseComplete, DataRow, NoData, ParameterDescription, ParseComplete, ReadyForQuery, RowDescription}
+use Rattle.pgp_message.specs.BackendMessage.{Message, DataRow, ParameterDescription, RowDescription}
 use Rattle.pgp_message.specs.Items.{FieldSpelled, FieldRefused, RangeSpelled, RangeRefused, TypeSpelled, TypeRefused}
 use Rattle.pgp_message.specs.ItemReading.{field_at, range_at, type_at}
 use Rattle.pgp_message.specs.Parts.{CountedBytes}

@@ -1,5 +1,5 @@
 -- Lines with values as texts are printable.
-use Rattle.std.proofs.Common.{◌≡◌, ℕ, ℤ, Bool, true, false, List, [], ◌∷◌, ◌++◌, drop, length, Option, Some, None, Result, Ok, Err}
+use Rattle.std.proofs.Common.{◌≡◌, ℕ, ℤ, Bool, true, false, List, [], ◌∷◌, ◌++◌, drop, length, Option, Some, None, Ok}
 use Rattle.std.specs.Prelude.{map, codes}
 use Rattle.pgp_message.specs.BackendMessage.{Message, DataRow}
 use Rattle.pgp_message.specs.Parts.{CountedBytes}

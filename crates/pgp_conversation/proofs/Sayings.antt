@@ -1,9 +1,9 @@
 -- What a frame that has a line is read as.
-use Rattle.std.proofs.Common.{◌≡◌, ℕ, Bool, true, false, List, [], ◌∷◌, length, Option, Some, None, Result, Ok, Err, inl, inr, refl, sym, ap, subst, ◌∙◌, arith}
+use Rattle.std.proofs.Common.{◌≡◌, ℕ, Bool, true, false, List, [], length, Option, Some, Result, Ok, Err, inl, inr, refl, sym, ap, subst, arith}
 use Rattle.std.proofs.lemmas.List.{append-nil}
 use Rattle.pgp_base.specs.declared.error.Error.{Error}
 use Rattle.pgp_message.specs.BackendMessage.{Message}
-use Rattle.pgp_message.specs.Stream.{Frame, frame_bytes}
+use Rattle.pgp_message.specs.Stream.{frame_bytes}
 use Rattle.pgp_message.proofs.Runs.{length-frame}
 use Rattle.pgp_frontend.specs.ClientMessage.{ClientMessage, PasswordKind, Response}
 use Rattle.pgp_frontend_read.specs.Pieces.{step_of}

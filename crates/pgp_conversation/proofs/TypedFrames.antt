@@ -1,5 +1,5 @@
 -- What a frame is read as, what it tells of types, and its line.
-use Rattle.std.proofs.Common.{◌≡◌, ℕ, Bool, true, false, List, [], ◌∷◌, ◌++◌, length, Option, Some, None, Result, Ok, Err, inl, inr, refl, sym, ap, subst, ◌∙◌, arith}
+use Rattle.std.proofs.Common.{◌≡◌, ℕ, Bool, true, false, List, [], length, Option, Some, None, Result, Ok, Err, refl, sym, ap, subst, ◌∙◌, arith}
 use Rattle.std.specs.Prelude.{OnOk}
 use Rattle.std.proofs.lemmas.List.{append-nil}
 use Rattle.pgp_base.specs.declared.error.Error.{Error}
@@ -15,11 +15,9 @@ use Rattle.pgp_frontend_read.specs.declared.error.ClientError.{ClientError}
 use Rattle.pgp_frontend_read.proofs.OneStep.{step_one}
 use Rattle.pgp_line.specs.declared.style.Style.{Style}
 use Rattle.pgp_trace.specs.Steps.{IsFrameOf}
-use Rattle.pgp_conversation.specs.declared.chunk.Sender.{Sender}
 use Rattle.pgp_conversation.specs.declared.chunk.Sender.TheVariants.{Client, Server}
-use Rattle.pgp_conversation.specs.declared.told.Told.TheVariants as told
-use Rattle.pgp_conversation.specs.Typed.{Heard, HearsAt, Learns, Said, Sent, ShowsHeard, ShowsSent, ShowsTyped, Unsaid, sends}
-use Rattle.pgp_conversation.specs.TypedLines.{AnswersFrame, AsksFrame, HearsFrame, ReadsSo}
+use Rattle.pgp_conversation.specs.Typed.{Heard, HearsAt, Sent, ShowsHeard, ShowsSent, Unsaid, sends}
+use Rattle.pgp_conversation.specs.TypedLines.{AnswersFrame, AsksFrame, HearsFrame}
 use Rattle.pgp_conversation.specs.Types.{Types, first}
 
 -- ---- a server's frame has one result

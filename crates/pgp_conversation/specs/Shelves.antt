@@ -1,5 +1,5 @@
 -- What is known under names: of a statement or a portal its columns, or of a statement its parameters.
-use Rattle.std.specs.Prelude.{ℕ, suc, ℤ, pos, negsuc, Bool, true, false, ◌==◌, if◌then◌else◌, List, [], ◌∷◌, ◌++◌, get_or, map, Option, None, Some, bytes_eq}
+use Rattle.std.specs.Prelude.{ℕ, suc, ℤ, pos, negsuc, Bool, false, ◌==◌, if◌then◌else◌, List, [], ◌∷◌, ◌++◌, get_or, map, Option, None, Some, bytes_eq}
 use Rattle.pgp_conversation.specs.declared.column.Column.{Column}
 use Rattle.pgp_conversation.specs.declared.shelf.Shape as code
 

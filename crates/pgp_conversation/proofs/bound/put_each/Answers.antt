@@ -1,4 +1,4 @@
-use Rattle.std.proofs.Common.{List, ℕ, None, rules, subst}
+use Rattle.std.proofs.Common.{List, rules, subst}
 use Rattle.std.specs.Prelude.{string_bytes}
 use Rattle.pgp_base.specs.Walk.{IsFinished, IsRefused, TakesItem}
 use Rattle.pgp_frontend_read.specs.Whole.{shown, whole}

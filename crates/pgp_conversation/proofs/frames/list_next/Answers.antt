@@ -1,4 +1,4 @@
-use Rattle.std.proofs.Common.{◌≡◌, ◌++◌, ◌∙◌, Option, ap, rules, subst, sym}
+use Rattle.std.proofs.Common.{◌≡◌, ◌++◌, ◌∙◌, Option, ap, rules, subst}
 use Rattle.std.specs.Prelude.{string_bytes}
 use Rattle.pgp_frontend_read.specs.Views.{kind_view}
 use Rattle.pgp_trace.specs.Sides.{expected}

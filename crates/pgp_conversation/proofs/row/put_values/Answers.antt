@@ -1,4 +1,4 @@
-use Rattle.std.proofs.Common.{List, ℕ, length, rules, subst}
+use Rattle.std.proofs.Common.{List, length, rules, subst}
 use Rattle.std.specs.Prelude.{map, string_bytes}
 use Rattle.std.specs.List.{AllByRecursion}
 use Rattle.pgp_base.specs.Walk.{IsFinished, IsRefused, TakesItem}

@@ -1,4 +1,4 @@
-use Rattle.std.proofs.Common.{◌≡◌, ◌∷◌, true, false, rules, subst, sym}
+use Rattle.std.proofs.Common.{◌≡◌, ◌∷◌, true, false, rules, subst}
 use Rattle.std.specs.Prelude.{bytes_eq}
 use Rattle.pgp_conversation.proofs.ShelfLemmas.{Passed, one_left, one_passed}
 use Rattle.pgp_conversation.proofs.shelf.place_of.Goals as goal
