@@ -1,7 +1,7 @@
 #!/usr/bin/env python3
 """Prints the rows and the parameters of a recorded connection by their types, those in binary format too, with the time and the number of the request:
 
-    pgtrace session --requests --json --full < RECORDING | values.py
+    pgtrace session --requests --raw --json --full < RECORDING | values.py
 
 Types are known from what the connection said of them: the types of a Parse, a ParameterDescription and a RowDescription. A value in binary format whose type isn't
 known, or isn't one of the server's own, is printed in hex. A Bind is printed where its answer stands. Needs the Python module `postgres_protocol`.

@@ -61,8 +61,8 @@ split_more view here to chunks chunk text Server Client is s l = beside view her
 split_more view here to chunks chunk text Client Server is s l = beside view here to chunks chunk text Client (ap other is) (ap (λ w. sent_by Client w chunk.bytes) is) s l
 
 split_none : (marking : Marking) (who : Sender) → IsSplit who [] (begins marking)
-split_none marking Client = record { front = []; whole = refl; passed = refl; ending = nothing_ends (at_first marking.numbered marking.summed).client }
-split_none marking Server = record { front = []; whole = refl; passed = refl; ending = nothing_ends (at_first marking.numbered marking.summed).server }
+split_none marking Client = record { front = []; whole = refl; passed = refl; ending = nothing_ends (at_first marking).client }
+split_none marking Server = record { front = []; whole = refl; passed = refl; ending = nothing_ends (at_first marking).server }
 
 pub each_side : (view : View) (marking : Marking) (chunks : List Chunk) (lines : List ℕ) (talk : Talk) → ListsChunks view (begins marking) chunks lines talk → (who : Sender) → IsSplit who chunks talk
 each_side view marking [] [] _ NoChunkListed who = split_none marking who

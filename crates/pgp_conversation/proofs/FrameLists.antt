@@ -16,11 +16,13 @@ use Rattle.pgp_conversation.specs.declared.noted.Noted.TheVariants.{Asks, Reques
 use Rattle.pgp_conversation.specs.declared.known.Known as code_known
 use Rattle.pgp_conversation.specs.declared.role.Role.{Role}
 use Rattle.pgp_conversation.specs.declared.told.Told.{Told}
-use Rattle.pgp_conversation.specs.Conversation.{Known, ListsFrame, ListsFrames, NoFrames, OneFrame, as_standby, note, noted_in, other, replicates_in, side_in, text_of, with_kind, with_numbers, with_side}
+use Rattle.pgp_conversation.specs.Conversation.{Known, ListsFrame, ListsFrames, NoFrames, OneFrame, as_standby, note, noted_in, other, replicates_in, side_in, text_of, told_by, with_kind, with_numbers, with_side, with_types}
 use Rattle.pgp_conversation.specs.Summing.{Asking, asking_in, summed}
 use Rattle.pgp_conversation.proofs.Summed.{asking_side, name_asks}
 use Rattle.pgp_conversation.specs.Marks.{word}
 use Rattle.pgp_conversation.specs.Requests.{Numbers, role_in, told_in}
+use Rattle.pgp_conversation.specs.Typed.{Learns, ShowsTyped, said_in}
+use Rattle.pgp_conversation.specs.Types.{Types}
 use Rattle.pgp_conversation.specs.Roles.{client_role, role_by}
 use Rattle.pgp_conversation.specs.Steps.{ListsAllFrames, ListsNoFrame, ListsOneFrame, known_of, noted_by}
 use Rattle.pgp_conversation.proofs.Naming.{name_noted}
@@ -37,24 +39,37 @@ numbers_kept : (who : Sender) (old : Known) (side : Side) → (with_side who old
 numbers_kept Client old side = refl
 numbers_kept Server old side = refl
 
+types_kept : (who : Sender) (old : Known) (side : Side) → (with_side who old side).types ≡ old.types
+types_kept Client old side = refl
+types_kept Server old side = refl
+
+marked_kept : (who : Sender) (old : Known) (side : Side) → (with_side who old side).marked ≡ old.marked
+marked_kept Client old side = refl
+marked_kept Server old side = refl
+
 -- a frame with its line, and what is known after it
-pub lists_one : (view : View) (mark : List ℕ) (who : Sender) (place : ℕ) (old mid new : Known) (role : Role) (told : Option Told) (asking : Option Asking) (numbers : Option Numbers) (bytes behind line name before after : List ℕ)
+pub lists_one : (view : View) (mark : List ℕ) (who : Sender) (place : ℕ) (old mid new : Known) (role : Role) (told : Option Told) (asking : Option Asking) (numbers : Option Numbers) (types : Option Types) (bytes behind line typed name before after : List ℕ)
     → (has : HasLine view.style place (side_in who old) bytes behind line (side_in who mid) name) → mid ≡ with_side who old (side_in who mid)
     → role ≡ role_from (side_in who old) name has.frame → told_in role mid.numbers ≡ (told, numbers) → asking ≡ asking_side (side_in who old) name has.frame
-    → after ≡ before ++ text_of view (mark ++ word view.style.form told) place mid.requests name line → new ≡ note (noted_by name) (with_numbers (summed told asking name numbers) mid) → ListsOneFrame view mark who place old bytes behind before after new
-lists_one view mark who place old mid new role told asking numbers bytes behind line name before after has same is tells asked grown noted =
-    let waiting : mid.requests ≡ old.requests = ap (λ (k : Known). k.requests) same ∙ requests_kept who old (side_in who mid) in
-    let counted : mid.numbers ≡ old.numbers = ap (λ (k : Known). k.numbers) same ∙ numbers_kept who old (side_in who mid) in
+    → Learns told (said_in view.style place (side_in who old) has.frame line (side_in who mid) has.reported) mid.types types
+    → ShowsTyped view.style place (length has.frame) told (said_in view.style place (side_in who old) has.frame line (side_in who mid) has.reported) types line typed
+    → after ≡ before ++ text_of view (mark ++ word view.style.form (told_by mid.marked told)) place mid.requests name typed → new ≡ note (noted_by name) (with_types types (with_numbers (summed told asking name numbers) mid)) → ListsOneFrame view mark who place old bytes behind before after new
+lists_one view mark who place old mid new role told asking numbers types bytes behind line typed name before after has same is tells asked learns shows grown noted =
     let from = side_in who old in
     let to = side_in who mid in
-    let stamp = mark ++ word view.style.form told in
+    let waiting : mid.requests ≡ old.requests = ap (λ (k : Known). k.requests) same ∙ requests_kept who old to in
+    let counted : mid.numbers ≡ old.numbers = ap (λ (k : Known). k.numbers) same ∙ numbers_kept who old to in
+    let typing : mid.types ≡ old.types = ap (λ (k : Known). k.types) same ∙ types_kept who old to in
+    let marking : mid.marked ≡ old.marked = ap (λ (k : Known). k.marked) same ∙ marked_kept who old to in
+    let stamp = λ (marked : Bool). mark ++ word view.style.form (told_by marked told) in
     let named = name_in view.style place from has.frame line to has.reported in
     let asks : asking_side from named has.frame ≡ asking_in view.style place from has.frame line to has.reported = name_asks view.style place from has.frame line to has.reported in
     let now = summed told (asking_in view.style place from has.frame line to has.reported) named numbers in
+    let said = said_in view.style place from has.frame line to has.reported in
     let roles : role ≡ role_in view.style place from has.frame line to has.reported = is ∙ ap (λ n. role_from from n has.frame) has.named ∙ name_role view.style place from has.frame line to has.reported in
     record {
       frame = has.frame;
-      text = text_of view stamp place old.requests named line;
+      text = text_of view (stamp old.marked) place old.requests named typed;
       whole = has.whole;
       some = frame_has view.style place from to has.frame line has.reported;
       lists = record {
@@ -62,16 +77,20 @@ lists_one view mark who place old mid new role told asking numbers bytes behind 
         after = to;
         told = told;
         numbers = numbers;
+        types = types;
+        typed = typed;
         reported = has.reported;
         numbered = ap (λ r. told_in r old.numbers) (sym roles) ∙ ap (told_in role) (sym counted) ∙ tells;
+        learns = subst (λ t. Learns told said t types) typing learns;
+        shows = shows;
         is = refl;
-        behind = noted ∙ ap (λ a. note (noted_by name) (with_numbers (summed told a name numbers) mid)) asked
-            ∙ ap (λ n. note (noted_by n) (with_numbers (summed told (asking_side from n has.frame) n numbers) mid)) has.named
-            ∙ ap (λ a. note (noted_by named) (with_numbers (summed told a named numbers) mid)) asks
-            ∙ ap (λ n. note n (with_numbers now mid)) (name_noted view.style place from has.frame line to has.reported)
-            ∙ ap (λ k. note (noted_in view.style place from has.frame line to has.reported) (with_numbers now k)) same;
+        behind = noted ∙ ap (λ a. note (noted_by name) (with_types types (with_numbers (summed told a name numbers) mid))) asked
+            ∙ ap (λ n. note (noted_by n) (with_types types (with_numbers (summed told (asking_side from n has.frame) n numbers) mid))) has.named
+            ∙ ap (λ a. note (noted_by named) (with_types types (with_numbers (summed told a named numbers) mid))) asks
+            ∙ ap (λ n. note n (with_types types (with_numbers now mid))) (name_noted view.style place from has.frame line to has.reported)
+            ∙ ap (λ k. note (noted_in view.style place from has.frame line to has.reported) (with_types types (with_numbers now k))) same;
       };
-      grown = grown ∙ ap (λ r. before ++ text_of view stamp place r name line) waiting ∙ ap (λ n. before ++ text_of view stamp place old.requests n line) has.named;
+      grown = grown ∙ ap (λ b. before ++ text_of view (stamp b) place mid.requests name typed) marking ∙ ap (λ r. before ++ text_of view (stamp old.marked) place r name typed) waiting ∙ ap (λ n. before ++ text_of view (stamp old.marked) place old.requests n typed) has.named;
     }
 
 -- what it is to the requests, by what is kept
@@ -152,15 +171,15 @@ other_standby replicating (ClientSide opened kinds was) false rest e = e
 other_standby replicating (ClientSide opened kinds was) true rest e = e
 other_standby replicating (ServerSide phase) stopped rest e = e
 
-other_note : (who : Sender) (here : Known) (side : Side) (numbers : Option Numbers) (n : Noted) (stopped : Bool) (rest : List ℕ) → Ends (side_in (other who) here) stopped rest → Ends (side_in (other who) (note n (with_numbers numbers (with_side who here side)))) stopped rest
-other_note Client here side numbers (Asks kind) stopped rest e = e
-other_note Client here side numbers (Requests x) stopped rest e = e
-other_note Client here side numbers Answers stopped rest e = e
-other_note Client here side numbers Nothing stopped rest e = e
-other_note Server here side numbers (Asks kind) stopped rest e = other_kind (as_standby (replicates_in side) here.client) kind stopped rest (other_standby (replicates_in side) here.client stopped rest e)
-other_note Server here side numbers (Requests x) stopped rest e = other_standby (replicates_in side) here.client stopped rest e
-other_note Server here side numbers Answers stopped rest e = other_standby (replicates_in side) here.client stopped rest e
-other_note Server here side numbers Nothing stopped rest e = other_standby (replicates_in side) here.client stopped rest e
+other_note : (who : Sender) (here : Known) (side : Side) (numbers : Option Numbers) (types : Option Types) (n : Noted) (stopped : Bool) (rest : List ℕ) → Ends (side_in (other who) here) stopped rest → Ends (side_in (other who) (note n (with_types types (with_numbers numbers (with_side who here side))))) stopped rest
+other_note Client here side numbers types (Asks kind) stopped rest e = e
+other_note Client here side numbers types (Requests x) stopped rest e = e
+other_note Client here side numbers types Answers stopped rest e = e
+other_note Client here side numbers types Nothing stopped rest e = e
+other_note Server here side numbers types (Asks kind) stopped rest e = other_kind (as_standby (replicates_in side) here.client) kind stopped rest (other_standby (replicates_in side) here.client stopped rest e)
+other_note Server here side numbers types (Requests x) stopped rest e = other_standby (replicates_in side) here.client stopped rest e
+other_note Server here side numbers types Answers stopped rest e = other_standby (replicates_in side) here.client stopped rest e
+other_note Server here side numbers types Nothing stopped rest e = other_standby (replicates_in side) here.client stopped rest e
 
 -- of the other side as much is awaited as before
 pub other_ends : (view : View) (mark : List ℕ) (who : Sender) (start : ℕ) (from : Known) (bytes lines : List ℕ) (to : Known) (stopped : Bool) (rest : List ℕ) → ListsFrames view mark who start from bytes lines to
@@ -168,4 +187,4 @@ pub other_ends : (view : View) (mark : List ℕ) (who : Sender) (start : ℕ) (f
 other_ends view mark who start from [] [] _ stopped rest NoFrames e = e
 other_ends view mark who start from _ _ to stopped rest (OneFrame {bytes = bytes} {lines = lines} {here = here} frame text before one) e =
     subst (λ k. Ends (side_in (other who) k) stopped rest) (sym one.behind)
-    (other_note who here one.after (summed one.told (asking_in view.style (place_behind (start + length bytes)) (side_in who here) frame one.line one.after one.reported) (name_in view.style (place_behind (start + length bytes)) (side_in who here) frame one.line one.after one.reported) one.numbers) (noted_in view.style (place_behind (start + length bytes)) (side_in who here) frame one.line one.after one.reported) stopped rest (other_ends view mark who start from bytes lines here stopped rest before e))
+    (other_note who here one.after (summed one.told (asking_in view.style (place_behind (start + length bytes)) (side_in who here) frame one.line one.after one.reported) (name_in view.style (place_behind (start + length bytes)) (side_in who here) frame one.line one.after one.reported) one.numbers) one.types (noted_in view.style (place_behind (start + length bytes)) (side_in who here) frame one.line one.after one.reported) stopped rest (other_ends view mark who start from bytes lines here stopped rest before e))

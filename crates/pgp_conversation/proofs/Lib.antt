@@ -17,3 +17,10 @@ pub mod Summaries
 pub mod Secrets
 pub mod SettingLemmas
 pub mod Endings
+pub mod ShelfLemmas
+pub mod RowLemmas
+pub mod TypedFrames
+pub mod Sayings
+pub mod OneTyped
+pub mod PrintedTypes
+pub mod TypedAlike

@@ -15,7 +15,7 @@ use Rattle.pgp_conversation.specs.declared.chunk.Sender.{Sender}
 use Rattle.pgp_conversation.specs.declared.chunk.Sender.TheVariants.{Client, Server}
 use Rattle.pgp_conversation.specs.declared.ending.End.{End}
 use Rattle.pgp_conversation.specs.declared.ending.End.TheVariants.{Whole, Cut, NoChunk, NoRecording}
-use Rattle.pgp_conversation.specs.Conversation.{Half, ListsChunks, NoChunkListed, OneChunkListed, ListsChunk, Known, Talk, ListsFrame, ListsFrames, NoFrames, OneFrame, begins, half_in, last_lines, note, noted_in, now_at, other, side_in, text_of, with_numbers, with_side}
+use Rattle.pgp_conversation.specs.Conversation.{Half, ListsChunks, NoChunkListed, OneChunkListed, ListsChunk, Known, Talk, ListsFrame, ListsFrames, NoFrames, OneFrame, begins, half_in, last_lines, note, noted_in, now_at, other, side_in, text_of, told_by, with_numbers, with_side, with_types}
 use Rattle.pgp_conversation.specs.declared.marking.Marking.{Marking}
 use Rattle.pgp_conversation.specs.declared.told.Told.{Told}
 use Rattle.pgp_conversation.specs.Marks.{mark, since, word}
@@ -28,6 +28,9 @@ use Rattle.pgp_conversation.specs.Session.{HasLines, IsListing}
 use Rattle.pgp_conversation.specs.Steps.{noted_by}
 use Rattle.pgp_conversation.proofs.Naming.{name_noted}
 use Rattle.pgp_conversation.proofs.Roles.{name_role, role_from}
+use Rattle.pgp_conversation.specs.Typed.{Learns, ShowsTyped, said_in}
+use Rattle.pgp_conversation.proofs.OneTyped.{OneText, learns_one, shows_one}
+use Rattle.pgp_conversation.proofs.Sayings.{said_one}
 
 -- ---- a frame
 
@@ -38,8 +41,8 @@ record SameFrame (f g text else_text x y : List ℕ) (to too : Known) : Type 0 w
   rests : x ≡ y
   knowns : to ≡ too
 
-lists_one : (view : View) (m : List ℕ) (who : Sender) (place : ℕ) (here to too : Known) (f g text another x y : List ℕ) → ListsFrame view m who place here f text to → ListsFrame view m who place here g another too → f ++ x ≡ g ++ y → SameFrame f g text another x y to too
-lists_one view m who place here to too f g text another x y a b e =
+lists_one : (one_text : OneText) (view : View) (m : List ℕ) (who : Sender) (place : ℕ) (here to too : Known) (f g text another x y : List ℕ) → ListsFrame view m who place here f text to → ListsFrame view m who place here g another too → f ++ x ≡ g ++ y → SameFrame f g text another x y to too
+lists_one one_text view m who place here to too f g text another x y a b e =
     let from = side_in who here in
     let one = line_one view.style place from a.after b.after f g a.line b.line x y a.reported b.reported e in
     let named = name_in view.style place from g b.line b.after b.reported in
@@ -53,19 +56,29 @@ lists_one view m who place here to too f g text another x y a b e =
     let numbers : a.numbers ≡ b.numbers = ap (λ (x : Option Told × Option Numbers). x.1) same in
     let asks : asking_in view.style place from f a.line a.after a.reported ≡ asking_in view.style place from g b.line b.after b.reported =
     sym (name_asks view.style place from f a.line a.after a.reported) ∙ ap (λ n. asking_side from n f) one.1 ∙ ap (asking_side from named) one.0.frames ∙ name_asks view.style place from g b.line b.after b.reported in
-    let first = name_in view.style place from f a.line a.after a.reported in
+    let first_name = name_in view.style place from f a.line a.after a.reported in
     let sum = summed b.told (asking_in view.style place from g b.line b.after b.reported) named b.numbers in
-    let sums : summed a.told (asking_in view.style place from f a.line a.after a.reported) first a.numbers ≡ sum =
-    ap (λ t. summed t (asking_in view.style place from f a.line a.after a.reported) first a.numbers) told ∙ ap (λ x. summed b.told x first a.numbers) asks
+    let sums : summed a.told (asking_in view.style place from f a.line a.after a.reported) first_name a.numbers ≡ sum =
+    ap (λ t. summed t (asking_in view.style place from f a.line a.after a.reported) first_name a.numbers) told ∙ ap (λ x. summed b.told x first_name a.numbers) asks
     ∙ ap (λ n. summed b.told (asking_in view.style place from g b.line b.after b.reported) n a.numbers) one.1 ∙ ap (λ n. summed b.told (asking_in view.style place from g b.line b.after b.reported) named n) numbers in
+    let first = said_in view.style place from f a.line a.after a.reported in
+    let other = said_in view.style place from g b.line b.after b.reported in
+    let said : first ≡ other = said_one view.style place from f g a.line b.line a.after b.after one.0.frames a.reported b.reported in
+    let types : a.types ≡ b.types = learns_one b.told other here.types a.types b.types (subst (λ t. Learns t other here.types a.types) told (subst (λ s. Learns a.told s here.types a.types) said a.learns)) b.learns in
+    let shows = subst (λ t. ShowsTyped view.style place (length f) t other a.types a.line a.typed) told (subst (λ s. ShowsTyped view.style place (length f) a.told s a.types a.line a.typed) said a.shows) in
+    let shown = subst (λ t. ShowsTyped view.style place (length f) b.told other t a.line a.typed) types shows in
+    let framed = subst (λ l. ShowsTyped view.style place (length l) b.told other b.types a.line a.typed) one.0.frames shown in
+    let typed : a.typed ≡ b.typed = shows_one one_text view.style place (length g) b.told other b.types b.line a.typed b.typed (subst (λ l. ShowsTyped view.style place (length g) b.told other b.types l a.typed) one.0.lines framed) b.shows in
+    let stamp = λ (t : Option Told). m ++ word view.style.form (told_by here.marked t) in
     record {
       frames = one.0.frames;
-      texts = a.is ∙ ap (λ t. text_of view (m ++ word view.style.form t) place here.requests (name_in view.style place from f a.line a.after a.reported) a.line) told
-          ∙ ap (λ n. text_of view (m ++ word view.style.form b.told) place here.requests n a.line) one.1 ∙ ap (λ l. text_of view (m ++ word view.style.form b.told) place here.requests named l) one.0.lines ∙ sym b.is;
+      texts = a.is ∙ ap (λ t. text_of view (stamp t) place here.requests (name_in view.style place from f a.line a.after a.reported) a.typed) told
+          ∙ ap (λ n. text_of view (stamp b.told) place here.requests n a.typed) one.1 ∙ ap (λ l. text_of view (stamp b.told) place here.requests named l) typed ∙ sym b.is;
       rests = one.0.rests;
-      knowns = a.behind ∙ ap (λ n. note n (with_numbers (summed a.told (asking_in view.style place from f a.line a.after a.reported) first a.numbers) (with_side who here a.after))) noted
-          ∙ ap (λ n. note notes (with_numbers n (with_side who here a.after))) sums
-          ∙ ap (λ s. note notes (with_numbers sum (with_side who here s))) one.0.sides ∙ sym b.behind;
+      knowns = a.behind ∙ ap (λ n. note n (with_types a.types (with_numbers (summed a.told (asking_in view.style place from f a.line a.after a.reported) first_name a.numbers) (with_side who here a.after)))) noted
+          ∙ ap (λ n. note notes (with_types a.types (with_numbers n (with_side who here a.after)))) sums
+          ∙ ap (λ t. note notes (with_types t (with_numbers sum (with_side who here a.after)))) types
+          ∙ ap (λ s. note notes (with_types b.types (with_numbers sum (with_side who here s)))) one.0.sides ∙ sym b.behind;
     }
 
 data Rows (view : View) (m : List ℕ) (who : Sender) (to : Known) : ℕ → Known → List ℕ → List ℕ → Type 0 where
@@ -98,17 +111,17 @@ record SameEnd (a b lines others x y : List ℕ) (s t : Bool) (to too : Known) :
   ends : s ≡ t
   knowns : to ≡ too
 
-rows_one : (view : View) (m : List ℕ) (who : Sender) (to too : Known) (start : ℕ) (from : Known) (a b lines others x y : List ℕ) (s t : Bool) → Rows view m who to start from a lines → Ends (side_in who to) s x → Rows view m who too start from b others → Ends (side_in who too) t y
+rows_one : (one_text : OneText) (view : View) (m : List ℕ) (who : Sender) (to too : Known) (start : ℕ) (from : Known) (a b lines others x y : List ℕ) (s t : Bool) → Rows view m who to start from a lines → Ends (side_in who to) s x → Rows view m who too start from b others → Ends (side_in who too) t y
     → a ++ x ≡ b ++ y → SameEnd a b lines others x y s t to too
-rows_one view m who _ _ start from [] [] [] [] x y s t NoRows ends NoRows others e = record { fronts = refl; texts = refl; rests = e; ends = ends_one (side_in who from) s t y (subst (Ends (side_in who from) s) e ends) others; knowns = refl }
-rows_one view m who _ too start from [] _ [] _ x y s t NoRows ends (OneRow {mid = mid} {bytes = bytes} {lines = more} g k is rest) others e =
+rows_one one_text view m who _ _ start from [] [] [] [] x y s t NoRows ends NoRows others e = record { fronts = refl; texts = refl; rests = e; ends = ends_one (side_in who from) s t y (subst (Ends (side_in who from) s) e ends) others; knowns = refl }
+rows_one one_text view m who _ too start from [] _ [] _ x y s t NoRows ends (OneRow {mid = mid} {bytes = bytes} {lines = more} g k is rest) others e =
     absurd (no_line view.style (place_behind start) (side_in who from) is.after s x g is.line (bytes ++ y) ends is.reported (e ∙ append_assoc g bytes y))
-rows_one view m who to _ start from _ [] _ [] x y s t (OneRow {mid = mid} {bytes = bytes} {lines = more} f l is rest) ends NoRows others e =
+rows_one one_text view m who to _ start from _ [] _ [] x y s t (OneRow {mid = mid} {bytes = bytes} {lines = more} f l is rest) ends NoRows others e =
     absurd (no_line view.style (place_behind start) (side_in who from) is.after t y f is.line (bytes ++ x) others is.reported (sym e ∙ append_assoc f bytes x))
-rows_one view m who to too start from _ _ _ _ x y s t (OneRow {mid = mid} {bytes = bytes} {lines = more} f l is rest) ends (OneRow {mid = last} {bytes = left} {lines = less} g k has tail) others e =
-    let one = lists_one view m who (place_behind start) from mid last f g l k (bytes ++ x) (left ++ y) is has (sym (append_assoc f bytes x) ∙ e ∙ append_assoc g left y) in
+rows_one one_text view m who to too start from _ _ _ _ x y s t (OneRow {mid = mid} {bytes = bytes} {lines = more} f l is rest) ends (OneRow {mid = last} {bytes = left} {lines = less} g k has tail) others e =
+    let one = lists_one one_text view m who (place_behind start) from mid last f g l k (bytes ++ x) (left ++ y) is has (sym (append_assoc f bytes x) ∙ e ∙ append_assoc g left y) in
     let here : Rows view m who too (start + length f) mid left less = subst (λ h. Rows view m who too (start + length f) h left less) (sym one.knowns) (subst (λ h. Rows view m who too (start + length h) last left less) (sym one.frames) tail) in
-    let same = rows_one view m who to too (start + length f) mid bytes left more less x y s t rest ends here others one.rests in
+    let same = rows_one one_text view m who to too (start + length f) mid bytes left more less x y s t rest ends here others one.rests in
     record {
       fronts = ap (λ h. h ++ bytes) one.frames ∙ ap (λ h. g ++ h) same.fronts;
       texts = ap (λ h. h ++ more) one.texts ∙ ap (λ h. k ++ h) same.texts;
@@ -132,13 +145,13 @@ talk_same : (who : Sender) (a b : Talk) → a.known ≡ b.known → half_in who 
 talk_same Client a b k c s t = parts_same a b k c s t
 talk_same Server a b k s c t = parts_same a b k c s t
 
-pub chunk_lists_one : (view : View) (before after then : Talk) (chunk : Chunk) (text another : List ℕ) → ListsChunk view before chunk text after → ListsChunk view before chunk another then → (text ≡ another) × (after ≡ then)
-chunk_lists_one view before after then chunk text another a b =
+pub chunk_lists_one : (one_text : OneText) (view : View) (before after then : Talk) (chunk : Chunk) (text another : List ℕ) → ListsChunk view before chunk text after → ListsChunk view before chunk another then → (text ≡ another) × (after ≡ then)
+chunk_lists_one one_text view before after then chunk text another a b =
     let who = chunk.sender in
     let m = mark view.style.form who (since (first_time before.start chunk.micros) chunk.micros) in
     let start = (half_in who before).passed in
     let from = now_at chunk.micros before.known in
-    let one = rows_one view m who after.known then.known start from a.front b.front text another (half_in who after).rest (half_in who then).rest (half_in who after).stopped (half_in who then).stopped
+    let one = rows_one one_text view m who after.known then.known start from a.front b.front text another (half_in who after).rest (half_in who then).rest (half_in who after).stopped (half_in who then).stopped
     (rows_of view m who start from after.known a.front text a.each) a.ending (rows_of view m who start from then.known b.front another b.each) b.ending (sym a.whole ∙ b.whole) in
     let half = half_same (half_in who after) (half_in who then) (a.passed ∙ ap (λ l. start + length l) one.fronts ∙ sym b.passed) one.rests one.ends in
     (one.texts, talk_same who after then one.knowns half (a.same ∙ sym b.same) (a.start ∙ sym b.start))
@@ -156,14 +169,14 @@ chunks_of : (view : View) (from to : Talk) (chunks : List Chunk) (lines : List �
 chunks_of view from _ [] [] NoChunkListed = NoMore
 chunks_of view from to _ _ (OneChunkListed {chunks = chunks} {lines = lines} {here = here} chunk text before has) = chunk_more view here from to chunks chunk lines text (chunks_of view from here chunks lines before) has
 
-listed_one : (view : View) (to too from : Talk) (cs ds : List Chunk) (lines others : List ℕ) → InOrder view to from cs lines → InOrder view too from ds others → cs ≡ ds → (lines ≡ others) × (to ≡ too)
-listed_one view _ _ _ [] [] [] [] NoMore NoMore e = (refl, refl)
-listed_one view _ too from [] _ [] _ NoMore (OneMore {chunks = ds} d u has tail) e = let h : 0 ≡ suc (length ds) = ap length e in absurd (omega (arith, h))
-listed_one view to _ from _ [] _ [] (OneMore {chunks = cs} c t is rest) NoMore e = let h : suc (length cs) ≡ 0 = ap length e in absurd (omega (arith, h))
-listed_one view to too from _ _ _ _ (OneMore {mid = mid} {chunks = cs} {lines = more} c t is rest) (OneMore {mid = last} {chunks = ds} {lines = less} d u has tail) e =
+listed_one : (one_text : OneText) (view : View) (to too from : Talk) (cs ds : List Chunk) (lines others : List ℕ) → InOrder view to from cs lines → InOrder view too from ds others → cs ≡ ds → (lines ≡ others) × (to ≡ too)
+listed_one one_text view _ _ _ [] [] [] [] NoMore NoMore e = (refl, refl)
+listed_one one_text view _ too from [] _ [] _ NoMore (OneMore {chunks = ds} d u has tail) e = let h : 0 ≡ suc (length ds) = ap length e in absurd (omega (arith, h))
+listed_one one_text view to _ from _ [] _ [] (OneMore {chunks = cs} c t is rest) NoMore e = let h : suc (length cs) ≡ 0 = ap length e in absurd (omega (arith, h))
+listed_one one_text view to too from _ _ _ _ (OneMore {mid = mid} {chunks = cs} {lines = more} c t is rest) (OneMore {mid = last} {chunks = ds} {lines = less} d u has tail) e =
     let first = ap (λ l. get_or l 0 c) e in
-    let one = chunk_lists_one view from mid last d t u (subst (λ k. ListsChunk view from k t mid) first is) has in
-    let same = listed_one view to too mid cs ds more less rest (subst (λ h. InOrder view too h ds less) (sym one.1) tail) (ap (λ l. drop 1 l) e) in
+    let one = chunk_lists_one one_text view from mid last d t u (subst (λ k. ListsChunk view from k t mid) first is) has in
+    let same = listed_one one_text view to too mid cs ds more less rest (subst (λ h. InOrder view too h ds less) (sym one.1) tail) (ap (λ l. drop 1 l) e) in
     (ap (λ l. l ++ more) one.0 ∙ ap (λ l. u ++ l) same.0, same.1)
 
 -- ---- the chunks of a recording
@@ -268,25 +281,25 @@ no_recording bytes rest chunks NoRecording e r = (refl, λ more same. e more (sy
 magic_first : (bytes rest : List ℕ) (chunks : List Chunk) → Records bytes true chunks rest → bytes ≡ magic ++ (flat_map chunk_bytes chunks ++ rest)
 magic_first bytes rest chunks r = r.whole ∙ append_assoc magic (flat_map chunk_bytes chunks) rest
 
-lines_one : (view : View) (marking : Marking) (cs ds : List Chunk) (lines others : List ℕ) (to too : Talk) → ListsChunks view (begins marking) cs lines to → ListsChunks view (begins marking) ds others too → cs ≡ ds → lines ++ last_lines view to ≡ others ++ last_lines view too
-lines_one view marking cs ds lines others to too a b e =
-    let one = listed_one view to too (begins marking) cs ds lines others (chunks_of view (begins marking) to cs lines a) (chunks_of view (begins marking) too ds others b) e in
+lines_one : (one_text : OneText) (view : View) (marking : Marking) (cs ds : List Chunk) (lines others : List ℕ) (to too : Talk) → ListsChunks view (begins marking) cs lines to → ListsChunks view (begins marking) ds others too → cs ≡ ds → lines ++ last_lines view to ≡ others ++ last_lines view too
+lines_one one_text view marking cs ds lines others to too a b e =
+    let one = listed_one one_text view to too (begins marking) cs ds lines others (chunks_of view (begins marking) to cs lines a) (chunks_of view (begins marking) too ds others b) e in
     ap (λ l. l ++ last_lines view to) one.0 ∙ ap (λ t. others ++ last_lines view t) one.1
 
-by_begun : (view : View) (marking : Marking) (bytes x y lines others : List ℕ) (p q : Bool) (a b : End) (to too : Talk) (m : HasLines view marking bytes p x lines to) (n : HasLines view marking bytes q y others too) → EndsBy p x a → EndsBy q y b
+by_begun : (one_text : OneText) (view : View) (marking : Marking) (bytes x y lines others : List ℕ) (p q : Bool) (a b : End) (to too : Talk) (m : HasLines view marking bytes p x lines to) (n : HasLines view marking bytes q y others too) → EndsBy p x a → EndsBy q y b
     → (a ≡ b) × (lines ++ last_lines view to ≡ others ++ last_lines view too)
-by_begun view marking bytes x y lines others true true a b to too m n ea eb =
+by_begun one_text view marking bytes x y lines others true true a b to too m n ea eb =
     let same = chunks_one m.chunks n.chunks x y m.records.each n.records.each (ends_none x a ea) (ends_none y b eb)
     (sym (drop-append_seam magic (flat_map chunk_bytes m.chunks ++ x)) ∙ ap (drop 20) (sym (magic_first bytes x m.chunks m.records) ∙ magic_first bytes y n.chunks n.records) ∙ drop-append_seam magic (flat_map chunk_bytes n.chunks ++ y)) in
-    (end_one y a b (subst (λ l. EndsBy true l a) same.1 ea) eb, lines_one view marking m.chunks n.chunks lines others to too m.each n.each same.0)
-by_begun view marking bytes x y lines others false false a b to too m n ea eb =
-    ((no_recording bytes x m.chunks a ea m.records).0 ∙ sym (no_recording bytes y n.chunks b eb n.records).0, lines_one view marking m.chunks n.chunks lines others to too m.each n.each (m.records.none refl ∙ sym (n.records.none refl)))
-by_begun view marking bytes x y lines others true false a b to too m n ea eb =
+    (end_one y a b (subst (λ l. EndsBy true l a) same.1 ea) eb, lines_one one_text view marking m.chunks n.chunks lines others to too m.each n.each same.0)
+by_begun one_text view marking bytes x y lines others false false a b to too m n ea eb =
+    ((no_recording bytes x m.chunks a ea m.records).0 ∙ sym (no_recording bytes y n.chunks b eb n.records).0, lines_one one_text view marking m.chunks n.chunks lines others to too m.each n.each (m.records.none refl ∙ sym (n.records.none refl)))
+by_begun one_text view marking bytes x y lines others true false a b to too m n ea eb =
     absurd ((no_recording bytes y n.chunks b eb n.records).1 (flat_map chunk_bytes m.chunks ++ x) (magic_first bytes x m.chunks m.records))
-by_begun view marking bytes x y lines others false true a b to too m n ea eb =
+by_begun one_text view marking bytes x y lines others false true a b to too m n ea eb =
     absurd ((no_recording bytes x m.chunks a ea m.records).1 (flat_map chunk_bytes n.chunks ++ y) (magic_first bytes y n.chunks n.records))
 
-pub one_listing : (view : View) (marking : Marking) (bytes output another : List ℕ) (end ending : End) → IsListing view marking bytes end output → IsListing view marking bytes ending another → (end ≡ ending) × (output ≡ another)
-one_listing view marking bytes output another end ending a b =
-    let one = by_begun view marking bytes a.rest b.rest a.lines b.lines a.begun b.begun end ending a.talk b.talk a.each b.each a.ending b.ending in
+pub one_listing : (one_text : OneText) (view : View) (marking : Marking) (bytes output another : List ℕ) (end ending : End) → IsListing view marking bytes end output → IsListing view marking bytes ending another → (end ≡ ending) × (output ≡ another)
+one_listing one_text view marking bytes output another end ending a b =
+    let one = by_begun one_text view marking bytes a.rest b.rest a.lines b.lines a.begun b.begun end ending a.talk b.talk a.each b.each a.ending b.ending in
     (one.0, a.text ∙ one.1 ∙ sym b.text)

@@ -17,7 +17,10 @@ use Rattle.pgp_trace.proofs.Printable.{join, line_printable, plain}
 use Rattle.pgp_conversation.specs.declared.chunk.Sender.{Sender}
 use Rattle.pgp_conversation.specs.declared.told.Told.{Told}
 use Rattle.pgp_conversation.specs.Marks.{mark, marked, since, word}
+use Rattle.pgp_conversation.specs.Typed.{Said, ShowsTyped}
+use Rattle.pgp_conversation.specs.Types.{Types}
 use Rattle.pgp_conversation.proofs.PrintedMarks.{mark_printable}
+use Rattle.pgp_conversation.proofs.PrintedTypes.{typed_printed}
 
 -- ---- what stands behind an opening brace
 
@@ -79,3 +82,9 @@ pub marked_printable : (style : Style) (place : ℕ) (from to : Side) (frame lin
 marked_printable style place from to frame line form who start micros told is =
     let one = line_printable style place from to frame line is in
     printed form (mark form who (since start micros) ++ word form told) one.0 line one.1 (mark_printable form who start micros told) one.2
+
+pub typed_printable : (style : Style) (place len : ℕ) (from to : Side) (frame line typed : List ℕ) (said : Said) (types : Option Types) (form : Form) (who : Sender) (start micros : ℕ) (told shown : Option Told) → LineOf style place from frame line to
+    → ShowsTyped style place len told said types line typed → (text : List ℕ) × (marked form (mark form who (since start micros) ++ word form shown) typed ≡ text ++ 10 ∷ []) × IsPrinted text
+typed_printable style place len from to frame line typed said types form who start micros told shown is shows =
+    let one = typed_printed style place len told said types line typed (line_printable style place from to frame line is) shows in
+    printed form (mark form who (since start micros) ++ word form shown) one.0 typed one.1 (mark_printable form who start micros shown) one.2

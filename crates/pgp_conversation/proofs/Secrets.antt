@@ -1,9 +1,10 @@
 -- Frames that differ in their secrets alone have the same text.
-use Rattle.std.proofs.Common.{◌≡◌, ℕ, Bool, true, false, List, [], ◌∷◌, ◌++◌, length, get_or, Some, Result, Ok, Err, refl, sym, ap, ◌∙◌, inl, inr, arith}
+use Rattle.std.proofs.Common.{◌≡◌, ℕ, Bool, true, false, List, [], ◌∷◌, ◌++◌, length, get_or, Some, Result, Ok, Err, refl, sym, ap, subst, ◌∙◌, inl, inr, arith}
 use Rattle.std.proofs.lemmas.List.{append-nil}
 use Rattle.pgp_base.specs.declared.error.Error.{Error}
-use Rattle.pgp_message.specs.BackendMessage.{Message}
+use Rattle.pgp_message.specs.BackendMessage.{Body, Message}
 use Rattle.pgp_message.specs.Stream.{Frame, IsFrame, frame_bytes}
+use Rattle.pgp_message.proofs.Bodies.{one_body}
 use Rattle.pgp_message.proofs.Runs.{length-frame}
 use Rattle.pgp_frontend.specs.ClientMessage.{ClientMessage, CancelRequest, PasswordMessage, SaslInitialResponse, SaslResponse}
 use Rattle.pgp_frontend_read.specs.declared.error.ClientError.{ClientError}
@@ -12,14 +13,14 @@ use Rattle.pgp_client.specs.Kinds.{request_of, request_of_tag}
 use Rattle.pgp_line.specs.declared.style.Style.{Style}
 use Rattle.pgp_trace.specs.ClientSecrets.{AlikeAnswers, AlikeMessages, ReadsAs}
 use Rattle.pgp_trace.specs.Listing.{IsServerLine, LineOf, name_in, server_name}
-use Rattle.pgp_trace.specs.Secrets.{quiet, quietly}
+use Rattle.pgp_trace.specs.Secrets.{AlikeFrames, AlikeResults, quiet, quietly}
 use Rattle.pgp_trace.specs.Sides.{Side, Server, Client, answered, is_reported, replicates_behind, server_at}
 use Rattle.pgp_trace.specs.declared.side.Phase.TheVariants.{Beginning, Messages, Replicating, Encrypted}
 use Rattle.pgp_trace.specs.View.{View}
 use Rattle.pgp_trace.proofs.ClientStreams as sent
 use Rattle.pgp_trace.proofs.Streams.{AreFrames, line_hidden, one_last}
 use Rattle.pgp_conversation.specs.declared.chunk.Sender.{Sender}
-use Rattle.pgp_conversation.specs.Conversation.{Known, ListsFrame, note, noted_in, side_in, text_of, with_numbers, with_side}
+use Rattle.pgp_conversation.specs.Conversation.{Known, ListsFrame, note, noted_in, side_in, text_of, told_by, with_numbers, with_side, with_types}
 use Rattle.pgp_conversation.specs.Requests.{asked_by, asking, heard_as, kind_by, role_in, told_in}
 use Rattle.pgp_conversation.specs.Summing.{asking_in, summed}
 use Rattle.pgp_conversation.proofs.Summed.{answers_ask}
@@ -29,6 +30,8 @@ use Rattle.pgp_conversation.specs.Steps.{noted_by}
 use Rattle.pgp_conversation.proofs.Naming.{name_noted}
 use Rattle.pgp_conversation.proofs.Roles.{server_named}
 use Rattle.pgp_conversation.specs.Marks.{word}
+use Rattle.pgp_conversation.specs.Typed.{ShowsTyped, said_in}
+use Rattle.pgp_conversation.proofs.TypedAlike.{AlikeSaid, learns_alike, shows_alike}
 
 -- ---- the line of the other frame
 
@@ -37,6 +40,7 @@ record Hidden (style : Style) (place : ℕ) (from : Side) (frame other line : Li
   named : name_in (quiet style) place from frame line to is ≡ name_in (quiet style) place from other line to same
   role : role_in (quiet style) place from frame line to is ≡ role_in (quiet style) place from other line to same
   asks : asking_in (quiet style) place from frame line to is ≡ asking_in (quiet style) place from other line to same
+  said : AlikeSaid (said_in (quiet style) place from frame line to is) (said_in (quiet style) place from other line to same)
 
 -- ---- a server's
 
@@ -51,6 +55,10 @@ record ServerHidden (style : Style) (place : ℕ) (replicating : Bool) (frame ot
   named : server_name is.first.tag is.reported.result ≡ server_name same.first.tag same.reported.result
   behind : replicates_behind replicating frame ≡ replicates_behind replicating other
   starts : answered frame ≡ answered other
+  said : AlikeResults is.reported.result same.reported.result
+
+result_alike : (f g : Frame) (r s : Result Message Error) → IsFrame g → AlikeFrames f g → Body f.tag f.payload r → Body g.tag g.payload s → AlikeResults r s
+result_alike f g r s fits alike a b = let same = alike.bodies r a in subst (AlikeResults r) (sym (one_body g.tag g.payload same.0 fits.payload same.1) ∙ one_body g.tag g.payload s fits.payload b) same.2
 
 server_hidden : (style : Style) (place : ℕ) (replicating : Bool) (frame other line : List ℕ) → AlikeReceived frame other → (is : IsServerLine (quiet style) place replicating frame line) → ServerHidden style place replicating frame other line is
 server_hidden style place replicating frame other line a is =
@@ -62,6 +70,7 @@ server_hidden style place replicating frame other line a is =
       named = hidden.named;
       behind = ap (replicates_behind replicating) is.whole ∙ ap (λ t. replicates_behind replicating (t ∷ [])) alike.tagged ∙ sym (ap (replicates_behind replicating) a.two);
       starts = ap answered is.whole ∙ ap (λ t. answered (t ∷ [])) alike.tagged ∙ sym (ap answered a.two);
+      said = result_alike is.first a.second is.reported.result hidden.is.result a.holds alike is.reported.body hidden.is.body;
     }
 
 server_roles : (t u : ℕ) (r s : Result Message Error) → server_name t r ≡ server_name u s → heard_as (kind_by t r) ≡ heard_as (kind_by u s)
@@ -73,12 +82,12 @@ no_answer frame other byte a e = absurd (omega (arith, ap length e, ap length a.
 messages_hidden : (style : Style) (place : ℕ) (frame other line : List ℕ) (to : Side) → AlikeReceived frame other → (is : LineOf (quiet style) place (Server Messages) frame line to) → Hidden style place (Server Messages) frame other line to is
 messages_hidden style place frame other line to a is =
     let h = server_hidden style place false frame other line a is.0 in
-    record { same = (h.same, is.1 ∙ ap server_at h.behind); named = h.named; role = server_roles is.0.first.tag h.same.first.tag is.0.reported.result h.same.reported.result h.named; asks = refl }
+    record { same = (h.same, is.1 ∙ ap server_at h.behind); named = h.named; role = server_roles is.0.first.tag h.same.first.tag is.0.reported.result h.same.reported.result h.named; asks = refl; said = h.said }
 
 replicating_hidden : (style : Style) (place : ℕ) (frame other line : List ℕ) (to : Side) → AlikeReceived frame other → (is : LineOf (quiet style) place (Server Replicating) frame line to) → Hidden style place (Server Replicating) frame other line to is
 replicating_hidden style place frame other line to a is =
     let h = server_hidden style place true frame other line a is.0 in
-    record { same = (h.same, is.1 ∙ ap server_at h.behind); named = h.named; role = server_roles is.0.first.tag h.same.first.tag is.0.reported.result h.same.reported.result h.named; asks = refl }
+    record { same = (h.same, is.1 ∙ ap server_at h.behind); named = h.named; role = server_roles is.0.first.tag h.same.first.tag is.0.reported.result h.same.reported.result h.named; asks = refl; said = h.said }
 
 beginning_hidden : (style : Style) (place : ℕ) (frame other line : List ℕ) (to : Side) → AlikeReceived frame other → (is : LineOf (quiet style) place (Server Beginning) frame line to) → Hidden style place (Server Beginning) frame other line to is
 beginning_hidden style place frame other line to a (inl answer) = absurd (no_answer frame other answer.reported.byte a answer.reported.whole)
@@ -89,6 +98,7 @@ beginning_hidden style place frame other line to a (inr is) =
       named = h.named;
       role = server_roles is.reported.first.tag h.same.first.tag is.reported.reported.result h.same.reported.result h.named;
       asks = refl;
+      said = h.said;
     }
 
 -- ---- a client's
@@ -133,6 +143,7 @@ client_hidden style place opened kinds replicating frame other line to a is =
       named = sent.names_alike (is_reported kinds) is.reported.result h.is.reported.result h.same;
       role = ap asking (client_roles opened is.now kinds frame other is.reported.result h.is.reported.result a is.reported.step h.same);
       asks = answers_ask is.reported.result h.is.reported.result h.same;
+      said = h.same;
     }
 
 -- ---- both
@@ -144,12 +155,18 @@ hidden style place (Server Replicating) frame other line to a is = replicating_h
 hidden style place (Server Encrypted) frame other line to a is = absurd is
 hidden style place (Client opened kinds replicating) frame other line to a is = client_hidden style place opened kinds replicating frame other line to a is
 
+long_alike : (from : Side) (frame other : List ℕ) → AlikeIn from frame other → length frame ≡ length other
+long_alike (Server phase) frame other a = ap length a.one ∙ a.alike.long ∙ sym (ap length a.two)
+long_alike (Client opened kinds replicating) frame other a = a.alike.long
+
 pub frames_hidden : (view : View) (mark : List ℕ) (who : Sender) (place : ℕ) (here to : Known) (frame other text : List ℕ) → AlikeIn (side_in who here) frame other
     → ListsFrame (quietly view) mark who place here frame text to → ListsFrame (quietly view) mark who place here other text to
 frames_hidden view mark who place here to frame other text alike l =
     let style = quiet view.style in
     let from = side_in who here in
     let h = hidden view.style place from frame other l.line l.after alike l.reported in
+    let said = said_in style place from frame l.line l.after l.reported in
+    let there = said_in style place from other l.line l.after h.same in
     let noted : noted_in style place from frame l.line l.after l.reported ≡ noted_in style place from other l.line l.after h.same =
     sym (name_noted style place from frame l.line l.after l.reported) ∙ ap noted_by h.named ∙ name_noted style place from other l.line l.after h.same in
     record {
@@ -157,10 +174,14 @@ frames_hidden view mark who place here to frame other text alike l =
       after = l.after;
       told = l.told;
       numbers = l.numbers;
+      types = l.types;
+      typed = l.typed;
       reported = h.same;
       numbered = ap (λ r. told_in r here.numbers) (sym h.role) ∙ l.numbered;
-      is = l.is ∙ ap (λ n. text_of (quietly view) (mark ++ word view.style.form l.told) place here.requests n l.line) h.named;
-      behind = l.behind ∙ ap (λ n. note n (with_numbers (summed l.told (asking_in style place from frame l.line l.after l.reported) (name_in style place from frame l.line l.after l.reported) l.numbers) (with_side who here l.after))) noted
-          ∙ ap (λ a. note (noted_in style place from other l.line l.after h.same) (with_numbers (summed l.told a (name_in style place from frame l.line l.after l.reported) l.numbers) (with_side who here l.after))) h.asks
-          ∙ ap (λ n. note (noted_in style place from other l.line l.after h.same) (with_numbers (summed l.told (asking_in style place from other l.line l.after h.same) n l.numbers) (with_side who here l.after))) h.named;
+      learns = learns_alike l.told said there h.said here.types l.types l.learns;
+      shows = subst (λ n. ShowsTyped style place n l.told there l.types l.line l.typed) (long_alike from frame other alike) (shows_alike style place (length frame) l.told said there h.said l.types l.line l.typed l.shows);
+      is = l.is ∙ ap (λ n. text_of (quietly view) (mark ++ word view.style.form (told_by here.marked l.told)) place here.requests n l.typed) h.named;
+      behind = l.behind ∙ ap (λ n. note n (with_types l.types (with_numbers (summed l.told (asking_in style place from frame l.line l.after l.reported) (name_in style place from frame l.line l.after l.reported) l.numbers) (with_side who here l.after)))) noted
+          ∙ ap (λ a. note (noted_in style place from other l.line l.after h.same) (with_types l.types (with_numbers (summed l.told a (name_in style place from frame l.line l.after l.reported) l.numbers) (with_side who here l.after)))) h.asks
+          ∙ ap (λ n. note (noted_in style place from other l.line l.after h.same) (with_types l.types (with_numbers (summed l.told (asking_in style place from other l.line l.after h.same) n l.numbers) (with_side who here l.after)))) h.named;
     }

@@ -20,7 +20,7 @@ use Rattle.pgp_conversation.specs.declared.chunk.Sender.TheVariants.{Client, Ser
 use Rattle.pgp_conversation.specs.declared.ending.End.{End}
 use Rattle.pgp_conversation.specs.declared.marking.Marking.{Marking}
 use Rattle.pgp_conversation.specs.declared.session.Said.{Said}
-use Rattle.pgp_conversation.specs.Conversation.{Known, NoChunkListed, OneChunkListed, Talk, at_first, begins, first_start, last_lines, last_of, left}
+use Rattle.pgp_conversation.specs.Conversation.{Known, NoChunkListed, OneChunkListed, Talk, at_first, begins, first_start, last_lines, last_of, left, told_by}
 use Rattle.pgp_conversation.specs.Pieces.{ListsAllChunks, ListsPiece, ListsSome, Stays, Tracks, TracksTo, held_first, held_last}
 use Rattle.pgp_conversation.specs.Requests.{summary_in, unnumbered}
 use Rattle.pgp_conversation.specs.Tables.{ending_by}
@@ -222,8 +222,8 @@ pub record Follows (view : View) (marking : Marking) (before after : Streams) (o
 nothing_kept : (marking : Marking) → Keeps (held_first marking) (begins marking)
 nothing_kept marking = record {
   known = refl;
-  client = record { ending = nothing_ends (at_first marking.numbered marking.summed).client; stopped = refl; count = refl; place = refl; bytes = λ e. refl };
-  server = record { ending = nothing_ends (at_first marking.numbered marking.summed).server; stopped = refl; count = refl; place = refl; bytes = λ e. refl };
+  client = record { ending = nothing_ends (at_first marking).client; stopped = refl; count = refl; place = refl; bytes = λ e. refl };
+  server = record { ending = nothing_ends (at_first marking).server; stopped = refl; count = refl; place = refl; bytes = λ e. refl };
   start = refl;
 }
 
@@ -245,7 +245,7 @@ follows_start view marking s opened held rest fresh first none = record {
 }
 
 -- times are counted so
-pub first_held : (marking : Marking) (held : HeldTalk) → held ≡ held_first (record { absolute = false; numbered = marking.numbered; summed = marking.summed }) → record { known = held.known; client = held.client; server = held.server; start = first_start marking.absolute } ≡ held_first marking
+pub first_held : (marking : Marking) (held : HeldTalk) → held ≡ held_first (record { absolute = false; numbered = marking.numbered; summed = marking.summed; raw = marking.raw }) → record { known = held.known; client = held.client; server = held.server; start = first_start marking.absolute } ≡ held_first marking
 first_held marking held e = ap (λ (h : HeldTalk). record { known = h.known; client = h.client; server = h.server; start = first_start marking.absolute }) e
 
 pub follows_same : (view : View) (marking : Marking) (before after : Streams) (opened : Bool) (held : HeldTalk) (rest : List ℕ) (next : Option (List ℕ)) → Follows view marking before after opened held rest → Same after.input next
@@ -324,14 +324,14 @@ read_no_more true rest input = tt
 -- what is kept says how much is left
 last_is : (view : View) (held : HeldTalk) (talk : Talk) → Keeps held talk → held_last view held ≡ last_lines view talk
 last_is view held talk k =
-    let told = unnumbered held.known.numbers in
+    let told = told_by held.known.marked (unnumbered held.known.numbers) in
     let ends : List ℕ → List ℕ = ending_by view.style (summary_in held.known.numbers) in
     ap (λ s. ends (last_of view told Client s held.client.left ++ last_of view told Server held.server.stopped held.server.left)) k.client.stopped
     ∙ ap (λ n. ends (last_of view told Client talk.client.stopped n ++ last_of view told Server held.server.stopped held.server.left)) k.client.count
     ∙ ap (λ s. ends (last_of view told Client talk.client.stopped (left talk.client) ++ last_of view told Server s held.server.left)) k.server.stopped
     ∙ ap (λ n. ends (last_of view told Client talk.client.stopped (left talk.client) ++ last_of view told Server talk.server.stopped n)) k.server.count
     ∙ ap (λ (known : Known). ending_by view.style (summary_in known.numbers)
-    (last_of view (unnumbered known.numbers) Client talk.client.stopped (left talk.client) ++ last_of view (unnumbered known.numbers) Server talk.server.stopped (left talk.server))) k.known
+    (last_of view (told_by known.marked (unnumbered known.numbers)) Client talk.client.stopped (left talk.client) ++ last_of view (told_by known.marked (unnumbered known.numbers)) Server talk.server.stopped (left talk.server))) k.known
 
 hints_are : (held : HeldTalk) (talk : Talk) → Keeps held talk → (hint_of held.known.client held.client.left ≡ hint_of talk.known.client (left talk.client)) × (hint_of held.known.server held.server.left ≡ hint_of talk.known.server (left talk.server))
 hints_are held talk k = (

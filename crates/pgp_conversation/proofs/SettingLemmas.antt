@@ -16,9 +16,9 @@ use Rattle.pgp_trace.proofs.OptionLemmas.{Received, one_first, received_all, rec
 use Rattle.pgp_conversation.specs.declared.marking.Marking.{Marking}
 use Rattle.pgp_conversation.specs.declared.options.Clock.{Clock}
 use Rattle.pgp_conversation.specs.declared.options.Setting.{Setting}
-use Rattle.pgp_conversation.specs.declared.options.Setting.TheVariants.{Listing, Requests, Summary, Time}
+use Rattle.pgp_conversation.specs.declared.options.Setting.TheVariants.{Listing, Raw, Requests, Summary, Time}
 use Rattle.pgp_conversation.specs.Chosen.{Chooses, Flags, Sets}
-use Rattle.pgp_conversation.specs.Settings.{AreNoSettings, AreSettings, BeginsWithNoSetting, IsCommon, IsSetting, SaysNoClock, clock_in, first_of, is_absolute, is_requests, is_summary, listing_in, spelled_by, summarized}
+use Rattle.pgp_conversation.specs.Settings.{AreNoSettings, AreSettings, BeginsWithNoSetting, IsCommon, IsSetting, SaysNoClock, clock_in, first_of, is_absolute, is_raw, is_requests, is_summary, listing_in, spelled_by, summarized}
 
 -- the options of a listing among them, with whatever stands after them
 abbrev Listings : (terminal : Bool) → List Setting → Flags → Type 0
@@ -33,11 +33,12 @@ pub record Came (terminal : Bool) (all rest : List (List ℕ)) (f : Flags) (mark
   pub clock : marking.absolute ≡ last_of false (flat_map clock_in settings)
   pub requests : marking.numbered ≡ list_any is_requests settings
   pub summary : marking.summed ≡ list_any is_summary settings
+  pub raw : marking.raw ≡ list_any is_raw settings
   pub none : (f.resume ≡ false) × (f.replicating ≡ false) × (f.kinds ≡ [])
 
 pub came_none : (terminal : Bool) (all : List (List ℕ)) (f : Flags) → f ≡ record { json = false; full = false; secrets = false; resume = false; replicating = false; only = []; colored = terminal; kinds = [] }
-    → Came terminal all all f (record { absolute = false; numbered = false; summed = false })
-came_none terminal all f e = subst (λ (x : Flags). Came terminal all all x (record { absolute = false; numbered = false; summed = false })) (sym e) (record {
+    → Came terminal all all f (record { absolute = false; numbered = false; summed = false; raw = false })
+came_none terminal all f e = subst (λ (x : Flags). Came terminal all all x (record { absolute = false; numbered = false; summed = false; raw = false })) (sym e) (record {
   settings = [];
   whole = refl;
   each = tt;
@@ -45,6 +46,7 @@ came_none terminal all f e = subst (λ (x : Flags). Came terminal all all x (rec
   clock = refl;
   requests = refl;
   summary = refl;
+  raw = refl;
   none = (refl, refl, refl);
 })
 
@@ -116,17 +118,11 @@ or_true : (b : Bool) → (b || true) ≡ true
 or_true true = refl
 or_true false = refl
 
-none_asked : (settings : List Setting) (s : Setting) (was : Bool) → list_any is_requests (s ∷ []) ≡ false → was ≡ list_any is_requests settings → was ≡ list_any is_requests (settings ++ s ∷ [])
-none_asked settings s was none e = e ∙ sym (list_any-append is_requests settings (s ∷ []) ∙ ap (λ b. list_any is_requests settings || b) none ∙ or_false (list_any is_requests settings))
+none_asked : (asks : Setting → Bool) (settings : List Setting) (s : Setting) (was : Bool) → list_any asks (s ∷ []) ≡ false → was ≡ list_any asks settings → was ≡ list_any asks (settings ++ s ∷ [])
+none_asked asks settings s was none e = e ∙ sym (list_any-append asks settings (s ∷ []) ∙ ap (λ b. list_any asks settings || b) none ∙ or_false (list_any asks settings))
 
-one_asked : (settings : List Setting) (s : Setting) → list_any is_requests (s ∷ []) ≡ true → list_any is_requests (settings ++ s ∷ []) ≡ true
-one_asked settings s is = list_any-append is_requests settings (s ∷ []) ∙ ap (λ b. list_any is_requests settings || b) is ∙ or_true (list_any is_requests settings)
-
-none_summed : (settings : List Setting) (s : Setting) (was : Bool) → list_any is_summary (s ∷ []) ≡ false → was ≡ list_any is_summary settings → was ≡ list_any is_summary (settings ++ s ∷ [])
-none_summed settings s was none e = e ∙ sym (list_any-append is_summary settings (s ∷ []) ∙ ap (λ b. list_any is_summary settings || b) none ∙ or_false (list_any is_summary settings))
-
-one_summed : (settings : List Setting) → list_any is_summary (settings ++ Summary ∷ []) ≡ true
-one_summed settings = list_any-append is_summary settings (Summary ∷ []) ∙ or_true (list_any is_summary settings)
+one_asked : (asks : Setting → Bool) (settings : List Setting) (s : Setting) → list_any asks (s ∷ []) ≡ true → list_any asks (settings ++ s ∷ []) ≡ true
+one_asked asks settings s one = list_any-append asks settings (s ∷ []) ∙ ap (λ b. list_any asks settings || b) one ∙ or_true (list_any asks settings)
 
 one_whole : (terminal : Bool) (all rest behind : List (List ℕ)) (settings : List Setting) (s : Setting) → all ≡ flat_map spelled_by settings ++ rest → rest ≡ spelled_by s ++ behind → all ≡ flat_map spelled_by (settings ++ s ∷ []) ++ behind
 one_whole terminal all rest behind settings s whole is =
@@ -142,8 +138,9 @@ came_more terminal all rest behind (Listing c) old new was now came is fits sets
   each = each_more came.settings (Listing c) came.each fits;
   listing = listing_more terminal came.settings c old new came.listing sets.0;
   clock = clock_kept came.settings (Listing c) was.absolute refl came.clock;
-  requests = none_asked came.settings (Listing c) was.numbered refl came.requests;
-  summary = none_summed came.settings (Listing c) was.summed refl came.summary;
+  requests = none_asked is_requests came.settings (Listing c) was.numbered refl came.requests;
+  summary = none_asked is_summary came.settings (Listing c) was.summed refl came.summary;
+  raw = none_asked is_raw came.settings (Listing c) was.raw refl came.raw;
   none = (sets.0.resume ∙ common_resume c old.resume fits ∙ came.none.0, sets.0.replicating ∙ common_replication c old.replicating fits ∙ came.none.1, sets.0.kinds ∙ ap (λ l. old.kinds ++ l) (common_kinds c fits) ∙ append-nil old.kinds ∙ came.none.2);
 })
 came_more terminal all rest behind (Time clock) old new was now came is fits sets = subst (Came terminal all behind new) (sym sets.1) (record {
@@ -152,8 +149,9 @@ came_more terminal all rest behind (Time clock) old new was now came is fits set
   each = each_more came.settings (Time clock) came.each fits;
   listing = none_listed terminal came.settings (Time clock) old new refl came.listing sets.0;
   clock = sym (ap (last_of false) (flat_more clock_in came.settings (Time clock)) ∙ last_more false (flat_map clock_in came.settings) (is_absolute clock));
-  requests = none_asked came.settings (Time clock) was.numbered refl came.requests;
-  summary = none_summed came.settings (Time clock) was.summed refl came.summary;
+  requests = none_asked is_requests came.settings (Time clock) was.numbered refl came.requests;
+  summary = none_asked is_summary came.settings (Time clock) was.summed refl came.summary;
+  raw = none_asked is_raw came.settings (Time clock) was.raw refl came.raw;
   none = flags_kept old new sets.0 came.none;
 })
 came_more terminal all rest behind Requests old new was now came is fits sets = subst (Came terminal all behind new) (sym sets.1) (record {
@@ -162,8 +160,9 @@ came_more terminal all rest behind Requests old new was now came is fits sets = 
   each = each_more came.settings Requests came.each fits;
   listing = none_listed terminal came.settings Requests old new refl came.listing sets.0;
   clock = clock_kept came.settings Requests was.absolute refl came.clock;
-  requests = sym (one_asked came.settings Requests refl);
-  summary = none_summed came.settings Requests was.summed refl came.summary;
+  requests = sym (one_asked is_requests came.settings Requests refl);
+  summary = none_asked is_summary came.settings Requests was.summed refl came.summary;
+  raw = none_asked is_raw came.settings Requests was.raw refl came.raw;
   none = flags_kept old new sets.0 came.none;
 })
 came_more terminal all rest behind Summary old new was now came is fits sets = subst (Came terminal all behind new) (sym sets.1) (record {
@@ -172,8 +171,20 @@ came_more terminal all rest behind Summary old new was now came is fits sets = s
   each = each_more came.settings Summary came.each fits;
   listing = none_listed terminal came.settings Summary old new refl came.listing sets.0;
   clock = clock_kept came.settings Summary was.absolute refl came.clock;
-  requests = sym (one_asked came.settings Summary refl);
-  summary = sym (one_summed came.settings);
+  requests = sym (one_asked is_requests came.settings Summary refl);
+  summary = sym (one_asked is_summary came.settings Summary refl);
+  raw = none_asked is_raw came.settings Summary was.raw refl came.raw;
+  none = flags_kept old new sets.0 came.none;
+})
+came_more terminal all rest behind Raw old new was now came is fits sets = subst (Came terminal all behind new) (sym sets.1) (record {
+  settings = came.settings ++ Raw ∷ [];
+  whole = one_whole terminal all rest behind came.settings Raw came.whole is;
+  each = each_more came.settings Raw came.each fits;
+  listing = none_listed terminal came.settings Raw old new refl came.listing sets.0;
+  clock = clock_kept came.settings Raw was.absolute refl came.clock;
+  requests = none_asked is_requests came.settings Raw was.numbered refl came.requests;
+  summary = none_asked is_summary came.settings Raw was.summed refl came.summary;
+  raw = sym (one_asked is_raw came.settings Raw refl);
   none = flags_kept old new sets.0 came.none;
 })
 
@@ -193,6 +204,7 @@ came_all terminal all rest f marking style came end shown =
       clock = came.clock;
       requests = came.requests;
       summary = came.summary;
+      raw = came.raw;
     }
 
 -- ---- words spell options in one way
@@ -222,6 +234,23 @@ requests_other (Only names) x y e = let h : 111 ≡ 114 = ap third_letter e in o
 requests_other (Color when) x y e = let h : 99 ≡ 114 = ap third_letter e in omega (arith, h)
 requests_other (Kind kind) x y e = let h : 112 ≡ 114 = ap third_letter e in omega (arith, h)
 
+-- nor is that of `--raw`
+raw_other : (c : Choice) (x y : List (List ℕ)) → spelled c ++ x ≡ codes "--raw" ∷ y → ⊥
+raw_other AsJson x y e = let h : 106 ≡ 114 = ap third_letter e in omega (arith, h)
+raw_other Full x y e = let h : 102 ≡ 114 = ap third_letter e in omega (arith, h)
+raw_other Secrets x y e = let h : 115 ≡ 114 = ap third_letter e in omega (arith, h)
+raw_other Resume x y e = let h : 8 ≡ 5 = ap first_long e in omega (arith, h)
+raw_other Replication x y e = let h : 13 ≡ 5 = ap first_long e in omega (arith, h)
+raw_other (Only names) x y e = let h : 111 ≡ 114 = ap third_letter e in omega (arith, h)
+raw_other (Color when) x y e = let h : 99 ≡ 114 = ap third_letter e in omega (arith, h)
+raw_other (Kind kind) x y e = let h : 112 ≡ 114 = ap third_letter e in omega (arith, h)
+
+raw_time : (clock : Clock) (x y : List (List ℕ)) → spelled_by (Time clock) ++ x ≡ codes "--raw" ∷ y → ⊥
+raw_time clock x y e = let h : 6 ≡ 5 = ap first_long e in omega (arith, h)
+
+raw_requests : (x y : List (List ℕ)) → codes "--requests" ∷ x ≡ codes "--raw" ∷ y → ⊥
+raw_requests x y e = let h : 10 ≡ 5 = ap first_long e in omega (arith, h)
+
 requests_time : (clock : Clock) (x y : List (List ℕ)) → spelled_by (Time clock) ++ x ≡ codes "--requests" ∷ y → ⊥
 requests_time clock x y e = let h : 6 ≡ 10 = ap first_long e in omega (arith, h)
 
@@ -245,6 +274,9 @@ summary_time clock x y e = let h : 6 ≡ 9 = ap first_long e in omega (arith, h)
 summary_requests : (x y : List (List ℕ)) → codes "--requests" ∷ x ≡ codes "--summary" ∷ y → ⊥
 summary_requests x y e = let h : 10 ≡ 9 = ap first_long e in omega (arith, h)
 
+summary_raw : (x y : List (List ℕ)) → codes "--summary" ∷ x ≡ codes "--raw" ∷ y → ⊥
+summary_raw x y e = let h : 9 ≡ 5 = ap first_long e in omega (arith, h)
+
 -- the same stands after the first option of each
 one_setting : (s t : Setting) (x y : List (List ℕ)) → spelled_by s ++ x ≡ spelled_by t ++ y → x ≡ y
 one_setting (Listing c) (Listing d) x y e = (one_first c d x y e).2
@@ -263,12 +295,22 @@ one_setting Summary (Time j) x y e = absurd (summary_time j y x (sym e))
 one_setting Requests Summary x y e = absurd (summary_requests x y e)
 one_setting Summary Requests x y e = absurd (summary_requests y x (sym e))
 one_setting Summary Summary x y e = ap (λ l. drop 1 l) e
+one_setting (Listing c) Raw x y e = absurd (raw_other c x y e)
+one_setting Raw (Listing d) x y e = absurd (raw_other d y x (sym e))
+one_setting (Time k) Raw x y e = absurd (raw_time k x y e)
+one_setting Raw (Time j) x y e = absurd (raw_time j y x (sym e))
+one_setting Requests Raw x y e = absurd (raw_requests x y e)
+one_setting Raw Requests x y e = absurd (raw_requests y x (sym e))
+one_setting Raw Raw x y e = ap (λ l. drop 1 l) e
+one_setting Summary Raw x y e = absurd (summary_raw x y e)
+one_setting Raw Summary x y e = absurd (summary_raw y x (sym e))
 
 setting_long : (s : Setting) (x : List (List ℕ)) → spelled_by s ++ x ≡ [] → ⊥
 setting_long (Listing c) x e = spelled_long c x e
 setting_long (Time k) x e = let h : suc (suc (length x)) ≡ 0 = ap length e in absurd (omega (arith, h))
 setting_long Requests x e = let h : suc (length x) ≡ 0 = ap length e in absurd (omega (arith, h))
 setting_long Summary x e = let h : suc (length x) ≡ 0 = ap length e in absurd (omega (arith, h))
+setting_long Raw x e = let h : suc (length x) ≡ 0 = ap length e in absurd (omega (arith, h))
 
 split : (cs : List Setting) (c : Setting) (rest : List (List ℕ)) → flat_map spelled_by (c ∷ cs) ++ rest ≡ spelled_by c ++ (flat_map spelled_by cs ++ rest)
 split cs c rest = ap (λ l. l ++ rest) (flat_map-cons spelled_by c cs) ∙ append_assoc (spelled_by c) (flat_map spelled_by cs) rest
@@ -305,27 +347,28 @@ abbrev letters : List (List ℕ) → ℕ
 letters words = get_or (first_of words) 2 0
 
 -- a word that begins otherwise than options that a session has
-other_letter : (words : List (List ℕ)) (letter : ℕ) → letters words ≡ letter → letter ≢ 106 → letter ≢ 102 → letter ≢ 115 → letter ≢ 111 → letter ≢ 99 → letter ≢ 116 → first_long words ≢ 10 → BeginsWithNoSetting words
-other_letter words letter is j f s o c t r (Listing AsJson) more fits e = j (sym is ∙ ap letters e)
-other_letter words letter is j f s o c t r (Listing Full) more fits e = f (sym is ∙ ap letters e)
-other_letter words letter is j f s o c t r (Listing Secrets) more fits e = s (sym is ∙ ap letters e)
-other_letter words letter is j f s o c t r (Listing Resume) more fits e = fits
-other_letter words letter is j f s o c t r (Listing Replication) more fits e = fits
-other_letter words letter is j f s o c t r (Listing (Only names)) more fits e = o (sym is ∙ ap letters e)
-other_letter words letter is j f s o c t r (Listing (Color when)) more fits e = c (sym is ∙ ap letters e)
-other_letter words letter is j f s o c t r (Listing (Kind kind)) more fits e = fits
-other_letter words letter is j f s o c t r (Time clock) more fits e = t (sym is ∙ ap letters e)
-other_letter words letter is j f s o c t r Requests more fits e = r (ap first_long e)
-other_letter words letter is j f s o c t r Summary more fits e = s (sym is ∙ ap letters e)
+other_letter : (words : List (List ℕ)) (letter : ℕ) → letters words ≡ letter → letter ≢ 106 → letter ≢ 102 → letter ≢ 115 → letter ≢ 111 → letter ≢ 99 → letter ≢ 116 → first_long words ≢ 10 → first_long words ≢ 5 → BeginsWithNoSetting words
+other_letter words letter is j f s o c t r w (Listing AsJson) more fits e = j (sym is ∙ ap letters e)
+other_letter words letter is j f s o c t r w (Listing Full) more fits e = f (sym is ∙ ap letters e)
+other_letter words letter is j f s o c t r w (Listing Secrets) more fits e = s (sym is ∙ ap letters e)
+other_letter words letter is j f s o c t r w (Listing Resume) more fits e = fits
+other_letter words letter is j f s o c t r w (Listing Replication) more fits e = fits
+other_letter words letter is j f s o c t r w (Listing (Only names)) more fits e = o (sym is ∙ ap letters e)
+other_letter words letter is j f s o c t r w (Listing (Color when)) more fits e = c (sym is ∙ ap letters e)
+other_letter words letter is j f s o c t r w (Listing (Kind kind)) more fits e = fits
+other_letter words letter is j f s o c t r w (Time clock) more fits e = t (sym is ∙ ap letters e)
+other_letter words letter is j f s o c t r w Requests more fits e = r (ap first_long e)
+other_letter words letter is j f s o c t r w Raw more fits e = w (ap first_long e)
+other_letter words letter is j f s o c t r w Summary more fits e = s (sym is ∙ ap letters e)
 
 pub no_replication : (words rest : List (List ℕ)) (word : List ℕ) → words ≡ word ∷ rest → word ≡ codes "--replication" → BeginsWithNoSetting words
-no_replication words rest word is same = other_letter words 114 (ap letters (is ∙ ap (λ w. w ∷ rest) same)) (λ e. let h : 114 ≡ 106 = e in omega (arith, h)) (λ e. let h : 114 ≡ 102 = e in omega (arith, h)) (λ e. let h : 114 ≡ 115 = e in omega (arith, h)) (λ e. let h : 114 ≡ 111 = e in omega (arith, h)) (λ e. let h : 114 ≡ 99 = e in omega (arith, h)) (λ e. let h : 114 ≡ 116 = e in omega (arith, h)) (λ e. let h : 13 ≡ 10 = sym (ap first_long (is ∙ ap (λ w. w ∷ rest) same)) ∙ e in omega (arith, h))
+no_replication words rest word is same = other_letter words 114 (ap letters (is ∙ ap (λ w. w ∷ rest) same)) (λ e. let h : 114 ≡ 106 = e in omega (arith, h)) (λ e. let h : 114 ≡ 102 = e in omega (arith, h)) (λ e. let h : 114 ≡ 115 = e in omega (arith, h)) (λ e. let h : 114 ≡ 111 = e in omega (arith, h)) (λ e. let h : 114 ≡ 99 = e in omega (arith, h)) (λ e. let h : 114 ≡ 116 = e in omega (arith, h)) (λ e. let h : 13 ≡ 10 = sym (ap first_long (is ∙ ap (λ w. w ∷ rest) same)) ∙ e in omega (arith, h)) (λ e. let h : 13 ≡ 5 = sym (ap first_long (is ∙ ap (λ w. w ∷ rest) same)) ∙ e in omega (arith, h))
 
 pub no_resume : (words rest : List (List ℕ)) (word : List ℕ) → words ≡ word ∷ rest → word ≡ codes "--resume" → BeginsWithNoSetting words
-no_resume words rest word is same = other_letter words 114 (ap letters (is ∙ ap (λ w. w ∷ rest) same)) (λ e. let h : 114 ≡ 106 = e in omega (arith, h)) (λ e. let h : 114 ≡ 102 = e in omega (arith, h)) (λ e. let h : 114 ≡ 115 = e in omega (arith, h)) (λ e. let h : 114 ≡ 111 = e in omega (arith, h)) (λ e. let h : 114 ≡ 99 = e in omega (arith, h)) (λ e. let h : 114 ≡ 116 = e in omega (arith, h)) (λ e. let h : 8 ≡ 10 = sym (ap first_long (is ∙ ap (λ w. w ∷ rest) same)) ∙ e in omega (arith, h))
+no_resume words rest word is same = other_letter words 114 (ap letters (is ∙ ap (λ w. w ∷ rest) same)) (λ e. let h : 114 ≡ 106 = e in omega (arith, h)) (λ e. let h : 114 ≡ 102 = e in omega (arith, h)) (λ e. let h : 114 ≡ 115 = e in omega (arith, h)) (λ e. let h : 114 ≡ 111 = e in omega (arith, h)) (λ e. let h : 114 ≡ 99 = e in omega (arith, h)) (λ e. let h : 114 ≡ 116 = e in omega (arith, h)) (λ e. let h : 8 ≡ 10 = sym (ap first_long (is ∙ ap (λ w. w ∷ rest) same)) ∙ e in omega (arith, h)) (λ e. let h : 8 ≡ 5 = sym (ap first_long (is ∙ ap (λ w. w ∷ rest) same)) ∙ e in omega (arith, h))
 
 pub no_kind : (words rest : List (List ℕ)) (word : List ℕ) → words ≡ word ∷ rest → word ≡ codes "--password-kind" → BeginsWithNoSetting words
-no_kind words rest word is same = other_letter words 112 (ap letters (is ∙ ap (λ w. w ∷ rest) same)) (λ e. let h : 112 ≡ 106 = e in omega (arith, h)) (λ e. let h : 112 ≡ 102 = e in omega (arith, h)) (λ e. let h : 112 ≡ 115 = e in omega (arith, h)) (λ e. let h : 112 ≡ 111 = e in omega (arith, h)) (λ e. let h : 112 ≡ 99 = e in omega (arith, h)) (λ e. let h : 112 ≡ 116 = e in omega (arith, h)) (λ e. let h : 15 ≡ 10 = sym (ap first_long (is ∙ ap (λ w. w ∷ rest) same)) ∙ e in omega (arith, h))
+no_kind words rest word is same = other_letter words 112 (ap letters (is ∙ ap (λ w. w ∷ rest) same)) (λ e. let h : 112 ≡ 106 = e in omega (arith, h)) (λ e. let h : 112 ≡ 102 = e in omega (arith, h)) (λ e. let h : 112 ≡ 115 = e in omega (arith, h)) (λ e. let h : 112 ≡ 111 = e in omega (arith, h)) (λ e. let h : 112 ≡ 99 = e in omega (arith, h)) (λ e. let h : 112 ≡ 116 = e in omega (arith, h)) (λ e. let h : 15 ≡ 10 = sym (ap first_long (is ∙ ap (λ w. w ∷ rest) same)) ∙ e in omega (arith, h)) (λ e. let h : 15 ≡ 5 = sym (ap first_long (is ∙ ap (λ w. w ∷ rest) same)) ∙ e in omega (arith, h))
 
 pub none_first : (words : List (List ℕ)) → words ≡ [] → BeginsWithNoSetting words
 none_first words none s more fits e = setting_long s more (sym e ∙ none)
@@ -341,11 +384,12 @@ common_first (Only names) words more is r p k = tt
 common_first (Color when) words more is r p k = tt
 common_first (Kind kind) words more is r p k = k (ap first_of is)
 
-pub no_listing : (words : List (List ℕ)) → BeginsWithNone words → first_of words ≢ codes "--time" → first_of words ≢ codes "--requests" → first_of words ≢ codes "--summary" → BeginsWithNoSetting words
-no_listing words none time requests summary (Listing c) more fits e = none c more e
-no_listing words none time requests summary (Time clock) more fits e = time (ap first_of e)
-no_listing words none time requests summary Requests more fits e = requests (ap first_of e)
-no_listing words none time requests summary Summary more fits e = summary (ap first_of e)
+pub no_listing : (words : List (List ℕ)) → BeginsWithNone words → first_of words ≢ codes "--time" → first_of words ≢ codes "--requests" → first_of words ≢ codes "--raw" → first_of words ≢ codes "--summary" → BeginsWithNoSetting words
+no_listing words none time requests raw summary (Listing c) more fits e = none c more e
+no_listing words none time requests raw summary (Time clock) more fits e = time (ap first_of e)
+no_listing words none time requests raw summary Requests more fits e = requests (ap first_of e)
+no_listing words none time requests raw summary Raw more fits e = raw (ap first_of e)
+no_listing words none time requests raw summary Summary more fits e = summary (ap first_of e)
 
 -- after the word of times
 pub no_clock : (words rest : List (List ℕ)) (word : List ℕ) → words ≡ word ∷ rest → SaysNoClock word → BeginsWithNoSetting (codes "--time" ∷ words)
@@ -363,6 +407,7 @@ no_clock words rest word is none (Listing c) more fits e = absurd (time_first c 
 no_clock words rest word is none (Time clock) more fits e = none clock (ap first_of (sym is ∙ ap (λ l. drop 1 l) e))
 no_clock words rest word is none Requests more fits e = let h : 6 ≡ 10 = ap first_long e in absurd (omega (arith, h))
 no_clock words rest word is none Summary more fits e = let h : 6 ≡ 9 = ap first_long e in absurd (omega (arith, h))
+no_clock words rest word is none Raw more fits e = let h : 6 ≡ 5 = ap first_long e in absurd (omega (arith, h))
 
 pub lone_time : (words : List (List ℕ)) → words ≡ [] → BeginsWithNoSetting (codes "--time" ∷ words)
 lone_time words none (Listing c) more fits e = absurd (alone c more (ap (λ l. codes "--time" ∷ l) (sym none) ∙ e))
@@ -379,6 +424,7 @@ lone_time words none (Listing c) more fits e = absurd (alone c more (ap (λ l. c
 lone_time words none (Time clock) more fits e = let h : 1 ≡ suc (suc (length more)) = ap length (ap (λ l. codes "--time" ∷ l) (sym none) ∙ e) in absurd (omega (arith, h))
 lone_time words none Requests more fits e = let h : 6 ≡ 10 = ap first_long e in absurd (omega (arith, h))
 lone_time words none Summary more fits e = let h : 6 ≡ 9 = ap first_long e in absurd (omega (arith, h))
+lone_time words none Raw more fits e = let h : 6 ≡ 5 = ap first_long e in absurd (omega (arith, h))
 
 pub left_words : {X : Type 0} (word : X → List ℕ) (words : List X) (at : ℕ) → at < length words → map word (drop at words) ≢ []
 left_words word words at less e = absurd (omega (arith, less, length-drop at words, length-map (drop at words) word, ap length e))

@@ -21,7 +21,7 @@ use Rattle.pgp_conversation.specs.declared.noted.Noted.TheVariants as noted
 use Rattle.pgp_conversation.specs.declared.role.Role.{Role}
 use Rattle.pgp_conversation.specs.declared.role.Role.TheVariants as role
 use Rattle.pgp_conversation.specs.declared.told.Told.{Told}
-use Rattle.pgp_conversation.specs.Conversation.{Known, ListsChunks, ListsFrames, NoChunkListed, NoFrames, OneChunkListed, OneFrame, Talk as Listed, begins, first_time, half_in, note, noted_in, now_at, side_in, with_numbers, with_side}
+use Rattle.pgp_conversation.specs.Conversation.{Known, ListsChunks, ListsFrames, NoChunkListed, NoFrames, OneChunkListed, OneFrame, Talk as Listed, begins, counts, first_time, half_in, note, noted_in, now_at, side_in, with_numbers, with_side, with_types}
 use Rattle.pgp_conversation.specs.Marks.{mark, since}
 use Rattle.pgp_conversation.specs.Recording.{Chunk}
 use Rattle.pgp_conversation.specs.Requests.{Numbers, at_time, first_numbers, placed, role_in, tell, told_in}
@@ -170,12 +170,12 @@ frames_come view m who place from _ _ to (OneFrame {bytes = bytes} {lines = line
     let asking = asking_in view.style at (side_in who here) frame one.line one.after one.reported in
     let name = name_in view.style at (side_in who here) frame one.line one.after one.reported in
     let sum = summed one.told asking name one.numbers in
-    let same : to.numbers ≡ sum = ap (λ (k : Known). k.numbers) one.behind ∙ note_kept noting (with_numbers sum (with_side who here one.after)) in
+    let same : to.numbers ≡ sum = ap (λ (k : Known). k.numbers) one.behind ∙ note_kept noting (with_types one.types (with_numbers sum (with_side who here one.after))) in
     subst (Come to.numbers) (append_assoc turns front (turns_at r here.numbers))
     (subst (λ n. Come n ((turns ++ front) ++ turns_at r here.numbers)) (sym same) (sum_came one.told asking name one.numbers ((turns ++ front) ++ turns_at r here.numbers) came))
 
 chunks_come : (view : View) (marking : Marking) (chunks : List Chunk) (lines : List ℕ) (to : Listed) (l : ListsChunks view (begins marking) chunks lines to) → Come to.known.numbers (turns_in view (begins marking) chunks lines to l)
-chunks_come view marking [] [] _ NoChunkListed = none_came marking.numbered marking.summed
+chunks_come view marking [] [] _ NoChunkListed = none_came (counts marking) marking.summed
 chunks_come view marking _ _ to (OneChunkListed {chunks = chunks} {lines = lines} {here = here} chunk text before one) =
     let turns = turns_in view (begins marking) chunks lines here before in
     frames_come view (mark view.style.form chunk.sender (since (first_time here.start chunk.micros) chunk.micros)) chunk.sender (half_in chunk.sender here).passed (now_at chunk.micros here.known) one.front text to.known one.each turns

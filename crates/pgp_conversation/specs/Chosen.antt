@@ -10,7 +10,7 @@ use Rattle.pgp_trace.specs.Options.{colors_in, is_full, is_json, is_replication,
 use Rattle.pgp_trace.specs.View.{View}
 use Rattle.pgp_conversation.specs.declared.marking.Marking.{Marking}
 use Rattle.pgp_conversation.specs.declared.options.Setting.{Setting}
-use Rattle.pgp_conversation.specs.declared.options.Setting.TheVariants.{Listing, Requests, Summary, Time}
+use Rattle.pgp_conversation.specs.declared.options.Setting.TheVariants.{Listing, Raw, Requests, Summary, Time}
 use Rattle.pgp_conversation.specs.declared.options.Settings as code_settings
 use Rattle.pgp_conversation.specs.Settings.{is_absolute, summarized}
 
@@ -50,9 +50,10 @@ pub record Chooses (terminal : Bool) (choice : Choice) (old new : Flags) : Type 
 
 abbrev pub Sets : (terminal : Bool) → Setting → (old new : Flags) (was now : Marking) → Type 0
 Sets terminal (Listing choice) old new was now = Chooses terminal choice old new × (now ≡ was)
-Sets terminal (Time clock) old new was now = (new ≡ old) × (now ≡ record { absolute = is_absolute clock; numbered = was.numbered; summed = was.summed })
-Sets terminal Requests old new was now = (new ≡ old) × (now ≡ record { absolute = was.absolute; numbered = true; summed = was.summed })
-Sets terminal Summary old new was now = (new ≡ old) × (now ≡ record { absolute = was.absolute; numbered = true; summed = true })
+Sets terminal (Time clock) old new was now = (new ≡ old) × (now ≡ record { absolute = is_absolute clock; numbered = was.numbered; summed = was.summed; raw = was.raw })
+Sets terminal Requests old new was now = (new ≡ old) × (now ≡ record { absolute = was.absolute; numbered = true; summed = was.summed; raw = was.raw })
+Sets terminal Summary old new was now = (new ≡ old) × (now ≡ record { absolute = was.absolute; numbered = true; summed = true; raw = was.raw })
+Sets terminal Raw old new was now = (new ≡ old) × (now ≡ record { absolute = was.absolute; numbered = was.numbered; summed = was.summed; raw = true })
 
 -- how a listing with these options looks
 abbrev pub settings_view : {A : Type 0} → code_settings.Settings A → View

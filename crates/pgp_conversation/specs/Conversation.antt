@@ -1,5 +1,5 @@
 -- The listing of both sides of a connection, a chunk at a time.
-use Rattle.std.specs.Prelude.{◌≡◌, ℕ, ◌+◌, Bool, true, false, ◌==◌, if◌then◌else◌, List, [], ◌∷◌, ◌++◌, drop, length, Result, Ok, Err, Option, None, Some, bytes_eq, codes}
+use Rattle.std.specs.Prelude.{◌≡◌, ℕ, ◌+◌, Bool, true, false, not, ◌==◌, ◌||◌, if◌then◌else◌, List, [], ◌∷◌, ◌++◌, drop, length, Result, Ok, Err, Option, None, Some, bytes_eq, codes}
 use mathlib.Core.Logic.{inl, inr}
 use Rattle.pgp_base.specs.declared.error.Error.{Error}
 use Rattle.pgp_message.specs.BackendMessage.{Message, Authentication, AuthenticationCleartextPassword, AuthenticationMd5Password, AuthenticationSasl, AuthenticationSaslContinue, AuthenticationGss, AuthenticationSspi, AuthenticationGssContinue}
@@ -28,19 +28,28 @@ use Rattle.pgp_conversation.specs.Marks.{last_mark, mark, marked, since, word}
 use Rattle.pgp_conversation.specs.Requests.{Numbers, at_time, first_numbers, role_in, summary_in, told_in, unnumbered}
 use Rattle.pgp_conversation.specs.Summing.{asking_in, summed}
 use Rattle.pgp_conversation.specs.Tables.{ending_by}
+use Rattle.pgp_conversation.specs.Typed.{Learns, ShowsTyped, first_types, said_in}
+use Rattle.pgp_conversation.specs.Types.{Types}
 
 -- ---- what is known of both sides
 
--- What is known of either, the client's requests for encryption that the server hasn't answered, and, where requests are numbered, what is known of all.
+-- What is known of either, the client's requests for encryption that the server hasn't answered, what is known of all requests, whether marks tell their
+-- numbers, and what is known of the types of values; of these nothing where bytes are shown as they are, or once a message has no place.
 pub record Known : Type 0 where
   pub client : Side
   pub server : Side
   pub requests : List Encryption
   pub numbers : Option Numbers
+  pub marked : Bool
+  pub types : Option Types
+
+-- Requests are counted where marks tell their numbers, and where the types of values are looked for.
+abbrev pub counts : Marking → Bool
+counts marking = marking.numbered || not marking.raw
 
 -- before the first byte of a connection
-abbrev pub at_first : (numbered summed : Bool) → Known
-at_first numbered summed = record { client = side.Client false [] false; server = side.Server Beginning; requests = []; numbers = first_numbers numbered summed }
+abbrev pub at_first : Marking → Known
+at_first marking = record { client = side.Client false [] false; server = side.Server Beginning; requests = []; numbers = first_numbers (counts marking) marking.summed; marked = marking.numbered; types = first_types marking.raw }
 
 abbrev pub side_in : Sender → Known → Side
 side_in Client known = known.client
@@ -62,11 +71,14 @@ as_standby replicating (side.Client opened kinds was) = side.Client opened kinds
 as_standby replicating (side.Server phase) = side.Server phase
 
 abbrev pub with_side : Sender → Known → Side → Known
-with_side Client known to = record { client = to; server = known.server; requests = known.requests; numbers = known.numbers }
-with_side Server known to = record { client = as_standby (replicates_in to) known.client; server = to; requests = known.requests; numbers = known.numbers }
+with_side Client known to = record { client = to; server = known.server; requests = known.requests; numbers = known.numbers; marked = known.marked; types = known.types }
+with_side Server known to = record { client = as_standby (replicates_in to) known.client; server = to; requests = known.requests; numbers = known.numbers; marked = known.marked; types = known.types }
 
 abbrev pub with_numbers : Option Numbers → Known → Known
-with_numbers numbers known = record { client = known.client; server = known.server; requests = known.requests; numbers = numbers }
+with_numbers numbers known = record { client = known.client; server = known.server; requests = known.requests; numbers = numbers; marked = known.marked; types = known.types }
+
+abbrev pub with_types : Option Types → Known → Known
+with_types types known = record { client = known.client; server = known.server; requests = known.requests; numbers = known.numbers; marked = known.marked; types = types }
 
 -- a chunk comes at this time
 abbrev pub now_at : ℕ → Known → Known
@@ -113,9 +125,9 @@ with_kind (side.Server phase) kind = side.Server phase
 
 -- what is known after it
 abbrev pub note : Noted → Known → Known
-note (Asks kind) known = record { client = with_kind known.client kind; server = known.server; requests = known.requests; numbers = known.numbers }
-note (Requests encryption) known = record { client = known.client; server = known.server; requests = known.requests ++ encryption ∷ []; numbers = known.numbers }
-note Answers known = record { client = known.client; server = known.server; requests = drop 1 known.requests; numbers = known.numbers }
+note (Asks kind) known = record { client = with_kind known.client kind; server = known.server; requests = known.requests; numbers = known.numbers; marked = known.marked; types = known.types }
+note (Requests encryption) known = record { client = known.client; server = known.server; requests = known.requests ++ encryption ∷ []; numbers = known.numbers; marked = known.marked; types = known.types }
+note Answers known = record { client = known.client; server = known.server; requests = drop 1 known.requests; numbers = known.numbers; marked = known.marked; types = known.types }
 note Nothing known = known
 
 -- ---- answers of one byte
@@ -154,18 +166,26 @@ relined style place (first ∷ more) name line = relined_after style place first
 abbrev pub text_of : View → (mark : List ℕ) (place : ℕ) → List Encryption → (name line : List ℕ) → List ℕ
 text_of view mark place waiting name line = shown view (called waiting name) (marked view.style.form mark (relined view.style place waiting name line))
 
--- A frame that this side sent has the line that a listing of that side has, with the mark, and with what that says of requests where they are numbered; and
--- what is known after it.
+-- what a mark says of requests, where it tells their numbers
+abbrev pub told_by : (marked : Bool) → Option Told → Option Told
+told_by marked told = if marked then told else None
+
+-- A frame that this side sent has the line that a listing of that side has, with values as texts where their types are known, with the mark, and with what
+-- that says of requests where it tells their numbers; and what is known after it.
 pub record ListsFrame (view : View) (mark : List ℕ) (sender : Sender) (place : ℕ) (here : Known) (frame text : List ℕ) (to : Known) : Type 0 where
   pub line : List ℕ
   pub after : Side
   pub told : Option Told
   pub numbers : Option Numbers
+  pub types : Option Types
+  pub typed : List ℕ
   pub reported : LineOf view.style place (side_in sender here) frame line after
   pub numbered : told_in (role_in view.style place (side_in sender here) frame line after reported) here.numbers ≡ (told, numbers)
-  pub is : text ≡ text_of view (mark ++ word view.style.form told) place here.requests (name_in view.style place (side_in sender here) frame line after reported) line
+  pub learns : Learns told (said_in view.style place (side_in sender here) frame line after reported) here.types types
+  pub shows : ShowsTyped view.style place (length frame) told (said_in view.style place (side_in sender here) frame line after reported) types line typed
+  pub is : text ≡ text_of view (mark ++ word view.style.form (told_by here.marked told)) place here.requests (name_in view.style place (side_in sender here) frame line after reported) typed
   pub behind : to ≡ note (noted_in view.style place (side_in sender here) frame line after reported)
-      (with_numbers (summed told (asking_in view.style place (side_in sender here) frame line after reported) (name_in view.style place (side_in sender here) frame line after reported) numbers) (with_side sender here after))
+      (with_types types (with_numbers (summed told (asking_in view.style place (side_in sender here) frame line after reported) (name_in view.style place (side_in sender here) frame line after reported) numbers) (with_side sender here after)))
 
 -- These bytes, after so many others, are complete frames of this side, and each has its line, in order.
 pub data ListsFrames (view : View) (mark : List ℕ) (sender : Sender) (start : ℕ) (from : Known) : List ℕ → List ℕ → Known → Type 0 where
@@ -197,7 +217,7 @@ first_start absolute = if absolute then Some 0 else None
 
 -- before the first chunk
 abbrev pub begins : Marking → Talk
-begins marking = record { known = at_first marking.numbered marking.summed; client = nothing; server = nothing; start = first_start marking.absolute }
+begins marking = record { known = at_first marking; client = nothing; server = nothing; start = first_start marking.absolute }
 
 abbrev pub half_in : Sender → Talk → Half
 half_in Client talk = talk.client
@@ -239,4 +259,4 @@ left half = place_behind (length half.rest)
 -- the last lines of both sides, or the table of a summary in their place
 abbrev pub last_lines : View → Talk → List ℕ
 last_lines view talk = ending_by view.style (summary_in talk.known.numbers)
-    (last_of view (unnumbered talk.known.numbers) Client talk.client.stopped (left talk.client) ++ last_of view (unnumbered talk.known.numbers) Server talk.server.stopped (left talk.server))
+    (last_of view (told_by talk.known.marked (unnumbered talk.known.numbers)) Client talk.client.stopped (left talk.client) ++ last_of view (told_by talk.known.marked (unnumbered talk.known.numbers)) Server talk.server.stopped (left talk.server))

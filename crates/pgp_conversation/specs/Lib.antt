@@ -5,6 +5,11 @@ pub mod Summing
 pub mod Askings
 pub mod Tables
 pub mod Roles
+pub mod Shelves
+pub mod Types
+pub mod TypesKept
+pub mod Typed
+pub mod TypedLines
 pub mod Conversation
 pub mod Steps
 pub mod Hints

@@ -6,7 +6,7 @@ use Rattle.pgp_trace.specs.View.{View}
 use Rattle.pgp_conversation.specs.declared.chunk.Sender.TheVariants.{Client, Server}
 use Rattle.pgp_conversation.specs.declared.marking.Marking.{Marking}
 use Rattle.pgp_conversation.specs.Requests.{summary_in, unnumbered}
-use Rattle.pgp_conversation.specs.Conversation.{Talk, at_first, first_start, last_of}
+use Rattle.pgp_conversation.specs.Conversation.{Talk, at_first, first_start, last_of, told_by}
 use Rattle.pgp_conversation.specs.Recording.{IsNoChunk, IsPartial, magic}
 use Rattle.pgp_conversation.specs.Session.{HasLines}
 use Rattle.pgp_conversation.specs.Steps.{HeldHalf, HeldTalk, Keeps}
@@ -56,9 +56,9 @@ abbrev pub held_nothing : HeldHalf
 held_nothing = record { bytes = []; place = 0; stopped = false; left = 0 }
 
 abbrev pub held_first : Marking → HeldTalk
-held_first marking = record { known = at_first marking.numbered marking.summed; client = held_nothing; server = held_nothing; start = first_start marking.absolute }
+held_first marking = record { known = at_first marking; client = held_nothing; server = held_nothing; start = first_start marking.absolute }
 
 -- the last lines, by what is kept of both sides
 abbrev pub held_last : View → HeldTalk → List ℕ
 held_last view held = ending_by view.style (summary_in held.known.numbers)
-    (last_of view (unnumbered held.known.numbers) Client held.client.stopped held.client.left ++ last_of view (unnumbered held.known.numbers) Server held.server.stopped held.server.left)
+    (last_of view (told_by held.known.marked (unnumbered held.known.numbers)) Client held.client.stopped held.client.left ++ last_of view (told_by held.known.marked (unnumbered held.known.numbers)) Server held.server.stopped held.server.left)

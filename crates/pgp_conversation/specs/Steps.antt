@@ -30,6 +30,7 @@ use Rattle.std.specs.Borrow.{Bor}
 use Rattle.std.specs.declared.collections.VecDeque.{VecDeque}
 use Rattle.pgp_conversation.specs.Conversation.{Half, ListsChunk, Known, Talk, ListsFrame, ListsFrames, is_replicating, side_in, with_side}
 use Rattle.pgp_conversation.specs.Requests.{Numbers}
+use Rattle.pgp_conversation.specs.TypesKept.{types_in}
 use Rattle.pgp_conversation.specs.Recording.{Chunk, IsChunk, IsNoChunk, IsPartial, IsShort, arrow, chunk_bytes, magic}
 
 -- ---- parts of a recording
@@ -99,7 +100,7 @@ numbers_in None = None
 numbers_in (Some numbers) = Some (numbers_of numbers)
 
 abbrev pub known_of : {A : Type 0} → code_known.Known A → Known
-known_of known = record { client = side.Client known.opened known.kinds.items (is_replicating known.phase); server = side.Server known.phase; requests = known.requests.items; numbers = numbers_in known.numbers }
+known_of known = record { client = side.Client known.opened known.kinds.items (is_replicating known.phase); server = side.Server known.phase; requests = known.requests.items; numbers = numbers_in known.numbers; marked = known.marked; types = types_in known.types }
 
 -- the line of the next frame of a side; of the other one the same is known
 pub record KnowsNext (style : Style) (sender : Sender) (place : ℕ) (old : Known) (bytes behind line : List ℕ) (new : Known) (next : Next) : Type 0 where

@@ -12,8 +12,10 @@ use crate::mark::put_marked;
 use crate::noted::{Encryption, note_of};
 use crate::numbers::tell_frame;
 use crate::summing::sum_frame;
-use crate::told::Told;
+use crate::told::{Told, told_by};
+use crate::typed::{expected, type_frame};
 use crate::word::put_stamp;
+use bytes::BytesMut;
 use pgp_base::Memory;
 use pgp_line::line::{put_called, put_end};
 use pgp_line::style::Style;
@@ -31,6 +33,8 @@ pub struct Texts<A: Memory> {
     /// What a mark says of requests, and the mark with it.
     pub word: String<A>,
     pub stamp: String<A>,
+    /// The text of a value.
+    pub value: BytesMut<A>,
     /// The line of a message, and the same with the mark.
     pub line: String<A>,
     pub marked: String<A>,
@@ -53,6 +57,7 @@ pub fn no_texts<A: Memory>(alloc: A) -> Texts<A>
         mark: String::new(alloc),
         word: String::new(alloc),
         stamp: String::new(alloc),
+        value: BytesMut::new(alloc),
         line: String::new(alloc),
         marked: String::new(alloc),
         lines: String::new(alloc),
@@ -105,12 +110,26 @@ fn list_next<'b, A: Memory>(
     ensures lacks { OnErr result A.Lacks }
 {
     let opened = known.opened;
+    let kind = expected(known.kinds.as_slice());
     let (next, behind) = next_line(view.style, sender, place, bytes, known, &mut texts.line)?;
     match next {
         Next::Line(name) => {
             let frame = front_of(bytes, behind);
             let told = tell_frame(sender, opened, name, frame, &mut known.numbers)?;
             sum_frame(sender, name, frame, told, &mut known.numbers)?;
+            type_frame(
+                view.style,
+                place,
+                sender,
+                opened,
+                kind,
+                told,
+                frame,
+                &mut known.types,
+                &mut texts.value,
+                &mut texts.line,
+            )?;
+            let told = told_by(known.marked, told);
             list_line(view, place, name, told, known.requests.as_slice(), texts)?;
             note(note_of(name), known)?;
             Ok((next, behind))

@@ -3,11 +3,14 @@
 ghost use Rattle.std.specs.Prelude.{◌≡◌, drop, nat_lt, vec_len, if◌then◌else◌, IfOk, OnErr, OnOk, string_bytes};
 ghost use Rattle.pgp_trace.specs.Sides.{phase_in};
 ghost use Rattle.pgp_conversation.specs.Steps.{KnowsNext, known_of};
-ghost use Rattle.pgp_conversation.specs.Conversation.{at_first, is_replicating, note};
+ghost use Rattle.pgp_conversation.specs.Conversation.{at_first, counts, is_replicating, note};
 
 use crate::chunk::Sender;
+use crate::marking::Marking;
 use crate::noted::{Encryption, Noted};
 use crate::numbers::{Numbers, first_numbers};
+use crate::typed::first_types;
+use crate::types::Types;
 use pgp_base::Memory;
 use pgp_frontend_read::PasswordKind;
 use pgp_line::style::Style;
@@ -29,21 +32,34 @@ pub struct Known<A: Memory> {
     pub phase: Phase,
     /// The requests for encryption that aren't answered.
     pub requests: Vec<Encryption, A>,
-    /// What is known of all requests, where they are numbered.
+    /// What is known of all requests, where marks tell their numbers or values are shown by their types.
     pub numbers: Option<Numbers<A>>,
+    /// Whether marks tell their numbers.
+    pub marked: bool,
+    /// What is known of the types of values.
+    pub types: Option<Types<A>>,
 }
 
-/// Before a connection's first byte, where requests are numbered or not, and summed up or not.
-pub fn at_first<A: Memory>(alloc: A, numbered: bool, summed: bool) -> Known<A>
-    ensures { known_of result ≡ at_first numbered summed }
+/// Before a connection's first byte.
+pub fn at_first<A: Memory>(alloc: A, marking: Marking) -> Known<A>
+    ensures { known_of result ≡ at_first marking }
 {
     Known {
         opened: false,
         kinds: Vec::new(alloc),
         phase: Phase::Beginning,
         requests: Vec::new(alloc),
-        numbers: first_numbers(alloc, numbered, summed),
+        numbers: first_numbers(alloc, counts(marking), marking.summed),
+        marked: marking.numbered,
+        types: first_types(alloc, marking.raw),
     }
+}
+
+/// Whether requests are counted.
+fn counts(marking: Marking) -> bool
+    ensures { result ≡ counts marking }
+{
+    marking.numbered || !marking.raw
 }
 
 /// Makes the line of the frame at the front of the bytes, which this side sent and which stands at this place. Returns what stands after it.

@@ -2,7 +2,7 @@
 
 ghost use Rattle.std.specs.Prelude.{◌≡◌, ◌++◌, OnErr, OnOk, string_bytes};
 ghost use Rattle.pgp_trace.specs.Steps.{view_of};
-ghost use Rattle.pgp_conversation.specs.Conversation.{last_of};
+ghost use Rattle.pgp_conversation.specs.Conversation.{last_of, told_by};
 ghost use Rattle.pgp_conversation.specs.Pieces.{held_last};
 ghost use Rattle.pgp_conversation.specs.Requests.{summary_in, unnumbered};
 ghost use Rattle.pgp_conversation.specs.Steps.{kept_of, numbers_in};
@@ -13,7 +13,7 @@ use crate::mark::{put_last_mark, put_marked};
 use crate::numbers::{summary_of, unnumbered};
 use crate::table::put_table;
 use crate::talk::{Half, Talk};
-use crate::told::Told;
+use crate::told::{Told, told_by};
 use crate::word::put_word;
 use pgp_base::Memory;
 use pgp_line::line::add_line;
@@ -47,11 +47,11 @@ fn add_both<A: Memory>(
     texts: &mut Texts<A>,
 ) -> Result<(), AllocError>
     ensures text { OnOk result (string_bytes texts.new.lines ≡ string_bytes texts.old.lines
-        ++ (last_of (view_of view.entry) (unnumbered (numbers_in talk.now.known.numbers)) Sender.Client talk.now.client.stopped talk.now.client.left
-        ++ last_of (view_of view.entry) (unnumbered (numbers_in talk.now.known.numbers)) Sender.Server talk.now.server.stopped talk.now.server.left)) }
+        ++ (last_of (view_of view.entry) (told_by talk.now.known.marked (unnumbered (numbers_in talk.now.known.numbers))) Sender.Client talk.now.client.stopped talk.now.client.left
+        ++ last_of (view_of view.entry) (told_by talk.now.known.marked (unnumbered (numbers_in talk.now.known.numbers))) Sender.Server talk.now.server.stopped talk.now.server.left)) }
     ensures lacks { OnErr result A.Lacks }
 {
-    let told = unnumbered(&talk.known.numbers);
+    let told = told_by(talk.known.marked, unnumbered(&talk.known.numbers));
     add_last(view, told, Sender::Client, &talk.client, texts)?;
     add_last(view, told, Sender::Server, &talk.server, texts)
 }

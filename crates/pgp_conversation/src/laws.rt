@@ -27,11 +27,17 @@ ghost use Rattle.pgp_conversation.specs.Session.{IsListing};
 ghost use Rattle.pgp_conversation.specs.Settings.{summarized};
 ghost use Rattle.pgp_conversation.specs.Tables.{heading, row_of, table};
 ghost use Rattle.pgp_conversation.specs.Turns.{AreTrue, turns_in};
+ghost use Rattle.pgp_conversation.specs.Typed.{Said, ShowsTyped};
+ghost use Rattle.pgp_conversation.specs.Types.{Types};
+
+use pgp_value_text::laws::one_text;
 
 /// A recording has one listing, and one end.
 pub fn one_listing()
     ensures { (view : View) (marking : Marking) (bytes output other : List ℕ) (end ending : End) → IsListing view marking bytes end output → IsListing view marking bytes ending other → (end ≡ ending) × (output ≡ other) }
-{}
+{
+    one_text();
+}
 
 /// Of each side the frames that were listed are, one after another, what that side sent in all its chunks, up to a rest in which none is whole: none is
 /// listed twice, left out, or under the other side.
@@ -46,11 +52,13 @@ pub fn numbers_say_where_messages_belong()
         → talk.known.numbers ≡ Some numbers → numbers.dialogue ≡ Some dialogue → dialogue.stage ≢ Over → AreTrue (turns_in view (begins marking) chunks lines talk listed) }
 {}
 
-/// A mark has characters alone that a terminal prints, whatever it says of requests, and so has a line with its mark, as text or as an object, before
-/// its newline.
+/// A mark has characters alone that a terminal prints, whatever it says of requests, and so has a line with its mark, as text or as an object, with values
+/// as texts or without, before its newline.
 pub fn marked_lines_are_printable()
     ensures lines { (style : Style) (place : ℕ) (from to : Side) (frame line : List ℕ) (form : Form) (who : Sender) (start micros : ℕ) (told : Option Told) → LineOf style place from frame line to →
         (text : List ℕ) × (marked form (mark form who (since start micros) ++ word form told) line ≡ text ++ 10 ∷ []) × IsPrinted text }
+    ensures typed { (style : Style) (place len : ℕ) (from to : Side) (frame line typed : List ℕ) (said : Said) (types : Option Types) (form : Form) (who : Sender) (start micros : ℕ) (told shown : Option Told) → LineOf style place from frame line to →
+        ShowsTyped style place len told said types line typed → (text : List ℕ) × (marked form (mark form who (since start micros) ++ word form shown) typed ≡ text ++ 10 ∷ []) × IsPrinted text }
     ensures marks { (form : Form) (who : Sender) (start micros : ℕ) (told : Option Told) → IsPrinted (mark form who (since start micros) ++ word form told) }
     ensures last { (form : Form) (who : Sender) (told : Option Told) → IsPrinted (last_mark form who ++ word form told) }
 {}

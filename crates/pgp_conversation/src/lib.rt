@@ -2,9 +2,15 @@
 //! `pgtrace` runs for `session`, with all else of `pgp_trace`.
 #![tactic(auto)]
 
+pub mod ask;
+pub mod awaited;
+pub mod bound;
 pub mod chunk;
+pub mod column;
 pub mod ending;
+pub mod fields;
 pub mod frames;
+pub mod hear;
 pub mod hint;
 pub mod kinds;
 pub mod known;
@@ -17,10 +23,15 @@ pub mod numbers;
 pub mod options;
 pub mod outcome;
 pub mod role;
+pub mod row;
 pub mod run;
 pub mod session;
+pub mod shelf;
 pub mod summing;
 pub mod table;
 pub mod talk;
 pub mod told;
+pub mod typed;
+pub mod types;
+pub mod value;
 pub mod word;

@@ -9,4 +9,6 @@ pub struct Marking {
     pub numbered: bool,
     /// Whether a table of what they ran stands in the place of the lines.
     pub summed: bool,
+    /// Whether values in binary format are shown as their bytes.
+    pub raw: bool,
 }

@@ -28,6 +28,8 @@ pub enum Setting<'a> {
     Requests,
     /// A table of what requests ran stands in the place of the lines.
     Summary,
+    /// Values in binary format are shown as their bytes.
+    Raw,
 }
 
 /// What the options come to.
@@ -67,6 +69,7 @@ pub fn settings_of<'a, A: Memory>(
             absolute: false,
             numbered: false,
             summed: false,
+            raw: false,
         },
     };
     let mut at = 0;
@@ -104,6 +107,10 @@ fn set<'a, A: Memory>(
             settings.marking.summed = true;
             Ok(())
         }
+        Setting::Raw => {
+            settings.marking.raw = true;
+            Ok(())
+        }
     }
 }
 
@@ -126,6 +133,7 @@ fn long(setting: Setting<'_>) -> usize
         Setting::Time(_) => 2,
         Setting::Requests => 1,
         Setting::Summary => 1,
+        Setting::Raw => 1,
     }
 }
 
@@ -142,6 +150,7 @@ fn first_setting<'a>(words: &[&'a str]) -> Option<Setting<'a>>
         "--time" => first_clock(rest),
         "--requests" => Some(Setting::Requests),
         "--summary" => Some(Setting::Summary),
+        "--raw" => Some(Setting::Raw),
         "--resume" => None,
         "--replication" => None,
         "--password-kind" => None,
@@ -157,6 +166,7 @@ fn first_listing<'a>(words: &[&'a str]) -> Option<Setting<'a>>
     requires kind { first_of (map (λ word. word.now) words.now) ≢ codes "--password-kind" }
     requires time { first_of (map (λ word. word.now) words.now) ≢ codes "--time" }
     requires requests { first_of (map (λ word. word.now) words.now) ≢ codes "--requests" }
+    requires raw { first_of (map (λ word. word.now) words.now) ≢ codes "--raw" }
     requires summary { first_of (map (λ word. word.now) words.now) ≢ codes "--summary" }
     ensures some { IfSome result (λ setting. IsSetting setting × (map (λ word. word.now) words.now ≡ spelled_by setting ++ map (λ word. word.now) (drop (length (spelled_by setting)) words.now))) }
     ensures none { IfNone result (BeginsWithNoSetting (map (λ word. word.now) words.now)) }

@@ -83,7 +83,7 @@ pub fn list_session<A: Memory, R: Input, W: Output>(
     ensures cause { IfErr result (Caused A.Lacks (GivesUp R.Fails R.Called) (GivesUp W.Fails W.Interrupted)) }
 {
     let mut piece = A::list_filled(alloc, 0, PIECE)?;
-    let mut held = held_at_first(alloc, marking.numbered, marking.summed);
+    let mut held = held_at_first(alloc, marking);
     list_pieces(
         view,
         marking,
@@ -94,26 +94,26 @@ pub fn list_session<A: Memory, R: Input, W: Output>(
     )
 }
 
-/// Before the first byte of a recording, whose requests are numbered or not, and summed up or not.
-fn held_at_first<A: Memory>(alloc: A, numbered: bool, summed: bool) -> Held<A>
+/// Before the first byte of a recording.
+fn held_at_first<A: Memory>(alloc: A, marking: Marking) -> Held<A>
     ensures begun { result.begun ≡ false }
-    ensures talk { kept_of result.talk ≡ held_first (record { absolute = false; numbered = numbered; summed = summed }) }
+    ensures talk { kept_of result.talk ≡ held_first (record { absolute = false; numbered = marking.numbered; summed = marking.summed; raw = marking.raw }) }
     ensures bytes { result.bytes.items ≡ [] }
 {
     Held {
         begun: false,
-        talk: talk_at_first(alloc, numbered, summed),
+        talk: talk_at_first(alloc, marking),
         bytes: BytesMut::new(alloc),
         texts: no_texts(alloc),
     }
 }
 
 /// Before the first chunk.
-fn talk_at_first<A: Memory>(alloc: A, numbered: bool, summed: bool) -> Talk<A>
-    ensures { kept_of result ≡ held_first (record { absolute = false; numbered = numbered; summed = summed }) }
+fn talk_at_first<A: Memory>(alloc: A, marking: Marking) -> Talk<A>
+    ensures { kept_of result ≡ held_first (record { absolute = false; numbered = marking.numbered; summed = marking.summed; raw = marking.raw }) }
 {
     Talk {
-        known: at_first(alloc, numbered, summed),
+        known: at_first(alloc, marking),
         client: half_at_first(alloc),
         server: half_at_first(alloc),
         start: None,
@@ -149,7 +149,7 @@ fn list_pieces<A: Memory, R: Input, W: Output>(
 ) -> Result<Said, Fault>
     requires some { 0 < length piece.old }
     requires begun { held.old.begun ≡ false }
-    requires talk { kept_of held.old.talk ≡ held_first (record { absolute = false; numbered = marking.numbered; summed = marking.summed }) }
+    requires talk { kept_of held.old.talk ≡ held_first (record { absolute = false; numbered = marking.numbered; summed = marking.summed; raw = marking.raw }) }
     requires bytes { held.old.bytes.items ≡ [] }
     requires live { ReadsWhenReady R.remaining W.contents W.Passed R.MayRead (view_of view) marking input.old output.old }
     ensures listed { IfOk result (λ said. WritesListing (view_of view.entry) marking

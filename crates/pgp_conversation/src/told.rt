@@ -1,5 +1,8 @@
 //! What a mark says of requests.
 
+ghost use Rattle.std.specs.Prelude.{◌≡◌};
+ghost use Rattle.pgp_conversation.specs.Conversation.{told_by};
+
 /// What a mark says of requests.
 #[derive(Debug, Clone, Copy, PartialEq, Eq)]
 pub enum Told {
@@ -11,4 +14,11 @@ pub enum Told {
     Lost,
     /// Its message belongs to no request.
     Nothing,
+}
+
+/// What a mark says, where it tells the numbers of requests or not.
+pub fn told_by(marked: bool, told: Option<Told>) -> Option<Told>
+    ensures { result ≡ told_by marked told }
+{
+    if marked { told } else { None }
 }

@@ -505,6 +505,16 @@ client_so None style reported r old new a s = subst IsPrinted (sym s) (client st
 begun : (style : Style) (place : ℕ) (opened : Bool) (frame : List ℕ) → IsPrinted (client_front style place opened frame)
 begun style place opened frame = parts style (opening style place) (Length (length frame) ∷ Tag (client_tag opened frame) ∷ []) (first style.form place)
 
+-- what begins a line, goes on by parts, and ends it
+pub opening_printable : (form : Form) (place : ℕ) → IsPrinted (opening_by form place)
+opening_printable = first
+
+pub parts_printable : (style : Style) (line : List ℕ) (ps : List Part) → IsPrinted line → IsPrinted (followed style line ps)
+parts_printable = parts
+
+pub closing_printable : (form : Form) → IsPrinted (closing_by form)
+closing_printable = last
+
 pub line_printable : (style : Style) (place : ℕ) (from to : Side) (frame line : List ℕ) → LineOf style place from frame line to → (text : List ℕ) × (line ≡ text ++ 10 ∷ []) × IsPrinted text
 line_printable style place (Server Beginning) to frame line (inl is) =
     let parts_of = Length 1 ∷ Tag is.reported.byte ∷ Name true (answer_name is.reported.byte) ∷ [] in (

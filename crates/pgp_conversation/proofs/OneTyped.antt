@@ -1,0 +1,123 @@
+-- What a frame tells of types is one thing, and so is its line, since a value has one text.
+use Rattle.std.proofs.Common.{◌≡◌, ℕ, ℤ, Bool, true, false, List, [], ◌∷◌, drop, length, Option, Some, None, Ok, inl, inr, sym, ap, subst, ◌∙◌}
+use Rattle.std.specs.Prelude.{map, ◌++◌, codes}
+use Rattle.std.specs.declared.ops.Range.{Range}
+use Rattle.pgp_base.specs.OneList.{HasOneCountedList}
+use Rattle.pgp_base.proofs.OneLists.{one_counted_list}
+use Rattle.pgp_message.specs.BackendMessage.{Message, DataRow, ParameterDescription, RowDescription}
+use Rattle.pgp_message.specs.Items.{FieldSpelled, FieldRefused, RangeSpelled, RangeRefused, TypeSpelled, TypeRefused}
+use Rattle.pgp_message.specs.ItemReading.{field_at, range_at, type_at}
+use Rattle.pgp_message.specs.Parts.{CountedBytes}
+use Rattle.pgp_message.specs.Table.{value_at}
+use Rattle.pgp_message.proofs.FieldLemmas.{field_reader}
+use Rattle.pgp_message.proofs.NumberLemmas.{type_reader}
+use Rattle.pgp_message.proofs.RangeLemmas.{range_reader}
+use Rattle.pgp_frontend.specs.ClientMessage.{ClientMessage, Bind}
+use Rattle.pgp_line.specs.Line.{ListEnds, Value, closing, followed}
+use Rattle.pgp_line.specs.declared.style.Style.{Style}
+use Rattle.pgp_trace.specs.Client.{counted, signed_part}
+use Rattle.pgp_trace.specs.Shown.{ending}
+use Rattle.pgp_values.specs.Formats.{formats as known_formats}
+use Rattle.pgp_values.specs.FormatTable.{format_in}
+use Rattle.pgp_value_text.specs.ValueText.{IsTextOf, is_float}
+use Rattle.pgp_conversation.specs.declared.column.Column.{Column}
+use Rattle.pgp_conversation.specs.declared.told.Told.{Told}
+use Rattle.pgp_conversation.specs.declared.told.Told.TheVariants as told
+use Rattle.pgp_conversation.specs.Typed.{Gives, Heard, Hears, IsBindLine, IsRowLine, Learns, Lists, Said, Sent, ShowsBound, ShowsBytes, ShowsFitting, ShowsHeard, ShowsRow, ShowsSent, ShowsTyped, ShowsValue, ShowsValues, bind_front, column_first, columns_of, fits, has_binary, parameters_in, row_front}
+use Rattle.pgp_conversation.specs.Types.{Awaited, Types, described, first, reached, rows_of, tells}
+
+-- ---- what is told
+
+fields : HasOneCountedList FieldSpelled FieldRefused
+fields = one_counted_list FieldSpelled FieldRefused (λ place. field_at) field_reader
+
+ranges : HasOneCountedList RangeSpelled RangeRefused
+ranges = one_counted_list RangeSpelled RangeRefused range_at range_reader
+
+columns_one : (row : CountedBytes) (x y : Option (List Column)) → Lists row x → Lists row y → x ≡ y
+columns_one row x y a b =
+    let same = fields.one row.count row.storage a.fields b.fields a.end b.end a.list b.list in
+    a.is ∙ ap (λ l. columns_of l a.end) same.0 ∙ ap (columns_of b.fields) same.1 ∙ sym b.is
+
+given : HasOneCountedList TypeSpelled TypeRefused
+given = one_counted_list TypeSpelled TypeRefused (λ place. type_at) type_reader
+
+parameters_one : (row : CountedBytes) (x y : Option (List Column)) → Gives row x → Gives row y → x ≡ y
+parameters_one row x y a b =
+    let same = given.one row.count row.storage a.types b.types a.end b.end a.list b.list in
+    a.is ∙ ap (λ l. parameters_in l a.end) same.0 ∙ ap (parameters_in b.types) same.1 ∙ sym b.is
+
+hears_one : (m : Message) (a : Option Awaited) (old x y : Types) → Hears m a old x → Hears m a old y → x ≡ y
+hears_one (RowDescription row) a old x y p q = p.2 ∙ ap (λ c. described a c old) (columns_one row p.0 q.0 p.1 q.1) ∙ sym q.2
+hears_one (ParameterDescription row) a old x y p q = p.2 ∙ ap (λ c. tells a c old) (parameters_one row p.0 q.0 p.1 q.1) ∙ sym q.2
+hears_one m a old x y p q = p ∙ sym q
+
+pub learns_one : (told : Option Told) (said : Said) (old x y : Option Types) → Learns told said old x → Learns told said old y → x ≡ y
+learns_one (Some (told.Answer n sent now)) (Heard (Ok m)) (Some old) x y p q = p.2 ∙ ap (λ t. Some t) (hears_one m (first n (reached n old).awaited) (reached n old) p.0 q.0 p.1 q.1) ∙ sym q.2
+learns_one (Some told.Lost) said old x y p q = p ∙ sym q
+learns_one (Some (told.Number n)) (Sent (Ok m)) (Some old) x y p q = p ∙ sym q
+learns_one told said old x y p q = p ∙ sym q
+
+-- ---- what is shown
+
+-- a value has one text, but of a floating-point number
+abbrev pub OneText : Type 0
+OneText = (type_oid : ℕ) → is_float (format_in known_formats type_oid) ≡ false → (bytes a b : List ℕ) → IsTextOf type_oid bytes a → IsTextOf type_oid bytes b → a ≡ b
+
+module _ (one_text : OneText) where
+  bytes_one : (binary : Bool) (oid : ℕ) (bytes : List ℕ) (x y : Option (List ℕ)) → ShowsBytes binary oid bytes x → ShowsBytes binary oid bytes y → x ≡ y
+  bytes_one false oid bytes x y a b = a ∙ sym b
+  bytes_one true oid bytes x y (inl a) (inl b) = a.2 ∙ ap (λ t. Some t) (one_text oid a.1.0 bytes a.0 b.0 a.1.1 b.1.1) ∙ sym b.2
+  bytes_one true oid bytes x y (inl a) (inr b) = absurd (b.0 a.0 a.1)
+  bytes_one true oid bytes x y (inr a) (inl b) = absurd (a.0 b.0 b.1)
+  bytes_one true oid bytes x y (inr a) (inr b) = a.1 ∙ sym b.1
+
+  value_one : (c : Column) (value x y : Option (List ℕ)) → ShowsValue c value x → ShowsValue c value y → x ≡ y
+  value_one c None x y a b = a ∙ sym b
+  value_one c (Some bytes) x y a b = bytes_one c.binary c.oid bytes x y a b
+
+  values_one : (style : Style) (columns : List Column) (values : List (Option (List ℕ))) (old x y : List ℕ) → ShowsValues style columns values old x → ShowsValues style columns values old y → x ≡ y
+  values_one style columns [] old x y a b = a ∙ sym b
+  values_one style columns (v ∷ vs) old x y a b =
+      let same = value_one (column_first columns) v a.0 b.0 a.1 b.1 in
+      values_one style (drop 1 columns) vs (followed style old (Value b.0 ∷ [])) x y (subst (λ s. ShowsValues style (drop 1 columns) vs (followed style old (Value s ∷ [])) x) same a.2) b.2
+
+  row_one : (style : Style) (place len : ℕ) (columns : List Column) (row : CountedBytes) (x y : List ℕ) → IsRowLine style place len columns row x → IsRowLine style place len columns row y → x ≡ y
+  row_one style place len columns row x y a b =
+      let same = ranges.one row.count row.storage a.places b.places a.end b.end a.list b.list in
+      let front = row_front style place len row.count in
+      let each = subst (λ (l : List (Option (Range ℕ))). ShowsValues style columns (map (value_at row.storage) l) front a.values) same.0 a.each in
+      let values = values_one style columns (map (value_at row.storage) b.places) front a.values b.values each b.each in
+      a.is ∙ ap (λ l. followed style l (ending ListEnds a.end) ++ closing style ++ 10 ∷ []) values ∙ ap (λ e. followed style b.values (ending ListEnds e) ++ closing style ++ 10 ∷ []) same.1 ∙ sym b.is
+
+  fitting_one : (fitting : Bool) (style : Style) (place len : ℕ) (columns : List Column) (row : CountedBytes) (old x y : List ℕ) → ShowsFitting fitting style place len columns row old x → ShowsFitting fitting style place len columns row old y → x ≡ y
+  fitting_one true style place len columns row old x y a b = row_one style place len columns row x y a b
+  fitting_one false style place len columns row old x y a b = a ∙ sym b
+
+  rows_one : (style : Style) (place len : ℕ) (columns : Option (List Column)) (row : CountedBytes) (old x y : List ℕ) → ShowsRow style place len columns row old x → ShowsRow style place len columns row old y → x ≡ y
+  rows_one style place len None row old x y a b = a ∙ sym b
+  rows_one style place len (Some columns) row old x y a b = fitting_one (fits columns row) style place len columns row old x y a b
+
+  heard_one : (style : Style) (place len : ℕ) (m : Message) (a : Option Awaited) (types : Types) (old x y : List ℕ) → ShowsHeard style place len m a types old x → ShowsHeard style place len m a types old y → x ≡ y
+  heard_one style place len (DataRow row) a types old x y p q = rows_one style place len (rows_of a types) row old x y p q
+  heard_one style place len m a types old x y p q = p ∙ sym q
+
+  bind_one : (style : Style) (place len : ℕ) (parameters : List Column) (portal statement : List ℕ) (formats : List ℤ) (values : List (Option (List ℕ))) (results : List ℤ) (x y : List ℕ) → IsBindLine style place len parameters portal statement formats values results x
+      → IsBindLine style place len parameters portal statement formats values results y → x ≡ y
+  bind_one style place len parameters portal statement formats values results x y a b =
+      let texts = values_one style parameters values (bind_front style place len portal statement formats (length values)) a.texts b.texts a.each b.each in
+      a.is ∙ ap (λ l. followed style (followed style l (ListEnds ∷ [])) (counted (codes "results") (codes "result_formats") signed_part results) ++ closing style ++ 10 ∷ []) texts ∙ sym b.is
+
+  bound_one : (binary : Bool) (style : Style) (place len : ℕ) (parameters : List Column) (portal statement : List ℕ) (formats : List ℤ) (values : List (Option (List ℕ))) (results : List ℤ) (old x y : List ℕ)
+      → ShowsBound binary style place len parameters portal statement formats values results old x → ShowsBound binary style place len parameters portal statement formats values results old y → x ≡ y
+  bound_one true style place len parameters portal statement formats values results old x y a b = bind_one style place len parameters portal statement formats values results x y a b
+  bound_one false style place len parameters portal statement formats values results old x y a b = a ∙ sym b
+
+  sent_one : (style : Style) (place len : ℕ) (m : ClientMessage) (types : Types) (old x y : List ℕ) → ShowsSent style place len m types old x → ShowsSent style place len m types old y → x ≡ y
+  sent_one style place len (Bind portal statement formats values results) types old x y p q = bound_one (has_binary types.binds) style place len types.binds portal statement formats values results old x y p q
+  sent_one style place len m types old x y p q = p ∙ sym q
+
+  pub shows_one : (style : Style) (place len : ℕ) (told : Option Told) (said : Said) (types : Option Types) (old x y : List ℕ) → ShowsTyped style place len told said types old x → ShowsTyped style place len told said types old y → x ≡ y
+  shows_one style place len (Some (told.Answer n sent now)) (Heard (Ok m)) (Some types) old x y p q = heard_one style place len m (first n types.awaited) types old x y p q
+  shows_one style place len (Some (told.Number n)) (Sent (Ok m)) (Some types) old x y p q = sent_one style place len m types old x y p q
+  shows_one style place len told said types old x y p q = p ∙ sym q

@@ -1,0 +1,106 @@
+-- What a frame that has a line is read as.
+use Rattle.std.proofs.Common.{◌≡◌, ℕ, Bool, true, false, List, [], length, Option, Some, Result, Ok, Err, inl, inr, refl, sym, ap, subst, arith}
+use Rattle.std.proofs.lemmas.List.{append-nil}
+use Rattle.pgp_base.specs.declared.error.Error.{Error}
+use Rattle.pgp_message.specs.BackendMessage.{Message}
+use Rattle.pgp_message.specs.Stream.{frame_bytes}
+use Rattle.pgp_message.proofs.Runs.{length-frame}
+use Rattle.pgp_frontend.specs.ClientMessage.{ClientMessage, PasswordKind, Response}
+use Rattle.pgp_frontend_read.specs.Pieces.{step_of}
+use Rattle.pgp_frontend_read.specs.Step as client
+use Rattle.pgp_frontend_read.specs.declared.error.ClientError.{ClientError}
+use Rattle.pgp_frontend_read.specs.declared.message.PasswordKind as code
+use Rattle.pgp_frontend_read.proofs.OneStep.{step_one}
+use Rattle.pgp_line.specs.declared.style.Style.{Style}
+use Rattle.pgp_trace.specs.Listing.{IsServerLine, LineOf}
+use Rattle.pgp_trace.specs.Sides as side
+use Rattle.pgp_trace.specs.Sides.{Side, expected}
+use Rattle.pgp_trace.specs.Steps.{IsFrameOf}
+use Rattle.pgp_trace.specs.declared.side.Phase.{Phase}
+use Rattle.pgp_trace.specs.declared.side.Phase.TheVariants.{Beginning, Messages, Replicating, Encrypted}
+use Rattle.pgp_conversation.specs.declared.chunk.Sender.{Sender}
+use Rattle.pgp_conversation.specs.declared.chunk.Sender.TheVariants.{Client, Server}
+use Rattle.pgp_conversation.specs.declared.known.Known as code_known
+use Rattle.pgp_conversation.specs.declared.told.Told.{Told}
+use Rattle.pgp_conversation.specs.Conversation.{is_replicating, side_in}
+use Rattle.pgp_conversation.specs.Steps.{known_of}
+use Rattle.pgp_conversation.specs.Typed.{Heard, Learns, Said, Sent, ShowsTyped, Unsaid, said_in}
+use Rattle.pgp_conversation.specs.TypedLines.{ReadsSo, TypesFrame}
+use Rattle.pgp_conversation.specs.Types.{Types}
+use Rattle.pgp_conversation.proofs.TypedFrames.{same_read}
+
+frame_in : (style : Style) (place : ℕ) (replicating : Bool) (frame line : List ℕ) (is : IsServerLine style place replicating frame line) → IsFrameOf frame is.reported.result
+frame_in style place replicating frame line is = record { first = is.first; whole = is.whole; fits = is.fits; body = is.reported.body }
+
+server_reads : (style : Style) (place : ℕ) (phase : Phase) (frame line : List ℕ) (to : Side) (opened : Bool) (kind : PasswordKind) (is : LineOf style place (side.Server phase) frame line to)
+    → ReadsSo Server opened kind frame (said_in style place (side.Server phase) frame line to is)
+server_reads style place Beginning frame line to opened kind (inl answer) = ap length answer.reported.whole
+server_reads style place Beginning frame line to opened kind (inr first) = frame_in style place false frame line first.reported
+server_reads style place Messages frame line to opened kind is = frame_in style place false frame line is.0
+server_reads style place Replicating frame line to opened kind is = frame_in style place true frame line is.0
+server_reads style place Encrypted frame line to opened kind is = absurd is
+
+client_reads : (style : Style) (place : ℕ) (opened : Bool) (kinds : List code.PasswordKind) (replicating : Bool) (frame line : List ℕ) (to : Side) (is : LineOf style place (side.Client opened kinds replicating) frame line to)
+    → ReadsSo Client opened (expected kinds) frame (said_in style place (side.Client opened kinds replicating) frame line to is)
+client_reads style place opened kinds replicating frame line to is = (is.now, is.reported.step)
+
+-- ---- what the code makes of it
+
+module _ {A : Type 0} (style : Style) (place : ℕ) (kept : code_known.Known A) (kind : PasswordKind) (told : Option Told) (frame line typed : List ℕ) (to : Side) (from types : Option Types) (same : kind ≡ expected kept.kinds.items) where
+  pub line_typed : (who : Sender) (is : LineOf style place (side_in who (known_of kept)) frame line to) → TypesFrame style place who kept.opened kind told frame from types line typed
+      → Learns told (said_in style place (side_in who (known_of kept)) frame line to is) from types × ShowsTyped style place (length frame) told (said_in style place (side_in who (known_of kept)) frame line to is) types line typed
+  line_typed Client is all =
+      let said = said_in style place (side_in Client (known_of kept)) frame line to is in
+      all said (subst (λ k. ReadsSo Client kept.opened k frame said) (sym same) (client_reads style place kept.opened kept.kinds.items (is_replicating kept.phase) frame line to is))
+  line_typed Server is all = all (said_in style place (side_in Server (known_of kept)) frame line to is) (server_reads style place kept.phase frame line to kept.opened kind is)
+
+-- ---- a frame is read as one thing
+
+short_frame : (frame : List ℕ) (r : Result Message Error) → IsFrameOf frame r → length frame ≡ 1 → ⊥
+short_frame frame r is e = absurd (omega (arith, e, ap length is.whole, ap length (append-nil (frame_bytes is.first)), length-frame is.first []))
+
+abbrev message_sent : ClientMessage → Result (Option ClientMessage) ClientError → ClientMessage
+message_sent d (Ok (Some m)) = m
+message_sent d r = d
+
+abbrev fault_sent : ClientError → Result (Option ClientMessage) ClientError → ClientError
+fault_sent d (Err e) = e
+fault_sent d r = d
+
+abbrev IsSent : Result (Option ClientMessage) ClientError → Type 0
+IsSent (Ok (Some m)) = Unit {0}
+IsSent r = ⊥
+
+steps_same : (r s : Result ClientMessage ClientError) → step_of r ≡ step_of s → r ≡ s
+steps_same (Ok m) (Ok k) e = ap (λ t. Ok (message_sent m t)) e
+steps_same (Err f) (Err g) e = ap (λ t. Err (fault_sent f t)) e
+steps_same (Ok m) (Err g) e = absurd (subst IsSent e tt)
+steps_same (Err f) (Ok k) e = absurd (subst IsSent (sym e) tt)
+
+reads_one : (who : Sender) (opened : Bool) (kind : PasswordKind) (frame : List ℕ) (x y : Said) → ReadsSo who opened kind frame x → ReadsSo who opened kind frame y → x ≡ y
+reads_one Server opened kind frame (Heard r) (Heard s) a b = ap (λ t. Heard t) (same_read frame r s a b)
+reads_one Server opened kind frame (Heard r) Unsaid a b = absurd (short_frame frame r a b)
+reads_one Server opened kind frame Unsaid (Heard s) a b = absurd (short_frame frame s b a)
+reads_one Server opened kind frame Unsaid Unsaid a b = refl
+reads_one Server opened kind frame (Sent r) y a b = absurd a
+reads_one Server opened kind frame x (Sent s) a b = absurd b
+reads_one Client opened kind frame (Sent r) (Sent s) a b =
+    let here : client.Unread = record { bytes = frame; opened = opened } in
+    ap (λ t. Sent t) (steps_same r s (step_one kind here (record { bytes = []; opened = a.0 }) (record { bytes = []; opened = b.0 }) (step_of r) (step_of s) a.1 b.1).0)
+reads_one Client opened kind frame (Heard r) y a b = absurd a
+reads_one Client opened kind frame Unsaid y a b = absurd a
+reads_one Client opened kind frame x (Heard s) a b = absurd b
+reads_one Client opened kind frame x Unsaid a b = absurd b
+
+-- a frame of a side, with two lines
+pub said_one : (style : Style) (place : ℕ) (from : Side) (frame other line another : List ℕ) (to too : Side) → frame ≡ other → (a : LineOf style place from frame line to) → (b : LineOf style place from other another too)
+    → said_in style place from frame line to a ≡ said_in style place from other another too b
+said_one style place (side.Server phase) frame other line another to too e a b =
+    let x = said_in style place (side.Server phase) frame line to a in
+    let y = said_in style place (side.Server phase) other another too b in
+    reads_one Server false Response frame x y (server_reads style place phase frame line to false Response a) (subst (λ f. ReadsSo Server false Response f y) (sym e) (server_reads style place phase other another too false Response b))
+said_one style place (side.Client opened kinds replicating) frame other line another to too e a b =
+    let x = said_in style place (side.Client opened kinds replicating) frame line to a in
+    let y = said_in style place (side.Client opened kinds replicating) other another too b in
+    reads_one Client opened (expected kinds) frame x y (client_reads style place opened kinds replicating frame line to a)
+    (subst (λ f. ReadsSo Client opened (expected kinds) f y) (sym e) (client_reads style place opened kinds replicating other another too b))

@@ -1,0 +1,11 @@
+-- What is still to come makes of the line what all was to make of it.
+use Rattle.std.proofs.Common.{ℕ, List, None, length}
+use Rattle.std.specs.Prelude.{string_bytes}
+use Rattle.pgp_conversation.specs.TypedLines.{AddsValues}
+use Rattle.pgp_conversation.proofs.bound.put_each.Given as goal
+
+abbrev pub invariant-items : goal.invariant-items
+invariant-items g l = (new : List ℕ) → AddsValues l.style l.rest l.values None (string_bytes l.line) new → AddsValues l.fn.style l.fn.parameters l.fn.values None (string_bytes l.fn.line) new
+
+abbrev pub decreases-items : goal.decreases-items
+decreases-items g l = length l.values

@@ -1,0 +1,11 @@
+-- With those that are still to come they are all.
+use Rattle.std.proofs.Common.{◌≡◌, ◌++◌, length}
+use Rattle.std.specs.Prelude.{map}
+use Rattle.pgp_conversation.specs.Typed.{parameter}
+use Rattle.pgp_conversation.proofs.fields.given_types.Given as goal
+
+abbrev pub invariant-types : goal.invariant-types
+invariant-types g l = l.list.items ++ map parameter l.types ≡ map parameter l.fn.types
+
+abbrev pub decreases-types : goal.decreases-types
+decreases-types g l = length l.types

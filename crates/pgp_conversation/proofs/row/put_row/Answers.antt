@@ -1,0 +1,20 @@
+-- The places of a row lie in its bytes.
+use Rattle.std.proofs.Common.{◌≡◌, rules}
+use Rattle.std.specs.Prelude.{string_bytes}
+use Rattle.pgp_message.proofs.TableLemmas.{places_in}
+use Rattle.pgp_conversation.specs.Typed.{row_front}
+use Rattle.pgp_conversation.proofs.RowLemmas.{ok_then, row_line}
+use Rattle.pgp_conversation.proofs.row.put_row.Goals as goal
+
+pub put_values-requires : goal.put_values-requires
+put_values-requires g c = record { within = rw c.buffer.ensures (places_in c.args.row.now c.ranges-places.result.items c.ranges-places.result.end c.ranges-places.ensures.items) }
+
+pub returns-clause-line : goal.returns-clause-line
+returns-clause-line g c =
+    let row = c.args.row.now in
+    let places = c.ranges-places.result in
+    let front = string_bytes c.put_count.new.line in
+    let text = string_bytes c.put_values.new.line in
+    let begins : front ≡ row_front c.args.style c.args.place c.args.len row.count = search rules in
+    ok_then c.put_end.result
+    (λ ended. row_line c.args.style c.args.place c.args.len c.args.columns.now row places.items places.end c.buffer.result.now front text (string_bytes c.put_end.new.line) c.ranges-places.ensures.items c.buffer.ensures begins c.in_ok-put_values.ensures.adds ended) c.put_end.ensures.text

@@ -1,0 +1,15 @@
+-- What is still to come makes of the line what all was to make of it.
+use Rattle.std.proofs.Common.{ℕ, List, length}
+use Rattle.std.specs.Prelude.{map, string_bytes}
+use Rattle.std.specs.List.{AllByRecursion}
+use Rattle.pgp_message.specs.Table.{IsPlaceIn, value_at}
+use Rattle.pgp_conversation.specs.TypedLines.{AddsValues}
+use Rattle.pgp_conversation.proofs.row.put_values.Given as goal
+
+abbrev pub invariant-items : goal.invariant-items
+invariant-items g l = ((new : List ℕ) → AddsValues l.style l.rest (map (value_at l.buffer) l.places.items) l.places.end (string_bytes l.line) new
+    → AddsValues l.fn.style l.fn.columns (map (value_at l.fn.buffer) l.fn.places.items) l.fn.places.end (string_bytes l.fn.line) new)
+    × AllByRecursion (IsPlaceIn (length l.buffer)) l.places.items
+
+abbrev pub decreases-items : goal.decreases-items
+decreases-items g l = length l.places.items

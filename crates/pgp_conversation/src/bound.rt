@@ -1,0 +1,198 @@
+//! The line of a Bind whose parameters are known.
+
+ghost use Rattle.std.specs.Prelude.{◌≡◌, ◌++◌, ◌∷◌, Bool, Ok, Err, [], None, length, OnErr, OnOk, string_bytes};
+ghost use Rattle.pgp_frontend.specs.ClientMessage.{ClientMessage as Message};
+ghost use Rattle.pgp_frontend_read.specs.Pieces.{step_of};
+ghost use Rattle.pgp_frontend_read.specs.Step.{Step};
+ghost use Rattle.pgp_frontend_read.specs.Views.{kind_view, view};
+ghost use Rattle.pgp_frontend_read.specs.declared.error.ClientError.{ClientError as Fault};
+ghost use Rattle.pgp_conversation.specs.Typed.{IsBindLine, ShowsSent, bind_front};
+ghost use Rattle.pgp_conversation.specs.TypedLines.{AddsValues};
+ghost use Rattle.pgp_conversation.specs.TypesKept.{types_of};
+
+use crate::column::Column;
+use crate::row::{behind_first, column_first, has_binary};
+use crate::types::Types;
+use crate::value::put_typed;
+use bytes::BytesMut;
+use pgp_base::{FallibleIterator, Memory};
+use pgp_frontend_read::{ClientMessage, ClientMessages, Formats, PasswordKind, Values};
+use pgp_line::line::{put_called, put_end, put_text};
+use pgp_line::nesting::{end_list, put_count, put_key};
+use pgp_line::style::Style;
+use pgp_trace::client_lists::put_formats;
+use pgp_trace::frame::begin_line;
+use pgp_trace::lists::put_fault;
+use std::alloc::AllocError;
+
+/// Writes the line of a client's frame anew, where it is a Bind some of whose parameters come in binary format, and their types are known; by what is known
+/// once it was sent.
+///
+/// # Errors
+///
+/// Returns `AllocError` if there is no memory for it.
+pub fn show_frame<A: Memory>(
+    style: Style,
+    place: u64,
+    opened: bool,
+    kind: PasswordKind,
+    frame: &[u8],
+    types: &Types<A>,
+    text: &mut BytesMut<A>,
+    line: &mut String<A>,
+) -> Result<(), AllocError>
+    ensures shown { OnOk result ((m : Message) (now : Bool) → Step (kind_view kind) (record { bytes = frame.now; opened = opened }) (step_of (Ok m)) (record { bytes = []; opened = now }) → ShowsSent style place (length frame.now) m (types_of types.now) (string_bytes line.old) (string_bytes line.new)) }
+    ensures rejected { OnOk result ((e : Fault) (now : Bool) → Step (kind_view kind) (record { bytes = frame.now; opened = opened }) (step_of (Err e)) (record { bytes = []; opened = now }) → string_bytes line.new ≡ string_bytes line.old) }
+    ensures lacks { OnErr result A.Lacks }
+{
+    let mut messages = ClientMessages::resume(frame, opened);
+    match messages.next(kind) {
+        Ok(Some(message)) => show_sent(style, place, frame.len(), message, types, text, line),
+        Ok(None) => Ok(()),
+        Err(_) => Ok(()),
+    }
+}
+
+/// Writes the line of a message of so many bytes anew.
+fn show_sent<A: Memory>(
+    style: Style,
+    place: u64,
+    len: usize,
+    message: ClientMessage<'_>,
+    types: &Types<A>,
+    text: &mut BytesMut<A>,
+    line: &mut String<A>,
+) -> Result<(), AllocError>
+    ensures shown { OnOk result (ShowsSent style place len (view message.entry) (types_of types.now) (string_bytes line.old) (string_bytes line.new)) }
+    ensures lacks { OnErr result A.Lacks }
+{
+    match message {
+        ClientMessage::Bind {
+            portal,
+            statement,
+            formats,
+            values,
+            result_formats,
+        } => {
+            let parameters = types.binds.as_slice();
+            if has_binary(parameters) {
+                put_bind(
+                    style,
+                    place,
+                    len,
+                    parameters,
+                    portal,
+                    statement,
+                    formats,
+                    values,
+                    result_formats,
+                    text,
+                    line,
+                )
+            } else {
+                Ok(())
+            }
+        }
+        ClientMessage::CancelRequest { .. }
+        | ClientMessage::Close { .. }
+        | ClientMessage::CopyData(_)
+        | ClientMessage::CopyDone
+        | ClientMessage::CopyFail(_)
+        | ClientMessage::Describe { .. }
+        | ClientMessage::Execute { .. }
+        | ClientMessage::Flush
+        | ClientMessage::FunctionCall { .. }
+        | ClientMessage::GssEncRequest
+        | ClientMessage::Parse { .. }
+        | ClientMessage::PasswordMessage(_)
+        | ClientMessage::Query(_)
+        | ClientMessage::SaslInitialResponse { .. }
+        | ClientMessage::SaslResponse(_)
+        | ClientMessage::SslRequest
+        | ClientMessage::Startup { .. }
+        | ClientMessage::Sync
+        | ClientMessage::Terminate => Ok(()),
+    }
+}
+
+/// Writes the line of a Bind.
+fn put_bind<A: Memory>(
+    style: Style,
+    place: u64,
+    len: usize,
+    parameters: &[Column],
+    portal: &[u8],
+    statement: &[u8],
+    formats: Formats<'_>,
+    values: Values<'_>,
+    results: Formats<'_>,
+    text: &mut BytesMut<A>,
+    line: &mut String<A>,
+) -> Result<(), AllocError>
+    ensures line { OnOk result (IsBindLine style place len parameters.now portal.now statement.now formats.entry values.entry results.entry (string_bytes line.new)) }
+    ensures lacks { OnErr result A.Lacks }
+{
+    put_front(
+        style,
+        place,
+        len,
+        portal,
+        statement,
+        formats,
+        values.size_hint().0,
+        line,
+    )?;
+    put_each(style, parameters, values, text, line)?;
+    put_formats(style, "results", "result_formats", results, line)?;
+    put_end(style, line)
+}
+
+/// Begins the line of a Bind of so many values.
+fn put_front<A: Memory>(
+    style: Style,
+    place: u64,
+    len: usize,
+    portal: &[u8],
+    statement: &[u8],
+    formats: Formats<'_>,
+    count: usize,
+    line: &mut String<A>,
+) -> Result<(), AllocError>
+    ensures front { OnOk result (string_bytes line.new ≡ bind_front style place len portal.now statement.now formats.entry count) }
+    ensures lacks { OnErr result A.Lacks }
+{
+    begin_line(style, place, len, b'B', line)?;
+    put_called(style, false, "Bind", line)?;
+    put_key(style, "portal", "portal", line)?;
+    put_text(style, portal, line)?;
+    put_key(style, "statement", "statement", line)?;
+    put_text(style, statement, line)?;
+    put_formats(style, "formats", "formats", formats, line)?;
+    put_key(style, "values", "values", line)?;
+    put_count(style, count as u64, line)
+}
+
+/// Adds the values of a Bind, each under the parameter at its place.
+#[tactic(auto, using(crate::proofs::RowLemmas::each_more, crate::proofs::RowLemmas::each_end, crate::proofs::RowLemmas::each_fault))]
+fn put_each<A: Memory>(
+    style: Style,
+    parameters: &[Column],
+    mut values: Values<'_>,
+    text: &mut BytesMut<A>,
+    line: &mut String<A>,
+) -> Result<(), AllocError>
+    ensures adds { OnOk result (AddsValues style parameters.now values.entry None (string_bytes line.old) (string_bytes line.new)) }
+    ensures lacks { OnErr result A.Lacks }
+{
+    let mut rest = parameters;
+    'items: loop {
+        match values.next() {
+            Ok(Some(value)) => {
+                put_typed(style, column_first(rest), value, text, line)?;
+                rest = behind_first(rest);
+            }
+            Ok(None) => return end_list(style, line),
+            Err(e) => return put_fault(style, &e, line),
+        }
+    }
+}

@@ -1,0 +1,118 @@
+//! The columns that a description tells, and the formats that a Bind asks for.
+
+ghost use Rattle.std.specs.Prelude.{◌≡◌, map, IfOk, OnErr};
+ghost use Rattle.std.specs.Option.{option_map};
+ghost use Rattle.pgp_conversation.specs.Shelves.{is_binary};
+ghost use Rattle.pgp_conversation.specs.Typed.{column_of, columns_of, parameter, parameters_in};
+
+use crate::column::{Column, is_binary};
+use pgp_base::{FallibleIterator, Memory};
+use pgp_frontend_read::{Formats, ParamTypes};
+use pgp_message::{Field, Fields, Parameters};
+use std::alloc::AllocError;
+
+/// The columns of a description, if it doesn't break off.
+///
+/// # Errors
+///
+/// Returns `AllocError` if there is no memory for them.
+#[tactic(auto, using(crate::proofs::RowLemmas::columns_more, crate::proofs::RowLemmas::columns_end, crate::proofs::RowLemmas::columns_cut))]
+pub fn columns_of<A: Memory>(
+    alloc: A,
+    mut fields: Fields<'_>,
+) -> Result<Option<Vec<Column, A>>, AllocError>
+    ensures columns { IfOk result (λ columns. option_map (λ list. list.items) columns ≡ columns_of fields.entry.items fields.entry.end) }
+    ensures lacks { OnErr result A.Lacks }
+{
+    let mut columns = Vec::new(alloc);
+    'fields: loop {
+        match fields.next() {
+            Ok(Some(field)) => A::push(&mut columns, column_of(&field))?,
+            Ok(None) => return Ok(Some(columns)),
+            Err(_) => return Ok(None),
+        }
+    }
+}
+
+fn column_of(field: &Field<'_>) -> Column
+    ensures { result ≡ column_of field.now }
+{
+    Column {
+        oid: field.type_oid(),
+        binary: is_binary(field.format()),
+    }
+}
+
+/// Which of the formats are binary.
+///
+/// # Errors
+///
+/// Returns `AllocError` if there is no memory for them.
+pub fn binaries_of<A: Memory>(
+    alloc: A,
+    mut formats: Formats<'_>,
+) -> Result<Vec<bool, A>, AllocError>
+    ensures formats { IfOk result (λ list. list.items ≡ map is_binary formats.entry) }
+    ensures lacks { OnErr result A.Lacks }
+{
+    let mut list = Vec::new(alloc);
+    'formats: loop {
+        match formats.next() {
+            Ok(Some(format)) => A::push(&mut list, is_binary(format))?,
+            Ok(None) => return Ok(list),
+            Err(_) => return Ok(list),
+        }
+    }
+}
+
+/// A parameter of this type.
+fn parameter(oid: u32) -> Column
+    ensures { result ≡ parameter oid }
+{
+    Column { oid, binary: false }
+}
+
+/// The parameters that a Parse gives.
+///
+/// # Errors
+///
+/// Returns `AllocError` if there is no memory for them.
+pub fn given_types<A: Memory>(
+    alloc: A,
+    mut types: ParamTypes<'_>,
+) -> Result<Vec<Column, A>, AllocError>
+    ensures types { IfOk result (λ list. list.items ≡ map parameter types.entry) }
+    ensures lacks { OnErr result A.Lacks }
+{
+    let mut list = Vec::new(alloc);
+    'types: loop {
+        match types.next() {
+            Ok(Some(oid)) => A::push(&mut list, parameter(oid))?,
+            Ok(None) => return Ok(list),
+            Err(_) => return Ok(list),
+        }
+    }
+}
+
+/// The parameters that a server describes, if that doesn't break off.
+///
+/// # Errors
+///
+/// Returns `AllocError` if there is no memory for them.
+#[tactic(auto, using(crate::proofs::RowLemmas::parameters_more, crate::proofs::RowLemmas::parameters_end, crate::proofs::RowLemmas::parameters_cut))]
+pub fn described_types<A: Memory>(
+    alloc: A,
+    mut types: Parameters<'_>,
+) -> Result<Option<Vec<Column, A>>, AllocError>
+    ensures types { IfOk result (λ list. option_map (λ all. all.items) list ≡ parameters_in types.entry.items types.entry.end) }
+    ensures lacks { OnErr result A.Lacks }
+{
+    let mut list = Vec::new(alloc);
+    'types: loop {
+        match types.next() {
+            Ok(Some(oid)) => A::push(&mut list, parameter(oid))?,
+            Ok(None) => return Ok(Some(list)),
+            Err(_) => return Ok(None),
+        }
+    }
+}

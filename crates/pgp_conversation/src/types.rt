@@ -1,0 +1,270 @@
+//! What is known of the types of statements and portals.
+
+ghost use Rattle.std.specs.Prelude.{◌≡◌, [], Some, OnErr, OnOk};
+ghost use Rattle.std.specs.Option.{option_map};
+ghost use Rattle.pgp_conversation.specs.Shelves.{formatted, found, kept, shelf_of};
+ghost use Rattle.pgp_conversation.specs.Types.{bound, closed, described, ended, first, no_types, parameters_of, parsed, parses, reached, rows_of, syncs, tells, told_by, waits};
+ghost use Rattle.pgp_conversation.specs.TypesKept.{awaited_of, types_of};
+
+use crate::awaited::{Awaited, Object, first, reach, wait_bound};
+use crate::column::Column;
+use crate::shelf::{Shape, forget, formatted, found, keep};
+use pgp_base::Memory;
+use std::alloc::AllocError;
+use std::collections::VecDeque;
+
+/// What is known of statements and portals.
+#[derive(Drop)]
+pub struct Types<A: Memory> {
+    /// The requests about them whose answers are to come.
+    pub awaited: VecDeque<Awaited<A>, A>,
+    /// The columns of the statements, in text format.
+    pub statements: Vec<Shape<A>, A>,
+    /// The columns of the portals.
+    pub portals: Vec<Shape<A>, A>,
+    /// The parameters of the Parses that were sent after the last Sync.
+    pub sent: Vec<Shape<A>, A>,
+    /// The parameters of statements that were told.
+    pub told: Vec<Shape<A>, A>,
+    /// Those of the Bind that was sent last, in its formats.
+    pub binds: Vec<Column, A>,
+    /// The number of the last Parse.
+    pub parse: u64,
+}
+
+/// Before the first request.
+pub fn no_types<A: Memory>(alloc: A) -> Types<A>
+    ensures { types_of result ≡ no_types }
+{
+    Types {
+        awaited: VecDeque::new(alloc),
+        statements: Vec::new(alloc),
+        portals: Vec::new(alloc),
+        sent: Vec::new(alloc),
+        told: Vec::new(alloc),
+        binds: Vec::new(alloc),
+        parse: 0,
+    }
+}
+
+/// The columns of the rows that answer a request.
+pub fn rows_of<A: Memory>(number: u64, types: &Types<A>) -> Option<&[Column]>
+    ensures { option_map (λ columns. columns.now) result ≡ rows_of (first number (types_of types.now).awaited) (types_of types.now) }
+{
+    let asked = first(number, &types.awaited)?;
+    match asked.object {
+        Object::Statement => None,
+        Object::Portal => found(asked.name.as_slice(), types.portals.as_slice()),
+    }
+}
+
+/// An answer to this request comes: those to the requests before it are over.
+pub fn reach_answer<A: Memory>(number: u64, types: &mut Types<A>)
+    ensures { types_of types.new ≡ reached number (types_of types.old) }
+{
+    reach(number, &mut types.awaited);
+}
+
+/// The object of a request has these columns, or none are known.
+///
+/// # Errors
+///
+/// Returns `AllocError` if there is no memory for them.
+pub fn describe<A: Memory>(
+    number: u64,
+    columns: Option<&[Column]>,
+    types: &mut Types<A>,
+) -> Result<(), AllocError>
+    ensures described { OnOk result (types_of types.new ≡ described (first number (types_of types.old).awaited) (option_map (λ columns. columns.now) columns.entry) (types_of types.old)) }
+    ensures lacks { OnErr result A.Lacks }
+{
+    match first(number, &types.awaited) {
+        Some(asked) => match asked.object {
+            Object::Statement => keep(asked.name.as_slice(), columns, &mut types.statements),
+            Object::Portal => keep(asked.name.as_slice(), columns, &mut types.portals),
+        },
+        None => Ok(()),
+    }
+}
+
+/// A Bind is done: its portal has its statement's columns, in its formats.
+///
+/// # Errors
+///
+/// Returns `AllocError` if there is no memory for them.
+pub fn bind<A: Memory>(number: u64, types: &mut Types<A>) -> Result<(), AllocError>
+    ensures bound { OnOk result (types_of types.new ≡ bound (first number (types_of types.old).awaited) (types_of types.old)) }
+    ensures lacks { OnErr result A.Lacks }
+{
+    match first(number, &types.awaited) {
+        Some(asked) => bind_to(asked, types.statements.as_slice(), &mut types.portals),
+        None => Ok(()),
+    }
+}
+
+/// Keeps the columns of a portal.
+fn bind_to<A: Memory>(
+    asked: &Awaited<A>,
+    statements: &[Shape<A>],
+    portals: &mut Vec<Shape<A>, A>,
+) -> Result<(), AllocError>
+    ensures bound { OnOk result (shelf_of portals.new.items ≡ kept asked.now.name.items (option_map (formatted asked.now.formats.items) (found asked.now.statement.items (shelf_of statements.now))) (shelf_of portals.old.items)) }
+    ensures lacks { OnErr result A.Lacks }
+{
+    let name = asked.name.as_slice();
+    match found(asked.statement.as_slice(), statements) {
+        Some(columns) => {
+            let alloc = *portals.allocator();
+            let columns = formatted(alloc, asked.formats.as_slice(), columns)?;
+            keep(name, Some(columns.as_slice()), portals)
+        }
+        None => keep(name, None, portals),
+    }
+}
+
+/// The server is ready, in this state: no portal outlives its transaction.
+pub fn end<A: Memory>(status: u8, types: &mut Types<A>)
+    ensures { types_of types.new ≡ ended status (types_of types.old) }
+{
+    if status == b'I' {
+        types.portals.clear();
+    }
+}
+
+/// A Parse is sent, under this number.
+///
+/// # Errors
+///
+/// Returns `AllocError` if there is no memory for it.
+pub fn parse<A: Memory>(
+    number: u64,
+    name: &[u8],
+    parameters: Vec<Column, A>,
+    types: &mut Types<A>,
+) -> Result<(), AllocError>
+    ensures parsed { OnOk result (types_of types.new ≡ waits (Some (record { number = number; object = Object.Statement; name = name.now; statement = []; formats = []; parameters = parameters.items })) (parses number name.now parameters.items (types_of types.old))) }
+    ensures lacks { OnErr result A.Lacks }
+{
+    let alloc = *types.awaited.allocator();
+    keep(name, Some(parameters.as_slice()), &mut types.sent)?;
+    forget(name, &mut types.told);
+    types.parse = number;
+    wait_bound(
+        number,
+        Object::Statement,
+        name,
+        &[],
+        Vec::new(alloc),
+        parameters,
+        &mut types.awaited,
+    )
+}
+
+/// A Sync is sent.
+pub fn sync<A: Memory>(types: &mut Types<A>)
+    ensures { types_of types.new ≡ syncs (types_of types.old) }
+{
+    types.sent.clear();
+}
+
+/// The parameters of a statement, as far as they are known to who sends a Bind now.
+pub fn parameters_of<'a, A: Memory>(name: &[u8], types: &'a Types<A>) -> &'a [Column]
+    ensures { result.now ≡ parameters_of name.now (types_of types.now) }
+{
+    match found(name, types.told.as_slice()) {
+        Some(parameters) => parameters,
+        None => match found(name, types.sent.as_slice()) {
+            Some(parameters) => parameters,
+            None => &[],
+        },
+    }
+}
+
+/// The statement of a request has these parameters, or none are known.
+///
+/// # Errors
+///
+/// Returns `AllocError` if there is no memory for them.
+pub fn tell<A: Memory>(
+    number: u64,
+    parameters: Option<&[Column]>,
+    types: &mut Types<A>,
+) -> Result<(), AllocError>
+    ensures told { OnOk result (types_of types.new ≡ tells (first number (types_of types.old).awaited) (option_map (λ list. list.now) parameters.entry) (types_of types.old)) }
+    ensures lacks { OnErr result A.Lacks }
+{
+    match first(number, &types.awaited) {
+        Some(asked) => {
+            if asked.number < types.parse {
+                Ok(())
+            } else {
+                put_told(
+                    asked.object,
+                    asked.name.as_slice(),
+                    parameters,
+                    &mut types.told,
+                )
+            }
+        }
+        None => Ok(()),
+    }
+}
+
+/// Keeps the parameters of a statement.
+fn put_told<A: Memory>(
+    object: Object,
+    name: &[u8],
+    parameters: Option<&[Column]>,
+    told: &mut Vec<Shape<A>, A>,
+) -> Result<(), AllocError>
+    ensures told { OnOk result (shelf_of told.new.items ≡ told_by object name.now (option_map (λ list. list.now) parameters.entry) (shelf_of told.old.items)) }
+    ensures lacks { OnErr result A.Lacks }
+{
+    match object {
+        Object::Statement => keep(name, parameters, told),
+        Object::Portal => Ok(()),
+    }
+}
+
+/// A Parse is done.
+///
+/// # Errors
+///
+/// Returns `AllocError` if there is no memory for what it gave.
+pub fn finish<A: Memory>(number: u64, types: &mut Types<A>) -> Result<(), AllocError>
+    ensures parsed { OnOk result (types_of types.new ≡ parsed (first number (types_of types.old).awaited) (types_of types.old)) }
+    ensures lacks { OnErr result A.Lacks }
+{
+    describe(number, None, types)?;
+    match first(number, &types.awaited) {
+        Some(asked) => {
+            if asked.number < types.parse {
+                Ok(())
+            } else {
+                put_told(
+                    asked.object,
+                    asked.name.as_slice(),
+                    Some(asked.parameters.as_slice()),
+                    &mut types.told,
+                )
+            }
+        }
+        None => Ok(()),
+    }
+}
+
+/// A statement or a portal is closed.
+///
+/// # Errors
+///
+/// Returns `AllocError` if there is no memory.
+pub fn close<A: Memory>(number: u64, types: &mut Types<A>) -> Result<(), AllocError>
+    ensures closed { OnOk result (types_of types.new ≡ closed (first number (types_of types.old).awaited) (types_of types.old)) }
+    ensures lacks { OnErr result A.Lacks }
+{
+    describe(number, None, types)?;
+    match first(number, &types.awaited) {
+        Some(asked) => put_told(asked.object, asked.name.as_slice(), None, &mut types.told),
+        None => Ok(()),
+    }
+}

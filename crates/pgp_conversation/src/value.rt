@@ -1,0 +1,104 @@
+//! A value whose type and format are known.
+
+ghost use Rattle.std.specs.Prelude.{◌≡◌, false, true, OnErr, OnOk, string_bytes};
+ghost use Rattle.pgp_frontend_read.specs.Whole.{shown};
+ghost use Rattle.pgp_values.specs.Formats.{formats};
+ghost use Rattle.pgp_values.specs.FormatTable.{format_in};
+ghost use Rattle.pgp_value_text.specs.ValueText.{is_float};
+ghost use Rattle.pgp_conversation.specs.TypedLines.{AddsBytes, AddsValue};
+
+use crate::column::Column;
+use bytes::BytesMut;
+use pgp_base::Memory;
+use pgp_line::line::{put_null, put_some};
+use pgp_line::style::Style;
+use pgp_value_text::put_value;
+use pgp_values::{BinaryFormat, binary_format_of};
+use std::alloc::AllocError;
+
+/// Adds a value under its column, by way of a buffer for its text; or that it is a null.
+///
+/// # Errors
+///
+/// Returns `AllocError` if there is no memory for it.
+pub fn put_typed<A: Memory>(
+    style: Style,
+    column: Column,
+    value: Option<&[u8]>,
+    text: &mut BytesMut<A>,
+    line: &mut String<A>,
+) -> Result<(), AllocError>
+    ensures adds { OnOk result (AddsValue style column (shown value.entry) (string_bytes line.old) (string_bytes line.new)) }
+    ensures lacks { OnErr result A.Lacks }
+{
+    match value {
+        Some(bytes) => put_bytes(style, column, bytes, text, line),
+        None => put_null(style, line),
+    }
+}
+
+fn put_bytes<A: Memory>(
+    style: Style,
+    column: Column,
+    bytes: &[u8],
+    text: &mut BytesMut<A>,
+    line: &mut String<A>,
+) -> Result<(), AllocError>
+    ensures adds { OnOk result (AddsBytes style column.binary column.oid bytes.now (string_bytes line.old) (string_bytes line.new)) }
+    ensures lacks { OnErr result A.Lacks }
+{
+    if column.binary {
+        put_binary(style, column.oid, bytes, text, line)
+    } else {
+        put_some(style, bytes, line)
+    }
+}
+
+/// Adds the text of bytes in binary format, or the bytes. A floating-point number may have several texts, so its bytes are added.
+fn put_binary<A: Memory>(
+    style: Style,
+    oid: u32,
+    bytes: &[u8],
+    text: &mut BytesMut<A>,
+    line: &mut String<A>,
+) -> Result<(), AllocError>
+    ensures adds { OnOk result (AddsBytes style true oid bytes.now (string_bytes line.old) (string_bytes line.new)) }
+    ensures lacks { OnErr result A.Lacks }
+{
+    if is_float(oid) {
+        put_some(style, bytes, line)
+    } else {
+        put_shown(style, oid, bytes, text, line)
+    }
+}
+
+/// Whether a type is one of floating-point numbers.
+fn is_float(oid: u32) -> bool
+    ensures { result ≡ is_float (format_in formats oid) }
+{
+    match binary_format_of(oid) {
+        Some(BinaryFormat::Float4) => true,
+        Some(BinaryFormat::Float8) => true,
+        _ => false,
+    }
+}
+
+/// The same of a type whose values have one text.
+fn put_shown<A: Memory>(
+    style: Style,
+    oid: u32,
+    bytes: &[u8],
+    text: &mut BytesMut<A>,
+    line: &mut String<A>,
+) -> Result<(), AllocError>
+    requires { is_float (format_in formats oid) ≡ false }
+    ensures adds { OnOk result (AddsBytes style true oid bytes.now (string_bytes line.old) (string_bytes line.new)) }
+    ensures lacks { OnErr result A.Lacks }
+{
+    text.clear();
+    if put_value(oid, bytes, text)? {
+        put_some(style, text.as_slice(), line)
+    } else {
+        put_some(style, bytes, line)
+    }
+}
