@@ -1,6 +1,6 @@
 -- Where a summary is asked for, the table is all that is written.
 use Rattle.std.proofs.Common.{◌≡◌, ℕ, ◌+◌, Bool, true, false, List, [], ◌∷◌, ◌++◌, length, Option, Some, None, Result, Ok, Err, refl, sym, ap, ◌∙◌, inl, inr}
-use Rattle.std.specs.Prelude.{◌==◌, ◌||◌, is_some, if◌then◌else◌, bytes_eq, codes}
+use Rattle.std.specs.Prelude.{◌==◌, ◌||◌, is_some, not, if◌then◌else◌, bytes_eq, codes}
 use Rattle.pgp_base.specs.declared.error.Error.{Error}
 use Rattle.pgp_message.specs.BackendMessage.{Message, Authentication, AuthenticationOk}
 use Rattle.pgp_frontend.specs.ClientMessage.{ClientMessage, SaslResponse}
@@ -22,7 +22,7 @@ use Rattle.pgp_conversation.specs.declared.noted.Encryption.TheVariants.{Tls, Gs
 use Rattle.pgp_conversation.specs.declared.role.Role.{Role}
 use Rattle.pgp_conversation.specs.declared.role.Role.TheVariants as role
 use Rattle.pgp_conversation.specs.declared.told.Told.{Told}
-use Rattle.pgp_conversation.specs.Conversation.{Known, ListsChunks, ListsFrame, ListsFrames, NoChunkListed, NoFrames, OneChunkListed, OneFrame, Talk, answer_to, begins, called, either, first_time, half_in, last_lines, last_of, left, noted_in, now_at, relined, side_in, with_numbers, with_side}
+use Rattle.pgp_conversation.specs.Conversation.{Known, ListsChunks, ListsFrame, ListsFrames, NoChunkListed, NoFrames, OneChunkListed, OneFrame, Talk, answer_to, begins, called, counts, either, first_time, half_in, last_lines, last_of, left, noted_in, now_at, relined, side_in, told_by, with_numbers, with_side, with_types}
 use Rattle.pgp_conversation.specs.Marks.{mark, marked, since, word}
 use Rattle.pgp_conversation.specs.Recording.{Chunk}
 use Rattle.pgp_conversation.specs.Requests.{Numbers, at_time, first_numbers, role_in, summary_in, told_in, unnumbered}
@@ -91,7 +91,7 @@ shown_none view name line e =
 frame_none : (view : View) (m : List ℕ) (who : Sender) (place : ℕ) (here to : Known) (frame text : List ℕ) → ListsFrame (summarized true view) m who place here frame text to → text ≡ []
 frame_none view m who place here to frame text l =
     let name = name_in view.style place (side_in who here) frame l.line l.after l.reported in
-    l.is ∙ shown_none view (called here.requests name) (marked view.style.form (m ++ word view.style.form l.told) (relined view.style place here.requests name l.line))
+    l.is ∙ shown_none view (called here.requests name) (marked view.style.form (m ++ word view.style.form (told_by here.marked l.told)) (relined view.style place here.requests name l.typed))
     (called_some here.requests name (line_some view.style place (side_in who here) frame l.line l.after l.reported))
 
 frames_none : (view : View) (m : List ℕ) (who : Sender) (place : ℕ) (from : Known) (bytes lines : List ℕ) (to : Known) → ListsFrames (summarized true view) m who place from bytes lines to → lines ≡ []
@@ -137,7 +137,7 @@ frame_kept view m who place here to frame text l =
     let asking = asking_in view.style place from frame l.line l.after l.reported in
     let name = name_in view.style place from frame l.line l.after l.reported in
     let sum = summed l.told asking name l.numbers in
-    ap (λ (k : Known). is_summed k.numbers) l.behind ∙ ap is_summed (note_kept (noted_in view.style place from frame l.line l.after l.reported) (with_numbers sum (with_side who here l.after)))
+    ap (λ (k : Known). is_summed k.numbers) l.behind ∙ ap is_summed (note_kept (noted_in view.style place from frame l.line l.after l.reported) (with_types l.types (with_numbers sum (with_side who here l.after))))
     ∙ sum_kept l.told asking name l.numbers ∙ ap (λ (x : Option Told × Option Numbers). is_summed x.1) (sym l.numbered) ∙ told_kept (role_in view.style place from frame l.line l.after l.reported) here.numbers
 
 frames_kept : (view : View) (m : List ℕ) (who : Sender) (place : ℕ) (from : Known) (bytes lines : List ℕ) (to : Known) → ListsFrames view m who place from bytes lines to → is_summed to.numbers ≡ is_summed from.numbers
@@ -172,11 +172,15 @@ begins_summed true true e f = refl
 begins_summed true false e f = f
 begins_summed false sums e f = e
 
+counted : (numbered typed : Bool) → numbered ≡ true → (numbered || typed) ≡ true
+counted true typed e = refl
+counted false typed e = absurd (no_truth e)
+
 pub table_alone : (view : View) (marking : Marking) (bytes output : List ℕ) (end : End) → marking.numbered ≡ true → marking.summed ≡ true → (l : IsListing (summarized true view) marking bytes end output)
     → (s : State) × (summary_in l.talk.known.numbers ≡ Some s) × (output ≡ table view.style s.tallies)
 table_alone view marking bytes output end numbered sums l =
-    let all : is_summed l.talk.known.numbers ≡ true = chunks_kept (summarized true view) (begins marking) l.each.chunks l.lines l.talk l.each.each ∙ begins_summed marking.numbered marking.summed numbered sums in
-    let told = unnumbered l.talk.known.numbers in
+    let all : is_summed l.talk.known.numbers ≡ true = chunks_kept (summarized true view) (begins marking) l.each.chunks l.lines l.talk l.each.each ∙ begins_summed (counts marking) marking.summed (counted marking.numbered (not marking.raw) numbered) sums in
+    let told = told_by l.talk.known.marked (unnumbered l.talk.known.numbers) in
     let last = last_of (summarized true view) told sides.Client l.talk.client.stopped (left l.talk.client) ++ last_of (summarized true view) told sides.Server l.talk.server.stopped (left l.talk.server) in
     let t = table_in view.style last l.talk.known.numbers all in
     (t.0, t.1, l.text ∙ ap (λ x. x ++ last_lines (summarized true view) l.talk) (chunks_none view (begins marking) l.each.chunks l.lines l.talk l.each.each) ∙ t.2)
