@@ -111,7 +111,7 @@ fn put_values<A: Memory>(
     'items: loop {
         match places.next() {
             Ok(Some(place)) => {
-                put_place(style, column_first(rest), buffer, &place, text, line)?;
+                put_next(style, rest, buffer, &place, text, line)?;
                 rest = behind_first(rest);
             }
             Ok(None) => return end_list(style, line),
@@ -141,6 +141,22 @@ pub fn behind_first(columns: &[Column]) -> &[Column]
         [] => columns,
         [_, rest @ ..] => rest,
     }
+}
+
+/// Adds the value at a place, under the first of these columns.
+fn put_next<A: Memory>(
+    style: Style,
+    columns: &[Column],
+    buffer: &[u8],
+    place: &Option<Range<usize>>,
+    text: &mut BytesMut<A>,
+    line: &mut String<A>,
+) -> Result<(), AllocError>
+    requires within { IsPlaceIn (length buffer.now) place.now }
+    ensures adds { OnOk result (AddsValue style (column_first columns.now) (value_at buffer.now place.now) (string_bytes line.old) (string_bytes line.new)) }
+    ensures lacks { OnErr result A.Lacks }
+{
+    put_place(style, column_first(columns), buffer, place, text, line)
 }
 
 /// Adds the value at a place.

@@ -17,9 +17,9 @@ items-preserved g c =
     let after = c.next.new.self in
     let x = c.in-Ok-Some.place in
     let old = string_bytes c.items.line in
-    let mid = string_bytes c.put_place.new.line in
+    let mid = string_bytes c.put_next.new.line in
     let takes : TakesItem before x after = search rules in
-    let adds : AddsValue style (column_first c.items.rest.now) (value x) old mid = subst (λ k. AddsValue style k (value x) old mid) c.column_first.ensures c.in_ok-put_place-in-Ok-Some.ensures.adds in (
+    let adds : AddsValue style (column_first c.items.rest.now) (value x) old mid = c.in_ok-put_next-in-Ok-Some.ensures.adds in (
       λ new more. c.items.invariant.0 new (values_more style c.items.rest.now value before after x old mid new takes adds
           (subst (λ (l : List Column). AddsValues style l (map value after.items) after.end mid new) c.behind_first-rest.ensures more)),
       (subst (AllByRecursion (IsPlaceIn (length c.args.buffer.now))) takes.items c.items.invariant.1).1,
