@@ -11,7 +11,7 @@ WORDS = [
     ('String::from_str(', 'Global::text_of('), ('Vec::from_slice(', 'Global::list_of('),
     ('hex::encode(self.alloc, bytes)', 'Global.hex_of(bytes)'), ('hex::decode(alloc, word).ok()', 'OF_HEX(word)'),
     ('<Global>', ''),
-    ('    grows::<C>(case, out)\n', '    Ok(())\n'),
+    ('    grows::<C>(case, out)\n', '    Ok(())\n'), ('    with_each_failing(bytes, wanted, out)?;\n', ''),
 ]
 PATTERNS = [
     (r'rt: &impl Print, |rt: &R, |<R: AllocGlobal \+ Print>|<R: Files \+ AllocGlobal \+ Print>|rt: HostRuntime|\b&?rt, ', ''),
@@ -24,8 +24,9 @@ PATTERNS = [
      r'Ok::<(), AllocError>(\1.\2(\3))\4'),
 ]
 # The rows' tries with an allocator that fails need Rattle's buffers: the first words of each item, up to those of the next that stays.
-CUT = [('/// A buffer that holds a message, and has', '/// The call appends what the row says, or'),
-       ('/// Makes the call where its request of memory', '/// The call appends the bytes, wherever')]
+CUT = [('codec.rt', '/// A buffer that holds a message, and has', '/// The call appends what the row says, or'),
+       ('codec.rt', '/// Makes the call where its request of memory', '/// The call appends the bytes, wherever'),
+       ('server.rt', '/// More allocations than a row', '/// The next message, or a row by the call')]
 SLICED = {'client_read.rt', 'server.rt'}
 MAIN = '''//! Runs the tables of crates/pgp_rows/data over the generated modules.
 mod kit;
@@ -63,11 +64,12 @@ def without_left_out(text):
 
 def row_module(name):
     text = erase(open(os.path.join(generate.top, 'crates/pgp_rows/src', name)).read())
-    if name == 'codec.rt':
-        for first, after in CUT:
-            if first not in text or after not in text:
-                raise Unknown(f'crates/pgp_rows/src/{name}: no {first}')
-            text = text[:text.index(first)] + text[text.index(after):]
+    for file, first, after in CUT:
+        if file != name:
+            continue
+        if first not in text or after not in text:
+            raise Unknown(f'crates/pgp_rows/src/{name}: no {first}')
+        text = text[:text.index(first)] + text[text.index(after):]
     for old, new in WORDS:
         text = text.replace(old, new)
     if name == 'main.rt':

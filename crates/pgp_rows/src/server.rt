@@ -195,6 +195,8 @@ fn at_each_cut(bytes: &[u8], wanted: &str, out: &mut Shown) -> Result<(), Fault>
 
 /// The bytes come to this, however they are read.
 fn comes_to(bytes: &[u8], wanted: &str, out: &mut Shown) -> Result<(), Fault> {
+    by_parse(&mut buffer(out.alloc(), bytes)?, out);
+    out.received_to(wanted)?;
     with_each_failing(bytes, wanted, out)?;
     in_place(bytes, false, out);
     out.received_to(wanted)?;
