@@ -32,6 +32,7 @@ mod trace_replication;
 mod trace_session;
 #[cfg(test)]
 mod trace_summary;
+#[cfg(test)]
 mod trace_types;
 #[cfg(test)]
 mod trace_words;
