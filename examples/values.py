@@ -86,7 +86,7 @@ class Connection:
         elif name == "ParameterDescription":
             self.object_of(request).types = [kind["oid"] for kind in message["types"]]
         elif name == "RowDescription":
-            self.object_of(request).columns = [(quoted(it["name"])[1:-1], it["type"]["oid"], it["format"]) for it in message["columns"]]
+            self.describe(request, [(quoted(it["name"])[1:-1], it["type"]["oid"], it["format"]) for it in message["columns"]])
         elif name == "DataRow" and request["name"] in RUNS:
             print_values(message, "<", self.row(request, message["values"]))
 
@@ -97,6 +97,13 @@ class Connection:
         if "statement" in request:
             return self.statements.setdefault(str(request["statement"]), Statement([]))
         return self.portals.setdefault(str(request.get("portal", "")), Portal(Statement([]), []))
+
+    def describe(self, request, columns):
+        """The columns of a portal that is described are its statement's too: PgJDBC describes no statement."""
+        found = self.object_of(request)
+        found.columns = columns
+        if request["name"] == "Describe" and isinstance(found, Portal):
+            found.statement.columns = columns
 
     def bind(self, request, answer):
         statement = self.statements.get(str(request["statement"]), Statement([]))

@@ -68,9 +68,3 @@ whole who bytes a more b behind body rest micros len c em el eb ed le =
 -- no beginning of a recording is shorter
 pub magic_short : (bytes more : List ℕ) → length bytes < 20 → bytes ≢ magic ++ more
 magic_short bytes more lt e = let h = ap length e in omega (arith, lt, h)
-
-pub magic_other : (bytes front more : List ℕ) → front ≡ take 20 bytes → front ≢ magic → bytes ≢ magic ++ more
-magic_other bytes front more is other e = other (is ∙ ap (take 20) e)
-
-pub magic_there : (bytes front rest : List ℕ) → front ≡ take 20 bytes → rest ≡ drop 20 bytes → front ≡ magic → bytes ≡ magic ++ rest
-magic_there bytes front rest is left same = sym (take-append-drop 20 bytes) ∙ ap (λ l. l ++ drop 20 bytes) (sym is ∙ same) ∙ ap (λ l. magic ++ l) (sym left)

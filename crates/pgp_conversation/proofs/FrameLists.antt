@@ -1,7 +1,7 @@
 -- The lines of a side, a frame at a time.
-use Rattle.std.proofs.Common.{◌≡◌, ℕ, ◌+◌, ◌-◌, ◌<◌, ◌≤◌, Bool, true, false, List, [], ◌++◌, length, take, drop, min, Option, refl, sym, ap, subst, ◌∙◌, arith, length-append, append_assoc}
+use Rattle.std.proofs.Common.{◌≡◌, ℕ, ◌+◌, ◌-◌, ◌<◌, ◌≤◌, Bool, true, false, List, [], ◌++◌, length, take, min, Option, refl, sym, ap, subst, ◌∙◌, arith, length-append, append_assoc}
 use Rattle.std.proofs.lemmas.List.{append-nil}
-use Rattle.std.proofs.Math.Seq.{take-append_seam, drop-append_seam}
+use Rattle.std.proofs.Math.Seq.{take-append_seam}
 use Rattle.pgp_frontend_read.specs.declared.message.PasswordKind.{PasswordKind}
 use Rattle.pgp_program.specs.Words.{greatest}
 use Rattle.pgp_trace.specs.Listing.{place_behind, name_in}
@@ -24,7 +24,7 @@ use Rattle.pgp_conversation.specs.Requests.{Numbers, role_in, told_in}
 use Rattle.pgp_conversation.specs.Typed.{Learns, ShowsTyped, said_in}
 use Rattle.pgp_conversation.specs.Types.{Types}
 use Rattle.pgp_conversation.specs.Roles.{client_role, role_by}
-use Rattle.pgp_conversation.specs.Steps.{ListsAllFrames, ListsNoFrame, ListsOneFrame, known_of, noted_by}
+use Rattle.pgp_conversation.specs.Steps.{ListsOneFrame, known_of, noted_by}
 use Rattle.pgp_conversation.proofs.Naming.{name_noted}
 use Rattle.pgp_conversation.proofs.Roles.{name_role, role_from}
 
@@ -105,15 +105,6 @@ front_long bytes frame behind whole = omega (arith, ap length whole, length-appe
 pub front_is : (bytes frame behind : List ℕ) → bytes ≡ frame ++ behind → take (length bytes - length behind) bytes ≡ frame
 front_is bytes frame behind whole = ap (λ n. take n bytes) (passed_is bytes frame behind whole) ∙ ap (take (length frame)) whole ∙ take-append_seam frame behind
 
-pub lists_none : (who : Sender) (stopped : Bool) (old new : Known) (bytes behind lines : List ℕ) → behind ≡ bytes → Ends (side_in who old) stopped bytes → side_in who new ≡ side_in who old → new ≡ with_side who old (side_in who new)
-    → with_side who old (side_in who old) ≡ old → ListsNoFrame who stopped old bytes behind lines lines new
-lists_none who stopped old new bytes behind lines rests ending side same kept = record {
-  same = rests;
-  ending = ending;
-  known = same ∙ ap (with_side who old) side ∙ kept;
-  none = refl;
-}
-
 -- ---- frame by frame
 
 -- those so far have their lines
@@ -142,21 +133,6 @@ one_more view mark who start here from mid to bytes rest behind old now new so_f
 
 pub shorter : (view : View) (mark : List ℕ) (who : Sender) (place : ℕ) (here to : Known) (bytes behind old new : List ℕ) → ListsOneFrame view mark who place here bytes behind old new to → length behind < length bytes
 shorter view mark who place here to bytes behind old new one = omega (arith, ap length one.whole, length-append one.frame behind, one.some)
-
--- and no more
-pub all_of_them : (view : View) (mark : List ℕ) (who : Sender) (start n : ℕ) (from mid to : Known) (bytes rest behind : List ℕ) (stopped : Bool) (old now new : List ℕ) → ListsFramesTo view mark who start from bytes rest mid old now
-    → n ≡ length bytes - length rest → ListsNoFrame who stopped mid rest behind now new to → ListsAllFrames view mark who start from bytes (take n bytes) (drop n bytes) stopped to old new
-all_of_them view mark who start n from mid to bytes rest behind stopped old now new so_far passed ends =
-    let count : n ≡ length so_far.front = passed ∙ passed_is bytes so_far.front rest so_far.whole in
-    let is : take n bytes ≡ so_far.front = ap (λ k. take k bytes) count ∙ ap (take (length so_far.front)) so_far.whole ∙ take-append_seam so_far.front rest in
-    let left : drop n bytes ≡ rest = ap (λ k. drop k bytes) count ∙ ap (drop (length so_far.front)) so_far.whole ∙ drop-append_seam so_far.front rest in
-    record {
-      lines = so_far.lines;
-      whole = rw (is, left) so_far.whole;
-      each = subst (λ l. ListsFrames view mark who start from l so_far.lines to) (sym is) (subst (λ k. ListsFrames view mark who start from so_far.front so_far.lines k) (sym ends.known) so_far.each);
-      ending = subst (Ends (side_in who to) stopped) (sym left) (subst (λ k. Ends (side_in who k) stopped rest) (sym ends.known) ends.ending);
-      text = ends.none ∙ so_far.text;
-    }
 
 -- ---- the other side
 

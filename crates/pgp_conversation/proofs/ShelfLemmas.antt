@@ -1,5 +1,5 @@
 -- Shelves, a name at a time.
-use Rattle.std.proofs.Common.{◌≡◌, ℕ, ◌-◌, suc, Bool, true, false, List, [], ◌∷◌, ◌++◌, length, take, drop, refl, sym, ap, ◌∙◌, arith, append_assoc, length-append}
+use Rattle.std.proofs.Common.{◌≡◌, ℕ, ◌-◌, suc, Bool, true, false, List, [], ◌∷◌, ◌++◌, length, take, drop, sym, ap, ◌∙◌, arith, append_assoc, length-append}
 use Rattle.std.specs.Prelude.{bytes_eq, if◌then◌else◌}
 use Rattle.std.specs.List.{remove}
 use Rattle.std.proofs.lemmas.List.{map-append}
@@ -12,9 +12,6 @@ pub record Passed {A : Type 0} (name : List ℕ) (shelf rest : List (code.Shape 
   pub front : List (code.Shape A)
   pub whole : shelf ≡ front ++ rest
   pub names : without name (shelf_of shelf) ≡ shelf_of front ++ without name (shelf_of rest)
-
-pub nothing_passed : {A : Type 0} (name : List ℕ) (shelf : List (code.Shape A)) → Passed name shelf shelf
-nothing_passed name shelf = record { front = []; whole = refl; names = refl }
 
 pub one_passed : {A : Type 0} (name : List ℕ) (shelf behind : List (code.Shape A)) (s : code.Shape A) → Passed name shelf (s ∷ behind) → bytes_eq s.name.items name ≡ false → Passed name shelf behind
 one_passed name shelf behind s p other = record {

@@ -101,9 +101,6 @@ module _ (kind : PasswordKind) (here new there : client.Unread) where
   none_sent (Ok k) a b = subst IsSent (sym (step_one kind here new there (Ok None) (step_of (Ok k)) a b).0) tt
   none_sent (Err e) a b = subst IsRefused (sym (step_one kind here new there (Ok None) (step_of (Err e)) a b).0) tt
 
-  pub fault_sent : (e : ClientError) (k : ClientMessage) → client.Step kind here (Err e) new → client.Step kind here (step_of (Ok k)) there → ⊥
-  fault_sent e k a b = subst IsSent (sym (step_one kind here new there (Err e) (step_of (Ok k)) a b).0) tt
-
 abbrev unread : List ℕ → Bool → client.Unread
 unread bytes opened = record { bytes = bytes; opened = opened }
 
@@ -140,30 +137,8 @@ module _ (style : Style) (place n : ℕ) (opened : Bool) (kind : PasswordKind) (
   asks_so from to old new read rejected shows same (Heard r) is = absurd is
   asks_so from to old new read rejected shows same Unsaid is = absurd is
 
-  pub asks_nothing : (old : List ℕ) → AsksFrame style place Client n opened kind frame None None old old
-  asks_nothing old (Sent (Ok m)) is = (refl, refl)
-  asks_nothing old (Sent (Err e)) is = (refl, refl)
-  asks_nothing old (Heard r) is = (refl, refl)
-  asks_nothing old Unsaid is = (refl, refl)
-
-  pub server_asks : (from : Option Types) (old : List ℕ) → AsksFrame style place Server n opened kind frame from from old old
-  server_asks from old (Sent r) is = absurd is
-  server_asks from old (Heard r) is = (refl, refl)
-  server_asks from old Unsaid is = (refl, refl)
-
 pub answers_so : (style : Style) (place n : ℕ) (frame : List ℕ) (from to : Types) (old new : List ℕ) → HearsFrame style place n frame from to old new → AnswersFrame style place Server n frame (Some from) (Some to) old new
 answers_so style place n frame from to old new h opened kind sent now (Heard (Ok m)) is = let told = h.heard m is in ((to, told.0, refl), told.1)
 answers_so style place n frame from to old new h opened kind sent now (Heard (Err e)) is = let same = h.rejected e is in (ap (λ t. Some t) same.0, same.1)
 answers_so style place n frame from to old new h opened kind sent now Unsaid is = let same = h.short is in (ap (λ t. Some t) same.0, same.1)
 answers_so style place n frame from to old new h opened kind sent now (Sent r) is = absurd is
-
-pub answers_nothing : (style : Style) (place n : ℕ) (frame : List ℕ) (old : List ℕ) → AnswersFrame style place Server n frame None None old old
-answers_nothing style place n frame old opened kind sent now (Heard (Ok m)) is = (refl, refl)
-answers_nothing style place n frame old opened kind sent now (Heard (Err e)) is = (refl, refl)
-answers_nothing style place n frame old opened kind sent now Unsaid is = (refl, refl)
-answers_nothing style place n frame old opened kind sent now (Sent r) is = (refl, refl)
-
-pub client_answers : (style : Style) (place n : ℕ) (frame : List ℕ) (from : Option Types) (old : List ℕ) → AnswersFrame style place Client n frame from from old old
-client_answers style place n frame from old opened kind sent now (Sent r) is = (refl, refl)
-client_answers style place n frame from old opened kind sent now (Heard r) is = absurd is
-client_answers style place n frame from old opened kind sent now Unsaid is = absurd is

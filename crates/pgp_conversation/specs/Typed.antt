@@ -23,7 +23,7 @@ use Rattle.pgp_values.specs.Formats.{formats as known_formats}
 use Rattle.pgp_values.specs.FormatTable.{format_in}
 use Rattle.pgp_value_text.specs.ValueText.{IsTextOf, is_float}
 use Rattle.pgp_conversation.specs.declared.awaited.Object.{Object}
-use Rattle.pgp_conversation.specs.declared.awaited.Object.TheVariants.{Statement, Portal}
+use Rattle.pgp_conversation.specs.declared.awaited.Object.TheVariants.{Statement, Portal, Simple}
 use Rattle.pgp_conversation.specs.declared.column.Column.{Column}
 use Rattle.pgp_conversation.specs.declared.told.Told.{Told}
 use Rattle.pgp_conversation.specs.declared.told.Told.TheVariants as told
@@ -71,7 +71,7 @@ asked n (Bind portal statement formats values results) = Some (record { number =
 asked n (Describe variant name) = about_by n variant name
 asked n (Close variant name) = about_by n variant name
 asked n (Execute portal max_rows) = Some (about n Portal portal)
-asked n (Query query) = Some (about n Portal [])
+asked n (Query query) = Some (about n Simple [])
 asked n m = None
 
 -- what it changes when it is sent

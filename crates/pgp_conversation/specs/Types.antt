@@ -1,8 +1,8 @@
 -- What is known of the types of statements and portals. PostgreSQL manual, "Extended Query".
-use Rattle.std.specs.Prelude.{ℕ, Bool, ◌==◌, nat_lt, if◌then◌else◌, List, [], ◌∷◌, ◌++◌, Option, None, Some}
+use Rattle.std.specs.Prelude.{ℕ, Bool, ◌==◌, nat_lt, if◌then◌else◌, List, [], ◌∷◌, ◌++◌, Option, None, Some, bytes_eq}
 use Rattle.std.specs.Option.{option_map}
 use Rattle.pgp_conversation.specs.declared.awaited.Object.{Object}
-use Rattle.pgp_conversation.specs.declared.awaited.Object.TheVariants.{Statement, Portal}
+use Rattle.pgp_conversation.specs.declared.awaited.Object.TheVariants.{Statement, Portal, Simple}
 use Rattle.pgp_conversation.specs.declared.column.Column.{Column}
 use Rattle.pgp_conversation.specs.Shelves.{Shape, formatted, found, kept}
 
@@ -16,11 +16,18 @@ pub record Awaited : Type 0 where
   pub formats : List Bool
   pub parameters : List Column
 
--- The requests that the server hasn't answered, in order, since it takes up names in that order; and the columns of statements and of portals, as far as it told them.
+-- a portal, and the statement that it was bound to
+pub record BoundPortal : Type 0 where
+  pub name : List ℕ
+  pub statement : List ℕ
+
+-- The requests that the server hasn't answered, in order, since it takes up names in that order; the columns of statements and of portals, as far as it told them;
+-- and the portal that was bound last.
 pub record Types : Type 0 where
   pub awaited : List Awaited
   pub statements : List Shape
   pub portals : List Shape
+  pub last : Option BoundPortal
   pub sent : List Shape
   pub told : List Shape
   pub binds : List Column
@@ -28,13 +35,13 @@ pub record Types : Type 0 where
 
 -- before the first request
 abbrev pub no_types : Types
-no_types = record { awaited = []; statements = []; portals = []; sent = []; told = []; binds = []; parse = 0 }
+no_types = record { awaited = []; statements = []; portals = []; last = None; sent = []; told = []; binds = []; parse = 0 }
 
 -- ---- requests
 
 abbrev pub waits : Option Awaited → Types → Types
 waits None t = t
-waits (Some a) t = record { awaited = t.awaited ++ a ∷ []; statements = t.statements; portals = t.portals; sent = t.sent; told = t.told; binds = t.binds; parse = t.parse }
+waits (Some a) t = record { awaited = t.awaited ++ a ∷ []; statements = t.statements; portals = t.portals; last = t.last; sent = t.sent; told = t.told; binds = t.binds; parse = t.parse }
 
 -- Answers come in the order of the requests: where one comes to this number, there are none to earlier ones any more.
 abbrev pub since : ℕ → List Awaited → List Awaited
@@ -42,7 +49,7 @@ since number [] = []
 since number (a ∷ rest) = if nat_lt a.number number then since number rest else a ∷ rest
 
 abbrev pub reached : ℕ → Types → Types
-reached number t = record { awaited = since number t.awaited; statements = t.statements; portals = t.portals; sent = t.sent; told = t.told; binds = t.binds; parse = t.parse }
+reached number t = record { awaited = since number t.awaited; statements = t.statements; portals = t.portals; last = t.last; sent = t.sent; told = t.told; binds = t.binds; parse = t.parse }
 
 -- the request of this number, where its answers come now
 abbrev pub first : ℕ → List Awaited → Option Awaited
@@ -53,15 +60,15 @@ first number (a ∷ rest) = if a.number == number then Some a else None
 
 -- A Parse is sent: from then on what was told of a statement of its name is of another one, and a Bind of it that comes before the next Sync fails with it.
 abbrev pub parses : ℕ → List ℕ → List Column → Types → Types
-parses number name parameters t = record { awaited = t.awaited; statements = t.statements; portals = t.portals; sent = kept name (Some parameters) t.sent; told = kept name None t.told; binds = t.binds; parse = number }
+parses number name parameters t = record { awaited = t.awaited; statements = t.statements; portals = t.portals; last = t.last; sent = kept name (Some parameters) t.sent; told = kept name None t.told; binds = t.binds; parse = number }
 
 -- a Sync is sent
 abbrev pub syncs : Types → Types
-syncs t = record { awaited = t.awaited; statements = t.statements; portals = t.portals; sent = []; told = t.told; binds = t.binds; parse = t.parse }
+syncs t = record { awaited = t.awaited; statements = t.statements; portals = t.portals; last = t.last; sent = []; told = t.told; binds = t.binds; parse = t.parse }
 
 -- a Bind is sent, with these parameters
 abbrev pub binds : List Column → Types → Types
-binds parameters t = record { awaited = t.awaited; statements = t.statements; portals = t.portals; sent = t.sent; told = t.told; binds = parameters; parse = t.parse }
+binds parameters t = record { awaited = t.awaited; statements = t.statements; portals = t.portals; last = t.last; sent = t.sent; told = t.told; binds = parameters; parse = t.parse }
 
 -- the parameters of a statement, for a Bind that is sent now; none where they aren't known
 abbrev pub parameters_by : (told sent : Option (List Column)) → List Column
@@ -75,9 +82,10 @@ parameters_of name t = parameters_by (found name t.told) (found name t.sent)
 abbrev pub told_by : Object → List ℕ → Option (List Column) → List Shape → List Shape
 told_by Statement name parameters told = kept name parameters told
 told_by Portal name parameters told = told
+told_by Simple name parameters told = told
 
 abbrev pub with_told : Object → List ℕ → Option (List Column) → Types → Types
-with_told object name parameters t = record { awaited = t.awaited; statements = t.statements; portals = t.portals; sent = t.sent; told = told_by object name parameters t.told; binds = t.binds; parse = t.parse }
+with_told object name parameters t = record { awaited = t.awaited; statements = t.statements; portals = t.portals; last = t.last; sent = t.sent; told = told_by object name parameters t.told; binds = t.binds; parse = t.parse }
 
 -- The parameters of a request's statement are told; they are kept where no Parse was sent after it, which may be one of its name.
 abbrev pub tells : Option Awaited → Option (List Column) → Types → Types
@@ -86,39 +94,55 @@ tells (Some a) parameters t = if nat_lt a.number t.parse then t else with_told a
 
 -- ---- answers
 
-abbrev pub with_columns : Object → List ℕ → Option (List Column) → Types → Types
-with_columns Statement name columns t = record { awaited = t.awaited; statements = kept name columns t.statements; portals = t.portals; sent = t.sent; told = t.told; binds = t.binds; parse = t.parse }
-with_columns Portal name columns t = record { awaited = t.awaited; statements = t.statements; portals = kept name columns t.portals; sent = t.sent; told = t.told; binds = t.binds; parse = t.parse }
+-- a portal was bound, or which one was bound last is no longer said
+abbrev pub with_last : Option BoundPortal → Types → Types
+with_last last t = record { awaited = t.awaited; statements = t.statements; portals = t.portals; last = last; sent = t.sent; told = t.told; binds = t.binds; parse = t.parse }
+
+-- the statement of the portal of this name, if it was bound last
+abbrev pub statement_of : List ℕ → Option BoundPortal → Option (List ℕ)
+statement_of name None = None
+statement_of name (Some portal) = if bytes_eq portal.name name then Some portal.statement else None
+
+abbrev pub passed_on : (statement : Option (List ℕ)) → Option (List Column) → List Shape → List Shape
+passed_on None columns statements = statements
+passed_on (Some name) columns statements = kept name columns statements
+
+-- The columns of a portal are those of its statement, which later Binds may have without a Describe. Those of a Query are no statement's.
+abbrev pub describes : Object → List ℕ → Option (List Column) → Types → Types
+describes Statement name columns t = record { awaited = t.awaited; statements = kept name columns t.statements; portals = t.portals; last = t.last; sent = t.sent; told = t.told; binds = t.binds; parse = t.parse }
+describes Portal name columns t = record { awaited = t.awaited; statements = passed_on (statement_of name t.last) columns t.statements; portals = kept name columns t.portals; last = t.last; sent = t.sent; told = t.told; binds = t.binds; parse = t.parse }
+describes Simple name columns t = record { awaited = t.awaited; statements = t.statements; portals = kept name columns t.portals; last = t.last; sent = t.sent; told = t.told; binds = t.binds; parse = t.parse }
 
 -- the columns of a request's object are told; or it has none that are known
 abbrev pub described : Option Awaited → Option (List Column) → Types → Types
 described None columns t = t
-described (Some a) columns t = with_columns a.object a.name columns t
+described (Some a) columns t = describes a.object a.name columns t
 
--- a Parse is done: no columns of its statement are known, and the parameters that it gave are told
+-- A Parse is done: no columns of its statement are known, and the parameters that it gave are told. The portal that was bound last may be of another statement of its name.
 abbrev pub parsed : Option Awaited → Types → Types
-parsed None t = t
-parsed (Some a) t = tells (Some a) (Some a.parameters) (with_columns a.object a.name None t)
+parsed None t = with_last None t
+parsed (Some a) t = tells (Some a) (Some a.parameters) (describes a.object a.name None (with_last None t))
 
 -- a statement or a portal is closed
 abbrev pub closed : Option Awaited → Types → Types
-closed None t = t
-closed (Some a) t = with_told a.object a.name None (with_columns a.object a.name None t)
+closed None t = with_last None t
+closed (Some a) t = with_told a.object a.name None (describes a.object a.name None (with_last None t))
 
 -- a portal is bound: it has its statement's columns, in the Bind's formats
 abbrev pub bound : Option Awaited → Types → Types
 bound None t = t
-bound (Some a) t = with_columns Portal a.name (option_map (formatted a.formats) (found a.statement t.statements)) t
+bound (Some a) t = record { awaited = t.awaited; statements = t.statements; portals = kept a.name (option_map (formatted a.formats) (found a.statement t.statements)) t.portals; last = Some (record { name = a.name; statement = a.statement }); sent = t.sent; told = t.told; binds = t.binds; parse = t.parse }
 
 -- the server is ready: outside of a transaction no portal is left
 abbrev pub ended : (status : ℕ) → Types → Types
-ended status t = record { awaited = t.awaited; statements = t.statements; portals = if status == 73 then [] else t.portals; sent = t.sent; told = t.told; binds = t.binds; parse = t.parse }  -- I
+ended status t = record { awaited = t.awaited; statements = t.statements; portals = if status == 73 then [] else t.portals; last = if status == 73 then None else t.last; sent = t.sent; told = t.told; binds = t.binds; parse = t.parse }  -- I
 
 -- ---- rows
 
 abbrev pub portal_rows : Object → List ℕ → Types → Option (List Column)
 portal_rows Statement name t = None
 portal_rows Portal name t = found name t.portals
+portal_rows Simple name t = found name t.portals
 
 -- the columns of the rows that answer a request: those of its portal
 abbrev pub rows_of : Option Awaited → Types → Option (List Column)

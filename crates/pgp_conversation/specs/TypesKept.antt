@@ -1,9 +1,10 @@
 -- Private: what the code keeps of the types of statements and portals.
 use Rattle.std.specs.Prelude.{List, map, Option, None, Some}
 use Rattle.pgp_conversation.specs.declared.awaited.Awaited as code_awaited
+use Rattle.pgp_conversation.specs.declared.types.BoundPortal as code_portal
 use Rattle.pgp_conversation.specs.declared.types.Types as code_types
 use Rattle.pgp_conversation.specs.Shelves.{shelf_of}
-use Rattle.pgp_conversation.specs.Types.{Awaited, Types}
+use Rattle.pgp_conversation.specs.Types.{Awaited, BoundPortal, Types}
 
 abbrev pub awaited_of : {A : Type 0} → code_awaited.Awaited A → Awaited
 awaited_of a = record { number = a.number; object = a.object; name = a.name.items; statement = a.statement.items; formats = a.formats.items; parameters = a.parameters.items }
@@ -11,8 +12,12 @@ awaited_of a = record { number = a.number; object = a.object; name = a.name.item
 abbrev pub queue_of : {A : Type 0} → List (code_awaited.Awaited A) → List Awaited
 queue_of queue = map awaited_of queue
 
+abbrev pub last_of : {A : Type 0} → Option (code_portal.BoundPortal A) → Option BoundPortal
+last_of None = None
+last_of (Some portal) = Some (record { name = portal.name.items; statement = portal.statement.items })
+
 abbrev pub types_of : {A : Type 0} → code_types.Types A → Types
-types_of t = record { awaited = queue_of t.awaited.items; statements = shelf_of t.statements.items; portals = shelf_of t.portals.items; sent = shelf_of t.sent.items; told = shelf_of t.told.items; binds = t.binds.items; parse = t.parse }
+types_of t = record { awaited = queue_of t.awaited.items; statements = shelf_of t.statements.items; portals = shelf_of t.portals.items; last = last_of t.last; sent = shelf_of t.sent.items; told = shelf_of t.told.items; binds = t.binds.items; parse = t.parse }
 
 abbrev pub types_in : {A : Type 0} → Option (code_types.Types A) → Option Types
 types_in None = None

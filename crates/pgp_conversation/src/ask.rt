@@ -78,7 +78,7 @@ fn ask<A: Memory>(
         ClientMessage::Execute { portal, .. } => {
             wait(number, Object::Portal, portal, &mut types.awaited)
         }
-        ClientMessage::Query(_) => wait(number, Object::Portal, &[], &mut types.awaited),
+        ClientMessage::Query(_) => wait(number, Object::Simple, &[], &mut types.awaited),
         ClientMessage::CancelRequest { .. }
         | ClientMessage::CopyData(_)
         | ClientMessage::CopyDone

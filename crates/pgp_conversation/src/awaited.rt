@@ -15,6 +15,8 @@ use std::collections::VecDeque;
 pub enum Object {
     Statement,
     Portal,
+    /// The portal without a name, as a Query makes it.
+    Simple,
 }
 
 /// A request about a statement or a portal.

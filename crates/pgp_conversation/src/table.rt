@@ -33,7 +33,7 @@ pub fn put_table<A: Memory>(
     ensures lacks { OnErr result A.Lacks }
 {
     put_heading(style.form, text)?;
-    put_rows(summary.memory(), style, summary.entries(), part, text)
+    put_rows(style, summary.entries(), part, text)
 }
 
 /// Adds the line above the others.
@@ -52,7 +52,6 @@ fn put_heading<A: Memory>(form: Form, text: &mut String<A>) -> Result<(), AllocE
 
 /// Adds the lines of statements.
 fn put_rows<A: Memory>(
-    alloc: A,
     style: Style,
     entries: &[Entry<A>],
     part: &mut String<A>,
@@ -62,7 +61,7 @@ fn put_rows<A: Memory>(
     ensures lacks { OnErr result A.Lacks }
 {
     for entry in entries {
-        let line = entry.line(alloc)?;
+        let line = entry.line()?;
         put_row(style, line, entry.text(), part, text)?;
     }
     Ok(())

@@ -1,10 +1,10 @@
 //! What is known of the types of statements and portals.
 
-ghost use Rattle.std.specs.Prelude.{◌≡◌, [], Some, OnErr, OnOk};
+ghost use Rattle.std.specs.Prelude.{◌≡◌, [], Some, IfOk, OnErr, OnOk};
 ghost use Rattle.std.specs.Option.{option_map};
 ghost use Rattle.pgp_conversation.specs.Shelves.{formatted, found, kept, shelf_of};
-ghost use Rattle.pgp_conversation.specs.Types.{bound, closed, described, ended, first, no_types, parameters_of, parsed, parses, reached, rows_of, syncs, tells, told_by, waits};
-ghost use Rattle.pgp_conversation.specs.TypesKept.{awaited_of, types_of};
+ghost use Rattle.pgp_conversation.specs.Types.{bound, closed, described, ended, first, no_types, parameters_of, parsed, parses, passed_on, reached, rows_of, statement_of, syncs, tells, told_by, waits};
+ghost use Rattle.pgp_conversation.specs.TypesKept.{awaited_of, last_of, types_of};
 
 use crate::awaited::{Awaited, Object, first, reach, wait_bound};
 use crate::column::Column;
@@ -12,6 +12,13 @@ use crate::shelf::{Shape, forget, formatted, found, keep};
 use pgp_base::Memory;
 use std::alloc::AllocError;
 use std::collections::VecDeque;
+
+/// A portal, and the statement that it was bound to.
+#[derive(Drop)]
+pub struct BoundPortal<A: Memory> {
+    pub name: Vec<u8, A>,
+    pub statement: Vec<u8, A>,
+}
 
 /// What is known of statements and portals.
 #[derive(Drop)]
@@ -22,6 +29,8 @@ pub struct Types<A: Memory> {
     pub statements: Vec<Shape<A>, A>,
     /// The columns of the portals.
     pub portals: Vec<Shape<A>, A>,
+    /// The portal that was bound last, where no statement was prepared and nothing was closed after that.
+    pub last: Option<BoundPortal<A>>,
     /// The parameters of the Parses that were sent after the last Sync.
     pub sent: Vec<Shape<A>, A>,
     /// The parameters of statements that were told.
@@ -40,6 +49,7 @@ pub fn no_types<A: Memory>(alloc: A) -> Types<A>
         awaited: VecDeque::new(alloc),
         statements: Vec::new(alloc),
         portals: Vec::new(alloc),
+        last: None,
         sent: Vec::new(alloc),
         told: Vec::new(alloc),
         binds: Vec::new(alloc),
@@ -54,7 +64,7 @@ pub fn rows_of<A: Memory>(number: u64, types: &Types<A>) -> Option<&[Column]>
     let asked = first(number, &types.awaited)?;
     match asked.object {
         Object::Statement => None,
-        Object::Portal => found(asked.name.as_slice(), types.portals.as_slice()),
+        Object::Portal | Object::Simple => found(asked.name.as_slice(), types.portals.as_slice()),
     }
 }
 
@@ -81,8 +91,35 @@ pub fn describe<A: Memory>(
     match first(number, &types.awaited) {
         Some(asked) => match asked.object {
             Object::Statement => keep(asked.name.as_slice(), columns, &mut types.statements),
-            Object::Portal => keep(asked.name.as_slice(), columns, &mut types.portals),
+            Object::Portal => {
+                let name = asked.name.as_slice();
+                keep(name, columns, &mut types.portals)?;
+                pass_on(name, columns, &types.last, &mut types.statements)
+            }
+            Object::Simple => keep(asked.name.as_slice(), columns, &mut types.portals),
         },
+        None => Ok(()),
+    }
+}
+
+/// The statement of the portal of this name, if it was bound last, has these columns.
+fn pass_on<A: Memory>(
+    name: &[u8],
+    columns: Option<&[Column]>,
+    last: &Option<BoundPortal<A>>,
+    statements: &mut Vec<Shape<A>, A>,
+) -> Result<(), AllocError>
+    ensures kept { OnOk result (shelf_of statements.new.items ≡ passed_on (statement_of name.now (last_of last.now)) (option_map (λ columns. columns.now) columns.entry) (shelf_of statements.old.items)) }
+    ensures lacks { OnErr result A.Lacks }
+{
+    match last {
+        Some(portal) => {
+            if portal.name.as_slice() == name {
+                keep(portal.statement.as_slice(), columns, statements)
+            } else {
+                Ok(())
+            }
+        }
         None => Ok(()),
     }
 }
@@ -97,9 +134,25 @@ pub fn bind<A: Memory>(number: u64, types: &mut Types<A>) -> Result<(), AllocErr
     ensures lacks { OnErr result A.Lacks }
 {
     match first(number, &types.awaited) {
-        Some(asked) => bind_to(asked, types.statements.as_slice(), &mut types.portals),
+        Some(asked) => {
+            bind_to(asked, types.statements.as_slice(), &mut types.portals)?;
+            types.last = Some(bound_portal(asked)?);
+            Ok(())
+        }
         None => Ok(()),
     }
+}
+
+/// The portal that a Bind made.
+fn bound_portal<A: Memory>(asked: &Awaited<A>) -> Result<BoundPortal<A>, AllocError>
+    ensures name { IfOk result (λ portal. portal.name.items ≡ asked.now.name.items) }
+    ensures statement { IfOk result (λ portal. portal.statement.items ≡ asked.now.statement.items) }
+    ensures lacks { OnErr result A.Lacks }
+{
+    let alloc = *asked.name.allocator();
+    let name = alloc.list_of(asked.name.as_slice())?;
+    let statement = alloc.list_of(asked.statement.as_slice())?;
+    Ok(BoundPortal { name, statement })
 }
 
 /// Keeps the columns of a portal.
@@ -128,6 +181,7 @@ pub fn end<A: Memory>(status: u8, types: &mut Types<A>)
 {
     if status == b'I' {
         types.portals.clear();
+        types.last = None;
     }
 }
 
@@ -222,7 +276,7 @@ fn put_told<A: Memory>(
 {
     match object {
         Object::Statement => keep(name, parameters, told),
-        Object::Portal => Ok(()),
+        Object::Portal | Object::Simple => Ok(()),
     }
 }
 
@@ -235,6 +289,7 @@ pub fn finish<A: Memory>(number: u64, types: &mut Types<A>) -> Result<(), AllocE
     ensures parsed { OnOk result (types_of types.new ≡ parsed (first number (types_of types.old).awaited) (types_of types.old)) }
     ensures lacks { OnErr result A.Lacks }
 {
+    types.last = None;
     describe(number, None, types)?;
     match first(number, &types.awaited) {
         Some(asked) => {
@@ -262,6 +317,7 @@ pub fn close<A: Memory>(number: u64, types: &mut Types<A>) -> Result<(), AllocEr
     ensures closed { OnOk result (types_of types.new ≡ closed (first number (types_of types.old).awaited) (types_of types.old)) }
     ensures lacks { OnErr result A.Lacks }
 {
+    types.last = None;
     describe(number, None, types)?;
     match first(number, &types.awaited) {
         Some(asked) => put_told(asked.object, asked.name.as_slice(), None, &mut types.told),

@@ -1,4 +1,3 @@
 mod Places
 mod Sorting
-mod Skips
 mod Tallies

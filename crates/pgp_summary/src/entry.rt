@@ -49,11 +49,11 @@ impl<A: Memory> Entry<A> {
     /// # Errors
     ///
     /// Returns `AllocError` if there is no memory to sort its times.
-    pub fn line(&self, alloc: A) -> Result<Line, AllocError>
+    pub fn line(&self) -> Result<Line, AllocError>
         ensures line { IfOk result (λ line. line ≡ line_of self.now) }
         ensures lacks { OnErr result A.Lacks }
     {
-        let times = sorted(alloc, self.times.as_slice())?;
+        let times = sorted(*self.times.allocator(), self.times.as_slice())?;
         Ok(Line {
             count: times.len() as u64,
             rows: self.rows,

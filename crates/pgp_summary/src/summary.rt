@@ -152,11 +152,6 @@ impl<A: Memory> Summary<A> {
         tally(self.alloc, text, rows, micros, &mut self.entries)
     }
 
-    /// Where it takes its memory from.
-    pub fn memory(&self) -> A {
-        self.alloc
-    }
-
     /// The statements that ran, in the order in which the first run of each ended.
     pub fn entries(&self) -> &[Entry<A>]
         ensures { result.now ≡ self.now.tallies }

@@ -4,8 +4,8 @@ use crate::trace_words::{Outcome, comes_to};
 
 /// After a log-in a statement `s` of an `int4` and an `int8` is prepared and described. Then, sent at once: a Parse under the same name, which fails; and the
 /// statement's rows in binary format, with one column as text, and as texts. In the first of these three a null stands for a number, and one has a byte in the
-/// place of eight. Then the statement is closed, and one of its name prepared, whose portal is described: its columns are a `bool` and an `oid`. A Bind of it
-/// without a Describe has rows whose columns nobody told. A Query has a row in binary format; so has another, after a message that has no place.
+/// place of eight. Then the statement is closed, and one of its name prepared, whose portal is described: its columns are a `bool` and an `oid`, also those of a
+/// Bind of it without a Describe. A Query has a row in binary format; so has another, after a message that has no place.
 const TYPED: &[u8] = b"pgtrace recording 1\n\
     >\0\0\0\0\0\x0fB@\0\0\0\x10\0\0\0\x10\0\x03\0\0user\0a\0\0\
     <\0\0\0\0\0\x0fB@\0\0\0\x0fR\0\0\0\x08\0\0\0\0Z\0\0\0\x05I\
@@ -24,13 +24,13 @@ const TYPED: &[u8] = b"pgtrace recording 1\n\
     <\0\0\0\0\0\x0fB@\0\0\0;T\0\0\0\x1a\0\x01x\0\0\0\0\0\0\0\0\0\0\x15\0\x02\xff\xff\xff\xff\0\x01D\0\0\0\x0c\0\x01\0\0\0\x02\xff\xfeC\0\0\0\x0cFETCH 1\0Z\0\0\0\x05I";
 
 const ROWS: &str =
-    "    0.000000 <        114       27 D DataRow              values 2 \"258\" \"-1\"\n    0.000000 <        141       23 D DataRow              values 2 NULL \"-1\"\n    0.000000 <        164       20 D DataRow              values 2 \"258\" \"\\x01\"\n    0.000000 <        203       26 D DataRow              values 2 \"258\" \"-1\"\n    0.000000 <        248       20 D DataRow              values 2 \"258\" \"-1\"\n    0.000000 <        350       20 D DataRow              values 2 \"t\" \"7\"\n    0.000000 <        395       20 D DataRow              values 2 \"\\x01\" \\x00000007\n    0.000000 <        462       13 D DataRow              values 1 \"-2\"\n    0.000000 <        527       13 D DataRow              values 1 \\xfffe\n";
+    "    0.000000 <        114       27 D DataRow              values 2 \"258\" \"-1\"\n    0.000000 <        141       23 D DataRow              values 2 NULL \"-1\"\n    0.000000 <        164       20 D DataRow              values 2 \"258\" \"\\x01\"\n    0.000000 <        203       26 D DataRow              values 2 \"258\" \"-1\"\n    0.000000 <        248       20 D DataRow              values 2 \"258\" \"-1\"\n    0.000000 <        350       20 D DataRow              values 2 \"t\" \"7\"\n    0.000000 <        395       20 D DataRow              values 2 \"t\" \"7\"\n    0.000000 <        462       13 D DataRow              values 1 \"-2\"\n    0.000000 <        527       13 D DataRow              values 1 \\xfffe\n";
 
 const RAW_ROWS: &str =
     "    0.000000 <        114       27 D DataRow              values 2 \\x00000102 \\xffffffffffffffff\n    0.000000 <        141       23 D DataRow              values 2 NULL \\xffffffffffffffff\n    0.000000 <        164       20 D DataRow              values 2 \\x00000102 \"\\x01\"\n    0.000000 <        203       26 D DataRow              values 2 \"258\" \\xffffffffffffffff\n    0.000000 <        248       20 D DataRow              values 2 \"258\" \"-1\"\n    0.000000 <        350       20 D DataRow              values 2 \"\\x01\" \\x00000007\n    0.000000 <        395       20 D DataRow              values 2 \"\\x01\" \\x00000007\n    0.000000 <        462       13 D DataRow              values 1 \\xfffe\n    0.000000 <        527       13 D DataRow              values 1 \\xfffe\n";
 
 const ROW_OBJECTS: &str =
-    "{\"time\":0.000000,\"from\":\"server\",\"offset\":114,\"length\":27,\"tag\":\"D\",\"name\":\"DataRow\",\"values\":[\"258\",\"-1\"]}\n{\"time\":0.000000,\"from\":\"server\",\"offset\":141,\"length\":23,\"tag\":\"D\",\"name\":\"DataRow\",\"values\":[null,\"-1\"]}\n{\"time\":0.000000,\"from\":\"server\",\"offset\":164,\"length\":20,\"tag\":\"D\",\"name\":\"DataRow\",\"values\":[\"258\",\"\\u0001\"]}\n{\"time\":0.000000,\"from\":\"server\",\"offset\":203,\"length\":26,\"tag\":\"D\",\"name\":\"DataRow\",\"values\":[\"258\",\"-1\"]}\n{\"time\":0.000000,\"from\":\"server\",\"offset\":248,\"length\":20,\"tag\":\"D\",\"name\":\"DataRow\",\"values\":[\"258\",\"-1\"]}\n{\"time\":0.000000,\"from\":\"server\",\"offset\":350,\"length\":20,\"tag\":\"D\",\"name\":\"DataRow\",\"values\":[\"t\",\"7\"]}\n{\"time\":0.000000,\"from\":\"server\",\"offset\":395,\"length\":20,\"tag\":\"D\",\"name\":\"DataRow\",\"values\":[\"\\u0001\",{\"hex\":\"00000007\"}]}\n{\"time\":0.000000,\"from\":\"server\",\"offset\":462,\"length\":13,\"tag\":\"D\",\"name\":\"DataRow\",\"values\":[\"-2\"]}\n{\"time\":0.000000,\"from\":\"server\",\"offset\":527,\"length\":13,\"tag\":\"D\",\"name\":\"DataRow\",\"values\":[{\"hex\":\"fffe\"}]}\n";
+    "{\"time\":0.000000,\"from\":\"server\",\"offset\":114,\"length\":27,\"tag\":\"D\",\"name\":\"DataRow\",\"values\":[\"258\",\"-1\"]}\n{\"time\":0.000000,\"from\":\"server\",\"offset\":141,\"length\":23,\"tag\":\"D\",\"name\":\"DataRow\",\"values\":[null,\"-1\"]}\n{\"time\":0.000000,\"from\":\"server\",\"offset\":164,\"length\":20,\"tag\":\"D\",\"name\":\"DataRow\",\"values\":[\"258\",\"\\u0001\"]}\n{\"time\":0.000000,\"from\":\"server\",\"offset\":203,\"length\":26,\"tag\":\"D\",\"name\":\"DataRow\",\"values\":[\"258\",\"-1\"]}\n{\"time\":0.000000,\"from\":\"server\",\"offset\":248,\"length\":20,\"tag\":\"D\",\"name\":\"DataRow\",\"values\":[\"258\",\"-1\"]}\n{\"time\":0.000000,\"from\":\"server\",\"offset\":350,\"length\":20,\"tag\":\"D\",\"name\":\"DataRow\",\"values\":[\"t\",\"7\"]}\n{\"time\":0.000000,\"from\":\"server\",\"offset\":395,\"length\":20,\"tag\":\"D\",\"name\":\"DataRow\",\"values\":[\"t\",\"7\"]}\n{\"time\":0.000000,\"from\":\"server\",\"offset\":462,\"length\":13,\"tag\":\"D\",\"name\":\"DataRow\",\"values\":[\"-2\"]}\n{\"time\":0.000000,\"from\":\"server\",\"offset\":527,\"length\":13,\"tag\":\"D\",\"name\":\"DataRow\",\"values\":[{\"hex\":\"fffe\"}]}\n";
 
 #[test]
 fn rows_are_shown_by_their_types(rt: HostRuntime) {
@@ -48,6 +48,40 @@ fn rows_are_shown_by_their_types(rt: HostRuntime) {
         let mut input = TYPED;
         comes_to(&rt, rt.alloc(), words, &mut input, &wanted);
     }
+}
+
+/// After a log-in a statement `s` is prepared, whose portal is described, as of an `int4`; it is bound twice without a Describe, for binary rows and for texts.
+/// A statement `u` that nobody describes is bound, before a Query whose row is an `int2`, and after it. A portal of a statement without a name is described after
+/// another such statement is prepared, which then is bound.
+const PORTALS: &[u8] = b"pgtrace recording 1\n\
+    >\0\0\0\0\0\x0fB@\0\0\0\x10\0\0\0\x10\0\x03\0\0user\0a\0\0\
+    <\0\0\0\0\0\x0fB@\0\0\0\x0fR\0\0\0\x08\0\0\0\0Z\0\0\0\x05I\
+    >\0\0\0\0\0\x0fB@\0\0\01P\0\0\0\ns\0a\0\0\0B\0\0\0\x0f\0s\0\0\0\0\0\0\x01\0\x01D\0\0\0\x06P\0E\0\0\0\x09\0\0\0\0\0S\0\0\0\x04\
+    <\0\0\0\0\0\x0fB@\0\0\0H1\0\0\0\x042\0\0\0\x04T\0\0\0\x1a\0\x01x\0\0\0\0\0\0\0\0\0\0\x17\0\x04\xff\xff\xff\xff\0\x01D\0\0\0\x0e\0\x01\0\0\0\x04\0\0\x01\x02C\0\0\0\x0dSELECT 1\0Z\0\0\0\x05I\
+    >\0\0\0\0\0\x0fB@\0\0\0\x1fB\0\0\0\x0f\0s\0\0\0\0\0\0\x01\0\x01E\0\0\0\x09\0\0\0\0\0S\0\0\0\x04\
+    <\0\0\0\0\0\x0fB@\0\0\0(2\0\0\0\x04D\0\0\0\x0e\0\x01\0\0\0\x04\0\0\x01\x02C\0\0\0\x0dSELECT 1\0Z\0\0\0\x05I\
+    >\0\0\0\0\0\x0fB@\0\0\0\x1dB\0\0\0\x0d\0s\0\0\0\0\0\0\0E\0\0\0\x09\0\0\0\0\0S\0\0\0\x04\
+    <\0\0\0\0\0\x0fB@\0\0\0%2\0\0\0\x04D\0\0\0\x0b\0\x01\0\0\0\x017C\0\0\0\x0dSELECT 1\0Z\0\0\0\x05I\
+    >\0\0\0\0\0\x0fB@\0\0\0,P\0\0\0\nu\0b\0\0\0B\0\0\0\x0f\0u\0\0\0\0\0\0\x01\0\x01E\0\0\0\x09\0\0\0\0\0Q\0\0\0\x06c\0\
+    <\0\0\0\0\0\x0fB@\0\0\0b1\0\0\0\x042\0\0\0\x04D\0\0\0\x0e\0\x01\0\0\0\x04\0\0\x01\x02C\0\0\0\x0dSELECT 1\0T\0\0\0\x1a\0\x01x\0\0\0\0\0\0\0\0\0\0\x15\0\x02\xff\xff\xff\xff\0\0D\0\0\0\x0b\0\x01\0\0\0\x015C\0\0\0\x0dSELECT 1\0Z\0\0\0\x05T\
+    >\0\0\0\0\0\x0fB@\0\0\0\x1fB\0\0\0\x0f\0u\0\0\0\0\0\0\x01\0\x01E\0\0\0\x09\0\0\0\0\0S\0\0\0\x04\
+    <\0\0\0\0\0\x0fB@\0\0\0&2\0\0\0\x04D\0\0\0\x0c\0\x01\0\0\0\x02\xff\xfeC\0\0\0\x0dSELECT 1\0Z\0\0\0\x05I\
+    >\0\0\0\0\0\x0fB@\0\0\0JP\0\0\0\x09\0d\0\0\0B\0\0\0\x0fq\0\0\0\0\0\0\0\x01\0\x01P\0\0\0\x09\0e\0\0\0D\0\0\0\x07Pq\0B\0\0\0\x0e\0\0\0\0\0\0\0\x01\0\x01E\0\0\0\x09\0\0\0\0\0S\0\0\0\x04\
+    <\0\0\0\0\0\x0fB@\0\0\0R1\0\0\0\x042\0\0\0\x041\0\0\0\x04T\0\0\0\x1a\0\x01x\0\0\0\0\0\0\0\0\0\0\x17\0\x04\xff\xff\xff\xff\0\x012\0\0\0\x04D\0\0\0\x0e\0\x01\0\0\0\x04\0\0\x01\x02C\0\0\0\x0dSELECT 1\0Z\0\0\0\x05I";
+
+const PORTAL_ROWS: &str =
+    "    0.000000 <         52       15 D DataRow              values 1 \"258\"\n    0.000000 <         92       15 D DataRow              values 1 \"258\"\n    0.000000 <        132       12 D DataRow              values 1 \"7\"\n    0.000000 <        174       15 D DataRow              values 1 \\x00000102\n    0.000000 <        230       12 D DataRow              values 1 \"5\"\n    0.000000 <        267       13 D DataRow              values 1 \\xfffe\n    0.000000 <        347       15 D DataRow              values 1 \\x00000102\n";
+
+#[test]
+fn columns_of_a_portal_are_those_of_its_statement(rt: HostRuntime) {
+    let wanted = Outcome {
+        status: 0,
+        written: PORTAL_ROWS,
+        reported: "",
+    };
+    let mut input = PORTALS;
+    let words = &["session", "--only", "DataRow"];
+    comes_to(&rt, rt.alloc(), words, &mut input, &wanted);
 }
 
 /// After a log-in a statement `s` is prepared, with an `int4` as the type of its first parameter and none of its second, and bound before its answer comes, in
