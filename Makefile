@@ -22,7 +22,7 @@ program:
 
 test:
 	@command -v rt >/dev/null 2>&1 || { echo "make: the Rattle toolchain is missing: no command 'rt' on the PATH" >&2; exit 1; }
-	rt ci
+	RT_JOBS=$${RT_JOBS:-$$(.ci/lanes)} rt ci
 
 edits:
 	@command -v rt >/dev/null 2>&1 || { echo "make: the Rattle toolchain is missing: no command 'rt' on the PATH" >&2; exit 1; }
