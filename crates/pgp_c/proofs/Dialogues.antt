@@ -11,7 +11,7 @@ use Rattle.pgp_c.specs.declared.dialogue.PgpDialogue.{PgpDialogue}
 use Rattle.pgp_c.specs.declared.dialogue.PgpEvent.{PgpEvent}
 
 module _ (old new : PgpDialogue) (before after : Talk) (same : before ≡ talk_of old) (left : talk_of new ≡ after) (number : ℕ) (k : Kind) (known : kind_at number ≡ Some k) where
-  pub taken_of : (event : PgpEvent) (e : Event) → event_of event ≡ Some e → Takes (taken before k) (Ok e) after → TakesMessage old new number event
+  pub taken_of : (event : PgpEvent) (e : Event) → event ≡ event_of e → Takes (taken before k) (Ok e) after → TakesMessage old new number event
   taken_of event e is takes = (k, known, e, is, subst (λ t. Takes (taken t k) (Ok e) (talk_of new)) same (subst (λ t. Takes (taken before k) (Ok e) t) (sym left) takes))
 
   pub rejected_of : (code : ℕ) (r : Refusal) → refusal_at code ≡ Some r → Takes (taken before k) (Err r) after → RejectsMessage old new number code

@@ -60,17 +60,17 @@ kind_at n =
     else (if n == 34 then Some kinds.FunctionCallResponse
     else None)))))))))))))))))))))))))))))))))
 
--- what is reported of a message
-abbrev pub event_at : ℕ → ℕ → Option Event
-event_at n name =
-    if n == 1 then Some (Part name)
-    else (if n == 2 then Some (Last name)
-    else (if n == 3 then Some Aside
-    else (if n == 4 then Some Ended
-    else None)))
+-- what is reported of a message: which part of an answer it is, and of which request; 0 stands for the name where it is of none
+abbrev pub event_of : Event → PgpEvent
+event_of (Part n) = record { name = n; what = 1 }
+event_of (Last n) = record { name = n; what = 2 }
+event_of Aside = record { name = 0; what = 3 }
+event_of Ended = record { name = 0; what = 4 }
 
-abbrev pub event_of : PgpEvent → Option Event
-event_of e = event_at e.what e.name
+-- the memory is as long as it was, and requests that stood at its places do so still
+pub record KeepsRoom (old new : PgpDialogue) : Type 0 where
+  pub room : length new.room.now ≡ length old.room.now
+  pub whole : ¬ IsBroken old → ¬ IsBroken new
 
 abbrev pub refusal_at : ℕ → Option Refusal
 refusal_at n =
@@ -80,7 +80,7 @@ refusal_at n =
 
 -- The message was taken as the dialogue takes it, and the event says so.
 abbrev pub TakesMessage : PgpDialogue → PgpDialogue → ℕ → PgpEvent → Type 0
-TakesMessage old new kind event = (k : Kind) × (kind_at kind ≡ Some k) × (e : Event) × (event_of event ≡ Some e) × Takes (taken (talk_of old) k) (Ok e) (talk_of new)
+TakesMessage old new kind event = (k : Kind) × (kind_at kind ≡ Some k) × (e : Event) × (event ≡ event_of e) × Takes (taken (talk_of old) k) (Ok e) (talk_of new)
 
 -- The message has no place there, as the code says: from then on no message is given to a request.
 abbrev pub RejectsMessage : PgpDialogue → PgpDialogue → ℕ → ℕ → Type 0

@@ -5,7 +5,7 @@ ghost use Rattle.pgp_client.specs.Codes.{request_at};
 ghost use Rattle.pgp_client.specs.Slots.{capacity, slots_items};
 ghost use Rattle.pgp_client.specs.Talk.{shown};
 ghost use Rattle.pgp_client.specs.Taking.{asked, is_idle};
-ghost use Rattle.pgp_c.specs.Dialogue.{IsBroken, RejectsMessage, TakesMessage, event_at, kind_at, refusal_at, talk_of};
+ghost use Rattle.pgp_c.specs.Dialogue.{IsBroken, KeepsRoom, RejectsMessage, TakesMessage, event_of, kind_at, refusal_at, talk_of};
 
 use pgp_client::{Dialogue, Event, Kind, Refusal, Request, Slot, Slots, Stage};
 use std::mem;
@@ -46,6 +46,7 @@ pub extern "C" fn pgp_dialogue_ask(dialogue: &mut PgpDialogue<'_>, request: u8, 
     ensures unknown { 11 < request → result ≡ 35 }
     ensures why { result ≢ 0 → request ≤ 11 → (result ≡ 1) × (IsBroken dialogue.old ⊎ (length (talk_of dialogue.old).pending ≡ length dialogue.old.room.now)) }
     ensures kept { result ≢ 0 → talk_of dialogue.new ≡ talk_of dialogue.old }
+    ensures room { KeepsRoom dialogue.old dialogue.new }
 {
     if request > 11 {
         return NO_KIND;
@@ -76,6 +77,7 @@ pub extern "C" fn pgp_dialogue_take(
     ensures rejected { result ≢ 0 → result ≢ 1 → result ≢ 35 → RejectsMessage dialogue.old dialogue.new kind result }
     ensures left { result ≢ 0 → event.new ≡ event.old }
     ensures kept { (result ≡ 1) ⊎ (result ≡ 35) → talk_of dialogue.new ≡ talk_of dialogue.old }
+    ensures room { KeepsRoom dialogue.old dialogue.new }
 {
     let Some(kind) = kind_at(kind) else {
         return NO_KIND;
@@ -101,6 +103,7 @@ pub extern "C" fn pgp_dialogue_is_idle(dialogue: &mut PgpDialogue<'_>, idle: &mu
     ensures idle { result ≡ 0 → idle.new ≡ is_idle (talk_of dialogue.old) }
     ensures broken { result ≢ 0 → (result ≡ 1) × IsBroken dialogue.old × (idle.new ≡ idle.old) }
     ensures kept { talk_of dialogue.new ≡ talk_of dialogue.old }
+    ensures room { KeepsRoom dialogue.old dialogue.new }
 {
     if is_broken(dialogue) {
         return NO_ROOM;
@@ -133,7 +136,10 @@ fn resumed<'a>(dialogue: &mut PgpDialogue<'a>) -> Dialogue<Slots<'a>>
 
 /// Puts the dialogue back.
 fn put_back<'a>(kept: Dialogue<Slots<'a>>, dialogue: &mut PgpDialogue<'a>)
-    ensures { talk_of dialogue.new ≡ shown slots_items kept.entry }
+    ensures same { talk_of dialogue.new ≡ shown slots_items kept.entry }
+    ensures size { length dialogue.new.room.now ≡ capacity kept.entry.pending }
+    ensures ordered { dialogue.new.start ≤ dialogue.new.end }
+    ensures fits { dialogue.new.end ≤ length dialogue.new.room.now }
 {
     let (stage, name, pending) = kept.into_parts();
     let (room, start, end) = pending.into_parts();
@@ -146,7 +152,7 @@ fn put_back<'a>(kept: Dialogue<Slots<'a>>, dialogue: &mut PgpDialogue<'a>)
 
 /// What is reported of an event.
 fn reported(event: Event) -> PgpEvent
-    ensures { event_at result.what result.name ≡ Some event }
+    ensures { result ≡ event_of event }
 {
     match event {
         Event::Part(name) => PgpEvent { name, what: 1 },

@@ -45,6 +45,18 @@ MechanismOf kind name = ((kind ≡ 2) × (name ≡ codes "SCRAM-SHA-256-PLUS")) 
 abbrev pub at_phase : ℕ → PgpLogin → PgpLogin
 at_phase n l = record { phase = n; signature = l.signature }
 
+-- A request for this way came while one was due, and the way is admitted; the log-in is then so far.
+abbrev pub Asked : ℕ → ℕ → ℕ → PgpLogin → PgpLogin → Type 0
+Asked ways way next old new = (old.phase ≡ awaits_request) × IsAdmitted ways way × (new ≡ at_phase next old)
+
+-- A text of an exchange came while it was due; the log-in is then so far.
+abbrev pub Came : ℕ → ℕ → PgpLogin → PgpLogin → Type 0
+Came due next old new = (old.phase ≡ due) × (new.phase ≡ next)
+
+-- the server may let the client in: all that was asked is answered, or no password is wanted
+abbrev pub MayWelcome : ℕ → PgpLogin → Type 0
+MayWelcome ways old = (old.phase ≡ awaits_welcome) ⊎ ((old.phase ≡ awaits_request) × IsAdmitted ways by_none)
+
 -- What a message of the server makes of a log-in that admits these ways.
 pub data Step (ways : ℕ) (old : PgpLogin) : PgpLogin → Type 0 where
   -- the password in clear text, or its MD5, is asked for
@@ -58,7 +70,7 @@ pub data Step (ways : ℕ) (old : PgpLogin) : PgpLogin → Type 0 where
   -- its final text came, and shows the signature
   Final : (server_final : List ℕ) → old.phase ≡ awaits_final → Verifies old.signature server_final → Step ways old (at_phase awaits_welcome old)
   -- the server lets the client in
-  Welcome : (old.phase ≡ awaits_welcome) ⊎ ((old.phase ≡ awaits_request) × IsAdmitted ways by_none) → Step ways old (at_phase done old)
+  Welcome : MayWelcome ways old → Step ways old (at_phase done old)
 
 -- whether an exchange was begun, after this step too
 abbrev pub now_begun : {ways : ℕ} {old new : PgpLogin} → Bool → Step ways old new → Bool

@@ -4,7 +4,7 @@ ghost use Rattle.std.specs.Prelude.{◌≡◌, ◌≢◌, ◌⊎◌, ℕ, Bool, 
 ghost use Rattle.pgp_auth.specs.Md5Text.{md5_answer};
 ghost use Rattle.pgp_auth.specs.ScramRefusal.{Verifies};
 ghost use Rattle.pgp_c_auth.specs.Delivering.{Delivers, IsLonger, LacksRoom, NotDelivered};
-ghost use Rattle.pgp_c_auth.specs.Login.{Comes, Declined, IsAdmitted, LetIn, MechanismOf, Step, awaits_final, awaits_first, awaits_request, awaits_welcome, by_cleartext, by_md5, by_none, by_scram, done};
+ghost use Rattle.pgp_c_auth.specs.Login.{Asked, Came, Comes, Declined, IsAdmitted, LetIn, MayWelcome, MechanismOf, Step, at_phase, awaits_final, awaits_first, awaits_request, awaits_welcome, by_cleartext, by_md5, by_none, by_scram, done};
 ghost use Rattle.pgp_c_auth.specs.Scram.{AnswersWith, BeginRefused, FirstText, NoRoom, NotAnswered, ShownRefused, start};
 ghost use Rattle.pgp_c_auth.specs.declared.login.PgpLogin.{PgpLogin as Kept};
 
@@ -67,6 +67,7 @@ fn declined(login: &PgpLogin, ways: u8, way: u8) -> u32
 #[unsafe(no_mangle)]
 pub extern "C" fn pgp_login_cleartext(login: &mut PgpLogin, ways: u8) -> u32
     ensures step { result ≡ 0 → Step ways login.old login.new }
+    ensures so_far { result ≡ 0 → Asked ways by_cleartext awaits_welcome login.old login.new }
     ensures kept { result ≢ 0 → login.new ≡ login.old }
     ensures why { result ≢ 0 → Declined login.old.phase ways by_cleartext result }
 {
@@ -92,6 +93,7 @@ pub extern "C" fn pgp_login_md5(
 ) -> u32
     ensures sent { result ≡ 0 → Delivers (λ text. text ≡ md5_answer user.now password.now salt.now) out.old out.new written.new }
     ensures step { result ≡ 0 → Step ways login.old login.new }
+    ensures so_far { result ≡ 0 → Asked ways by_md5 awaits_welcome login.old login.new }
     ensures refused { result ≢ 0 → NotDelivered out.old out.new written.new × (login.new ≡ login.old) }
     ensures why { result ≢ 0 → Declined login.old.phase ways by_md5 result ⊎ ((result ≡ 1) ⊎ ((result ≡ 10) × (length salt.now ≢ 4))) }
 {
@@ -111,6 +113,7 @@ pub fn asked_by_md5<A: Memory>(
 ) -> u32
     ensures sent { result ≡ 0 → Delivers (λ text. text ≡ md5_answer user.now password.now salt.now) out.old out.new written.new }
     ensures step { result ≡ 0 → Step ways login.old login.new }
+    ensures so_far { result ≡ 0 → Asked ways by_md5 awaits_welcome login.old login.new }
     ensures refused { result ≢ 0 → NotDelivered out.old out.new written.new × (login.new ≡ login.old) }
     ensures why { result ≢ 0 → Declined login.old.phase ways by_md5 result
         ⊎ (((result ≡ 1) × LacksRoom A.Lacks (λ text. text ≡ md5_answer user.now password.now salt.now) out.old) ⊎ ((result ≡ 10) × (length salt.now ≢ 4))) }
@@ -144,6 +147,7 @@ pub extern "C" fn pgp_login_sasl(
     ensures sent { result ≡ 0 → Delivers (FirstText (start [] kind certificate.now nonce.now)) out.old out.new written.new }
     ensures named { result ≡ 0 → MechanismOf kind mechanism.now }
     ensures step { result ≡ 0 → Step ways login.old login.new }
+    ensures so_far { result ≡ 0 → Asked ways by_scram awaits_first login.old login.new }
     ensures refused { result ≢ 0 → NotDelivered out.old out.new written.new × (login.new ≡ login.old) }
     ensures why { result ≢ 0 → Declined login.old.phase ways by_scram result ⊎ (((result ≡ 91) × ¬ MechanismOf kind mechanism.now)
         ⊎ (BeginRefused (Unit {0}) (start [] kind certificate.now nonce.now) result ⊎ ((result ≡ 1) × IsLonger (FirstText (start [] kind certificate.now nonce.now)) out.old))) }
@@ -176,6 +180,7 @@ pub fn offered<A: Memory>(
     ensures sent { result ≡ 0 → Delivers (FirstText (start [] kind certificate.now nonce.now)) out.old out.new written.new }
     ensures named { result ≡ 0 → MechanismOf kind mechanism.now }
     ensures step { result ≡ 0 → Step ways login.old login.new }
+    ensures so_far { result ≡ 0 → Asked ways by_scram awaits_first login.old login.new }
     ensures refused { result ≢ 0 → NotDelivered out.old out.new written.new × (login.new ≡ login.old) }
     ensures why { result ≢ 0 → Declined login.old.phase ways by_scram result ⊎ (((result ≡ 91) × ¬ MechanismOf kind mechanism.now)
         ⊎ (BeginRefused A.Lacks (start [] kind certificate.now nonce.now) result ⊎ ((result ≡ 1) × IsLonger (FirstText (start [] kind certificate.now nonce.now)) out.old))) }
@@ -223,6 +228,7 @@ pub extern "C" fn pgp_login_continue(
 ) -> u32
     ensures sent { result ≡ 0 → Delivers (AnswersWith (start password.now kind certificate.now nonce.now) server_first.now login.new.signature) out.old out.new written.new }
     ensures step { result ≡ 0 → (ways : ℕ) → Step ways login.old login.new }
+    ensures so_far { result ≡ 0 → Came awaits_first awaits_final login.old login.new }
     ensures no_place { result ≡ 0 → at.new ≡ 0 }
     ensures refused { result ≢ 0 → NotDelivered out.old out.new written.new × (login.new ≡ login.old) }
     ensures why { result ≢ 0 → ((result ≡ 89) × (at.new ≡ 0) × (login.old.phase ≢ awaits_first)) ⊎ (NotAnswered (Unit {0}) (start password.now kind certificate.now nonce.now) server_first.now result at.new
@@ -257,6 +263,7 @@ pub fn continued<A: Memory>(
 ) -> u32
     ensures sent { result ≡ 0 → Delivers (AnswersWith (start password.now kind certificate.now nonce.now) server_first.now login.new.signature) out.old out.new written.new }
     ensures step { result ≡ 0 → (ways : ℕ) → Step ways login.old login.new }
+    ensures so_far { result ≡ 0 → Came awaits_first awaits_final login.old login.new }
     ensures no_place { result ≡ 0 → at.new ≡ 0 }
     ensures refused { result ≢ 0 → NotDelivered out.old out.new written.new × (login.new ≡ login.old) }
     ensures why { result ≢ 0 → ((result ≡ 89) × (at.new ≡ 0) × (login.old.phase ≢ awaits_first)) ⊎ (NotAnswered A.Lacks (start password.now kind certificate.now nonce.now) server_first.now result at.new
@@ -302,6 +309,7 @@ pub extern "C" fn pgp_login_final(
 ) -> u32
     ensures verified { result ≡ 0 → Verifies login.old.signature server_final.now × (at.new ≡ 0) }
     ensures step { result ≡ 0 → (ways : ℕ) → Step ways login.old login.new }
+    ensures so_far { result ≡ 0 → Came awaits_final awaits_welcome login.old login.new × (login.new.signature ≡ login.old.signature) }
     ensures kept { result ≢ 0 → login.new ≡ login.old }
     ensures why { result ≢ 0 → ((result ≡ 89) × (at.new ≡ 0) × (login.old.phase ≢ awaits_final)) ⊎ ShownRefused (Unit {0}) login.old.signature server_final.now result at.new }
 {
@@ -312,6 +320,7 @@ pub extern "C" fn pgp_login_final(
 pub fn ended<A: Memory>(alloc: A, login: &mut PgpLogin, server_final: &[u8], at: &mut usize) -> u32
     ensures verified { result ≡ 0 → Verifies login.old.signature server_final.now × (at.new ≡ 0) }
     ensures step { result ≡ 0 → (ways : ℕ) → Step ways login.old login.new }
+    ensures so_far { result ≡ 0 → Came awaits_final awaits_welcome login.old login.new × (login.new.signature ≡ login.old.signature) }
     ensures kept { result ≢ 0 → login.new ≡ login.old }
     ensures why { result ≢ 0 → ((result ≡ 89) × (at.new ≡ 0) × (login.old.phase ≢ awaits_final)) ⊎ ShownRefused A.Lacks login.old.signature server_final.now result at.new }
 {
@@ -332,7 +341,7 @@ pub fn ended<A: Memory>(alloc: A, login: &mut PgpLogin, server_final: &[u8], at:
 
 /// Whether the server may let the client in now: 0, or why not.
 fn unwelcome(login: &PgpLogin, ways: u8) -> u32
-    ensures due { result ≡ 0 → (login.now.phase ≡ awaits_welcome) ⊎ ((login.now.phase ≡ awaits_request) × IsAdmitted ways by_none) }
+    ensures due { result ≡ 0 → MayWelcome ways login.now }
     ensures why { result ≢ 0 → ((result ≡ 89) × (login.now.phase ≢ awaits_request) × (login.now.phase ≢ awaits_welcome))
         ⊎ ((result ≡ 90) × (login.now.phase ≡ awaits_request) × ¬ IsAdmitted ways by_none) }
 {
@@ -352,7 +361,7 @@ fn unwelcome(login: &PgpLogin, ways: u8) -> u32
 #[unsafe(no_mangle)]
 pub extern "C" fn pgp_login_ok(login: &mut PgpLogin, ways: u8) -> u32
     ensures step { result ≡ 0 → Step ways login.old login.new }
-    ensures done { result ≡ 0 → login.new.phase ≡ done }
+    ensures so_far { result ≡ 0 → MayWelcome ways login.old × (login.new ≡ at_phase done login.old) }
     ensures kept { result ≢ 0 → login.new ≡ login.old }
     ensures why { result ≢ 0 → ((result ≡ 89) × (login.old.phase ≢ awaits_request) × (login.old.phase ≢ awaits_welcome))
         ⊎ ((result ≡ 90) × (login.old.phase ≡ awaits_request) × ¬ IsAdmitted ways by_none) }

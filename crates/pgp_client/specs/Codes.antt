@@ -22,6 +22,20 @@ request_at n =
     else (if n == 10 then requests.CopyDone
     else requests.CopyFail))))))))))
 
+abbrev pub request_code : Request → ℕ
+request_code requests.Startup = 0
+request_code requests.Query = 1
+request_code requests.Parse = 2
+request_code requests.Bind = 3
+request_code requests.Close = 4
+request_code requests.DescribeStatement = 5
+request_code requests.DescribePortal = 6
+request_code requests.Execute = 7
+request_code requests.FunctionCall = 8
+request_code requests.Sync = 9
+request_code requests.CopyDone = 10
+request_code requests.CopyFail = 11
+
 -- the request that stands in a place
 abbrev pub asked_in : Slot → Asked
 asked_in s = record { request = request_at s.request; name = s.name }
@@ -54,3 +68,31 @@ stage_at n =
     else (if n == 24 then stages.Syncing
     else (if n == 25 then stages.Failed
     else stages.Over))))))))))))))))))))))))
+
+abbrev pub stage_code : Stage → ℕ
+stage_code stages.Idle = 0
+stage_code stages.Skipping = 1
+stage_code stages.Over = 2
+stage_code stages.Authenticating = 3
+stage_code stages.Starting = 4
+stage_code stages.Asked = 5
+stage_code stages.Answering = 6
+stage_code stages.Rows = 7
+stage_code stages.CopyingIn = 8
+stage_code stages.CopyingOut = 9
+stage_code stages.CopyingBoth = 10
+stage_code stages.CopiedBoth = 11
+stage_code stages.Parsing = 12
+stage_code stages.Binding = 13
+stage_code stages.Closing = 14
+stage_code stages.Describing = 15
+stage_code stages.DescribingRows = 16
+stage_code stages.Executing = 17
+stage_code stages.Returning = 18
+stage_code stages.TakingCopy = 19
+stage_code stages.GivingCopy = 20
+stage_code stages.GaveCopy = 21
+stage_code stages.Calling = 22
+stage_code stages.Called = 23
+stage_code stages.Syncing = 24
+stage_code stages.Failed = 25

@@ -1,7 +1,7 @@
 //! Requests and stages as numbers, by which a caller in C keeps a dialogue.
 
 ghost use Rattle.std.specs.Prelude.{◌≡◌};
-ghost use Rattle.pgp_client.specs.Codes.{request_at, stage_at};
+ghost use Rattle.pgp_client.specs.Codes.{request_at, request_code, stage_at, stage_code};
 
 use crate::request::Request;
 use crate::stage::Stage;
@@ -9,7 +9,8 @@ use crate::stage::Stage;
 impl Request {
     /// The request's number, from 0 in the order of the variants.
     pub fn code(self) -> u8
-        ensures { request_at result ≡ self }
+        ensures code { result ≡ request_code self }
+        ensures back { request_at result ≡ self }
     {
         match self {
             Request::Startup => 0,
@@ -51,7 +52,8 @@ impl Request {
 impl Stage {
     /// The stage's number, from 0 in the order of the variants.
     pub fn code(self) -> u8
-        ensures { stage_at result ≡ self }
+        ensures code { result ≡ stage_code self }
+        ensures back { stage_at result ≡ self }
     {
         self as u8
     }

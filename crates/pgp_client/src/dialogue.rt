@@ -3,7 +3,7 @@
 ghost use Rattle.std.specs.Prelude.{◌≡◌, ◌++◌, ◌∷◌, [], OnOk, OnErr};
 ghost use Rattle.pgp_client.specs.Talk.{shown};
 ghost use Rattle.pgp_client.specs.Telling.{start};
-ghost use Rattle.pgp_client.specs.Taking.{Moves, Takes, asked, begun, behind_copy, completes, copied, fails, first_in, follows, goes, observed, observed_at, is_copying, is_idle, ready, starts_with_sync, taken};
+ghost use Rattle.pgp_client.specs.Taking.{Moves, Takes, asked, begun, behind_copy, awaits_data, completes, copied, fails, first_in, follows, goes, observed, observed_at, is_copying, is_idle, ready, starts_with_sync, taken};
 
 use crate::bulk::goes_on;
 use crate::event::{Event, Refusal};
@@ -103,6 +103,17 @@ impl<Q: Queue> Dialogue<Q> {
         }
     }
 
+    /// Whether a copy to the server is under way whose data the client hasn't ended: until it does, the server takes nothing but these data, their
+    /// end, Sync and Flush.
+    pub fn awaits_data(&self) -> bool
+        ensures { result ≡ awaits_data (shown Q.items self.now) }
+    {
+        if !self.is_copying() {
+            return false;
+        }
+        !self.pending.has_end()
+    }
+
     /// Takes note of a request, in the order in which they are sent. The events of its answer tell this name.
     ///
     /// # Errors
@@ -112,6 +123,7 @@ impl<Q: Queue> Dialogue<Q> {
         ensures ok { OnOk result (shown Q.items self.new ≡ asked (shown Q.items self.old) (record { request = request; name = name })) }
         ensures err { OnErr result (shown Q.items self.new ≡ shown Q.items self.old) }
         ensures full { OnErr result (Q.Refuses self.old.pending) }
+        ensures room { Q.room self.new.pending ≡ Q.room self.old.pending }
     {
         self.pending.push(Asked { request, name })
     }
@@ -128,7 +140,8 @@ impl<Q: Queue> Dialogue<Q> {
     // two comparisons in the place of a call.
     #[inline(always)]
     pub fn take(&mut self, kind: Kind) -> Result<Event, Refusal>
-        ensures { Takes (taken (shown Q.items self.old) kind) result (shown Q.items self.new) }
+        ensures taken { Takes (taken (shown Q.items self.old) kind) result (shown Q.items self.new) }
+        ensures room { Q.room self.new.pending ≡ Q.room self.old.pending }
     {
         if goes_on(self.stage, kind) {
             return Ok(Event::Part(self.name));
@@ -138,7 +151,8 @@ impl<Q: Queue> Dialogue<Q> {
 
     /// The server's next message, of whatever kind.
     fn take_other(&mut self, kind: Kind) -> Result<Event, Refusal>
-        ensures { Takes (taken (shown Q.items self.old) kind) result (shown Q.items self.new) }
+        ensures taken { Takes (taken (shown Q.items self.old) kind) result (shown Q.items self.new) }
+        ensures room { Q.room self.new.pending ≡ Q.room self.old.pending }
     {
         if kind.is_aside() {
             return Ok(Event::Aside);
@@ -149,7 +163,8 @@ impl<Q: Queue> Dialogue<Q> {
 
     /// Goes on to the next request that is answered, where none is under way.
     fn advance(&mut self)
-        ensures { shown Q.items self.new ≡ ready (shown Q.items self.old) }
+        ensures ready { shown Q.items self.new ≡ ready (shown Q.items self.old) }
+        ensures room { Q.room self.new.pending ≡ Q.room self.old.pending }
     {
         match self.stage {
             Stage::Idle => self.begin(false),
@@ -160,7 +175,8 @@ impl<Q: Queue> Dialogue<Q> {
 
     /// The next request that is answered is under way, if there is one.
     fn begin(&mut self, skipping: bool)
-        ensures { shown Q.items self.new ≡ begun self.old.stage self.old.name (first_in skipping (Q.items self.old.pending)) }
+        ensures begun { shown Q.items self.new ≡ begun self.old.stage self.old.name (first_in skipping (Q.items self.old.pending)) }
+        ensures room { Q.room self.new.pending ≡ Q.room self.old.pending }
     {
         if let Some(next) = next_in(&mut self.pending, skipping) {
             self.stage = begins(next.request);
@@ -170,7 +186,8 @@ impl<Q: Queue> Dialogue<Q> {
 
     /// The message, where a request is under way.
     fn hear(&mut self, kind: Kind) -> Result<Event, Refusal>
-        ensures { Takes (observed (shown Q.items self.old) kind) result (shown Q.items self.new) }
+        ensures taken { Takes (observed (shown Q.items self.old) kind) result (shown Q.items self.new) }
+        ensures room { Q.room self.new.pending ≡ Q.room self.old.pending }
     {
         match observed_at(self.stage, &mut self.pending, kind) {
             Ok(stage) => {
@@ -187,7 +204,8 @@ impl<Q: Queue> Dialogue<Q> {
 
 /// The stage after the message. At the end of a copy to the server the requests that belong to it are dropped.
 fn observed_at<Q: Queue>(stage: Stage, pending: &mut Q, kind: Kind) -> Result<Stage, Refusal>
-    ensures { Moves (observed_at stage (Q.items pending.old) kind) result (Q.items pending.new) }
+    ensures moves { Moves (observed_at stage (Q.items pending.old) kind) result (Q.items pending.new) }
+    ensures room { Q.room pending.new ≡ Q.room pending.old }
 {
     match stage {
         Stage::CopyingIn => copied(Stage::Answering, Stage::Failed, pending, kind),
@@ -213,7 +231,8 @@ fn copied<Q: Queue>(
     pending: &mut Q,
     kind: Kind,
 ) -> Result<Stage, Refusal>
-    ensures { Moves (copied done failed (Q.items pending.old) kind) result (Q.items pending.new) }
+    ensures moves { Moves (copied done failed (Q.items pending.old) kind) result (Q.items pending.new) }
+    ensures room { Q.room pending.new ≡ Q.room pending.old }
 {
     match kind {
         Kind::CommandComplete => completes(done, pending),
@@ -223,7 +242,8 @@ fn copied<Q: Queue>(
 }
 
 fn completes<Q: Queue>(done: Stage, pending: &mut Q) -> Result<Stage, Refusal>
-    ensures { Moves (completes done (behind_copy (Q.items pending.old))) result (Q.items pending.new) }
+    ensures moves { Moves (completes done (behind_copy (Q.items pending.old))) result (Q.items pending.new) }
+    ensures room { Q.room pending.new ≡ Q.room pending.old }
 {
     if ends_copy(pending) {
         return Ok(done);

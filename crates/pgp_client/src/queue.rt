@@ -1,10 +1,10 @@
 //! Where a dialogue keeps the requests whose answers are to come.
 
-ghost use Rattle.std.specs.Prelude.{◌≡◌, ◌++◌, ◌∷◌, [], List, None, OnErr, OnOk, option_to_list, length};
-ghost use Rattle.pgp_client.specs.Taking.{awaits_none, starts_with_sync};
+ghost use Rattle.std.specs.Prelude.{◌≡◌, ◌++◌, ◌∷◌, [], ℕ, List, None, OnErr, OnOk, option_to_list, length};
+ghost use Rattle.pgp_client.specs.Taking.{awaits_none, has_end, starts_with_sync};
 ghost use Rattle.pgp_client.specs.declared.request.Asked.{Asked as Item};
 
-use crate::request::{Asked, awaits_none, is_sync};
+use crate::request::{Asked, awaits_none, has_end, is_sync};
 use pgp_base::Memory;
 use std::collections::VecDeque;
 
@@ -13,6 +13,9 @@ pub trait Queue {
     /// The requests, the first first.
     ghost items: { Self → List Item };
 
+    /// How many requests there is room for in a caller's memory: that stays as it is.
+    ghost room: { Self → ℕ };
+
     /// Why a request isn't taken.
     ghost Refuses: { Self → Type 0 };
 
@@ -20,16 +23,22 @@ pub trait Queue {
     fn push(&mut self, asked: Asked) -> Result<(), Full>
         ensures ok { OnOk result (items self.new ≡ items self.old ++ asked ∷ []) }
         ensures err { OnErr result (items self.new ≡ items self.old) }
-        ensures full { OnErr result (Refuses self.old) };
+        ensures full { OnErr result (Refuses self.old) }
+        ensures room { room self.new ≡ room self.old };
 
     /// Takes the first request.
     fn pop(&mut self) -> Option<Asked>
         ensures first { items self.old ≡ option_to_list result ++ items self.new }
-        ensures none { result ≡ None → items self.new ≡ [] };
+        ensures none { result ≡ None → items self.new ≡ [] }
+        ensures room { room self.new ≡ room self.old };
 
     /// Whether none of them awaits an answer: all are ends of copies.
     fn awaits_none(&self) -> bool
         ensures { result ≡ awaits_none (items self.now) };
+
+    /// Whether an end of a copy's data is among them.
+    fn has_end(&self) -> bool
+        ensures { result ≡ has_end (items self.now) };
 
     /// Whether the first is a Sync.
     fn starts_with_sync(&self) -> bool
@@ -42,6 +51,8 @@ pub struct Full;
 
 impl<A: Memory> Queue for VecDeque<Asked, A> {
     ghost items = { λ q. q.items };
+
+    ghost room = { λ q. 0 };
 
     ghost Refuses = { λ q. A.Lacks };
 
@@ -62,6 +73,14 @@ impl<A: Memory> Queue for VecDeque<Asked, A> {
             return false;
         }
         awaits_none(second)
+    }
+
+    fn has_end(&self) -> bool {
+        let (first, second) = self.as_slices();
+        if has_end(first) {
+            return true;
+        }
+        has_end(second)
     }
 
     fn starts_with_sync(&self) -> bool {

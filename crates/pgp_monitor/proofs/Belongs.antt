@@ -66,8 +66,8 @@ nothing t = record { sent = []; belong = []; run = Stops; among = NoneLeft }
 
 whole : (rs : List Request) (ks : List Kind) (es : List Event) → Stripped start (named rs ++ []) ks es → Belong (named rs) ks es
 whole rs ks es s =
-    let serves : Serves Ready (named rs ++ []) s.sent s.belong = exact s.run in
-    record { sent = s.sent; belong = s.belong; serves = subst (λ (y : List Asked). Serves Ready y s.sent s.belong) (append-nil (named rs)) serves; among = s.among }
+    let serves : Serves (λ m. 0) Ready (named rs ++ []) s.sent s.belong = exact (λ m. 0) s.run in
+    record { sent = s.sent; belong = s.belong; serves = subst (λ (y : List Asked). Serves (λ m. 0) Ready y s.sent s.belong) (append-nil (named rs)) serves; among = s.among }
 
 pub belongs : {rs : List Request} {ks : List Kind} {es : List Event} → Ran rs ks es → Belong (named rs) ks es
 belongs (Stopped {rs = rs} {ks = ks} {es = es} {t = t} run) =

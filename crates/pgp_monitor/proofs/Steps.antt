@@ -17,8 +17,8 @@ ran : (over : Bool) (t : Talk) (rs : List Request) (ks : List Kind) (es : List E
 ran false t rs ks es runs = Stopped runs
 ran true t rs ks es has = has
 
-pub sent_belongs : (rs : List Request) (ks : List Kind) (es : List Event) (gone : List ℕ) (m : Shown) → Went rs ks es gone m → Answered rs ks es (gone ++ m.out)
-sent_belongs rs ks es gone m w = record { belong = belongs (ran m.is_over m.talk rs ks es w.goes); cut_off = w.cut_off; spelled = w.spelled }
+pub sent_belongs : (rs : List Request) (ks : List Kind) (es : List Event) (gone : List ℕ) (m : Shown) → Went rs ks es gone m → Answered rs ks es m.is_over (gone ++ m.out)
+sent_belongs rs ks es gone m w = record { belong = belongs (ran m.is_over m.talk rs ks es w.goes); cut_off = w.cut_off; whole = w.whole; spelled = w.spelled }
 
 -- ---- what is to be sent was handed on
 

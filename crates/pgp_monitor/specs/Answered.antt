@@ -1,6 +1,6 @@
 -- What a server may send to its client's requests, as bytes.
 -- PostgreSQL manual, "Message Flow".
-use Rattle.std.specs.Prelude.{◌≡◌, ℕ, ◌+◌, List, [], ◌∷◌, ◌++◌, ◌⊎◌, length, Option, Some, None, Ok, Err}
+use Rattle.std.specs.Prelude.{◌≡◌, ℕ, ◌+◌, Bool, false, List, [], ◌∷◌, ◌++◌, ◌⊎◌, length, Option, Some, None, Ok, Err}
 use Rattle.pgp_base.specs.declared.error.Error.{Error}
 use Rattle.pgp_client.specs.Flow.{Belong}
 use Rattle.pgp_client.specs.Kinds.{kind_of}
@@ -26,11 +26,12 @@ pub data Spells : List Kind → List ℕ → Type 0 where
   OneMore : {kinds : List Kind} {bytes : List ℕ} (frame : List ℕ) (m : Message) → TakesFrame frame (Ok m) [] → Spells kinds bytes
       → Spells (kinds ++ kind_of m ∷ []) (bytes ++ frame)
 
--- To these requests a server may send these bytes: they are messages of these kinds, or a front of such bytes where the session was cut off, and
--- by the client's grammar each belongs to its request.
-pub record Answered (requests : List Request) (kinds : List Kind) (events : List Event) (sent : List ℕ) : Type 0 where
+-- To these requests a server may send these bytes: they are messages of these kinds, or a front of such bytes where the session is over and was cut
+-- off, and by the client's grammar each belongs to its request.
+pub record Answered (requests : List Request) (kinds : List Kind) (events : List Event) (is_over : Bool) (sent : List ℕ) : Type 0 where
   pub belong : Belong (named requests) kinds events
   pub cut_off : List ℕ
+  pub whole : is_over ≡ false → cut_off ≡ []
   pub spelled : Spells kinds (sent ++ cut_off)
 
 -- a message of this kind stands at the front of the bytes, so many of them

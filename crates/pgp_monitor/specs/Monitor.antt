@@ -81,7 +81,7 @@ noted r m = record { talk = asked m.talk (record { request = r; name = m.names }
 
 abbrev pub Notes : {E : Type 0} → Type 0 → Request → Shown → Shown → Result (Option ℕ) E → Type 0
 Notes lacks r old new (Ok None) = IsPassedOver r old × (new ≡ old)
-Notes lacks r old new (Ok (Some n)) = (old.is_over ≡ false) × (n ≡ old.names) × (new ≡ noted r old)
+Notes lacks r old new (Ok (Some n)) = (old.is_over ≡ false) × (n ≡ old.names) × (new ≡ noted r old) × ¬ IsPassedOver r old
 Notes lacks r old new (Err e) = (lacks ⊎ (old.names ≡ 18446744073709551615)) × (new ≡ old)
 
 abbrev pub after_note : {E : Type 0} → Result (Option ℕ) E → Request → List Request → List Request

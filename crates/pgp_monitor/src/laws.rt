@@ -11,5 +11,5 @@ ghost use Rattle.pgp_monitor.specs.Monitor.{Shown, Went};
 /// be sent, are whole messages that belong to those requests; where it was ended, a front of such bytes.
 pub fn what_is_sent_belongs()
     ensures { (requests : List Asked) (kinds : List Sent) (events : List Reported) (gone : List ℕ) (now : Shown) → Went requests kinds events gone now
-        → Answered requests kinds events (gone ++ now.out) }
+        → Answered requests kinds events now.is_over (gone ++ now.out) }
 {}

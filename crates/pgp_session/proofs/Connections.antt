@@ -1,5 +1,5 @@
 -- What the calls of a connection come to.
-use Rattle.std.proofs.Common.{◌≡◌, ℕ, ◌-◌, ◌<◌, ◌≤◌, List, [], ◌∷◌, ◌++◌, length, get_or, Option, Some, None, Result, Ok, Err, refl, sym, ap, subst, ◌∙◌, arith, inl, inr, Bool, true, false}
+use Rattle.std.proofs.Common.{◌≡◌, ℕ, ◌-◌, ◌<◌, ◌≤◌, List, [], ◌∷◌, ◌++◌, length, get_or, Option, Some, None, Result, Ok, Err, refl, sym, ap, ap₂, subst, ◌∙◌, arith, inl, inr, Bool, true, false, not}
 use Rattle.std.specs.Prelude.{OnOk, IfErr, drop, take, ◌&&◌, ◌≢◌}
 use Rattle.std.specs.Int.{w32, from_be_bytes}
 use Rattle.pgp_base.specs.Cause.{WantsMemory}
@@ -17,19 +17,22 @@ use Rattle.pgp_message.specs.Views.{parsed, view}
 use Rattle.pgp_message.specs.declared.message.Message.{Message}
 use Rattle.pgp_base.specs.declared.error.Error.TheVariants.{InvalidLength, OutOfMemory}
 use Rattle.pgp_client.specs.Kinds.{kind_of, request_of}
-use Rattle.pgp_client.specs.Taking.{is_copying}
+use Rattle.pgp_client.specs.Taking.{awaits_data, is_copying}
 use Rattle.pgp_client.specs.declared.request.Request.{Request}
-use Rattle.pgp_session.specs.Connection.{Advances, Comes, Hears, IsNone, Nexts, Notes, SendsGiven, Sent, Shown, Stops, Took, asked_of, is_bulk, is_end, in_phase, is_logged_in, is_part, is_longer, may_send, moved, next_name, noted, said, with_incoming, with_login, with_out}
+use Rattle.pgp_session.specs.Connection.{Advances, Comes, Hears, IsNone, Nexts, Notes, SendsGiven, Sent, Shown, Stops, Took, asked_of, is_bulk, is_end, in_phase, is_logged_in, is_part, is_longer, may_ask, may_send, moved, next_name, noted, said, with_incoming, with_login, with_out}
 use Rattle.pgp_session.specs.declared.connection_error.ConnectionError.{ConnectionError}
 use Rattle.pgp_session.specs.declared.connection_error.ConnectionError.TheVariants.{Malformed, OutOfMemory as OutOfMemoryThere}
+use Rattle.pgp_session.specs.declared.connection.ConnectionPhase.{ConnectionPhase}
+use Rattle.pgp_client.specs.declared.stage.Stage.TheVariants.{Over as NothingMore}
 use Rattle.pgp_session.specs.declared.connection.ConnectionPhase.TheVariants.{Over, Started}
 use Rattle.pgp_session.specs.Incoming.{Reads}
 use Rattle.pgp_session.proofs.Incomings.{frame_there, rest_there}
 use Rattle.pgp_auth.specs.ScramClient.{Client}
+use Rattle.pgp_session.specs.Login as login
 use Rattle.pgp_session.specs.Login.{Added, AnswersFirst, Asking, AsksCleartext, AsksMd5, AsksSasl, Cleartext, Final, First, HearsDue, Login, Md5, Nothing, NothingAsked, Other, Puts, Sasl, VerifiesFinal, Welcome, WelcomesAt, asking, is_due}
 use Rattle.pgp_session.specs.declared.scram_login.LoginPhase.{LoginPhase}
 use Rattle.pgp_session.specs.declared.scram_login.LoginPhase.TheVariants.{AwaitsOffer}
-use Rattle.pgp_session.specs.Settings.{Said, heard}
+use Rattle.pgp_session.specs.Settings.{HasRoom, Said, heard, most, setting_in}
 use Rattle.pgp_message.specs.BackendMessage.{Message as Meant, CopyData, DataRow}
 
 pub short_longer : (limit : ℕ) (bytes : List ℕ) → length bytes < 5 → false ≡ is_longer limit bytes
@@ -52,6 +55,10 @@ pair_is : (x : Event × Talk) (e : Event) (t : Talk) → e ≡ x.0 → t ≡ x.1
 pair_is x e t p q = rw (p, q) refl
 
 -- what the dialogue took
+pub taken_no : (r : Result (Event × Talk) Refusal) (e : Refusal) (new : Talk) → Takes r (Err e) new → (r ≡ Err e) × (new.stage ≡ NothingMore)
+taken_no (Ok x) e new t = absurd t
+taken_no (Err q) e new t = (ap Err (sym t.0), t.1)
+
 pub taken_ok : (r : Result (Event × Talk) Refusal) (e : Event) (new : Talk) → Takes r (Ok e) new → r ≡ Ok (e, new)
 taken_ok (Ok x) e new t = ap Ok (pair_is x e new t.0 t.1)
 taken_ok (Err q) e new t = absurd t
@@ -82,19 +89,31 @@ take_front (x ∷ xs) ys = ap (λ l. x ∷ l) (take_front xs ys)
 said_by : (m : ClientMessage) (r : Request) (c : Shown) → request_of m ≡ Some r → noted r (with_out (c.out ++ bytes_of m) c) ≡ said m c
 said_by m r c e = ap (λ (o : Option Request). record { phase = c.phase; login = c.login; out = c.out ++ bytes_of m; incoming = c.incoming; talk = asked_of o c.names c.talk; server = c.server; names = next_name c.names; limit = c.limit }) (sym e)
 
+left_of : (a b : Bool) → (a && b) ≡ true → a ≡ true
+left_of true b e = refl
+left_of false b e = absurd cc
+
+right_of : (a b : Bool) → (a && b) ≡ true → b ≡ true
+right_of true b e = e
+right_of false b e = absurd cc
+
+-- no data of a copy are awaited
+pub none_awaited : (c : Shown) → may_ask c ≡ true → not (awaits_data c.talk) ≡ true
+none_awaited c e = right_of (is_logged_in c) (not (awaits_data c.talk)) e
+
 both_true : (a b : Bool) → a ≡ true → b ≡ true → (a && b) ≡ true
 both_true a b e f = rw (e, f) refl
 
 -- the message was written, and its request noted
 pub given_by : {A : Type 0} (lacks : Type 0) (Whole : ClientMessage → Type 0) (Refuses : Error → Type 0) (m : ClientMessage) (r : Request) (old new : Shown) (written : List ℕ) (result : Result ℕ (ConnectionError A))
-    → Whole m → may_send (is_copying old.talk) m ≡ true → cause m ≡ None → IsInRange m → request_of m ≡ Some r → is_logged_in old ≡ true → written ≡ old.out ++ bytes_of m
+    → Whole m → may_send (is_copying old.talk) (awaits_data old.talk) m ≡ true → cause m ≡ None → IsInRange m → request_of m ≡ Some r → may_ask old ≡ true → written ≡ old.out ++ bytes_of m
     → Notes lacks (length old.out) r (with_out written old) new result → SendsGiven lacks Whole Refuses old new result
 given_by lacks Whole Refuses m r old new written (Ok name) whole may none range request logged bytes n =
     let is : new ≡ said m old = n.1 ∙ ap (λ (l : List ℕ). noted r (with_out l old)) bytes ∙ said_by m r old request in (
       m,
       whole,
       record {
-        may = both_true (is_logged_in old) (may_send (is_copying old.talk) m) logged may;
+        may = both_true (is_logged_in old) (may_send (is_copying old.talk) (awaits_data old.talk) m) (left_of (is_logged_in old) (not (awaits_data old.talk)) logged) may;
         added = record { none = none; in_range = range; bytes = ap (λ (c : Shown). c.out) is };
         named = n.0;
         is = is;
@@ -106,14 +125,14 @@ given_by lacks Whole Refuses m r old new written (Err e) whole may none range re
 
 -- the same where a serializer wrote the message
 pub bound_by : (Whole : ClientMessage → Type 0) (m : ClientMessage) (r : Request) (old new : Shown) (written : List ℕ) (name : ℕ)
-    → Whole m → may_send (is_copying old.talk) m ≡ true → Added m old.out written → request_of m ≡ Some r → is_logged_in old ≡ true → name ≡ old.names
+    → Whole m → may_send (is_copying old.talk) (awaits_data old.talk) m ≡ true → Added m old.out written → request_of m ≡ Some r → may_ask old ≡ true → name ≡ old.names
     → new ≡ noted r (with_out written old) → (k : ClientMessage) × Whole k × Sent k old new name
 bound_by Whole m r old new written name whole may put request logged named is_noted =
     let is : new ≡ said m old = is_noted ∙ ap (λ (l : List ℕ). noted r (with_out l old)) put.bytes ∙ said_by m r old request in (
       m,
       whole,
       record {
-        may = both_true (is_logged_in old) (may_send (is_copying old.talk) m) logged may;
+        may = both_true (is_logged_in old) (may_send (is_copying old.talk) (awaits_data old.talk) m) (left_of (is_logged_in old) (not (awaits_data old.talk)) logged) may;
         added = record { none = put.none; in_range = put.in_range; bytes = ap (λ (c : Shown). c.out) is };
         named = named;
         is = is;
@@ -201,13 +220,13 @@ module _ (A : Type 0) (lacks : Type 0) where
   no_login true Welcome old new out grown h = no_welcome old.phase old.ways.none old new h.0
   no_login true Other old new out grown h = cc
 
-  no_stop : (m : Meant) (old : Shown) → Stops {A = A} lacks m old OutOfMemoryThere → ⊥
-  no_stop m old (inl h) = let e = h.2 in cc
-  no_stop m old (inr (inl h)) = let e = h.4 in cc
-  no_stop m old (inr (inr h)) = no_login (is_due old.login.phase (asking m)) (asking m) old.login h.4.0 old.out h.4.1 h.4.2
+  no_stop : (phase : ConnectionPhase) (m : Meant) (old new : Shown) → Stops {A = A} lacks phase m old new OutOfMemoryThere → ⊥
+  no_stop phase m old new (inl h) = let e = h.2 in cc
+  no_stop phase m old new (inr (inl h)) = let e = h.4 in cc
+  no_stop phase m old new (inr (inr h)) = no_login (is_due old.login.phase (asking m)) (asking m) old.login new.login old.out old.out h.4
 
-  stops_else : (m : Meant) (old : Shown) (e : ConnectionError A) → Stops {A = A} lacks m old e → e ≢ OutOfMemoryThere
-  stops_else m old e h same = no_stop m old (subst (λ x. Stops {A = A} lacks m old x) same h)
+  stops_else : (phase : ConnectionPhase) (m : Meant) (old new : Shown) (e : ConnectionError A) → Stops {A = A} lacks phase m old new e → e ≢ OutOfMemoryThere
+  stops_else phase m old new e h same = no_stop phase m old new (subst (λ x. Stops {A = A} lacks phase m old new x) same h)
 
 module _ {A : Type 0} (lacks : Type 0) (old new : Shown) (all rest frame behind : List ℕ) (left : ℕ) (same : all ≡ old.incoming) (n : left ≡ length rest) (b : behind ≡ drop (length all - left) all) where
   -- the message was taken, and its frame is the current one
@@ -220,9 +239,30 @@ module _ {A : Type 0} (lacks : Type 0) (old new : Shown) (all rest frame behind 
   -- the connection stopped at it
   pub stopped_at : (m : Meant) (e : ConnectionError A) → old.phase ≡ Started → is_longer old.limit old.incoming ≡ false → TakesFrame all (Ok m) rest → frame ≡ []
       → Hears {A = A} lacks m (with_incoming behind old) new (Err e) → Advances {A = A} lacks old new frame (Err e)
-  stopped_at m e phase short t f h = (f, stops_else A lacks m (with_incoming behind old) e h.0, Comes m behind phase short (behind_it old all rest behind left same n b (Ok m) t) h)
+  stopped_at m e phase short t f h = (f, stops_else A lacks Over m (with_incoming behind old) new e h, Comes m behind phase short (behind_it old all rest behind left same n b (Ok m) t) h)
 
   -- what came is no message
   pub malformed_at : (e : Error) → old.phase ≡ Started → is_longer old.limit old.incoming ≡ false → Step ⊥ all (Err e) rest → frame ≡ [] → new ≡ in_phase Over (with_incoming behind old)
       → Advances {A = A} lacks old new frame (Err (Malformed e))
   malformed_at e phase short s f is = let t = not_taken old all rest behind left same n b lacks e s in (f, (λ p. cc), IsNone e behind phase short t.0 t.1 is)
+
+-- the same with the end of the connection
+pub stops_over : {A : Type 0} (lacks : Type 0) (m : Meant) (old new : Shown) (e : ConnectionError A) → Stops {A = A} lacks old.phase m old new e → Stops {A = A} lacks Over m old (in_phase Over new) e
+stops_over lacks m old new e (inl h) = inl (h.0, h.1, h.2, h.3, ap (λ (c : Shown). in_phase Over c) h.4)
+stops_over lacks m old new e (inr (inl h)) = inr (inl (h.0, h.1, h.2, h.3, h.4, ap (λ (c : Shown). in_phase Over c) h.5))
+stops_over lacks m old new e (inr (inr h)) = inr (inr (h.0, h.1, h.2, h.3, h.4, h.5, ap (λ (c : Shown). in_phase Over c) h.6))
+
+-- the log-in stopped at a message, with nothing appended
+pub stopped_log_in : {A : Type 0} (lacks : Type 0) (m : Meant) (old : Shown) (t : Talk) (l : Login) (grown : List ℕ) (k : Said) (e : Event) (x : ConnectionError A) → taken old.talk (kind_of m) ≡ Ok (e, t)
+    → HasRoom most (setting_in m) old.server.settings → is_end e ≡ false → login.Hears lacks (asking m) old.login l old.out grown (Err x) → grown ≡ old.out → l.phase ≡ old.login.phase → k ≡ heard m old.server
+    → Stops {A = A} lacks old.phase m old (record { phase = old.phase; login = l; out = grown; incoming = old.incoming; talk = t; server = k; names = old.names; limit = old.limit }) x
+stopped_log_in {A} lacks m old t l grown k e x is room live hears same phase known =
+    inr (inr (
+      (e, t),
+      is,
+      room,
+      live,
+      subst (λ (o : List ℕ). login.Hears {A = A} lacks (asking m) old.login l old.out o (Err x)) same hears,
+      phase,
+      ap₂ (λ (o : List ℕ) (s : Said). record { phase = old.phase; login = l; out = o; incoming = old.incoming; talk = t; server = s; names = old.names; limit = old.limit }) same known,
+    ))

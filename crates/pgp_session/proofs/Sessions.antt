@@ -1,5 +1,5 @@
 -- What is known of a connection, after each call, and what follows from it.
-use Rattle.std.proofs.Common.{◌≡◌, ◌≢◌, ◌⊎◌, ℕ, Bool, true, false, List, [], ◌∷◌, ◌++◌, take, drop, map, Option, Some, None, Result, Ok, refl, sym, ap, subst, ◌∙◌, append_assoc, inl, inr}
+use Rattle.std.proofs.Common.{◌≡◌, ◌≢◌, ℕ, Bool, true, false, List, [], ◌∷◌, ◌++◌, take, drop, map, Option, Some, None, Result, Ok, refl, sym, ap, subst, ◌∙◌, append_assoc, inl, inr}
 use Rattle.std.specs.Prelude.{option_to_list, if◌then◌else◌, ◌&&◌}
 use Rattle.std.specs.List.{flat_map}
 use Rattle.std.proofs.lemmas.List.{append-nil, take-append-drop}
@@ -7,10 +7,11 @@ use Rattle.std.proofs.lemmas.List.Concat.{flat_map-cons}
 use Rattle.std.proofs.lemmas.Grind.{flat_map-append}
 use Rattle.pgp_base.specs.declared.error.Error.{Error}
 use Rattle.pgp_client.specs.Flow.{Belong}
+use Rattle.pgp_client.specs.InTurns.{BelongInTurns}
 use Rattle.pgp_client.specs.Kinds.{kind_of, request_of}
-use Rattle.pgp_client.specs.Taking.{is_copying, taken}
+use Rattle.pgp_client.specs.Taking.{awaits_data, is_copying, taken}
 use Rattle.pgp_client.specs.Talk.{Talk}
-use Rattle.pgp_client.specs.Telling.{Doubts, Turn, Asks, Hears as HearsTurn, Follows as FollowsTurns, asked_all, asked_in, observed_in, reported_in, start}
+use Rattle.pgp_client.specs.Telling.{Turn, Asks, Hears as HearsTurn, Follows as FollowsTurns, asked_in, observed_in, reported_in, start}
 use Rattle.pgp_client.specs.declared.event.Event.{Event}
 use Rattle.pgp_client.specs.declared.event.Event.TheVariants.{Ended}
 use Rattle.pgp_client.specs.declared.request.Asked.{Asked}
@@ -212,12 +213,14 @@ module _ (ways : Ways) where
 
 -- what follows from what is known
 pub follows : (ways : Ways) (h : History) (now : Shown) → ((turns : List Turn) → FollowsTurns start turns → Belong (asked_in turns) (observed_in turns) (reported_in turns))
-    → ((turns : List Turn) (truth : List Event) → FollowsTurns start turns → Belong (asked_in turns) (observed_in turns) truth → (truth ≡ reported_in turns) ⊎ Doubts (asked_all start (asked_in turns)) (observed_in turns))
+    → ((turns : List Turn) → FollowsTurns start turns → BelongInTurns turns (reported_in turns))
+    → ((turns : List Turn) (truth : List Event) → FollowsTurns start turns → BelongInTurns turns truth → truth ≡ reported_in turns)
     → Known ways h now → Follows ways h now
-follows ways h now belongs single k = record {
+follows ways h now belongs timely single k = record {
   asked = plays_asked ways k.plays;
   observed = plays_observed ways k.plays;
   belong = belongs h.turns (plays_follow ways k.plays);
+  in_turns = timely h.turns (plays_follow ways k.plays);
   alone = λ truth. single h.turns truth (plays_follow ways k.plays);
   allowed = plays_allowed ways k.plays;
   admitted = plays_admitted ways k.plays;
@@ -237,25 +240,25 @@ right_of : (a b : Bool) → (a && b) ≡ true → b ≡ true
 right_of true b e = e
 right_of false b e = absurd cc
 
-may_tagged : (b : Bool) (m : ClientMessage) → may_send b m ≡ true → tag_of m ≢ None
-may_tagged b (Startup minor parameters) e = absurd cc
-may_tagged b (CancelRequest process_id secret_key) e = absurd cc
-may_tagged b SslRequest e = absurd cc
-may_tagged b GssEncRequest e = absurd cc
-may_tagged b m e = λ none. cc
+may_tagged : (b a : Bool) (m : ClientMessage) → may_send b a m ≡ true → tag_of m ≢ None
+may_tagged b a (Startup minor parameters) e = absurd cc
+may_tagged b a (CancelRequest process_id secret_key) e = absurd cc
+may_tagged b a SslRequest e = absurd cc
+may_tagged b a GssEncRequest e = absurd cc
+may_tagged b a m e = λ none. cc
 
-may_open : (b : Bool) (m : ClientMessage) → may_send b m ≡ true → is_secret m ≡ false
-may_open b (PasswordMessage password) e = absurd cc
-may_open b (SaslInitialResponse mechanism response) e = absurd cc
-may_open b (SaslResponse response) e = absurd cc
-may_open b m e = refl
+may_open : (b a : Bool) (m : ClientMessage) → may_send b a m ≡ true → is_secret m ≡ false
+may_open b a (PasswordMessage password) e = absurd cc
+may_open b a (SaslInitialResponse mechanism response) e = absurd cc
+may_open b a (SaslResponse response) e = absurd cc
+may_open b a m e = refl
 
 pub sends : (ways : Ways) (h : History) (old new : Shown) (m : ClientMessage) (name : ℕ) → Sent m old new name → Known ways h old → Known ways (and_wrote m name h) new
 sends ways h old new m name s k =
-    let phase : old.phase ≡ Started = started_at old.phase old.login.phase (may_send (is_copying old.talk) m) s.may in
-    let may : may_send (is_copying old.talk) m ≡ true = right_of (is_logged_in old) (may_send (is_copying old.talk) m) s.may in
+    let phase : old.phase ≡ Started = started_at old.phase old.login.phase (may_send (is_copying old.talk) (awaits_data old.talk) m) s.may in
+    let may : may_send (is_copying old.talk) (awaits_data old.talk) m ≡ true = right_of (is_logged_in old) (may_send (is_copying old.talk) (awaits_data old.talk) m) s.may in
     let opened : is_opened h.written ≡ true = at_started old.phase (is_opened h.written) phase k.opened in
-    wrote ways h old new m name (tagged_may h.written m opened (may_tagged (is_copying old.talk) m may)) (may_open (is_copying old.talk) m may)
+    wrote ways h old new m name (tagged_may h.written m opened (may_tagged (is_copying old.talk) (awaits_data old.talk) m may)) (may_open (is_copying old.talk) (awaits_data old.talk) m may)
     (subst (λ (p : ConnectionPhase). IsOpenedAt p (is_opened (h.written ++ m ∷ []))) (sym (ap (λ (c : Shown). c.phase) s.is ∙ phase)) (opened_still h.written m opened))
     s.added (ap (λ (c : Shown). c.incoming) s.is) (ap (λ (c : Shown). c.talk) s.is ∙ ap (λ n. asked_of (request_of m) n old.talk) (sym s.named)) (ap (λ (c : Shown). c.login) s.is) (ap (λ (c : Shown). c.server) s.is) k
 

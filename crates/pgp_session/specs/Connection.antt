@@ -1,15 +1,16 @@
 -- A client's connection: what each call makes of it.
 -- PostgreSQL manual, "Message Flow"; "SSL Session Encryption".
-use Rattle.std.specs.Prelude.{◌≡◌, ◌≢◌, ◌⊎◌, ℕ, ◌+◌, nat_lt, Bool, true, false, List, [], ◌∷◌, ◌++◌, drop, take, Option, Some, None, Result, Ok, Err, if◌then◌else◌, ◌==◌, ◌&&◌}
+use Rattle.std.specs.Prelude.{◌≡◌, ◌≢◌, ◌⊎◌, ℕ, ◌+◌, nat_lt, Bool, true, false, not, List, [], ◌∷◌, ◌++◌, drop, take, Option, Some, None, Result, Ok, Err, if◌then◌else◌, ◌==◌, ◌&&◌}
 use Rattle.pgp_base.specs.declared.error.Error.{Error}
 use Rattle.pgp_base.specs.declared.error.Error.TheVariants.{OutOfMemory as NoMemory}
 use Rattle.pgp_client.specs.Kinds.{kind_of, request_of}
-use Rattle.pgp_client.specs.Taking.{asked, is_copying, taken}
+use Rattle.pgp_client.specs.Taking.{asked, awaits_data, is_copying, taken}
 use Rattle.pgp_client.specs.Talk.{Talk, shown as talk_of}
 use Rattle.pgp_client.specs.Telling.{start}
 use Rattle.pgp_client.specs.declared.event.Event.{Event}
 use Rattle.pgp_client.specs.declared.event.Event.TheVariants.{Ended, Part}
 use Rattle.pgp_client.specs.declared.request.Request.{Request}
+use Rattle.pgp_client.specs.declared.stage.Stage.TheVariants.{Over as NothingMore}
 use Rattle.pgp_frontend.specs.ClientMessage.{ClientMessage, Bind, CancelRequest, Close, CopyData, CopyDone, CopyFail, Describe, Execute, Flush, Parse, Query, Sync}
 use Rattle.pgp_frontend.specs.Payload.{bytes_of}
 use Rattle.pgp_message.specs.BackendMessage.{Message, CopyData as DataCame, DataRow}
@@ -64,23 +65,28 @@ is_logged_in c = logged_in_at c.phase c.login.phase
 
 -- ---- sending
 
--- a request, and data of a copy and their end where a copy to the server is under way
-abbrev pub may_send : Bool → ClientMessage → Bool
-may_send copying (Query text) = true
-may_send copying (Parse name query types) = true
-may_send copying (Bind portal statement formats values result_formats) = true
-may_send copying (Describe variant name) = true
-may_send copying (Execute portal max_rows) = true
-may_send copying (Close variant name) = true
-may_send copying Sync = true
-may_send copying Flush = true
-may_send copying (CopyData bytes) = copying
-may_send copying CopyDone = copying
-may_send copying (CopyFail reason) = copying
-may_send copying m = false
+-- A request where no data of a copy are awaited, and data and their end in a copy to the server. A server that awaits data takes Sync and Flush among them,
+-- and passes over both; any other message ends the copy with an error, and the session on older servers.
+abbrev pub may_send : Bool → Bool → ClientMessage → Bool
+may_send copying awaiting (Query text) = not awaiting
+may_send copying awaiting (Parse name query types) = not awaiting
+may_send copying awaiting (Bind portal statement formats values result_formats) = not awaiting
+may_send copying awaiting (Describe variant name) = not awaiting
+may_send copying awaiting (Execute portal max_rows) = not awaiting
+may_send copying awaiting (Close variant name) = not awaiting
+may_send copying awaiting Sync = true
+may_send copying awaiting Flush = true
+may_send copying awaiting (CopyData bytes) = copying
+may_send copying awaiting CopyDone = copying
+may_send copying awaiting (CopyFail reason) = copying
+may_send copying awaiting m = false
 
 abbrev pub can_send : Shown → ClientMessage → Bool
-can_send c m = is_logged_in c && may_send (is_copying c.talk) m
+can_send c m = is_logged_in c && may_send (is_copying c.talk) (awaits_data c.talk) m
+
+-- the log-in is done, and no data of a copy are awaited
+abbrev pub may_ask : Shown → Bool
+may_ask c = is_logged_in c && not (awaits_data c.talk)
 
 -- names go on from 0 after the greatest
 abbrev pub next_name : ℕ → ℕ
@@ -111,9 +117,9 @@ Sends lacks m old new (Err e) = ⊥
 -- A request of messages that iterators gave: `Whole` says which it is, and `Refuses` why a writer rejects it.
 abbrev pub SendsGiven : {A : Type 0} → Type 0 → (ClientMessage → Type 0) → (Error → Type 0) → Shown → Shown → Result ℕ (ConnectionError A) → Type 0
 SendsGiven lacks Whole Refuses old new (Ok name) = (m : ClientMessage) × Whole m × Sent m old new name
-SendsGiven lacks Whole Refuses old new (Err OutOfPhase) = (is_logged_in old ≡ false) × (new ≡ old)
-SendsGiven lacks Whole Refuses old new (Err (Unwritten e)) = (is_logged_in old ≡ true) × Refuses e × (new ≡ old)
-SendsGiven lacks Whole Refuses old new (Err OutOfMemory) = (is_logged_in old ≡ true) × lacks × (new ≡ old)
+SendsGiven lacks Whole Refuses old new (Err OutOfPhase) = (may_ask old ≡ false) × (new ≡ old)
+SendsGiven lacks Whole Refuses old new (Err (Unwritten e)) = (may_ask old ≡ true) × Refuses e × (new ≡ old)
+SendsGiven lacks Whole Refuses old new (Err OutOfMemory) = (may_ask old ≡ true) × lacks × (new ≡ old)
 SendsGiven lacks Whole Refuses old new (Err e) = ⊥
 
 -- *private*: the request was noted whose message was written, or the message was taken back
@@ -169,6 +175,10 @@ moved phase t m c = record { phase = phase; login = c.login; out = c.out; incomi
 abbrev pub with_login : Login → List ℕ → Shown → Shown
 with_login l out c = record { phase = c.phase; login = l; out = out; incoming = c.incoming; talk = c.talk; server = c.server; names = c.names; limit = c.limit }
 
+-- after a message that wasn't taken, with all else as it was
+abbrev pub left_at : ConnectionPhase → Talk → Login → Said → Shown → Shown
+left_at phase t l s c = record { phase = phase; login = l; out = c.out; incoming = c.incoming; talk = t; server = s; names = c.names; limit = c.limit }
+
 abbrev pub is_end : Event → Bool
 is_end Ended = true
 is_end e = false
@@ -199,21 +209,25 @@ pub record TookEnd (m : Message) (old new : Shown) (e : Event) : Type 0 where
   pub is : new ≡ moved Over new.talk m old
 
 module _ {A : Type 0} (lacks : Type 0) where
-  -- why a message isn't taken: it isn't attributed, what it reports can't be kept, or the log-in stops at it
-  abbrev pub Stops : Message → Shown → ConnectionError A → Type 0
-  Stops m old e = ((r : Refusal) × (taken old.talk (kind_of m) ≡ Err r) × (e ≡ Misplaced r))
-      ⊎ ((x : Event × Talk) × (taken old.talk (kind_of m) ≡ Ok x) × (cause : Error) × IsUnkept lacks most (setting_in m) old.server.settings cause × (e ≡ Unkept cause))
+  -- Why a message isn't taken, and what is left in this phase: it isn't attributed, so that no message is any more; or what it reports can't be kept; or the
+  -- log-in stops at it, and is no further.
+  abbrev pub Stops : ConnectionPhase → Message → Shown → Shown → ConnectionError A → Type 0
+  Stops phase m old new e = ((r : Refusal) × (taken old.talk (kind_of m) ≡ Err r) × (e ≡ Misplaced r) × (new.talk.stage ≡ NothingMore)
+      × (new ≡ left_at phase new.talk old.login old.server old))
+      ⊎ ((x : Event × Talk) × (taken old.talk (kind_of m) ≡ Ok x) × (cause : Error) × IsUnkept lacks most (setting_in m) old.server.settings cause × (e ≡ Unkept cause)
+      × (new ≡ left_at phase x.1 old.login old.server old))
       ⊎ ((x : Event × Talk) × (taken old.talk (kind_of m) ≡ Ok x) × HasRoom most (setting_in m) old.server.settings × (is_end x.0 ≡ false)
-      × ((after : Login) × (grown : List ℕ) × login.Hears lacks (asking m) old.login after old.out grown (Err e)))
+      × login.Hears lacks (asking m) old.login new.login old.out old.out (Err e) × (new.login.phase ≡ old.login.phase)
+      × (new ≡ left_at phase x.1 new.login (heard m old.server) old))
 
   abbrev pub Takes : Message → Shown → Shown → Result Event (ConnectionError A) → Type 0
   Takes m old new (Ok e) = Took m old new e ⊎ TookEnd m old new e
-  Takes m old new (Err e) = Stops m old e × (new.out ≡ old.out)
+  Takes m old new (Err e) = Stops old.phase m old new e
 
   abbrev pub Hears : Message → Shown → Shown → Result (Option (Event × Message)) (ConnectionError A) → Type 0
   Hears m old new (Ok None) = ⊥
   Hears m old new (Ok (Some x)) = (x.1 ≡ m) × (Took m old new x.0 ⊎ TookEnd m old new x.0)
-  Hears m old new (Err e) = Stops m old e × (new.phase ≡ Over) × (new.out ≡ old.out)
+  Hears m old new (Err e) = Stops Over m old new e
 
   -- What a call for the next message comes to.
   pub data Nexts (old new : Shown) : Result (Option (Event × Message)) (ConnectionError A) → Type 0 where

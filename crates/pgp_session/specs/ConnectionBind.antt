@@ -3,7 +3,7 @@ use Rattle.std.specs.Prelude.{◌≡◌, ℕ, true, false, List, [], Result, Ok,
 use Rattle.pgp_base.specs.Held.{Held}
 use Rattle.pgp_base.specs.declared.error.BindError.{BindError}
 use Rattle.pgp_frontend.specs.ClientMessage.{ClientMessage}
-use Rattle.pgp_session.specs.Connection.{Sent, Shown, is_logged_in}
+use Rattle.pgp_session.specs.Connection.{Sent, Shown, may_ask}
 use Rattle.pgp_session.specs.Login.{Added}
 use Rattle.pgp_session.specs.declared.connection_error.BindSendError.{BindSendError}
 use Rattle.pgp_session.specs.declared.connection_error.BindSendError.TheVariants.{OutOfMemory, OutOfPhase, Unwritten}
@@ -27,6 +27,6 @@ module _ {E : Type 0} (Whole : ClientMessage → Type 0) (Refuses : BindError E 
   -- The message was added to what is to be sent, and asked of the server under this name; or nothing changed.
   abbrev pub SendsBind : Type 0 → Shown → Shown → Result ℕ (BindSendError E) → Type 0
   SendsBind lacks old new (Ok name) = (m : ClientMessage) × Whole m × Sent m old new name
-  SendsBind lacks old new (Err OutOfPhase) = (is_logged_in old ≡ false) × (new ≡ old)
-  SendsBind lacks old new (Err (Unwritten e)) = (is_logged_in old ≡ true) × Refuses e × (new ≡ old)
-  SendsBind lacks old new (Err OutOfMemory) = (is_logged_in old ≡ true) × lacks × (new ≡ old)
+  SendsBind lacks old new (Err OutOfPhase) = (may_ask old ≡ false) × (new ≡ old)
+  SendsBind lacks old new (Err (Unwritten e)) = (may_ask old ≡ true) × Refuses e × (new ≡ old)
+  SendsBind lacks old new (Err OutOfMemory) = (may_ask old ≡ true) × lacks × (new ≡ old)

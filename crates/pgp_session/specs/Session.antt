@@ -6,10 +6,11 @@ use Rattle.pgp_base.specs.declared.error.Error.{Error}
 use Rattle.pgp_auth.specs.Md5Text.{md5_answer}
 use Rattle.pgp_auth.specs.ScramClient.{Client, Answers, Completes, message_of}
 use Rattle.pgp_client.specs.Flow.{Belong}
+use Rattle.pgp_client.specs.InTurns.{BelongInTurns}
 use Rattle.pgp_client.specs.Kinds.{kind_of, request_of}
 use Rattle.pgp_client.specs.Taking.{taken}
 use Rattle.pgp_client.specs.Talk.{Talk}
-use Rattle.pgp_client.specs.Telling.{Doubts, Turn, Asks, Hears as HearsTurn, asked_all, asked_in, observed_in, reported_in, start}
+use Rattle.pgp_client.specs.Telling.{Turn, Asks, Hears as HearsTurn, asked_in, observed_in, reported_in, start}
 use Rattle.pgp_client.specs.declared.event.Event.{Event}
 use Rattle.pgp_client.specs.declared.request.Asked.{Asked}
 use Rattle.pgp_client.specs.declared.request.Request.{Request}
@@ -143,13 +144,14 @@ IsAllowed ways (SaslResponse text) = (x : Client) × (ways.scram ≡ Some x) × 
 IsAllowed ways m = Unit {0}
 
 -- What is known says of a session: the requests that were asked are those of the messages written; each message belongs to the request that was reported, and to
--- no other, but where it is uncertain over which Syncs the server passed; no password is given away but by an admitted way; a client is logged in by one such way
--- alone; and the status, the key and each setting are the server's last.
+-- no other, since a server passes over no Sync that is asked after it told that a copy failed; no password is given away but by an admitted way; a client is
+-- logged in by one such way alone; and the status, the key and each setting are the server's last.
 pub record Follows (ways : Ways) (h : History) (now : Shown) : Type 0 where
   pub asked : requests_in (asked_in h.turns) ≡ requests_of h.written
   pub observed : observed_in h.turns ≡ map kind_of h.observed
   pub belong : Belong (asked_in h.turns) (observed_in h.turns) (reported_in h.turns)
-  pub alone : (truth : List Event) → Belong (asked_in h.turns) (observed_in h.turns) truth → (truth ≡ reported_in h.turns) ⊎ Doubts (asked_all start (asked_in h.turns)) (observed_in h.turns)
+  pub in_turns : BelongInTurns h.turns (reported_in h.turns)
+  pub alone : (truth : List Event) → BelongInTurns h.turns truth → truth ≡ reported_in h.turns
   pub allowed : AllByRecursion (IsAllowed ways) h.written
   pub admitted : now.login.phase ≡ Done → Admitted ways h.observed (secrets_of h.written)
   pub server : now.server.state ≡ state_after unsaid h.observed

@@ -11,7 +11,7 @@ ghost use Rattle.pgp_session.specs.Login.{given};
 ghost use Rattle.pgp_client.specs.Taking.{is_idle};
 ghost use Rattle.pgp_session.specs.Settings.{value_of};
 ghost use Rattle.pgp_session.specs.Incoming.{Reads};
-ghost use Rattle.pgp_session.specs.Connection.{Advances, Answers, Cancels, Feeds, Nexts, Sends, Starts, Writes, begun, can_send, current, dropped, is_logged_in, nexted, shown};
+ghost use Rattle.pgp_session.specs.Connection.{Advances, Answers, Cancels, Feeds, Nexts, Sends, Starts, Writes, begun, can_send, current, dropped, is_logged_in, may_ask, nexted, shown};
 
 use crate::connection_error::ConnectionError;
 use crate::connection_parts::{encrypts, may_send, next_name, put_startup};
@@ -162,6 +162,13 @@ impl<'a, A: Memory> Connection<'a, A> {
         }
     }
 
+    /// Whether a request may be sent: the log-in is done, and the server awaits no data of a copy that the client is still to end.
+    pub fn may_ask(&self) -> bool
+        ensures { result ≡ may_ask (shown self.now) }
+    {
+        self.is_logged_in() && !self.state.dialogue.awaits_data()
+    }
+
     /// The bytes to send.
     pub fn to_send(&self) -> &[u8]
         ensures { result.now ≡ (shown self.now).out }
@@ -172,7 +179,8 @@ impl<'a, A: Memory> Connection<'a, A> {
     /// Takes note that the first bytes to send, so many, were sent.
     pub fn sent(&mut self, count: usize)
         requires { count ≤ length (shown self.old).out }
-        ensures { shown self.new ≡ dropped count (shown self.old) }
+        ensures shown { shown self.new ≡ dropped count (shown self.old) }
+        ensures current { current self.new ≡ current self.old }
     {
         self.state.out.advance(count);
     }
@@ -184,7 +192,8 @@ impl<'a, A: Memory> Connection<'a, A> {
     /// On error nothing changes.
     ///
     /// - `OutOfPhase` before the log-in is done and after the end, for data of a copy or their end where no copy to the server is under
-    ///   way, and for messages of a log-in, Terminate and FunctionCall, which aren't sent so.
+    ///   way, for requests but Sync while the server awaits such data, and for messages of a log-in, Terminate and FunctionCall, which
+    ///   aren't sent so.
     /// - `Unwritten` of `EmbeddedNull`, `TooLarge` or `OutOfMemory`.
     /// - `OutOfMemory` if there is no memory to take note of the request.
     pub fn send(&mut self, message: &ClientMessage<'_>) -> Result<u64, ConnectionError<A>>
@@ -212,7 +221,12 @@ impl<'a, A: Memory> Connection<'a, A> {
     fn can_send(&self, message: &ClientMessage<'_>) -> bool
         ensures { result ≡ can_send (shown self.now) (sent_view message.now) }
     {
-        self.is_logged_in() && may_send(message, self.state.dialogue.is_copying())
+        self.is_logged_in()
+            && may_send(
+                message,
+                self.state.dialogue.is_copying(),
+                self.state.dialogue.awaits_data(),
+            )
     }
 
     /// Takes bytes that the server sent. `advance` and `next` give the messages among them.

@@ -49,14 +49,16 @@ pub(crate) fn is_bulk<S: Storage>(message: &Message<S>, event: Event) -> bool
     }
 }
 
-/// Whether a message may be sent after the log-in: a request, or data of a copy where one is under way.
-pub(crate) fn may_send(message: &ClientMessage<'_>, copying: bool) -> bool
-    ensures { result ≡ may_send copying (sent_view message.now) }
+/// Whether a message may be sent after the log-in: a request where no data of a copy are awaited, or data of a copy where one is under way.
+pub(crate) fn may_send(message: &ClientMessage<'_>, copying: bool, awaiting: bool) -> bool
+    ensures { result ≡ may_send copying awaiting (sent_view message.now) }
 {
     match message {
-        ClientMessage::Query(_) | ClientMessage::Parse { .. } | ClientMessage::Bind { .. } => true,
-        ClientMessage::Describe { .. } | ClientMessage::Execute { .. } => true,
-        ClientMessage::Close { .. } | ClientMessage::Sync | ClientMessage::Flush => true,
+        ClientMessage::Query(_) | ClientMessage::Parse { .. } | ClientMessage::Bind { .. } =>
+            !awaiting,
+        ClientMessage::Describe { .. } | ClientMessage::Execute { .. } => !awaiting,
+        ClientMessage::Close { .. } => !awaiting,
+        ClientMessage::Sync | ClientMessage::Flush => true,
         ClientMessage::CopyData(_) | ClientMessage::CopyDone | ClientMessage::CopyFail(_) =>
             copying,
         _ => false,

@@ -21,7 +21,7 @@ impl<'a, A: Memory> Connection<'a, A> {
     ///
     /// # Errors
     ///
-    /// On error nothing changes. `OutOfPhase` before the log-in is done and after the end; `Unwritten` of the error of `frontend::parse`;
+    /// On error nothing changes. `OutOfPhase` before the log-in is done, while the server awaits data of a copy, and after the end; `Unwritten` of the error of `frontend::parse`;
     /// `OutOfMemory` if there is no memory to take note of the request.
     pub fn parse<I: IntoIterator<Item = Oid> + Drop>(
         &mut self,
@@ -39,7 +39,7 @@ impl<'a, A: Memory> Connection<'a, A> {
             (λ h n. A.Lacks × (0 < n)) (items_held (shown self.old).out))
             (shown self.old) (shown self.new) result }
     {
-        if !self.is_logged_in() {
+        if !self.may_ask() {
             return Err(ConnectionError::OutOfPhase);
         }
         let start = self.state.out.len();
@@ -55,7 +55,7 @@ impl<'a, A: Memory> Connection<'a, A> {
     ///
     /// # Errors
     ///
-    /// On error nothing changes. `OutOfPhase` before the log-in is done and after the end; `Unwritten` of the error of `frontend::bind`, which
+    /// On error nothing changes. `OutOfPhase` before the log-in is done, while the server awaits data of a copy, and after the end; `Unwritten` of the error of `frontend::bind`, which
     /// has that of the serializer; `OutOfMemory` if there is no memory to take note of the request.
     pub fn bind<
         B: OutBuffer<A>,
@@ -97,7 +97,7 @@ impl<'a, A: Memory> Connection<'a, A> {
             here B.Buffer.Lacks))
             A.Lacks (shown self.old) (shown self.new) result }
     {
-        if !self.is_logged_in() {
+        if !self.may_ask() {
             return Err(BindSendError::OutOfPhase);
         }
         let start = self.state.out.len();

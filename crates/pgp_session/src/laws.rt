@@ -34,14 +34,14 @@ pub fn calls_are_known()
 }
 
 /// What is known of a connection says of the whole session: the requests that were asked are those of the messages in the bytes; each message of
-/// the server belongs to the request that was reported, and to no other, but where it is uncertain over which Syncs the server passed; no password is
+/// the server belongs to the request that was reported, and to no other; no password is
 /// given away but by a way that is admitted; and the client is logged in by one such way alone, and only where the server's signature was shown if an
 /// exchange of SCRAM-SHA-256 was begun; and the status, the key and each setting are the last that the server's messages have.
 pub fn sessions_follow()
     ensures { (ways : Admitting) (h : History) (now : Shown) → Known ways h now → Follows ways h now }
 {
     pgp_client::laws::only_answers_are_taken();
-    pgp_client::laws::later_requests_change_nothing();
+    pgp_client::laws::messages_belong_in_turns();
 }
 
 /// A message that is read in place is the one that `advance` took: of one frame there is one message.

@@ -48,6 +48,7 @@ impl<'a, A: Memory> Login<'a, A> {
     ) -> Result<(), ConnectionError<A>>
         ensures observed { Hears A.Lacks (asking (view message.now)) (seen self.old) (seen self.new) out.old.items out.new.items result }
         ensures kept { OnErr result (out.new.items ≡ out.old.items) }
+        ensures phase { OnErr result (self.new.phase ≡ self.old.phase) }
     {
         let asked = asked_by(message);
         if !is_due(self.phase, &asked) {
@@ -69,6 +70,7 @@ impl<'a, A: Memory> Login<'a, A> {
     fn cleartext(&mut self, out: &mut BytesMut<A>) -> Result<(), ConnectionError<A>>
         ensures observed { AsksCleartext A.Lacks (given self.old.ways).cleartext (seen self.old) (seen self.new) out.old.items out.new.items result }
         ensures kept { OnErr result (out.new.items ≡ out.old.items) }
+        ensures phase { OnErr result (self.new.phase ≡ self.old.phase) }
     {
         let Some(password) = self.ways.cleartext else {
             return Err(ConnectionError::NotAdmitted);
@@ -84,6 +86,7 @@ impl<'a, A: Memory> Login<'a, A> {
     fn md5(&mut self, salt: [u8; 4], out: &mut BytesMut<A>) -> Result<(), ConnectionError<A>>
         ensures observed { AsksMd5 A.Lacks (given self.old.ways).md5 salt (seen self.old) (seen self.new) out.old.items out.new.items result }
         ensures kept { OnErr result (out.new.items ≡ out.old.items) }
+        ensures phase { OnErr result (self.new.phase ≡ self.old.phase) }
     {
         let Some((user, password)) = self.ways.md5 else {
             return Err(ConnectionError::NotAdmitted);
@@ -103,6 +106,7 @@ impl<'a, A: Memory> Login<'a, A> {
     ) -> Result<(), ConnectionError<A>>
         ensures observed { AsksSasl A.Lacks (given self.old.ways).scram body.now (seen self.old) (seen self.new) out.old.items out.new.items result }
         ensures kept { OnErr result (out.new.items ≡ out.old.items) }
+        ensures phase { OnErr result (self.new.phase ≡ self.old.phase) }
     {
         let Some(exchange) = &self.ways.scram else {
             return Err(ConnectionError::NotAdmitted);
@@ -123,6 +127,7 @@ impl<'a, A: Memory> Login<'a, A> {
     fn reply(&mut self, text: &[u8], out: &mut BytesMut<A>) -> Result<(), ConnectionError<A>>
         ensures observed { AnswersFirst A.Lacks (given self.old.ways).scram text.now (seen self.old) (seen self.new) out.old.items out.new.items result }
         ensures kept { OnErr result (out.new.items ≡ out.old.items) }
+        ensures phase { OnErr result (self.new.phase ≡ self.old.phase) }
     {
         let Some(mut exchange) = self.ways.scram.take() else {
             return Err(ConnectionError::NotAdmitted);
@@ -139,7 +144,8 @@ impl<'a, A: Memory> Login<'a, A> {
 
     /// The server's final text came, which has to show its signature.
     fn verify(&mut self, text: &[u8]) -> Result<(), ConnectionError<A>>
-        ensures { VerifiesFinal A.Lacks (given self.old.ways).scram text.now (seen self.old) (seen self.new) result }
+        ensures observed { VerifiesFinal A.Lacks (given self.old.ways).scram text.now (seen self.old) (seen self.new) result }
+        ensures phase { OnErr result (self.new.phase ≡ self.old.phase) }
     {
         let Some(mut exchange) = self.ways.scram.take() else {
             return Err(ConnectionError::NotAdmitted);
@@ -154,7 +160,8 @@ impl<'a, A: Memory> Login<'a, A> {
 
     /// The server lets the client in.
     fn welcome(&mut self) -> Result<(), ConnectionError<A>>
-        ensures { Welcomes (seen self.old) (seen self.new) result }
+        ensures observed { Welcomes (seen self.old) (seen self.new) result }
+        ensures phase { OnErr result (self.new.phase ≡ self.old.phase) }
     {
         if self.phase == LoginPhase::AwaitsOffer && !self.ways.none {
             return Err(ConnectionError::NotAdmitted);

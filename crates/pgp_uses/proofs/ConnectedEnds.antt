@@ -87,9 +87,9 @@ module _ {E : Type 0} (lacks : Type 0) where
   heard m name next old new (Ok (Some x)) is kept (same, inr took) =
       let at = ok_parts (taken old.talk (kind_of m)) x.0 (Part name) new.talk next took.taken is in
       absurd (no_end x.0 name at.0 took.ends)
-  heard m name next old new (Err e) is kept (inl stops, over, out) = absurd (no_refusal (Part name, next) stops.0 (taken old.talk (kind_of m)) is stops.1)
-  heard m name next old new (Err e) is kept (inr (inl stops), over, out) = absurd (kept stops.2 stops.3)
-  heard m name next old new (Err e) is kept (inr (inr stops), over, out) = inr (e, refl, stops.4.0, stops.4.1, stops.4.2)
+  heard m name next old new (Err e) is kept (inl stops) = absurd (no_refusal (Part name, next) stops.0 (taken old.talk (kind_of m)) is stops.1)
+  heard m name next old new (Err e) is kept (inr (inl stops)) = absurd (kept stops.2 stops.3)
+  heard m name next old new (Err e) is kept (inr (inr stops)) = inr (e, refl, new.login, old.out, stops.4)
 
 -- ---- the log-in's steps
 

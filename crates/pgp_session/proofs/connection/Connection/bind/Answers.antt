@@ -1,22 +1,23 @@
-use Rattle.std.proofs.Common.{rules, ap, refl}
+use Rattle.std.proofs.Common.{◌≡◌, ◌∙◌, true, rules, ap, refl}
 use Rattle.std.specs.Prelude.{List, ℕ}
 use Rattle.pgp_client.specs.Kinds.{request_of}
-use Rattle.pgp_client.specs.Taking.{is_copying}
+use Rattle.pgp_client.specs.Taking.{awaits_data, is_copying}
 use Rattle.pgp_client.specs.declared.request.Request.TheVariants.{Bind}
-use Rattle.pgp_session.specs.Connection.{may_send, shown, with_out}
-use Rattle.pgp_session.proofs.Connections.{bound_by, taken_back}
+use Rattle.pgp_session.specs.Connection.{may_ask, may_send, shown, with_out}
+use Rattle.pgp_session.proofs.Connections.{bound_by, none_awaited, taken_back}
 use Rattle.pgp_session.proofs.connection.Connection.bind.Goals as goal
 
-pub returns-then-not-is_logged_in : goal.returns-then-not-is_logged_in
-returns-then-not-is_logged_in g c = (c.args.serializer, (search rules, refl))
+pub returns-then-not-may_ask : goal.returns-then-not-may_ask
+returns-then-not-may_ask g c = (c.args.serializer, (search rules, refl))
 
 pub returns-in-Some : goal.returns-in-Some
 returns-in-Some g c =
     let old = shown c.args.self.now in
     let e = c.in-Ok.ensures.1 in
-    let is = e.1.2.2.2.2 in (
+    let is = e.1.2.2.2.2 in
+    let asks : may_ask old ≡ true = search rules in (
       c.in-Ok.ensures.0,
-      bound_by _ e.0 Bind old (shown c.noted.new.self) c.put_bind.new.out.items c.in-Some.name e.1 (ap (may_send (is_copying old.talk)) is) e.2 (ap request_of is) (search rules) c.in-Some.ensures.0 c.in-Some.ensures.1,
+      bound_by _ e.0 Bind old (shown c.noted.new.self) c.put_bind.new.out.items c.in-Some.name e.1 (ap (may_send (is_copying old.talk) (awaits_data old.talk)) is ∙ none_awaited old asks) e.2 (ap request_of is) asks c.in-Some.ensures.0 c.in-Some.ensures.1,
     )
 
 pub returns-in-None : goal.returns-in-None

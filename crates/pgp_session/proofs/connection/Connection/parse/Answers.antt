@@ -1,10 +1,10 @@
-use Rattle.std.proofs.Common.{rules, ap, subst}
+use Rattle.std.proofs.Common.{◌≡◌, ◌∙◌, true, rules, ap, subst}
 use Rattle.pgp_client.specs.Kinds.{request_of}
-use Rattle.pgp_client.specs.Taking.{is_copying}
+use Rattle.pgp_client.specs.Taking.{awaits_data, is_copying}
 use Rattle.pgp_client.specs.declared.request.Request.TheVariants.{Parse}
 use Rattle.pgp_frontend.specs.Payload.{bytes_of}
-use Rattle.pgp_session.specs.Connection.{Notes, may_send, shown, with_out}
-use Rattle.pgp_session.proofs.Connections.{given_by}
+use Rattle.pgp_session.specs.Connection.{Notes, may_ask, may_send, shown, with_out}
+use Rattle.pgp_session.proofs.Connections.{given_by, none_awaited}
 use Rattle.pgp_session.proofs.LogIns.{lengthened_by}
 use Rattle.pgp_session.proofs.connection.Connection.parse.Goals as goal
 
@@ -12,6 +12,7 @@ pub returns-in-Ok : goal.returns-in-Ok
 returns-in-Ok g c =
     let e = c.in-Ok.ensures in
     let old = shown c.args.self.now in
-    given_by g.A.Memory.Lacks _ _ e.message Parse old (shown c.asked.new.self) c.parse.new.buf.items c.asked.result e.whole (ap (may_send (is_copying old.talk)) e.whole.2) e.none e.in_range (ap request_of e.whole.2) (search rules)
+    let asks : may_ask old ≡ true = search rules in
+    given_by g.A.Memory.Lacks _ _ e.message Parse old (shown c.asked.new.self) c.parse.new.buf.items c.asked.result e.whole (ap (may_send (is_copying old.talk) (awaits_data old.talk)) e.whole.2 ∙ none_awaited old asks) e.none e.in_range (ap request_of e.whole.2) asks
     (lengthened_by c.args.self.now.state.out.items c.parse.new.buf.items (bytes_of e.message) e.appended)
     (subst (λ n. Notes g.A.Memory.Lacks n Parse (with_out c.parse.new.buf.items old) (shown c.asked.new.self) c.asked.result) c.len-start.ensures.value c.asked.ensures)

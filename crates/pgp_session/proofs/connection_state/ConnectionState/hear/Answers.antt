@@ -1,5 +1,7 @@
-use Rattle.std.proofs.Common.{refl}
+use Rattle.pgp_message.specs.Views.{view}
+use Rattle.pgp_session.specs.Connection.{in_state}
+use Rattle.pgp_session.proofs.Connections.{stops_over}
 use Rattle.pgp_session.proofs.connection_state.ConnectionState.hear.Goals as goal
 
 pub returns-in-Err : goal.returns-in-Err
-returns-in-Err g c = λ s. let t = c.in-Err.ensures s in (t.0, refl, t.1)
+returns-in-Err g c = λ s. stops_over g.A.Memory.Lacks (view c.args.message.now) (in_state c.args.self.now s) (in_state c.take.new.self s) c.in-Err.e (c.in-Err.ensures s)

@@ -1,11 +1,12 @@
-use Rattle.std.proofs.Common.{sym, inl, inr, ◌∙◌}
+use Rattle.std.proofs.Common.{List, ap, refl, sym, inl, inr, ◌∙◌}
 use Rattle.pgp_client.specs.Kinds.{kind_of}
 use Rattle.pgp_client.specs.Talk.{shown as talk_of}
 use Rattle.pgp_client.specs.Taking.{taken}
 use Rattle.pgp_message.specs.Views.{view}
 use Rattle.pgp_session.specs.Login.{asking, seen}
-use Rattle.pgp_session.specs.Connection.{in_state}
-use Rattle.pgp_session.proofs.Connections.{taken_ok, took_bulk, took_so}
+use Rattle.pgp_session.specs.Connection.{in_state, left_at}
+use Rattle.pgp_message.specs.Parts.{Setting}
+use Rattle.pgp_session.proofs.Connections.{stopped_log_in, taken_no, taken_ok, took_bulk, took_so}
 use Rattle.pgp_session.proofs.LogIns.{logs_on}
 use Rattle.pgp_session.proofs.Reported.{heard_so}
 use Rattle.pgp_session.proofs.connection_state.ConnectionState.take.Goals as goal
@@ -29,9 +30,33 @@ returns-in-Ok-hear g c = λ s.
           (heard_so m c.note.new.self c.keep.new.self.entries.items old.server c.note.ensures c.in-Ok-keep.ensures.1);
     })
 
+pub returns-in-Err : goal.returns-in-Err
+returns-in-Err g c = λ s.
+    let old = in_state c.args.self.now s in
+    let talk = talk_of (λ q. q.items) c.take_message.new.self in
+    let is = taken_no (taken old.talk (kind_of (view c.args.message.now))) c.in-Err.e talk c.in-Err.ensures in
+    inl (c.in-Err.e, is.0, refl, is.1, refl)
+
+pub returns-in-Err-keep : goal.returns-in-Err-keep
+returns-in-Err-keep g c = λ s.
+    let old = in_state c.args.self.now s in
+    let talk = talk_of (λ q. q.items) c.take_message.new.self in
+    let is = taken_ok (taken old.talk (kind_of (view c.args.message.now))) c.in-Ok.event talk c.in-Ok.ensures in
+    inr (inl (
+      (c.in-Ok.event, talk),
+      is,
+      c.in-Err-keep.e,
+      c.in-Err-keep.ensures.0,
+      refl,
+      ap (λ (k : List Setting). left_at old.phase talk old.login (record { state = old.server.state; settings = k }) old) c.in-Err-keep.ensures.1,
+    ))
+
 pub returns-in-Err-hear : goal.returns-in-Err-hear
 returns-in-Err-hear g c = λ s.
     let m = view c.args.message.now in
+    let old = in_state c.args.self.now s in
     let talk = talk_of (λ q. q.items) c.take_message.new.self in
-    let is = taken_ok (taken (talk_of (λ q. q.items) c.args.self.now.dialogue) (kind_of m)) c.in-Ok.event talk c.in-Ok.ensures in
-    (inr (inr ((c.in-Ok.event, talk), is, c.in-Ok-keep.ensures.0, sym c.is_end.ensures ∙ c.if-is_end.false, (seen c.hear.new.self, c.hear.new.out.items, c.in-Err-hear.ensures.observed))), c.in-Err-hear.ensures.kept)
+    let is = taken_ok (taken old.talk (kind_of m)) c.in-Ok.event talk c.in-Ok.ensures in
+    stopped_log_in g.A.Memory.Lacks m old talk (seen c.hear.new.self) c.hear.new.out.items (record { state = c.note.new.self; settings = c.keep.new.self.entries.items }) c.in-Ok.event c.in-Err-hear.e
+    is c.in-Ok-keep.ensures.0 (sym c.is_end.ensures ∙ c.if-is_end.false) c.in-Err-hear.ensures.observed c.in-Err-hear.ensures.kept c.in-Err-hear.ensures.phase
+    (heard_so m c.note.new.self c.keep.new.self.entries.items old.server c.note.ensures c.in-Ok-keep.ensures.1)
