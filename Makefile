@@ -8,10 +8,12 @@
 # `make check-c` tries it from C, C++ and Python (`LIBRARIES=gate`, right behind `rt ci`, takes the libraries below it from there).
 # `make wheel` builds the Python package over it (docs/PYTHON.md).
 # `make rust` writes the Cargo package out/rust/postgres-protocol (docs/RUST.md), `make check-rust` tries it.
+# `make quick` builds the library, the Python package and the programs from the sources without their contracts in half a minute, with cargo and no `rt`:
+# nothing of it is proved. `make check-quick` runs the tests and the stored runs over it.
 # `make check-vendor` runs the commands of docs/VENDORING.md in an empty folder. `make contracts` writes docs/CONTRACTS.md from the sources.
 # `make bench` times the works of crates/pgp_bench, `make bench WORKS=write` those whose names begin so.
 
-.PHONY: run program test edits contracts bench live library wheel install check-c check-vendor rust check-rust
+.PHONY: run program test edits contracts bench live library wheel install check-c check-vendor rust check-rust quick check-quick
 
 run:
 	@scripts/sample
@@ -84,3 +86,9 @@ rust:
 
 check-rust:
 	@scripts/check_rust
+
+quick:
+	@scripts/quick
+
+check-quick:
+	@scripts/quick check

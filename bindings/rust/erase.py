@@ -12,13 +12,17 @@ class Unknown(Exception):
     """A construct that the generator doesn't know, or another number of one that it does."""
 
 
-def after_brace(text, at):
-    """The index after the brace that closes the one at `at`."""
+# A brace, or what may have one that is none: a literal or a comment.
+BRACE = re.compile(r'[{}()]|"(?:[^"\\]|\\.)*"|\'(?:[^\'\\]|\\.)\'|//[^\n]*', re.S)
+
+
+def after_brace(text, at, pair='{}'):
+    """The index after the brace, or the last of another pair, that closes the one at `at`."""
     depth = 0
-    for i in range(at, len(text)):
-        depth += (text[i] == '{') - (text[i] == '}')
+    for match in BRACE.finditer(text, at):
+        depth += (match[0] == pair[0]) - (match[0] == pair[1])
         if depth == 0:
-            return i + 1
+            return match.end()
     raise Unknown('a brace is open: ' + text[at:at + 60].split('\n')[0])
 
 

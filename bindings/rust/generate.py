@@ -10,16 +10,17 @@ CORE = ['pgp_base', 'pgp_frontend', 'pgp_message', 'pgp_types', 'pgp_auth', 'pgp
 MORE = ['pgp_frontend_read', 'pgp_message_write', 'pgp_client', 'pgp_session', 'pgp_values']
 # The crates that a `use` may name; else it names a module.
 NAMES = set(CORE + MORE) | {'pgp_rows', 'postgres_protocol', 'std', 'crate', 'bytes', 'self', 'super'}
+HEAD = '//! The generated modules: the proved sources without their contracts. Change the sources, not these.\n'
 LEFT_OUT = re.compile(r'^(laws|memory|tests)(/|\.rt$)')
 
 
-def sources(crate):
+def sources(crate, without=LEFT_OUT):
     """The names of a crate's files below `src`."""
     root = os.path.join(top, 'crates', crate, 'src')
     for folder, _, files in sorted(os.walk(root)):
         for file in sorted(files):
             name = os.path.relpath(os.path.join(folder, file), root)
-            if file.endswith('.rt') and not LEFT_OUT.match(name):
+            if file.endswith('.rt') and not without.match(name):
                 yield name
 
 
@@ -28,14 +29,21 @@ def place(source, line):
     return next((f':{i}' for i, have in enumerate(source.split('\n'), 1) if line in have), '')
 
 
-def module(crate, name, used):
+def module(crate, name, used, before=None):
     path = os.path.join('crates', crate, 'src', name)
     source = open(os.path.join(top, path)).read()
     erased = erase(source)
     if not is_part(erased, source):
         raise Unknown(f'{path}: what stays is no part of the source')
+    return checked(before(erased, crate) if before else erased, crate, name, used)
+
+
+def checked(erased, crate, name, used, without=LEFT_OUT):
+    """The module of an erased text, in which no construct is left that no rule knows."""
+    path = os.path.join('crates', crate, 'src', name)
+    source = open(os.path.join(top, path)).read()
     text = fit(erased, crate, f'{crate}/{name[:-3]}', used)
-    for line, why in leftovers(text, {os.path.basename(n)[:-3] for n in sources(crate)}):
+    for line, why in leftovers(text, {os.path.basename(n)[:-3] for n in sources(crate, without)}):
         raise Unknown(f'{path}{place(source, line)}: no rule for `{why}`: {line}')
     return text
 
@@ -46,15 +54,23 @@ def write(path, text):
         file.write(text)
 
 
+def modules(crates, used, before=None):
+    """The texts of these crates' modules, by their paths below `proved`; `before` is applied where contracts are gone and nothing else."""
+    names = lambda crate: ((name, 'mod.rs' if name in ('lib.rt', 'main.rt') else name[:-3] + '.rs') for name in sources(crate))
+    return {f'{crate}/{path}': module(crate, name, used, before) for crate in crates for name, path in names(crate)}
+
+
+def all_used(used, crates):
+    for i, (file, _, old, _) in enumerate(PLACES):
+        if i not in used and file.split('/')[0] in crates:
+            raise Unknown(f'crates/{file.replace("/", "/src/", 1)}.rt: no such file: {old}')
+
+
 def generate(out, more=()):
     used = set()
-    texts = {}
-    for crate in CORE + MORE + list(more):
-        for name in sources(crate):
-            texts[f'{crate}/' + ('mod.rs' if name == 'lib.rt' else name[:-3] + '.rs')] = module(crate, name, used)
-    for i, (file, _, old, _) in enumerate(PLACES):
-        if i not in used:
-            raise Unknown(f'crates/{file.replace("/", "/src/", 1)}.rt: no such file: {old}')
+    crates = CORE + MORE + list(more)
+    texts = modules(crates, used)
+    all_used(used, crates)
     shutil.rmtree(os.path.join(out, 'src'), ignore_errors=True)
     shutil.copytree(os.path.join(here, 'adapter'), out, dirs_exist_ok=True)
     shutil.copytree(os.path.join(here, 'kit'), os.path.join(out, 'src/kit'), dirs_exist_ok=True)
@@ -63,9 +79,8 @@ def generate(out, more=()):
     for licence in ('LICENSE-APACHE', 'LICENSE-MIT'):
         shutil.copy(os.path.join(top, licence), out)
     gate = '#[cfg(feature = "extensions")]\n'
-    mods = ''.join((gate if c not in CORE else '') + f'pub mod {c};\n' for c in CORE + MORE + list(more))
-    head = '//! The generated modules: the proved sources without their contracts. Change the sources, not these.\n'
-    write(os.path.join(out, 'src/proved/mod.rs'), head + mods)
+    mods = ''.join((gate if c not in CORE else '') + f'pub mod {c};\n' for c in crates)
+    write(os.path.join(out, 'src/proved/mod.rs'), HEAD + mods)
     return sum(text.count('\n') for text in texts.values()), len(texts)
 
 

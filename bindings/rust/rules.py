@@ -13,6 +13,10 @@ NAMES = [
     ('use sha2::{Digest, Sha256};', 'use crate::kit::digests::Sha256;'),
     ('use md5::{Digest, Md5};', 'use crate::kit::digests::Md5;'),
     ('hex::encode_to_slice', 'crate::kit::hex::encode_to_slice'),
+    ('hex::encode(', 'crate::kit::hex::encoded('),
+    ('hex::decode(', 'crate::kit::hex::decoded('),
+    ('hex::FromHexError', 'crate::kit::hex::FromHexError'),
+    ('use hex::FromHex;', 'use crate::kit::hex::FromHex;'),
     ('use rand_core::Rng;', 'use crate::kit::random::Rng;'),
     ('use rand::RngExt;', 'use crate::kit::random::RngExt;'),
     ('use std::simd::prelude::*;', 'use crate::kit::lanes::*;'),
@@ -20,6 +24,16 @@ NAMES = [
     ('use thiserror::Error as DeriveError;\n', ''),
     ('fn fmt<W: fmt::Write>(&self, f: &mut fmt::Formatter<W>)', "fn fmt(&self, f: &mut fmt::Formatter<'_>)"),
     ('#[rattlefmt::skip]\n', ''),
+    ('use std::env::FillError;\n', 'use crate::kit::host::FillError;\n'),
+    ('use std::time::{Duration, Instant};', 'use crate::kit::host::Instant;\nuse std::time::Duration;'),
+    ('std::env::args(', 'crate::kit::host::args('),
+    ('fs::read_to_string(rt, ', 'fs::read_to_string('),
+    ('fs::read_to_string(&rt, ', 'fs::read_to_string('),
+    ('use std::test::Fail;\n', 'use crate::kit::calls::Fail;\n'),
+    ('use std::process::Abort;\n', 'use crate::kit::calls::Abort;\n'),
+    ('use std::rt::', 'use crate::kit::host::'),
+    ('io::writer(', 'crate::kit::host::writer('),
+    ('\nfn main(rt: HostRuntime)', '\npub fn main(rt: HostRuntime)'),
     # Of a later Rust than the package's.
     ('.cast_unsigned()', '.bits()'),
     ('.cast_signed()', '.number()'),
@@ -29,6 +43,9 @@ NAMES = [
     ('.checked_add_unsigned(', '.plus_unsigned('),
     ('.checked_sub_unsigned(', '.minus_unsigned('),
 ]
+
+# Crates of the kit whose names stand for modules of the shim.
+SHIMS = re.compile(r'(?<![\w:])(arrayvec|clap|itoa|jiff|jiff_core|jiff_fmt|rand_core|regex|ryu|ucd_category|uuid)::')
 
 # Single places: file, how often, text, its substitute.
 PLACES = [
@@ -44,14 +61,21 @@ PLACES = [
     # Before Rust 1.89 these temporaries don't outlive their `let`.
     ('pgp_message_write/row', 1, '        let fields = [\n', '        put_fields(&[\n'),
     ('pgp_message_write/row', 1, '        ];\n        put_fields(&fields, buf)\n', '        ], buf)\n'),
+    # What C hands over is taken out and put back.
+    ('pgp_c/dialogue', 1, 'mem::replace(&mut dialogue.room, &mut [])', 'dialogue.room.take()'),
+    ('pgp_c/dialogue', 1, 'dialogue.room = room;', 'dialogue.room.put_back(room);'),
+    # The shim's trait has one call.
+    ('pgp_test_alloc/counting', 1, '    fn next_u32(&mut self) -> u32 {\n        self.next_word()\n    }\n\n    fn next_u64(&mut self) -> u64 {\n        utils::next_u64_via_u32(self)\n    }\n\n', ''),
     # The adapter compiles these for single tags.
     ('pgp_message/message', 1, '    pub fn parse(', '    #[inline(always)]\n    pub fn parse('),
     ('pgp_message/parser', 1, '    pub fn parse(', '    #[inline(always)]\n    pub fn parse('),
 ]
 
 
-# Where a buffer's own method `as_slice` is called: crates.io's buffers have none.
-SLICED = {'pgp_message/parser', 'pgp_message/frames', 'pgp_message/shared', 'pgp_session/connection', 'pgp_session/incoming'}
+# Where a buffer's own method `as_slice` is called: the public crates have none. Where these are named it is a trait's, but for
+# two files.
+OF_A_TRAIT = re.compile(r'\b(?:Buffer|Storage)\b')
+SLICED = {'pgp_rows/client_read', 'pgp_rows/server'}
 
 
 def without_drop_bounds(text):
@@ -61,16 +85,17 @@ def without_drop_bounds(text):
 
 
 def global_allocator(text):
-    for name in set(re.findall(r"fn \w+<(?:'\w+, )?([TR]): (?:Memory|Allocator \+ Copy)", text)):
-        start = r"(fn \w+<(?:'\w+, )?)%s: (Memory|Allocator \+ Copy)((?:[^{;])*)" % name
+    for name in set(re.findall(r"fn \w+<(?:[^()]*?, )?([B-Z]): (?:Memory|Allocator)\b", text)):
+        start = r"(fn \w+<(?:[^()]*?, )?)%s: (Memory|Allocator(?: \+ Copy)?)((?:[^{;])*)" % name
         text = re.sub(start, lambda m: m[1] + 'A: ' + m[2] + re.sub(r'\b%s\b' % name, 'A', m[3]), text)
     text = re.sub(r'^ *A: Memory,\n', '', text, flags=re.M)
     text = PARAMETER.sub(lambda m: ', ' if m[0].startswith(',') and m[0].endswith(', ') else '', text)
     text = re.sub(r'<\n? *>', '', text)
     text = re.sub(r'<A, ', '<', re.sub(r'(?:::)?<A>', '', text.replace(', A>', '>'))).replace('::<Global>', '')
+    text = text.replace('<Global>', '').replace('<Global, ', '<').replace(', Global>', '>')
     text = re.sub(r': A\b(?=[,)])', ': Global', re.sub(r'\bA::', 'Global::', text))
     text = re.sub(r'\*[\w.]+\.allocator\(\)', 'Global', text)
-    text = re.sub(r'\b(Vec|VecDeque|BytesMut)::new\(alloc\)', r'\1::new()', text)
+    text = re.sub(r'\b(String|Vec|VecDeque|BytesMut)::new\((?:Global|[a-z.]*\balloc(?:\(\))?|memory)\)', r'\1::new()', text)
     text = re.sub(r'^use std::alloc::[^;]*;\n', '', text, flags=re.M)
     text = re.sub(r'^(use (?:crate|pgp_base)::\{?[^;]*?)\b(?:Memory, |, Memory\b)', r'\1', text, flags=re.M)
     text = re.sub(r'^use (?:pgp_base|crate::memory)::Memory;\n', '', text, flags=re.M)
@@ -101,7 +126,7 @@ impl std::error::Error for {m[3]} {{}}
     return text
 
 
-LET_ELSE = re.compile(r'^( *)let ((?:[^=;{]|\n)*?) = ((?:[^;{}]|\n)*?)\s+else \{', re.M)
+LET_ELSE = re.compile(r"^( *)let ((?:[^=;{]|\n)*?) = ((?:'[^'\n]'|\[[^\[\]]*\]|[^;{}])*?)\s+else \{", re.M)
 
 
 def without_let_else(text):
@@ -109,7 +134,7 @@ def without_let_else(text):
     while let := LET_ELSE.search(text):
         indent, pattern, value = let.groups()
         names = [name for name in re.findall(r'\b((?:mut )?[a-z]\w*)\b(?![(:{])', pattern) if not name.startswith('_')]
-        if re.search(r'[^\w\s(),\[\]@.:]', pattern) or not names:
+        if re.search(r'[^\w\s(),\[\]@.:]', pattern):
             raise Unknown(f'no rule for this `let .. else`: {let[0].strip()}')
         end = after_brace(text, let.end() - 1)
         if text[end] != ';':
@@ -153,9 +178,9 @@ def single_places(text, name, used):
 
 
 # What no package may have: a rule is wanted.
-LEFT = re.compile(r'\b(ghost|requires|ensures|decreases|Model|tactic|Memory|Allocator|allocator|rattlefmt|laws|unsafe|DeriveError|simdutf8|final fn)\b'
-                  r'|\+ Drop\b|: Drop\b|\bA::|\bA>|<A\b|: A\b|(?<!\} )\belse(?= \{)')
-FOREIGN = re.compile(r'^(?:pub )?use (\w+)::')
+LEFT = re.compile(r'\b(ghost|requires|ensures|decreases|Model|tactic|Allocator|allocator|rattlefmt|laws|unsafe|DeriveError|simdutf8|final fn)\b'
+                  r'|[:+] Memory\b|\buse .*\bMemory\b|\+ Drop\b|: Drop\b|\bA::|\bA>|<A\b|: A\b|(?<!\} )\belse(?= \{)')
+FOREIGN = re.compile(r'^(?:pub )?use ([a-z]\w*)::')
 CRATES = {'std', 'crate', 'self', 'super', 'bytes', 'memchr', 'byteorder'}
 
 
@@ -174,9 +199,11 @@ def fit(text, crate, name, used):
     text = global_allocator(without_drop_bounds(text))
     for old, new in NAMES:
         text = text.replace(old, new)
+    text = SHIMS.sub(r'crate::kit::\1::', text)
     text = re.sub(r'(?<!&)\bBytes::as_slice\(self\)', '&self[..]', text)
     text = single_places(text, name, used)
     text = in_one_crate(inlined(shown_errors(without_let_else(text))), crate)
     top = re.match(r'(?:(?://[^\n]*)?\n)*', text).end()
-    uses = 'use crate::kit::prelude::*;\n' + ('use crate::kit::AsSlice as _;\n' if name in SLICED else '')
+    sliced = '.as_slice()' in text and (name in SLICED or not OF_A_TRAIT.search(text))
+    uses = 'use crate::kit::prelude::*;\n' + 'use crate::kit::AsSlice as _;\n' * sliced
     return text[:top] + uses + text[top:]

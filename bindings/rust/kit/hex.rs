@@ -16,6 +16,36 @@ pub fn encode_to_slice(bytes: impl AsRef<[u8]>, out: &mut [u8]) -> Result<(), In
     Ok(())
 }
 
+#[derive(Debug, Clone, Copy, PartialEq, Eq)]
+pub enum FromHexError {
+    OutOfMemory,
+    Other,
+}
+
+/// The bytes of digits in lower or upper case.
+pub fn decoded(_alloc: super::Global, text: impl AsRef<[u8]>) -> Result<Vec<u8>, FromHexError> {
+    let value = |digit: u8| char::from(digit).to_digit(16).ok_or(FromHexError::Other);
+    let text = text.as_ref();
+    if text.len() % 2 != 0 {
+        return Err(FromHexError::Other);
+    }
+    text.chunks(2).map(|two| Ok((value(two[0])? << 4 | value(two[1])?) as u8)).collect()
+}
+
+pub fn encoded(alloc: super::Global, bytes: impl AsRef<[u8]>) -> Result<String, super::AllocError> {
+    alloc.hex_of(bytes.as_ref())
+}
+
+pub trait FromHex: Sized {
+    fn from_hex(text: &str) -> Result<Self, FromHexError>;
+}
+
+impl<const N: usize> FromHex for [u8; N] {
+    fn from_hex(text: &str) -> Result<[u8; N], FromHexError> {
+        decoded(super::Global, text)?.try_into().map_err(|_| FromHexError::Other)
+    }
+}
+
 #[cfg(test)]
 mod tests {
     use super::*;
@@ -25,5 +55,7 @@ mod tests {
         let mut out = [b'-'; 6];
         encode_to_slice([0x0f, 0xf0, 0xa9], &mut out).unwrap();
         assert_eq!(&out, b"0ff0a9");
+        assert_eq!(<[u8; 3]>::from_hex("0FF0a9"), Ok([0x0f, 0xf0, 0xa9]));
+        assert!(<[u8; 3]>::from_hex("0ff0").is_err() && <[u8; 3]>::from_hex("0ff0a").is_err() && <[u8; 1]>::from_hex("+f").is_err());
     }
 }

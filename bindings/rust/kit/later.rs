@@ -38,6 +38,7 @@ macro_rules! numbers {
 }
 
 numbers! {
+    i8, u8;
     i16, u16;
     i32, u32;
     i64, u64;

@@ -33,6 +33,13 @@ pub struct AllocFailed<T> {
     pub value: T,
 }
 
+impl<T> From<AllocFailed<T>> for AllocError {
+    #[inline]
+    fn from(_: AllocFailed<T>) -> AllocError {
+        AllocError
+    }
+}
+
 /// The bytes of a shared or growing buffer.
 pub trait AsSlice {
     fn as_slice(&self) -> &[u8];

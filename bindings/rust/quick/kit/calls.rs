@@ -1,0 +1,175 @@
+//! Calls of Rattle's `std` that ask for memory or for a host, under its names or those that a rule gives them.
+
+use super::{AllocError, AllocFailed, Global};
+use ::bytes::{Bytes, BytesMut};
+
+pub trait FromSlice<T> {
+    fn from_slice(alloc: Global, items: &[T]) -> Result<Vec<T>, AllocError>;
+}
+
+impl<T: Copy> FromSlice<T> for Vec<T> {
+    fn from_slice(alloc: Global, items: &[T]) -> Result<Vec<T>, AllocError> {
+        alloc.list_of(items)
+    }
+}
+
+pub fn text_of(alloc: Global, text: &str) -> Result<String, AllocError> {
+    alloc.text_of(text)
+}
+
+pub fn room_for(_alloc: Global, len: usize) -> Result<BytesMut, AllocError> {
+    Ok(BytesMut::with_capacity(len))
+}
+
+impl super::base64::Standard {
+    pub fn decode(&self, alloc: Global, text: impl AsRef<[u8]>) -> Result<Vec<u8>, super::base64::DecodeAllocError> {
+        alloc.base64_shown(text.as_ref())
+    }
+
+    pub fn encode_string(&self, bytes: impl AsRef<[u8]>, text: &mut String) -> Result<(), AllocError> {
+        Global::push_base64(text, bytes.as_ref())
+    }
+}
+
+/// `push`, which gives back what no memory holds.
+pub trait Pushed<T> {
+    type Failed;
+
+    fn pushed(&mut self, item: T) -> Result<(), Self::Failed>;
+}
+
+impl<T> Pushed<T> for Vec<T> {
+    type Failed = AllocFailed<T>;
+
+    fn pushed(&mut self, item: T) -> Result<(), AllocFailed<T>> {
+        Global::push(self, item)
+    }
+}
+
+impl Pushed<char> for String {
+    type Failed = AllocError;
+
+    fn pushed(&mut self, item: char) -> Result<(), AllocError> {
+        Global::push_char(self, item)
+    }
+}
+
+/// `push_str`.
+pub trait Lengthened {
+    fn lengthened(&mut self, more: &str) -> Result<(), AllocError>;
+}
+
+impl Lengthened for String {
+    fn lengthened(&mut self, more: &str) -> Result<(), AllocError> {
+        Global::push_str(self, more)
+    }
+}
+
+/// `extend_from_slice`.
+pub trait Extended<T> {
+    fn extended(&mut self, more: &[T]) -> Result<(), AllocError>;
+}
+
+impl<T: Copy> Extended<T> for Vec<T> {
+    fn extended(&mut self, more: &[T]) -> Result<(), AllocError> {
+        Global::extend(self, more)
+    }
+}
+
+impl Extended<u8> for BytesMut {
+    fn extended(&mut self, more: &[u8]) -> Result<(), AllocError> {
+        Global::append(self, more)
+    }
+}
+
+/// `to_string` with an allocator.
+pub trait ShownIn {
+    fn shown_in(&self, alloc: Global) -> Result<String, AllocError>;
+}
+
+impl<T: std::fmt::Display + ?Sized> ShownIn for T {
+    fn shown_in(&self, _alloc: Global) -> Result<String, AllocError> {
+        Ok(self.to_string())
+    }
+}
+
+pub fn bytes_of(alloc: Global, bytes: &[u8]) -> Result<Bytes, AllocError> {
+    alloc.shared_of(bytes)
+}
+
+/// What a test is handed, and what it fails with.
+pub trait Abort {}
+
+impl Abort for super::host::HostRuntime {}
+
+/// (It isn't shown by itself, since it is made of all that is.)
+pub struct Fail(pub String);
+
+impl<E: std::fmt::Debug> From<E> for Fail {
+    fn from(e: E) -> Fail {
+        Fail(std::format!("{e:?}"))
+    }
+}
+
+impl<T> std::fmt::Debug for AllocFailed<T> {
+    fn fmt(&self, f: &mut std::fmt::Formatter<'_>) -> std::fmt::Result {
+        f.write_str("AllocFailed")
+    }
+}
+
+/// What a test comes to.
+pub trait Ended {
+    fn ended(self);
+}
+
+impl Ended for () {
+    fn ended(self) {}
+}
+
+impl Ended for Result<(), Fail> {
+    fn ended(self) {
+        if let Err(Fail(why)) = self {
+            std::panic!("{why}")
+        }
+    }
+}
+
+// Each stands for the macro of its name that is handed an allocator or a host.
+#[macro_export]
+macro_rules! formatted {
+    (in $alloc:expr; $($words:tt)*) => { Ok::<String, $crate::kit::AllocError>(::std::format!($($words)*)) };
+}
+#[macro_export]
+macro_rules! listed {
+    (in $alloc:expr; $($words:tt)*) => { Ok::<_, $crate::kit::AllocError>(::std::vec![$($words)*]) };
+}
+#[macro_export]
+macro_rules! reported {
+    ($rt:expr; $($words:tt)*) => { ::std::io::Write::write_fmt(&mut ::std::io::stderr(), format_args!($($words)*)) };
+}
+#[macro_export]
+macro_rules! reported_line {
+    ($rt:expr; $($words:tt)*) => { $crate::reported!($rt; "{}\n", format_args!($($words)*)) };
+}
+#[macro_export]
+macro_rules! printed {
+    ($rt:expr; $($words:tt)*) => { ::std::io::Write::write_fmt(&mut ::std::io::stdout(), format_args!($($words)*)) };
+}
+#[macro_export]
+macro_rules! printed_line {
+    ($rt:expr; $($words:tt)*) => { $crate::printed!($rt; "{}\n", format_args!($($words)*)) };
+}
+#[macro_export]
+macro_rules! held {
+    ($rt:expr; $($words:tt)*) => { ::std::assert!($($words)*) };
+}
+#[macro_export]
+macro_rules! held_equal {
+    ($rt:expr; $($words:tt)*) => { ::std::assert_eq!($($words)*) };
+}
+#[macro_export]
+macro_rules! failed {
+    ($rt:expr; $($words:tt)*) => { ::std::panic!($($words)*) };
+}
+pub use crate::{failed as panic, formatted as format, held as assert, held_equal as assert_eq, listed as vec};
+pub use crate::{printed as print, printed_line as println, reported as eprint, reported_line as eprintln};
