@@ -183,7 +183,7 @@ def check_client(same, raises):
 
 def check_asyncio(same, raises):
     async def run(port):
-        async with await aio.connect('127.0.0.1', port, 'alice') as connection:
+        async with await aio.connect('127.0.0.1', port, 'alice', sslmode='disable') as connection:
             result = await connection.execute('SELECT id, name FROM t WHERE id = $1', (5,))
         return result.rows, result.tag
     answered = frame(b'2', b'') + ROW + frame(b'C', b'SELECT 1\0') + READY

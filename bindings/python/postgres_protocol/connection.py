@@ -18,6 +18,8 @@ from .reading import Message, error_fields, fields, formats, mechanisms, message
 from .stream import Stream
 from .registry import DECODERS, Decoder
 
+#: The requests that a Sync has to follow.
+_SERIES = frozenset(('Parse', 'Bind', 'Execute', 'DescribeStatement', 'DescribePortal', 'Close'))
 _ASIDE = ('NoticeResponse', 'NotificationResponse', 'ParameterStatus')
 #: The ways of logging in, by the names of libpq's `require_auth`.
 METHODS = ('scram-sha-256', 'md5', 'password', 'none')
@@ -59,6 +61,8 @@ class Connection:
         self._scram: Optional[Scram] = None
         self._proved: Optional[str] = None
         self._is_open = self._is_over = False
+        #: Whether a series of extended queries waits for its Sync; whether values of rows are passed over.
+        self.needs_sync = self.skips_values = False
         #: `I`, `T` or `E`, as the last Ready said; the settings that the server reported; the number and the key for a cancel request.
         self.status, self.process_id, self.secret_key = '', 0, b''
         self.settings: Dict[str, str] = {}
@@ -97,6 +101,7 @@ class Connection:
         send(*arguments)
         number = self._number()
         self._dialogue.ask(request, number)
+        self.needs_sync = request in _SERIES
         return number
 
     def query(self, sql: str) -> int:
@@ -225,7 +230,7 @@ class Connection:
         return self._answer(message, taken)
 
     def _rows(self, message: Message, taken: Taken) -> events.Event:
-        decoders = self._decoders.get(taken.request or 0) or (DECODERS['bytes'],) * message.count
+        decoders = (DECODERS['bytes'],) * message.count if self.skips_values else self._decoders.get(taken.request or 0) or (DECODERS['bytes'],) * message.count
         if len(decoders) != message.count:
             raise ProtocolError(11)
         try:
@@ -287,7 +292,7 @@ class Connection:
         if method not in self._require:
             raise LogInError('the server asks for %s, which require_auth does not admit' % method)
         if self._password is None:
-            raise LogInError('the server asks for a password, and none is given')
+            raise LogInError('the server asks for a password, and none is given (password=, PGPASSWORD, or a password file)')
         self._proved = method
         return self._password.encode()
 
