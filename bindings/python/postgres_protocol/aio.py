@@ -241,13 +241,16 @@ class Connection(Shared):
         """Waits for notifications, and returns those that came."""
         self._check_open()
         async with self._lock:
+            task = asyncio.ensure_future(self._notified())
             try:
-                await asyncio.wait_for(self._notified(), timeout)
-            except asyncio.TimeoutError:
-                pass
-            except Error:
+                await asyncio.wait({task}, timeout=timeout)
+            finally:
+                task.cancel()
+                await asyncio.gather(task, return_exceptions=True)
+            error = None if task.cancelled() else task.exception()
+            if error is not None:
                 self._end()
-                raise
+                raise error
         found, self.notifications = self.notifications, []
         return found
 

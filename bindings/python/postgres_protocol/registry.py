@@ -5,6 +5,7 @@ A `Registry` knows the server's own types; `Registry.add` takes further ones, as
 import json
 import uuid
 from datetime import date, datetime, time, timedelta, timezone
+from decimal import Decimal
 from ipaddress import IPv4Interface, IPv6Interface, ip_interface
 from typing import Any, Callable, Dict, List, NamedTuple, Optional, Sequence, Tuple, Union
 
@@ -40,6 +41,10 @@ INFINITY, NEGATIVE_INFINITY = _Infinity(1), _Infinity(-1)
 _EPOCH, _EPOCH_UTC, _EPOCH_DATE = datetime(2000, 1, 1), datetime(2000, 1, 1, tzinfo=timezone.utc), date(2000, 1, 1)
 _MICROSECOND, _DAY = timedelta(microseconds=1), timedelta(days=1)
 _rows.setup(ProtocolError, timedelta, _EPOCH, _EPOCH_UTC, _EPOCH_DATE, NEGATIVE_INFINITY, INFINITY)
+
+
+#: What a server reads as Python shows it.
+_SHOWN = (str, int, float, Decimal, uuid.UUID, date, time, IPv4Interface, IPv6Interface)
 
 
 class Type(NamedTuple):
@@ -150,9 +155,12 @@ def _put_bits(value: str) -> bytes:
 
 
 def _text(value: Any) -> bytes:
-    if not isinstance(value, str):
+    """A text. Of a parameter whose type the server doesn't know it takes `text`: so numbers, times and the like are sent as the server's texts of them."""
+    if isinstance(value, bool):
+        return b'true' if value else b'false'
+    if not isinstance(value, _SHOWN):
         raise TypeError('a str is expected, not %s' % type(value).__name__)
-    return value.encode(errors='surrogateescape')
+    return str(value).encode(errors='surrogateescape')
 
 
 def _bytes(value: Any) -> bytes:
