@@ -251,7 +251,9 @@ class Calls:
             if self.server.as_user:
                 shutil.chown(folder / name, self.server.user)
         self.server.call(program, '-d', folder / 'pgbouncer.ini')
-        while not ((folder / '.s.PGSQL.6432').exists() and (folder / 'pgbouncer.pid').exists()):
+        for _ in range(100):
+            if (folder / '.s.PGSQL.6432').exists() and (folder / 'pgbouncer.pid').exists():
+                break
             time.sleep(0.05)
         try:
             where = {**self.where, 'port': 6432, 'prepare': 0, 'require_auth': None}

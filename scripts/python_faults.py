@@ -111,7 +111,8 @@ class Faults:
                     self.check('%s by another call: it goes on' % sql, lambda: self.same('it goes on', c.execute('SELECT 1').fetchone(), (1,)))
         with contextlib.closing(self.connect(autocommit=True)) as c:
             for what, call in (('copy_out in', lambda: c.cursor().copy_out('COPY f FROM STDIN')), ('copy_out of no copy', lambda: c.cursor().copy_out('SELECT 1')),
-                               ('copy_in out', lambda: c.cursor().copy_in('COPY f TO STDOUT', [b''])), ('copy_in of no copy', lambda: c.cursor().copy_in('SELECT 1', [b'']))):
+                               ('copy_in out', lambda: c.cursor().copy_in('COPY f TO STDOUT', [b''])), ('copy_in of no copy', lambda: c.cursor().copy_in('SELECT 1', [b''])),
+                               ('many copies', lambda: c.cursor().executemany('COPY f FROM STDIN', [()]))):
                 self.fails(what, client.ProgrammingError, call)
                 self.check(what + ': it goes on', lambda: self.same('it goes on', c.execute('SELECT 1').fetchone(), (1,)))
 

@@ -206,12 +206,14 @@ class Session:
                     raise
             if self.connection.status == 'E':
                 yield from self._until_ready(self.connection.query('ROLLBACK'))
+        elif first_word(sql) == 'COPY':
+            raise errors.ProgrammingError(_OTHER_CALL)
         statement: Statement = yield from self.prepare(sql)
         return statement, (yield from self._execute(statement, rows, portal, size))
 
     def execute(self, sql: str, values: Sequence[Any] = ()) -> Flow:
         """Runs a statement; its rows are values of Python's."""
-        if not values and first_word(sql) == 'COPY':
+        if not values and sql not in self._statements and first_word(sql) == 'COPY':
             return (yield from self.script(sql))[-1]
         return (yield from self._run(sql, [values]))[1][0]
 
