@@ -1,6 +1,7 @@
 """What a client does on a connection, without input or output: each call is a generator that yields where it needs the next event. The blocking
 client and the one for asyncio run the same generators."""
-from typing import Any, Dict, Generator, List, NamedTuple, Optional, Sequence, Tuple
+from array import array
+from typing import Any, Callable, Dict, Generator, List, NamedTuple, Optional, Sequence, Tuple
 
 from . import errors, events
 from .auth import escape_identifier
@@ -21,12 +22,13 @@ _OTHER_CALL = 'the statement copies: copy_in(..) and copy_out(..) are the calls 
 
 
 class Statement(NamedTuple):
-    """A prepared statement: its name, the types of its parameters, its columns, and what decodes them."""
+    """A prepared statement: its name, what encodes its parameters, its columns, what decodes them, and the formats of both."""
     name: str
-    types: List[int]
+    encoders: List[Callable[[Any], bytes]]
+    formats: bytes
     fields: List[Field]
     decoders: Tuple[Decoder, ...]
-    formats: List[int]
+    result_formats: bytes
 
 
 class Result(NamedTuple):
@@ -154,21 +156,19 @@ class Session:
         else:
             connection.flush()
             found = yield from self._described()
-        types: List[int] = next((e.types for e in found if isinstance(e, events.Parameters)), [])
+        types = [self.registry.get(oid) for oid in next((e.types for e in found if isinstance(e, events.Parameters)), [])]
         fields: List[Field] = next((e.fields for e in found if isinstance(e, events.Columns)), [])
         known = [self.registry.get(f.type_oid) for f in fields]
-        return Statement(name, types, fields, tuple(k.decode for k in known), [0 if k.is_text else 1 for k in known])
+        return Statement(name, [k.encode for k in types], _formats(types), fields, tuple(k.decode for k in known), _formats(known))
 
-    def _values(self, statement: Statement, values: Sequence[Any]) -> Tuple[List[int], List[Optional[bytes]]]:
-        """The parameters' formats and bytes."""
-        if len(values) != len(statement.types):
-            raise errors.InterfaceError('the statement has %d parameters, and %d values are given' % (len(statement.types), len(values)))
-        known = [self.registry.get(oid) for oid in statement.types]
+    def _values(self, statement: Statement, values: Sequence[Any]) -> List[Optional[bytes]]:
+        """The parameters' bytes."""
+        if len(values) != len(statement.encoders):
+            raise errors.InterfaceError('the statement has %d parameters, and %d values are given' % (len(statement.encoders), len(values)))
         try:
-            data = [None if v is None else k.encode(v) for k, v in zip(known, values)]
+            return [None if v is None else encode(v) for encode, v in zip(statement.encoders, values)]
         except (TypeError, ValueError, OverflowError, AttributeError) as error:
             raise errors.DataError('a parameter is no value of its type: %s' % error) from error
-        return [0 if k.is_text else 1 for k in known], data
 
     def _begin(self) -> None:
         """Opens a transaction where one is due, in one series with what follows."""
@@ -182,14 +182,14 @@ class Session:
 
     def _execute(self, statement: Statement, rows: Sequence[Sequence[Any]], portal: str = '', size: int = 0) -> Flow:
         """Executes a statement for each list of values, in one series; the results, in their order."""
-        connection = self.connection
+        connection, place, name = self.connection, portal.encode(), statement.name.encode()
         bound = [self._values(statement, values) for values in rows]
         self._begin()
         results: Dict[Optional[int], Result] = {}
-        for formats, data in bound:
-            connection.bind(portal, statement.name, formats, data, statement.formats)
-            results[connection.execute(portal, size, statement.decoders)] = Result(statement.fields, [], '')
-        found = yield from self._until_ready(connection.sync())
+        for number, data in enumerate(bound, 1 - len(bound)):
+            asked = connection.run(place, name, statement.formats, data, statement.result_formats, size, statement.decoders, number == 0)
+            results[asked] = Result(statement.fields, [], '')
+        found = yield from self._until_ready(connection.last_number if bound else connection.sync())
         return _gathered(results, found)
 
     def _run(self, sql: str, rows: Sequence[Sequence[Any]], portal: str = '', size: int = 0) -> Flow:
@@ -309,6 +309,10 @@ class Session:
                 raise errors.of_fields(event.fields)
             elif isinstance(event, events.Ready) and event.request == number:
                 return
+
+
+def _formats(types: Sequence[Type]) -> bytes:
+    return array('h', [0 if one.is_text else 1 for one in types]).tobytes()
 
 
 def _gathered(results: Dict[Optional[int], Result], found: List[events.Event]) -> List[Result]:
