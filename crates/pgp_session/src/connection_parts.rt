@@ -10,12 +10,12 @@ ghost use Rattle.pgp_session.specs.Login.{Puts};
 ghost use Rattle.pgp_message.specs.Views.{view};
 ghost use Rattle.pgp_session.specs.Connection.{is_bulk, is_end, is_part, is_longer, letter, may_send, next_name};
 
-use crate::client_stream::ClientStream;
 use bytes::BytesMut;
 use pgp_base::{Error, Memory};
 use pgp_client::Event;
 use pgp_frontend_read::ClientMessage;
 use pgp_message::{Message, Storage};
+use pgp_stream::ClientStream;
 
 /// Whether it ends the session.
 pub(crate) fn is_end(event: Event) -> bool
