@@ -22,7 +22,7 @@ pub use client::ScramSha256;
 pub use error::ScramError;
 pub use held::{ChannelOffer, StoredVerifier};
 pub use nonce::is_nonce;
-pub use rounds::iteration_count;
+pub use rounds::{asks_fewer, iteration_count};
 pub use server::ScramServer;
 pub use server_error::{ExchangeError, ServerError, VerifierError};
 pub(crate) use serving::behind;
