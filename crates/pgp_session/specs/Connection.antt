@@ -13,7 +13,7 @@ use Rattle.pgp_client.specs.declared.request.Request.{Request}
 use Rattle.pgp_client.specs.declared.stage.Stage.TheVariants.{Over as NothingMore}
 use Rattle.pgp_frontend.specs.ClientMessage.{ClientMessage, Bind, CancelRequest, Close, CopyData, CopyDone, CopyFail, Describe, Execute, Flush, Parse, Query, Sync}
 use Rattle.pgp_frontend.specs.Payload.{bytes_of}
-use Rattle.pgp_message.specs.BackendMessage.{Message, BackendKeyData, CopyData as DataCame, DataRow, NegotiateProtocolVersion, NoticeResponse, NotificationResponse, ParameterStatus, ReadyForQuery}
+use Rattle.pgp_message.specs.BackendMessage.{Message, CopyData as DataCame, DataRow, NegotiateProtocolVersion, NoticeResponse, NotificationResponse, ParameterStatus, ReadyForQuery}
 use Rattle.pgp_message.specs.Remembered.{header_of}
 use Rattle.pgp_client.specs.declared.event.Refusal.{Refusal}
 use Rattle.pgp_message.specs.Stream.{BeginsWithKept, IsPartial, Step, TakesFrame}
@@ -191,11 +191,9 @@ left_at phase t l s c = record { phase = phase; login = l; out = c.out; incoming
 abbrev pub is_3_0 : ℤ → Bool
 is_3_0 version = not (lt_z version (pos 196608) || lt_z (pos 196608) version)
 
--- A message that isn't taken before the log-in is done. A server asks for a password there, reports an error, or, right behind the startup packet, answers that
--- it speaks the version of the packet, 3.0; whatever else it says would be kept of one that has proved nothing.
+-- A message that has a place among the answers before the log-in is done, and isn't taken there. A server asks for a password, reports an error, or, right behind the
+-- startup packet, answers that it speaks the version of the packet, 3.0; what else it says would be kept of one that has proved nothing.
 abbrev pub is_early : LoginPhase → Message → Bool
-is_early p (ReadyForQuery status) = not (done_at p)
-is_early p (BackendKeyData key) = not (done_at p)
 is_early p (ParameterStatus setting) = not (done_at p)
 is_early p (NoticeResponse fields) = not (done_at p)
 is_early p (NotificationResponse n) = not (done_at p)

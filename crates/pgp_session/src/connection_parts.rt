@@ -57,8 +57,7 @@ pub(crate) fn is_early<S: Storage>(phase: LoginPhase, message: &Message<S>) -> b
     ensures { result ≡ is_early phase (view message.now) }
 {
     match message {
-        Message::ReadyForQuery(_) | Message::BackendKeyData(_) | Message::ParameterStatus(_) =>
-            phase != LoginPhase::Done,
+        Message::ParameterStatus(_) => phase != LoginPhase::Done,
         Message::NoticeResponse(_) | Message::NotificationResponse(_) => phase != LoginPhase::Done,
         Message::NegotiateProtocolVersion(answer) => !(phase == LoginPhase::AwaitsOffer
             && is_3_0(answer.version())),
