@@ -1,5 +1,5 @@
 """What the generator does with changed sources, in copies of them: a known change is in the package, an unknown one stops it with the place."""
-import os, re, shutil, subprocess, sys, tempfile
+import generate, os, shutil, subprocess, sys, tempfile
 
 here = os.path.dirname(os.path.abspath(__file__))
 top = os.path.dirname(os.path.dirname(here))
@@ -20,15 +20,13 @@ CASES = [
     ('pgp_c/src/numeric.rt', 'pub extern "C" fn pgp_get_numeric(', 'pub unsafe extern "C" fn pgp_get_numeric(', 'crates/pgp_c/src/numeric.rt:'),
     ('pgp_hostile/src/walks.rt', '!is_modest(', '!is_meek(', 'crates/pgp_hostile/src/walks.rt'),
 ]
-# Crates of the package; the others are in the workspace of quick.py alone.
-PACKAGE = re.compile('pgp_(?:base|frontend|message|types|auth|saslprep|frontend_read|message_write|client|session|values)/')
 
 
 def run(case):
     file, old, new, words = case
     with tempfile.TemporaryDirectory() as copy:
         shutil.copytree(here, os.path.join(copy, 'bindings/rust'))
-        for name in ('LICENSE-APACHE', 'LICENSE-MIT', 'VERSION'):
+        for name in ('LICENSE-APACHE', 'LICENSE-MIT', 'VERSION', 'crates.txt'):
             shutil.copy(os.path.join(top, name), copy)
         for crate in os.listdir(os.path.join(top, 'crates')):
             src = os.path.join(top, 'crates', crate, 'src')
@@ -40,7 +38,7 @@ def run(case):
             return f'{file} has no {old!r}'
         open(path, 'w').write(text.replace(old, new, 1))
         out = os.path.join(copy, 'out')
-        program, below = ('generate.py', 'src/proved') if PACKAGE.match(file) else ('quick.py', 'erased/src/proved')
+        program, below = ('generate.py', 'src/proved') if file.split('/')[0] in generate.CORE + generate.MORE else ('quick.py', 'erased/src/proved')
         made = subprocess.run([sys.executable, '-B', os.path.join(copy, 'bindings/rust', program), out], capture_output=True, text=True)
         if words:
             return '' if made.returncode == 1 and words in made.stderr else f'{file}: {new!r} went through: {made.stderr}'
