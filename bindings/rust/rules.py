@@ -1,7 +1,11 @@
 """What makes plain Rust of an erased text. General rules stand for a difference of the languages and apply wherever they match; single
 ones change one place, and stop the generator where it isn't found as often as they say. What no rule knows is found by `leftovers`."""
-import re
+import os, re
 from erase import Unknown, after_brace
+
+with open(os.path.join(os.path.dirname(os.path.abspath(__file__)), '../../VERSION')) as file:
+    VERSION = file.read().strip()
+UNPROVED = VERSION + '+unproved'
 
 # The allocator: each text is taken at the global one, so that its parameters and arguments go.
 PARAMETER = re.compile(r'(?:, )?\bA: (?:Allocator|Memory)(?: \+ Copy)?(?: = Global)?(?:, )?')
@@ -45,7 +49,7 @@ NAMES = [
 ]
 
 # Crates of the kit whose names stand for modules of the shim.
-SHIMS = re.compile(r'(?<![\w:])(arrayvec|clap|itoa|jiff|jiff_core|jiff_fmt|rand_core|regex|ryu|ucd_category|uuid)::')
+SHIMS = re.compile(r'(?<![\w:])(arrayvec|clap|jiff|jiff_core|jiff_fmt|rand_core|regex|ryu|ucd_category|uuid)::')
 
 # Single places: file, how often, text, its substitute.
 PLACES = [
@@ -64,6 +68,16 @@ PLACES = [
     # What C hands over is taken out and put back.
     ('pgp_c/dialogue', 1, 'mem::replace(&mut dialogue.room, &mut [])', 'dialogue.room.take()'),
     ('pgp_c/dialogue', 1, 'dialogue.room = room;', 'dialogue.room.put_back(room);'),
+    # Room for structs that hold nothing yet.
+    ('pgp_c/cursor', 1, '    type Item: Copy;\n', '    type Item: Copy + Default;\n'),
+    ('pgp_c/cursor', 1, 'let code = next_counted::<L>(bytes, cursor, &mut items[at]);',
+     'let mut item = L::Item::default();\n        let code = next_counted::<L>(bytes, cursor, &mut item);'),
+    ('pgp_c/cursor', 1, 'return if code == DONE { 0 } else { code };\n        }\n', 'return if code == DONE { 0 } else { code };\n        }\n        items[at].write(item);\n'),
+    # The library and the programs say that they aren't proved.
+    ('pgp_c/proved', 1, '\n    1\n', '\n    0\n'),
+    ('pgp_trace/run', 1, f'"pgtrace {VERSION}\\n"', f'"pgtrace {UNPROVED}\\n"'),
+    ('pgserve/words', 1, f'.version("{VERSION}")', f'.version("{UNPROVED}")'),
+    ('pgp_tests_callers/trace_words', 1, f'"pgtrace {VERSION}\\n"', f'"pgtrace {UNPROVED}\\n"'),
     # The shim's trait has one call.
     ('pgp_test_alloc/counting', 1, '    fn next_u32(&mut self) -> u32 {\n        self.next_word()\n    }\n\n    fn next_u64(&mut self) -> u64 {\n        utils::next_u64_via_u32(self)\n    }\n\n', ''),
     # The adapter compiles these for single tags.
@@ -181,7 +195,7 @@ def single_places(text, name, used):
 LEFT = re.compile(r'\b(ghost|requires|ensures|decreases|Model|tactic|Allocator|allocator|rattlefmt|laws|unsafe|DeriveError|simdutf8|final fn)\b'
                   r'|[:+] Memory\b|\buse .*\bMemory\b|\+ Drop\b|: Drop\b|\bA::|\bA>|<A\b|: A\b|(?<!\} )\belse(?= \{)')
 FOREIGN = re.compile(r'^(?:pub )?use ([a-z]\w*)::')
-CRATES = {'std', 'crate', 'self', 'super', 'bytes', 'memchr', 'byteorder'}
+CRATES = {'std', 'crate', 'self', 'super', 'bytes', 'memchr', 'byteorder', 'itoa'}
 
 
 def leftovers(text, modules):

@@ -89,6 +89,9 @@ enum {
     PGP_FULL = 102                      /* pgp_*_all: the array is full, and more items follow           */
 };
 
+/* 1 of the proved library; 0 of one that is built of the same sources without their proofs (`make quick`). */
+uint32_t pgp_is_proved(void);
+
 /* Whether the bytes are a text as a server in UTF-8 takes one: PGP_OK, PGP_E_NOT_UTF8, or PGP_E_EMBEDDED_NULL for UTF-8 with a 0 byte. */
 pgp_status pgp_is_text(const uint8_t *bytes, size_t len);
 
