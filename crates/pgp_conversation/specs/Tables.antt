@@ -38,6 +38,10 @@ row_by Json limit l text = members l ++ json_value limit text ++ codes "}" ++ 10
 abbrev pub row_of : Style → Tally → List ℕ
 row_of style e = row_by style.form style.limit (line_of e) e.text
 
+abbrev pub row_at : Style → Option Tally → List ℕ
+row_at style None = []
+row_at style (Some e) = row_of style e
+
 abbrev pub heading : Form → List ℕ
 heading Columns = codes "   count       rows      least     median   greatest ms" ++ 10 ∷ []
 heading Json = []

@@ -12,6 +12,7 @@ use bytes::BytesMut;
 use pgp_base::Memory;
 use pgp_line::line::{put_null, put_some};
 use pgp_line::style::Style;
+use pgp_names::MapMemory;
 use pgp_value_text::put_value;
 use pgp_values::{BinaryFormat, binary_format_of};
 use std::alloc::AllocError;
@@ -21,7 +22,7 @@ use std::alloc::AllocError;
 /// # Errors
 ///
 /// Returns `AllocError` if there is no memory for it.
-pub fn put_typed<A: Memory>(
+pub fn put_typed<A: MapMemory>(
     style: Style,
     column: Column,
     value: Option<&[u8]>,
@@ -37,7 +38,7 @@ pub fn put_typed<A: Memory>(
     }
 }
 
-fn put_bytes<A: Memory>(
+fn put_bytes<A: MapMemory>(
     style: Style,
     column: Column,
     bytes: &[u8],
@@ -55,7 +56,7 @@ fn put_bytes<A: Memory>(
 }
 
 /// Adds the text of bytes in binary format, or the bytes. A floating-point number may have several texts, so its bytes are added.
-fn put_binary<A: Memory>(
+fn put_binary<A: MapMemory>(
     style: Style,
     oid: u32,
     bytes: &[u8],
@@ -84,7 +85,7 @@ fn is_float(oid: u32) -> bool
 }
 
 /// The same of a type whose values have one text.
-fn put_shown<A: Memory>(
+fn put_shown<A: MapMemory>(
     style: Style,
     oid: u32,
     bytes: &[u8],

@@ -1,6 +1,7 @@
 -- What requests ran, by the messages that ended their answers.
 use Rattle.std.specs.Prelude.{ℕ, ◌+◌, Bool, true, false, ◌&&◌, ◌==◌, nat_lt, if◌then◌else◌, List, [], ◌∷◌, ◌++◌, Option, None, Some, codes}
-use Rattle.std.specs.Str.{bytes_eq}
+use Rattle.std.specs.Option.{unwrap_or}
+use Rattle.pgp_names.specs.Names.{found, put}
 use Rattle.pgp_summary.specs.Runs.{Run, Tally, capped, tallied}
 use Rattle.pgp_summary.specs.declared.work.Work.{Work}
 use Rattle.pgp_summary.specs.declared.work.Work.TheVariants.{Query, Parse, Bind, Execute}
@@ -9,23 +10,16 @@ use Rattle.pgp_summary.specs.declared.work.Reply.TheVariants.{ParseComplete, Bin
 
 -- ---- texts by their names
 
--- a statement or a portal, and its text
-pub record Text : Type 0 where
-  pub name : List ℕ
-  pub text : List ℕ
-
 -- what stands for the text of what has none
 abbrev pub unknown : List ℕ
 unknown = codes "?"
 
-abbrev pub text_under : List ℕ → List Text → List ℕ
-text_under name [] = unknown
-text_under name (x ∷ more) = if bytes_eq x.name name then x.text else text_under name more
+abbrev pub text_under : List ℕ → List (List ℕ × List ℕ) → List ℕ
+text_under name list = unwrap_or (found name list) unknown
 
 -- a name has this text from now on
-abbrev pub named : (name text : List ℕ) → List Text → List Text
-named name text [] = record { name = name; text = text } ∷ []
-named name text (x ∷ more) = if bytes_eq x.name name then record { name = name; text = text } ∷ more else x ∷ named name text more
+abbrev pub named : (name text : List ℕ) → List (List ℕ × List ℕ) → List (List ℕ × List ℕ)
+named name text list = put name text list
 
 -- ---- requests
 
@@ -93,8 +87,8 @@ taken number reply (first ∷ more) = if is_ended number reply first then (Some 
 
 -- The texts of statements and portals; the requests whose answers aren't complete, in order; how many rows of which request came; and the statements that ran.
 pub record State : Type 0 where
-  pub statements : List Text
-  pub portals : List Text
+  pub statements : List (List ℕ × List ℕ)
+  pub portals : List (List ℕ × List ℕ)
   pub waiting : List Request
   pub counted : ℕ
   pub rows : ℕ

@@ -1,28 +1,42 @@
 //! What a statement came to.
 
-ghost use Rattle.std.specs.Prelude.{◌≡◌, ◌+◌, ◌/◌, ◌++◌, ◌∷◌, [], get_or, IfOk, OnErr, OnOk};
-ghost use Rattle.std.specs.Str.{bytes_eq};
-ghost use Rattle.pgp_summary.specs.Runs.{ascending, capped, line_of, median_of, tallied};
-ghost use Rattle.pgp_summary.specs.Places.{StandsIn};
+ghost use Rattle.std.specs.Prelude.{◌≡◌, ◌+◌, ◌/◌, ◌++◌, ◌∷◌, [], get_or, slice_get, IfOk, OnErr, OnOk};
+ghost use Rattle.pgp_summary.specs.Runs.{ascending, capped, line_by, line_of, median_of, tallied};
+ghost use Rattle.pgp_summary.specs.Places.{tallies_of};
 
 use pgp_base::Memory;
+use pgp_names::{MapMemory, Names};
 use std::alloc::{AllocError, Allocator};
 use std::marker::Model;
 
-/// A statement, the rows of all its runs, and the time that each run took, in microseconds.
+/// The rows of all runs of a statement, and the time that each run took, in microseconds.
 #[derive(Drop)]
-pub struct Entry<A: Allocator> {
-    text: Vec<u8, A>,
+pub(crate) struct Ran<A: Allocator> {
     rows: u64,
     times: Vec<u64, A>,
 }
 
-impl<A: Allocator> Model for Entry<A> {
+impl<A: Allocator> Model for Ran<A> {
+    ghost use Rattle.pgp_summary.specs.Places as spec;
+
+    ghost Value = { spec.Ran };
+
+    ghost view = { λ x. record { rows = x.rows; times = x.times.items } };
+}
+
+/// A statement that ran.
+#[derive(Drop)]
+pub struct Entry<'a, A: Allocator> {
+    text: &'a [u8],
+    ran: &'a Ran<A>,
+}
+
+impl<'a, A: Allocator> Model for Entry<'a, A> {
     ghost use Rattle.pgp_summary.specs.Runs.{Tally};
 
     ghost Value = { Tally };
 
-    ghost view = { λ x. record { text = x.text.items; rows = x.rows; times = x.times.items } };
+    ghost view = { λ x. record { text = x.text.now; rows = x.ran.now.rows; times = x.ran.now.times } };
 }
 
 /// What is said of a statement: how often it ran, the rows of all its runs, and of the times that they took, in microseconds, the least, the median and the
@@ -36,12 +50,12 @@ pub struct Line {
     pub greatest: u64,
 }
 
-impl<A: Memory> Entry<A> {
+impl<'a, A: MapMemory> Entry<'a, A> {
     /// The statement.
-    pub fn text(&self) -> &[u8]
+    pub fn text(&self) -> &'a [u8]
         ensures { result.now ≡ self.now.text }
     {
-        self.text.as_slice()
+        self.text
     }
 
     /// What is said of it.
@@ -51,6 +65,16 @@ impl<A: Memory> Entry<A> {
     /// Returns `AllocError` if there is no memory to sort its times.
     pub fn line(&self) -> Result<Line, AllocError>
         ensures line { IfOk result (λ line. line ≡ line_of self.now) }
+        ensures lacks { OnErr result A.Lacks }
+    {
+        self.ran.line()
+    }
+}
+
+impl<A: MapMemory> Ran<A> {
+    /// What is said of it.
+    fn line(&self) -> Result<Line, AllocError>
+        ensures line { IfOk result (λ line. line ≡ line_by self.now.rows (ascending self.now.times)) }
         ensures lacks { OnErr result A.Lacks }
     {
         let times = sorted(*self.times.allocator(), self.times.as_slice())?;
@@ -63,65 +87,70 @@ impl<A: Memory> Entry<A> {
         })
     }
 
-    /// Whether it is of this statement.
-    fn is_of(&self, text: &[u8]) -> bool
-        ensures { result ≡ bytes_eq self.now.text text.now }
-    {
-        self.text.as_slice() == text
-    }
-
-    /// One more run of it.
-    fn add(&mut self, rows: u64, micros: u64) -> Result<(), AllocError>
-        ensures added { OnOk result (self.new ≡ record { text = self.old.text; rows = capped (self.old.rows + rows); times = self.old.times ++ micros ∷ [] }) }
+    /// One more run.
+    fn with(mut self, rows: u64, micros: u64) -> Result<Ran<A>, AllocError>
+        ensures added { IfOk result (λ ran. ran ≡ record { rows = capped (self.rows + rows); times = self.times ++ micros ∷ [] }) }
         ensures lacks { OnErr result A.Lacks }
     {
         A::push(&mut self.times, micros)?;
         self.rows = plus(self.rows, rows);
-        Ok(())
+        Ok(self)
+    }
+}
+
+/// The statement at this place.
+pub(crate) fn entry_at<A: MapMemory>(
+    entries: &Names<Ran<A>, A>,
+    place: usize,
+) -> Option<Entry<'_, A>>
+    ensures { result ≡ slice_get (tallies_of entries.now) place }
+{
+    match entries.at(place) {
+        Some((text, ran)) => Some(Entry { text, ran }),
+        None => None,
     }
 }
 
 /// One more run of a statement.
-pub(crate) fn tally<A: Memory>(
+pub(crate) fn tally<A: MapMemory>(
     alloc: A,
     text: &[u8],
     rows: u64,
     micros: u64,
-    entries: &mut Vec<Entry<A>, A>,
+    entries: &mut Names<Ran<A>, A>,
 ) -> Result<(), AllocError>
-    ensures tallied { OnOk result (entries.new.items ≡ tallied (record { text = text.now; rows = rows; micros = micros }) entries.old.items) }
+    ensures tallied { OnOk result (tallies_of entries.new ≡ tallied (record { text = text.now; rows = rows; micros = micros }) (tallies_of entries.old)) }
     ensures lacks { OnErr result A.Lacks }
 {
-    match place(entries, text) {
-        Some(place) => entries[place].add(rows, micros),
-        None => {
-            let entry = first(alloc, text, rows, micros)?;
-            A::push(entries, entry)?;
-            Ok(())
+    match entries.swap(text, none(alloc)) {
+        Ok(ran) => {
+            let more = ran.with(rows, micros)?;
+            entries.put(text, more)
         }
+        Err(_) => {
+            let first = first(alloc, rows, micros)?;
+            entries.put(text, first)
+        }
+    }
+}
+
+/// No run.
+fn none<A: MapMemory>(alloc: A) -> Ran<A>
+    ensures { result ≡ record { rows = 0; times = [] } }
+{
+    Ran {
+        rows: 0,
+        times: Vec::new(alloc),
     }
 }
 
 /// The first run of a statement.
-fn first<A: Memory>(alloc: A, text: &[u8], rows: u64, micros: u64) -> Result<Entry<A>, AllocError>
-    ensures first { IfOk result (λ entry. entry ≡ record { text = text.now; rows = rows; times = micros ∷ [] }) }
+fn first<A: MapMemory>(alloc: A, rows: u64, micros: u64) -> Result<Ran<A>, AllocError>
+    ensures first { IfOk result (λ ran. ran ≡ record { rows = rows; times = micros ∷ [] }) }
     ensures lacks { OnErr result A.Lacks }
 {
-    let text = alloc.list_of(text)?;
     let times = alloc.list_of(&[micros])?;
-    Ok(Entry { text, rows, times })
-}
-
-/// Where a statement stands.
-fn place<A: Memory>(entries: &[Entry<A>], text: &[u8]) -> Option<usize>
-    ensures { StandsIn text.now entries.now result }
-{
-    for (place, entry) in entries.iter().enumerate() {
-        if entry.is_of(text) {
-            return Some(place);
-        }
-    }
-    None
+    Ok(Ran { rows, times })
 }
 
 /// The sum of two counts, at most `u64::MAX`.
@@ -132,7 +161,7 @@ pub(crate) fn plus(a: u64, b: u64) -> u64
 }
 
 /// These times in ascending order.
-fn sorted<A: Memory>(alloc: A, times: &[u64]) -> Result<Vec<u64, A>, AllocError>
+fn sorted<A: MapMemory>(alloc: A, times: &[u64]) -> Result<Vec<u64, A>, AllocError>
     ensures sorted { IfOk result (λ all. all.items ≡ ascending times.now) }
     ensures lacks { OnErr result A.Lacks }
 {

@@ -1,13 +1,14 @@
 //! What the requests of a connection ran.
 
-ghost use Rattle.std.specs.Prelude.{◌≡◌, IfErr, OnErr, OnOk};
+ghost use Rattle.std.specs.Prelude.{◌≡◌, length, slice_get, IfErr, OnErr, OnOk};
 ghost use Rattle.pgp_summary.specs.Summary.{asked, did, ended, nothing, ran, row, rows_of, text_under, with_portal};
 
-use crate::entry::{Entry, plus, tally};
-use crate::named::{Named, put, text_under};
+use crate::entry::{Entry, Ran, entry_at, plus, tally};
+use crate::named::{Text, put, text_under};
 use crate::waiting::{Asked, push, skip, take};
 use crate::work::{Reply, Work};
 use pgp_base::Memory;
+use pgp_names::{MapMemory, Names};
 use std::alloc::{AllocError, Global};
 use std::collections::VecDeque;
 use std::marker::Model;
@@ -15,37 +16,38 @@ use std::marker::Model;
 /// What the requests of a connection ran. It keeps the texts that prepared statements and portals have, those of the requests whose answers aren't complete,
 /// and of each statement that ran its text and 8 bytes a run.
 #[derive(Drop)]
-pub struct Summary<A: Memory = Global> {
+pub struct Summary<A: MapMemory = Global> {
     alloc: A,
-    statements: Vec<Named<A>, A>,
-    portals: Vec<Named<A>, A>,
+    statements: Names<Text<A>, A>,
+    portals: Names<Text<A>, A>,
     waiting: VecDeque<Asked<A>, A>,
     counted: u64,
     rows: u64,
-    entries: Vec<Entry<A>, A>,
+    entries: Names<Ran<A>, A>,
 }
 
-impl<A: Memory> Model for Summary<A> {
+impl<A: MapMemory> Model for Summary<A> {
+    ghost use Rattle.pgp_summary.specs.Places.{tallies_of};
     ghost use Rattle.pgp_summary.specs.Summary.{State};
 
     ghost Value = { State };
 
-    ghost view = { λ x. record { statements = x.statements.items; portals = x.portals.items; waiting = x.waiting.items; counted = x.counted; rows = x.rows; tallies = x.entries.items } };
+    ghost view = { λ x. record { statements = x.statements; portals = x.portals; waiting = x.waiting.items; counted = x.counted; rows = x.rows; tallies = tallies_of x.entries } };
 }
 
-impl<A: Memory> Summary<A> {
+impl<A: MapMemory> Summary<A> {
     /// Before the first request.
     pub fn new(alloc: A) -> Summary<A>
         ensures { result ≡ nothing }
     {
         Summary {
             alloc,
-            statements: Vec::new(alloc),
-            portals: Vec::new(alloc),
+            statements: Names::new(alloc),
+            portals: Names::new(alloc),
             waiting: VecDeque::new(alloc),
             counted: 0,
             rows: 0,
-            entries: Vec::new(alloc),
+            entries: Names::new(alloc),
         }
     }
 
@@ -127,9 +129,7 @@ impl<A: Memory> Summary<A> {
         ensures bound { OnOk result (self.new ≡ with_portal portal.items (text_under statement.now self.old.statements) self.old) }
         ensures lacks { OnErr result A.Lacks }
     {
-        let text = self
-            .alloc
-            .list_of(text_under(statement, self.statements.as_slice()))?;
+        let text = self.alloc.list_of(text_under(statement, &self.statements))?;
         put(portal, text, &mut self.portals)
     }
 
@@ -139,7 +139,7 @@ impl<A: Memory> Summary<A> {
         ensures lacks { OnErr result A.Lacks }
     {
         let rows = self.rows_of(number);
-        let text = text_under(portal, self.portals.as_slice());
+        let text = text_under(portal, &self.portals);
         tally(self.alloc, text, rows, micros, &mut self.entries)
     }
 
@@ -152,10 +152,17 @@ impl<A: Memory> Summary<A> {
         tally(self.alloc, text, rows, micros, &mut self.entries)
     }
 
-    /// The statements that ran, in the order in which the first run of each ended.
-    pub fn entries(&self) -> &[Entry<A>]
-        ensures { result.now ≡ self.now.tallies }
+    /// How many statements ran.
+    pub fn len(&self) -> usize
+        ensures { result ≡ length self.now.tallies }
     {
-        self.entries.as_slice()
+        self.entries.len()
+    }
+
+    /// The statement at this place, in the order in which the first run of each ended.
+    pub fn entry(&self, place: usize) -> Option<Entry<'_, A>>
+        ensures { result ≡ slice_get self.now.tallies place }
+    {
+        entry_at(&self.entries, place)
     }
 }
