@@ -174,6 +174,10 @@ fn note_answer<A: MapMemory>(
             summary.row(number);
             Ok(())
         }
+        "ErrorResponse" => {
+            summary.fail(number)?;
+            summary.end(number, Reply::ExecuteEnd, micros)
+        }
         _ => note_end(reply_named(name), number, micros, summary),
     }
 }
@@ -204,7 +208,6 @@ fn reply_named(name: &str) -> Option<Reply>
         "CommandComplete" => Some(Reply::ExecuteEnd),
         "EmptyQueryResponse" => Some(Reply::ExecuteEnd),
         "PortalSuspended" => Some(Reply::ExecuteEnd),
-        "ErrorResponse" => Some(Reply::ExecuteEnd),
         "ReadyForQuery" => Some(Reply::ReadyForQuery),
         _ => None,
     }

@@ -14,7 +14,7 @@ use pgp_names::MapMemory;
 use pgp_summary::{Line, Summary};
 use std::alloc::AllocError;
 
-/// How many characters a count of runs takes, and how many a count of rows, or a time.
+/// How many characters a count of runs or of errors takes, and how many a count of rows, or a time.
 const COUNT: usize = 8;
 
 const WIDTH: usize = 10;
@@ -45,7 +45,7 @@ fn put_heading<A: MapMemory>(form: Form, text: &mut String<A>) -> Result<(), All
     match form {
         Form::Columns => A::push_str(
             text,
-            "   count       rows      least     median   greatest ms\n",
+            "   count   errors       rows      total      least     median   greatest ms\n",
         ),
         Form::Json => Ok(()),
     }
@@ -122,7 +122,9 @@ fn put_columns<A: MapMemory>(
     ensures lacks { OnErr result A.Lacks }
 {
     put_count(COUNT, line.count, part, text)?;
+    put_count(COUNT, line.errors, part, text)?;
     put_count(WIDTH, line.rows, part, text)?;
+    put_time(line.total, part, text)?;
     put_time(line.least, part, text)?;
     put_time(line.median, part, text)?;
     put_time(line.greatest, part, text)
@@ -183,8 +185,12 @@ fn put_counts<A: MapMemory>(line: Line, text: &mut String<A>) -> Result<(), Allo
     ensures lacks { OnErr result A.Lacks }
 {
     let count = line.count;
+    let errors = line.errors;
     let rows = line.rows;
-    A::push_shown(text, format_args!("{{\"count\":{count},\"rows\":{rows}"))
+    A::push_shown(
+        text,
+        format_args!("{{\"count\":{count},\"errors\":{errors},\"rows\":{rows}"),
+    )
 }
 
 /// Adds the times.
@@ -192,6 +198,7 @@ fn put_times<A: MapMemory>(line: Line, text: &mut String<A>) -> Result<(), Alloc
     ensures text { OnOk result (string_bytes text.new ≡ string_bytes text.old ++ times line) }
     ensures lacks { OnErr result A.Lacks }
 {
+    put_member(",\"total\":", line.total, text)?;
     put_member(",\"least\":", line.least, text)?;
     put_member(",\"median\":", line.median, text)?;
     put_member(",\"greatest\":", line.greatest, text)

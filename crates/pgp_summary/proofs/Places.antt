@@ -1,12 +1,12 @@
 -- One more run of a statement.
-use Rattle.std.proofs.Common.{◌≡◌, ℕ, ◌+◌, Bool, true, false, List, [], ◌∷◌, ◌++◌, Some, None, refl, sym, ap, ◌∙◌, inl, inr}
+use Rattle.std.proofs.Common.{◌≡◌, ℕ, Bool, true, false, Option, List, [], ◌∷◌, Some, None, refl, sym, ap, ◌∙◌, inl, inr}
 use Rattle.std.specs.Prelude.{if◌then◌else◌}
 use Rattle.std.specs.Str.{bytes_eq}
 use Rattle.std.proofs.lemmas.Bool.{cases_Bool}
 use Rattle.std.proofs.lemmas.Slice.Eq.{bytes_eq-Decides}
 use Rattle.pgp_names.specs.Names.{found, put}
-use Rattle.pgp_summary.specs.Places.{Ran, tallies_of, tally_of}
-use Rattle.pgp_summary.specs.Runs.{Tally, capped, tallied}
+use Rattle.pgp_summary.specs.Places.{Ran, more_of, no_run, tallies_of, tally_of}
+use Rattle.pgp_summary.specs.Runs.{tallied}
 
 not_both : (b : Bool) → b ≡ true → b ≡ false → ⊥
 not_both true e f = cc
@@ -34,24 +34,24 @@ put_put name v w (e ∷ more) =
 no_none : {V : Type 0} {v : V} → None ≡ Some v → ⊥
 no_none e = cc
 
-pub some_more : (text : List ℕ) (rows micros : ℕ) (had : Ran) (list : List (List ℕ × Ran)) → found text list ≡ Some had
-    → tallies_of (put text (record { rows = capped (had.rows + rows); times = had.times ++ micros ∷ [] }) list) ≡ tallied (record { text = text; rows = rows; micros = micros }) (tallies_of list)
-some_more text rows micros had [] is = absurd (no_none is)
-some_more text rows micros had (e ∷ more) is =
+pub some_more : (text : List ℕ) (rows errors : ℕ) (micros : Option ℕ) (had : Ran) (list : List (List ℕ × Ran)) → found text list ≡ Some had
+    → tallies_of (put text (more_of rows errors micros had) list) ≡ tallied (record { text = text; rows = rows; micros = micros; errors = errors }) (tallies_of list)
+some_more text rows errors micros had [] is = absurd (no_none is)
+some_more text rows errors micros had (e ∷ more) is =
     elim (cases_Bool (bytes_eq text e.0)) [
       | inl same ↦ (let x : e.1 ≡ had = here (ap (λ b. if b then Some e.1 else found text more) (sym same) ∙ is) in
-          rw (same, same_back text e.0 same) (ap (λ (r : Ran). tally_of (e.0, (let n : Ran = record { rows = capped (r.rows + rows); times = r.times ++ micros ∷ [] } in n)) ∷ tallies_of more) (sym x)))
-      | inr other ↦ rw (other, differs_back text e.0 other) (ap (λ l. tally_of e ∷ l) (some_more text rows micros had more (ap (λ b. if b then Some e.1 else found text more) (sym other) ∙ is)))
+          rw (same, same_back text e.0 same) (ap (λ (r : Ran). tally_of (e.0, more_of rows errors micros r) ∷ tallies_of more) (sym x)))
+      | inr other ↦ rw (other, differs_back text e.0 other) (ap (λ l. tally_of e ∷ l) (some_more text rows errors micros had more (ap (λ b. if b then Some e.1 else found text more) (sym other) ∙ is)))
     ]
   where
     here : {x y : Ran} → Some x ≡ Some y → x ≡ y
     here e = cc
 
-pub none_more : (text : List ℕ) (rows micros : ℕ) (list : List (List ℕ × Ran)) → found text list ≡ None
-    → tallies_of (put text (record { rows = rows; times = micros ∷ [] }) list) ≡ tallied (record { text = text; rows = rows; micros = micros }) (tallies_of list)
-none_more text rows micros [] is = refl
-none_more text rows micros (e ∷ more) is =
+pub none_more : (text : List ℕ) (rows errors : ℕ) (micros : Option ℕ) (list : List (List ℕ × Ran)) → found text list ≡ None
+    → tallies_of (put text (more_of rows errors micros no_run) list) ≡ tallied (record { text = text; rows = rows; micros = micros; errors = errors }) (tallies_of list)
+none_more text rows errors micros [] is = refl
+none_more text rows errors micros (e ∷ more) is =
     elim (cases_Bool (bytes_eq text e.0)) [
       | inl same ↦ absurd (no_none (sym (ap (λ b. if b then Some e.1 else found text more) (sym same) ∙ is)))
-      | inr other ↦ rw (other, differs_back text e.0 other) (ap (λ l. tally_of e ∷ l) (none_more text rows micros more (ap (λ b. if b then Some e.1 else found text more) (sym other) ∙ is)))
+      | inr other ↦ rw (other, differs_back text e.0 other) (ap (λ l. tally_of e ∷ l) (none_more text rows errors micros more (ap (λ b. if b then Some e.1 else found text more) (sym other) ∙ is)))
     ]

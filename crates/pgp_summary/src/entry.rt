@@ -1,19 +1,21 @@
 //! What a statement came to.
 
-ghost use Rattle.std.specs.Prelude.{◌≡◌, ◌+◌, ◌/◌, ◌++◌, ◌∷◌, [], get_or, slice_get, IfOk, OnErr, OnOk};
+ghost use Rattle.std.specs.Prelude.{◌≡◌, ◌+◌, ◌/◌, get_or, slice_get, IfOk, OnErr, OnOk};
 ghost use Rattle.pgp_summary.specs.Runs.{ascending, capped, line_by, line_of, median_of, tallied};
-ghost use Rattle.pgp_summary.specs.Places.{tallies_of};
+ghost use Rattle.pgp_summary.specs.Places.{more_of, no_run, tallies_of};
 
 use pgp_base::Memory;
 use pgp_names::{MapMemory, Names};
 use std::alloc::{AllocError, Allocator};
 use std::marker::Model;
 
-/// The rows of all runs of a statement, and the time that each run took, in microseconds.
+/// The rows of all runs of a statement, the time that each run took, in microseconds, the sum of these, and how many errors there were.
 #[derive(Drop)]
 pub(crate) struct Ran<A: Allocator> {
     rows: u64,
     times: Vec<u64, A>,
+    total: u64,
+    errors: u64,
 }
 
 impl<A: Allocator> Model for Ran<A> {
@@ -21,7 +23,7 @@ impl<A: Allocator> Model for Ran<A> {
 
     ghost Value = { spec.Ran };
 
-    ghost view = { λ x. record { rows = x.rows; times = x.times.items } };
+    ghost view = { λ x. record { rows = x.rows; times = x.times.items; total = x.total; errors = x.errors } };
 }
 
 /// A statement that ran.
@@ -36,15 +38,25 @@ impl<'a, A: Allocator> Model for Entry<'a, A> {
 
     ghost Value = { Tally };
 
-    ghost view = { λ x. record { text = x.text.now; rows = x.ran.now.rows; times = x.ran.now.times } };
+    ghost view = { λ x. record { text = x.text.now; rows = x.ran.now.rows; times = x.ran.now.times; total = x.ran.now.total; errors = x.ran.now.errors } };
 }
 
-/// What is said of a statement: how often it ran, the rows of all its runs, and of the times that they took, in microseconds, the least, the median and the
-/// greatest.
+/// What a request adds: the rows of a run, the microseconds that it took if it is over, and errors.
+#[derive(Debug, Clone, Copy, PartialEq, Eq)]
+pub(crate) struct More {
+    pub(crate) rows: u64,
+    pub(crate) micros: Option<u64>,
+    pub(crate) errors: u64,
+}
+
+/// What is said of a statement: how often it ran, how many errors there were, the rows of all its runs, and of the times that they took, in microseconds, the sum, the least, the median
+/// and the greatest.
 #[derive(Debug, Clone, Copy, PartialEq, Eq)]
 pub struct Line {
     pub count: u64,
+    pub errors: u64,
     pub rows: u64,
+    pub total: u64,
     pub least: u64,
     pub median: u64,
     pub greatest: u64,
@@ -74,27 +86,36 @@ impl<'a, A: MapMemory> Entry<'a, A> {
 impl<A: MapMemory> Ran<A> {
     /// What is said of it.
     fn line(&self) -> Result<Line, AllocError>
-        ensures line { IfOk result (λ line. line ≡ line_by self.now.rows (ascending self.now.times)) }
+        ensures line { IfOk result (λ line. line ≡ line_by self.now.errors self.now.rows self.now.total (ascending self.now.times)) }
         ensures lacks { OnErr result A.Lacks }
     {
         let times = sorted(*self.times.allocator(), self.times.as_slice())?;
         Ok(Line {
             count: times.len() as u64,
+            errors: self.errors,
             rows: self.rows,
+            total: self.total,
             least: at(times.as_slice(), 0),
             median: median(times.as_slice()),
             greatest: at(times.as_slice(), times.len().saturating_sub(1)),
         })
     }
 
-    /// One more run.
-    fn with(mut self, rows: u64, micros: u64) -> Result<Ran<A>, AllocError>
-        ensures added { IfOk result (λ ran. ran ≡ record { rows = capped (self.rows + rows); times = self.times ++ micros ∷ [] }) }
+    /// One more run, or an error.
+    fn with(mut self, more: More) -> Result<Ran<A>, AllocError>
+        ensures added { IfOk result (λ ran. ran ≡ more_of more.rows more.errors more.micros self) }
         ensures lacks { OnErr result A.Lacks }
     {
-        A::push(&mut self.times, micros)?;
-        self.rows = plus(self.rows, rows);
-        Ok(self)
+        self.rows = plus(self.rows, more.rows);
+        self.total = plus(self.total, more.micros.unwrap_or(0));
+        self.errors = plus(self.errors, more.errors);
+        match more.micros {
+            Some(micros) => {
+                A::push(&mut self.times, micros)?;
+                Ok(self)
+            }
+            None => Ok(self),
+        }
     }
 }
 
@@ -111,24 +132,23 @@ pub(crate) fn entry_at<A: MapMemory>(
     }
 }
 
-/// One more run of a statement.
+/// One more run of a statement, or an error.
 pub(crate) fn tally<A: MapMemory>(
     alloc: A,
     text: &[u8],
-    rows: u64,
-    micros: u64,
+    more: More,
     entries: &mut Names<Ran<A>, A>,
 ) -> Result<(), AllocError>
-    ensures tallied { OnOk result (tallies_of entries.new ≡ tallied (record { text = text.now; rows = rows; micros = micros }) (tallies_of entries.old)) }
+    ensures tallied { OnOk result (tallies_of entries.new ≡ tallied (record { text = text.now; rows = more.rows; micros = more.micros; errors = more.errors }) (tallies_of entries.old)) }
     ensures lacks { OnErr result A.Lacks }
 {
     match entries.swap(text, none(alloc)) {
         Ok(ran) => {
-            let more = ran.with(rows, micros)?;
-            entries.put(text, more)
+            let ran = ran.with(more)?;
+            entries.put(text, ran)
         }
-        Err(_) => {
-            let first = first(alloc, rows, micros)?;
+        Err(none) => {
+            let first = none.with(more)?;
             entries.put(text, first)
         }
     }
@@ -136,21 +156,14 @@ pub(crate) fn tally<A: MapMemory>(
 
 /// No run.
 fn none<A: MapMemory>(alloc: A) -> Ran<A>
-    ensures { result ≡ record { rows = 0; times = [] } }
+    ensures { result ≡ no_run }
 {
     Ran {
         rows: 0,
         times: Vec::new(alloc),
+        total: 0,
+        errors: 0,
     }
-}
-
-/// The first run of a statement.
-fn first<A: MapMemory>(alloc: A, rows: u64, micros: u64) -> Result<Ran<A>, AllocError>
-    ensures first { IfOk result (λ ran. ran ≡ record { rows = rows; times = micros ∷ [] }) }
-    ensures lacks { OnErr result A.Lacks }
-{
-    let times = alloc.list_of(&[micros])?;
-    Ok(Ran { rows, times })
 }
 
 /// The sum of two counts, at most `u64::MAX`.

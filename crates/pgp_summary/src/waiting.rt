@@ -1,7 +1,8 @@
 //! The requests whose answers aren't complete.
 
 ghost use Rattle.std.specs.Prelude.{◌≡◌, ◌++◌, ◌∷◌, [], nat_lt, OnErr, OnOk};
-ghost use Rattle.pgp_summary.specs.Summary.{is_ended, is_first_before, is_first_ended, skipped, taken};
+ghost use Rattle.std.specs.Option.{option_map};
+ghost use Rattle.pgp_summary.specs.Summary.{first_of, is_ended, is_first_before, is_first_ended, skipped, taken};
 
 use crate::work::{Reply, Work, ends};
 use pgp_base::Memory;
@@ -72,6 +73,19 @@ fn is_first_before<A: MapMemory>(number: u64, waiting: &VecDeque<Asked<A>, A>) -
     match waiting.front() {
         Some(asked) => asked.is_before(number),
         None => false,
+    }
+}
+
+/// The first, if it has this number.
+pub(crate) fn first_of<A: MapMemory>(
+    number: u64,
+    waiting: &VecDeque<Asked<A>, A>,
+) -> Option<&Asked<A>>
+    ensures { option_map (λ asked. asked.now) result ≡ first_of number waiting.now.items }
+{
+    match waiting.front() {
+        Some(asked) if asked.number == number => Some(asked),
+        _ => None,
     }
 }
 
