@@ -10,7 +10,7 @@ ghost use Rattle.pgp_conversation.specs.TypedLines.{AddsBytes, AddsValue};
 use crate::column::Column;
 use bytes::BytesMut;
 use pgp_base::Memory;
-use pgp_line::line::{put_null, put_some};
+use pgp_line::line::{put_null, put_some, put_unread};
 use pgp_line::style::Style;
 use pgp_names::MapMemory;
 use pgp_value_text::put_value;
@@ -55,7 +55,7 @@ fn put_bytes<A: MapMemory>(
     }
 }
 
-/// Adds the text of bytes in binary format, or the bytes. A floating-point number may have several texts, so its bytes are added.
+/// Adds the text of bytes in binary format, or their hex digits. A floating-point number may have several texts, so its bytes are added.
 fn put_binary<A: MapMemory>(
     style: Style,
     oid: u32,
@@ -67,7 +67,7 @@ fn put_binary<A: MapMemory>(
     ensures lacks { OnErr result A.Lacks }
 {
     if is_float(oid) {
-        put_some(style, bytes, line)
+        put_unread(style, bytes, line)
     } else {
         put_shown(style, oid, bytes, text, line)
     }
@@ -100,6 +100,6 @@ fn put_shown<A: MapMemory>(
     if put_value(oid, bytes, text)? {
         put_some(style, text.as_slice(), line)
     } else {
-        put_some(style, bytes, line)
+        put_unread(style, bytes, line)
     }
 }
