@@ -3,7 +3,7 @@
 # `make edits`, before a release, tries every wrong body by itself, `make edits CRATES=pgp_base` those of one crate.
 # `make live` tries SASLprep, and what psql, pgbench and pg_dump send, with a PostgreSQL server of this machine, which it starts and stops; pgserve with psql, pgbench, drivers, and beside that server;
 # scripts/live_types, scripts/live_rows, scripts/live_numerics, scripts/live_calendar and scripts/live_value_text, which compare the codecs of types, the tables of values, decimal numbers, texts of days and times and texts of values with a server's;
-# examples/record.sh, which lists a session of psql with pgtrace, examples/pcap.py and examples/values.py; binary values, and programs over them; the Rust package under tokio-postgres; the Python package, and pipelined sessions.
+# examples/record.sh, which lists a session of psql with pgtrace, examples/relay.py, examples/pcap.py and examples/values.py; binary values, and programs over them; the Rust package under tokio-postgres; the Python package, and pipelined sessions.
 # `make library` proves and builds the library for C (docs/C.md), `make install PREFIX=..` puts it and the program there, and
 # `make check-c` tries it from C, C++ and Python (`LIBRARIES=gate`, right behind `rt ci`, takes the libraries below it from there).
 # `make wheel` builds the Python package over it (docs/PYTHON.md).
@@ -52,6 +52,7 @@ live:
 	@scripts/live_sessions
 	@scripts/live_serve
 	@scripts/live_trace
+	@scripts/live_relay
 	@scripts/live_pcap
 	@scripts/live_tshark
 	@[ -e out/c/libpostgres_protocol.so ] || scripts/library build
