@@ -37,7 +37,7 @@ abbrev pub run_of : Option Request → (micros : ℕ) → State → List Run
 run_of None micros s = []
 run_of (Some r) micros s = run_by r.work r micros s
 
--- the run that a call ends, if it does, or the error that it tells of
+-- the run that a call ends, if it does, or the error of one that failed
 abbrev pub run_in : Call → State → List Run
 run_in (Ask request) s = []
 run_in (Row number) s = []

@@ -5,7 +5,7 @@ ghost use Rattle.pgp_summary.specs.Calls.{AreApart, Call, after, found, runs_in,
 ghost use Rattle.pgp_summary.specs.Runs.{Run, tally};
 ghost use Rattle.pgp_summary.specs.Summary.{nothing};
 
-/// Whatever calls were made: the statements are those of the runs that they ended and of the errors that they told of, and no others.
+/// Whatever calls were made: the statements are those of the runs that they ended and of their errors, and no others.
 pub fn runs_are_tallied()
     ensures { (calls : List Call) → (after nothing calls).tallies ≡ tally (runs_in nothing calls) }
 {}

@@ -169,7 +169,7 @@ impl<A: MapMemory> Summary<A> {
         }
     }
 
-    /// Takes note of an error that the server sent for the request of this number. What ends the request is told by `end`.
+    /// Takes note of an error that the server sent for the request of this number. It doesn't end the request, as `end` does.
     ///
     /// # Errors
     ///
