@@ -36,7 +36,7 @@ abbrev pub tallied : Run → List Tally → List Tally
 tallied run [] = begun run ∷ []
 tallied run (e ∷ more) = if bytes_eq e.text run.text then grown run e ∷ more else e ∷ tallied run more
 
--- the statements of these runs, in the order in which the first run of each ended
+-- the statements of these runs, in the order in which the first run or error of each came
 abbrev pub tally_after : List Tally → List Run → List Tally
 tally_after tallies [] = tallies
 tally_after tallies (run ∷ more) = tally_after (tallied run tallies) more

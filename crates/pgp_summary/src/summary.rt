@@ -195,7 +195,7 @@ impl<A: MapMemory> Summary<A> {
         self.entries.len()
     }
 
-    /// The statement at this place, in the order in which the first run of each ended.
+    /// The statement at this place, in the order in which the first run or error of each came.
     pub fn entry(&self, place: usize) -> Option<Entry<'_, A>>
         ensures { result ≡ slice_get self.now.tallies place }
     {
