@@ -1,68 +1,46 @@
-# The two commands of a newcomer: `make run` lists a sample stream in about a minute, `make test` is the gate.
-# `make program` proves and builds the program, which `make run` and `./pgwire` run from then on.
-# `make edits`, before a release, tries every wrong body by itself, `make edits CRATES=pgp_base` those of one crate.
-# `make live` tries SASLprep, and what psql, pgbench and pg_dump send, with a PostgreSQL server of this machine, which it starts and stops; pgserve with psql, pgbench, drivers, and beside that server;
-# scripts/live_types, scripts/live_rows, scripts/live_numerics, scripts/live_calendar and scripts/live_value_text, which compare the codecs of types, the tables of values, decimal numbers, texts of days and times and texts of values with a server's;
-# examples/record.sh, which lists a session of psql with pgtrace, examples/pcap.py and examples/values.py; binary values, and programs over them; the Rust package under tokio-postgres; the Python package, and pipelined sessions.
-# `make library` proves and builds the library for C (docs/C.md), `make install PREFIX=..` puts it and the program there, and
-# `make check-c` tries it from C, C++ and Python (`LIBRARIES=gate`, right behind `rt ci`, takes the libraries below it from there).
-# `make wheel` builds the Python package over it (docs/PYTHON.md).
-# `make rust` writes the Cargo package out/rust/postgres-protocol (docs/RUST.md), `make check-rust` tries it.
-# `make quick` builds the library, the Python package and the programs from the sources without their contracts in half a minute, with cargo and no `rt`:
-# nothing of it is proved. `make check-quick` runs the tests and the stored runs over it.
-# `make check-vendor` runs the commands of docs/VENDORING.md in an empty folder. `make contracts` writes docs/CONTRACTS.md from the sources.
-# `make bench` times the works of crates/pgp_bench, `make bench WORKS=write` those whose names begin so.
+# `make help` lists the commands.
+.PHONY: help run quick test install program library wheel rust verify edits check-c check-rust check-vendor live bench contracts
 
-.PHONY: run program test edits contracts bench live library wheel install check-c check-vendor rust check-rust quick check-quick
+needs_rt = @command -v rt >/dev/null 2>&1 || { echo "make: the Rattle toolchain is missing: no command 'rt' on the PATH" >&2; exit 1; }
+
+help:
+	@printf '%s\n' \
+	  'With python3, a C compiler and cargo (two processors):' \
+	  '  make run                    lists a sample stream                                                 1 minute' \
+	  '  make quick                  the C library, the Python package, three programs: not proved         1' \
+	  '  make install QUICK=1 PREFIX=DIR [LIBDIR= DESTDIR=]    puts these there                            1' \
+	  '  make rust                   a Cargo package with the API of the Rust crate postgres-protocol      2 seconds' \
+	  '  make test                   all tests that need no proof                                          4 minutes' \
+	  '  make check-rust             of these, the tests of the Cargo package                              1' \
+	  '' \
+	  'With rt, the Rattle toolchain (four processors):' \
+	  '  make verify                 every proof, test and edit that a proof has to refuse                 60 to 120 minutes' \
+	  '  make library, make wheel    the C library and the Python package, proved                          10 to 40' \
+	  '  make program                pgwire, proved, which ./pgwire runs (scripts/program build pgtrace)   10 to 40' \
+	  '  make install PREFIX=DIR [LIBDIR= DESTDIR=]    all of it, proved                                   60 to 120' \
+	  '  make check-c, check-vendor  tests of the proved library; the commands of docs/VENDORING.md        10 to 40' \
+	  '  make edits [CRATES=pgp_base]    each wrong body by itself                                         hours' \
+	  '  make bench [WORKS=write]    times the works of crates/pgp_bench                                   10' \
+	  '' \
+	  'For who changes it: make live tries it all with a PostgreSQL server of this machine; make contracts writes docs/CONTRACTS.md.'
+
+export QUICK LIBDIR DESTDIR
 
 run:
 	@scripts/sample
 
+quick:
+	@scripts/quick
+
+test:
+	@scripts/test
+
+install:
+	@scripts/install "$(PREFIX)"
+
 program:
 	@scripts/program build
 	@printf 'the proved program is built: ./pgwire runs it\n'
-
-test:
-	@command -v rt >/dev/null 2>&1 || { echo "make: the Rattle toolchain is missing: no command 'rt' on the PATH" >&2; exit 1; }
-	RT_JOBS=$${RT_JOBS:-$$(.ci/lanes)} rt ci
-
-edits:
-	@command -v rt >/dev/null 2>&1 || { echo "make: the Rattle toolchain is missing: no command 'rt' on the PATH" >&2; exit 1; }
-	.ci/edits $(CRATES)
-
-contracts:
-	.ci/contracts --write
-
-bench:
-	@command -v rt >/dev/null 2>&1 || { echo "make: the Rattle toolchain is missing: no command 'rt' on the PATH" >&2; exit 1; }
-	cd crates/pgp_bench && rt run -- check
-	@printf 'nanoseconds for each unit:\n'
-	@./crates/pgp_bench/out/pgp_bench $(WORKS)
-
-live:
-	cd crates/pgp_rows && rt run >/dev/null 2>&1 || [ -x out/pgp_rows ]
-	cd crates/pgserve && rt run -- --version >/dev/null 2>&1 || [ -x out/pgserve ]
-	cd crates/pgtrace && rt run -- --version >/dev/null 2>&1 || [ -x out/pgtrace ]
-	@scripts/live_saslprep
-	@scripts/live_types
-	@scripts/live_rows
-	@scripts/live_numerics
-	@scripts/live_calendar
-	@scripts/live_value_text
-	@scripts/live_sessions
-	@scripts/live_serve
-	@scripts/live_trace
-	@scripts/live_pcap
-	@scripts/live_tshark
-	@[ -e out/c/libpostgres_protocol.so ] || scripts/library build
-	@scripts/wheel
-	@rm -rf out/venv && python3 -m venv --system-site-packages out/venv && out/venv/bin/pip install -q --no-index out/wheel/*.whl
-	@out/venv/bin/python scripts/live_values
-	@scripts/live_programs
-	@scripts/live_rust
-	@out/venv/bin/python scripts/live_recordings
-	@out/venv/bin/python scripts/live_python
-	@out/venv/bin/python scripts/live_dialogue
 
 library:
 	@scripts/library build
@@ -71,24 +49,44 @@ wheel:
 	@[ -e out/c/libpostgres_protocol.so ] || scripts/library build
 	@scripts/wheel
 
-install:
-	@[ -n "$(PREFIX)" ] || { echo "make: say where to: make install PREFIX=.." >&2; exit 1; }
-	@scripts/library install "$(PREFIX)"
+rust:
+	@python3 -B bindings/rust/generate.py out/rust/postgres-protocol
+
+verify:
+	$(needs_rt)
+	RT_JOBS=$${RT_JOBS:-$$(.ci/lanes)} rt ci
+
+edits:
+	$(needs_rt)
+	.ci/edits $(CRATES)
 
 check-c:
 	@scripts/check_c $(LIBRARIES)
 
-check-vendor:
-	@scripts/check_vendor $(LIBRARIES)
-
-rust:
-	@python3 -B bindings/rust/generate.py out/rust/postgres-protocol
-
 check-rust:
 	@scripts/check_rust
 
-quick:
-	@scripts/quick
+check-vendor:
+	@scripts/check_vendor $(LIBRARIES)
 
-check-quick:
-	@scripts/quick check
+contracts:
+	.ci/contracts --write
+
+bench:
+	$(needs_rt)
+	cd crates/pgp_bench && rt run -- check
+	@printf 'nanoseconds for each unit:\n'
+	@./crates/pgp_bench/out/pgp_bench $(WORKS)
+
+live:
+	cd crates/pgp_rows && rt run >/dev/null 2>&1 || [ -x out/pgp_rows ]
+	cd crates/pgserve && rt run -- --version >/dev/null 2>&1 || [ -x out/pgserve ]
+	cd crates/pgtrace && rt run -- --version >/dev/null 2>&1 || [ -x out/pgtrace ]
+	@for name in saslprep types rows numerics calendar value_text sessions serve trace pcap tshark; do scripts/live_$$name || exit 1; done
+	@[ -e out/c/libpostgres_protocol.so ] || scripts/library build
+	@scripts/wheel
+	@rm -rf out/venv && python3 -m venv --system-site-packages out/venv && out/venv/bin/pip install -q --no-index out/wheel/*.whl
+	@out/venv/bin/python scripts/live_values
+	@scripts/live_programs
+	@scripts/live_rust
+	@for name in recordings python dialogue; do out/venv/bin/python scripts/live_$$name || exit 1; done

@@ -92,5 +92,6 @@ def crate_of(crates, out, what, used):
     for (crate, name), text in texts.items():
         path = 'mod.rs' if name in ('lib.rt', 'main.rt') else name[:-3] + '.rs'
         generate.write(os.path.join(out, 'src/proved', crate, path), generate.checked(plain(text, crate), crate, name, used))
-    generate.write(os.path.join(out, 'src/lib.rs'), LIB % (what, ''.join(f'    pub mod {crate};\n' for crate in crates)))
+    by_hand = ''.join(f'#[cfg(test)]\nmod {name[:-3]};\n' for name in sorted(os.listdir(os.path.join(out, 'src'))) if name.endswith('.rs'))
+    generate.write(os.path.join(out, 'src/lib.rs'), LIB % (what, ''.join(f'    pub mod {crate};\n' for crate in crates)) + by_hand)
     return sum(text.count('#[test]') for text in texts.values()), lacks

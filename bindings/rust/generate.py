@@ -6,8 +6,22 @@ from rules import PLACES, fit, leftovers
 
 here = os.path.dirname(os.path.abspath(__file__))
 top = os.path.dirname(os.path.dirname(here))
+
+
+def below(*tops):
+    """The crates of this repository that these stand on, after crates.txt, in its order; the shim's text.rs stands for pgp_text."""
+    with open(os.path.join(top, 'crates.txt')) as file:
+        uses = {m[1]: m[2].split() for m in re.finditer(r'^(\w+)(?: staticlib)?:(.*)$', file.read(), re.M)}
+    found, more = set(), set(tops)
+    while more:
+        found |= more
+        more = {dep for name in more for dep in uses[name] if dep in uses} - found
+    return [name for name in uses if name in found - set(tops) - {'pgp_text'}]
+
+
+# What the API of the Rust crate stands on; the rest is behind a feature.
 CORE = ['pgp_base', 'pgp_frontend', 'pgp_message', 'pgp_types', 'pgp_auth', 'pgp_saslprep']
-MORE = ['pgp_frontend_read', 'pgp_message_write', 'pgp_client', 'pgp_session', 'pgp_values']
+MORE = [name for name in below('postgres_protocol') if name not in CORE]
 # The crates that a `use` may name; else it names a module.
 NAMES = set(CORE + MORE) | {'pgp_rows', 'postgres_protocol', 'std', 'crate', 'bytes', 'self', 'super'}
 HEAD = '//! The generated modules: the proved sources without their contracts. Change the sources, not these.\n'

@@ -5,8 +5,7 @@ from asking import answering
 from erase import Unknown
 
 PROGRAMS = ['pgwire', 'pgtrace', 'pgserve']
-BELOW = ['postgres_protocol', 'pgp_program', 'pgp_wire', 'pgp_line', 'pgp_trace', 'pgp_summary', 'pgp_calendar', 'pgp_value_text', 'pgp_conversation',
-         'pgp_monitor']
+BELOW = [name for name in generate.below(*PROGRAMS) if name not in generate.CORE + generate.MORE]
 MAIN = 'fn main() -> impl std::process::Termination {\n    %s::proved::%s::main(erased::kit::host::HostRuntime)\n}\n'
 
 

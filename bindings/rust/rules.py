@@ -1,10 +1,14 @@
 """What makes plain Rust of an erased text. General rules stand for a difference of the languages and apply wherever they match; single
 ones change one place, and stop the generator where it isn't found as often as they say. What no rule knows is found by `leftovers`."""
-import re
+import os, re
 from erase import Unknown, after_brace
 
+with open(os.path.join(os.path.dirname(os.path.abspath(__file__)), '../../VERSION')) as file:
+    VERSION = file.read().strip()
+UNPROVED = VERSION + '+unproved'
+
 # The allocator: each text is taken at the global one, so that its parameters and arguments go.
-PARAMETER = re.compile(r'(?:, )?\bA: (?:Allocator|Memory)(?: \+ Copy)?(?: = Global)?(?:, )?')
+PARAMETER = re.compile(r'(?:, )?\bA: (?:Allocator|(?:Map)?Memory)(?: \+ Copy)?(?: = Global)?(?:, )?')
 
 # From the kit's crates to the shim: (text of the source, text of the package).
 NAMES = [
@@ -24,6 +28,8 @@ NAMES = [
     ('use thiserror::Error as DeriveError;\n', ''),
     ('fn fmt<W: fmt::Write>(&self, f: &mut fmt::Formatter<W>)', "fn fmt(&self, f: &mut fmt::Formatter<'_>)"),
     ('#[rattlefmt::skip]\n', ''),
+    ('use std::hash::{BuildHasherDefault, FoldHasher};\n', ''),
+    (', BuildHasherDefault<FoldHasher>', ''),
     ('use std::env::FillError;\n', 'use crate::kit::host::FillError;\n'),
     ('use std::time::{Duration, Instant};', 'use crate::kit::host::Instant;\nuse std::time::Duration;'),
     ('std::env::args(', 'crate::kit::host::args('),
@@ -45,7 +51,7 @@ NAMES = [
 ]
 
 # Crates of the kit whose names stand for modules of the shim.
-SHIMS = re.compile(r'(?<![\w:])(arrayvec|clap|itoa|jiff|jiff_core|jiff_fmt|rand_core|regex|ryu|ucd_category|uuid)::')
+SHIMS = re.compile(r'(?<![\w:])(arrayvec|clap|indexmap|jiff|jiff_core|jiff_fmt|rand_core|regex|ryu|ucd_category|uuid)::')
 
 # Single places: file, how often, text, its substitute.
 PLACES = [
@@ -64,8 +70,20 @@ PLACES = [
     # What C hands over is taken out and put back.
     ('pgp_c/dialogue', 1, 'mem::replace(&mut dialogue.room, &mut [])', 'dialogue.room.take()'),
     ('pgp_c/dialogue', 1, 'dialogue.room = room;', 'dialogue.room.put_back(room);'),
+    # Room for structs that hold nothing yet.
+    ('pgp_c/cursor', 1, '    type Item: Copy;\n', '    type Item: Copy + Default;\n'),
+    ('pgp_c/cursor', 1, 'let code = next_counted::<L>(bytes, cursor, &mut items[at]);',
+     'let mut item = L::Item::default();\n        let code = next_counted::<L>(bytes, cursor, &mut item);'),
+    ('pgp_c/cursor', 1, 'return if code == DONE { 0 } else { code };\n        }\n', 'return if code == DONE { 0 } else { code };\n        }\n        items[at].write(item);\n'),
+    # The library and the programs say that they aren't proved.
+    ('pgp_c/proved', 1, '\n    1\n', '\n    0\n'),
+    ('pgp_trace/run', 1, f'"pgtrace {VERSION}\\n"', f'"pgtrace {UNPROVED}\\n"'),
+    ('pgserve/words', 1, f'.version("{VERSION}")', f'.version("{UNPROVED}")'),
+    ('pgp_tests_callers/trace_words', 1, f'"pgtrace {VERSION}\\n"', f'"pgtrace {UNPROVED}\\n"'),
     # The shim's trait has one call.
     ('pgp_test_alloc/counting', 1, '    fn next_u32(&mut self) -> u32 {\n        self.next_word()\n    }\n\n    fn next_u64(&mut self) -> u64 {\n        utils::next_u64_via_u32(self)\n    }\n\n', ''),
+    # Memory is the global one's.
+    ('pgp_names/names', 1, '    /// What its memory is taken from.\n    pub fn allocator(&self) -> &A {\n        self.map.allocator()\n    }\n\n', ''),
     # The adapter compiles these for single tags.
     ('pgp_message/message', 1, '    pub fn parse(', '    #[inline(always)]\n    pub fn parse('),
     ('pgp_message/parser', 1, '    pub fn parse(', '    #[inline(always)]\n    pub fn parse('),
@@ -80,7 +98,7 @@ SLICED = {'pgp_rows/client_read', 'pgp_rows/server'}
 
 def without_drop_bounds(text):
     """In Rattle `Drop` as a bound says that a value may be dropped; in Rust each may."""
-    text = re.sub(r'^ *\w+::\w+: Drop,\n', '', text.replace(' + Drop', ''), flags=re.M)
+    text = re.sub(r'^ *\w+::\w+: Drop,\n|(?<=where\n) *\w+: Drop,\n', '', text.replace(' + Drop', ''), flags=re.M)
     return re.sub(r'^ *where\n(?= *\{)', '', re.sub(r'\b([A-Z]\w*): Drop\b', r'\1', text), flags=re.M)
 
 
@@ -95,10 +113,10 @@ def global_allocator(text):
     text = text.replace('<Global>', '').replace('<Global, ', '<').replace(', Global>', '>')
     text = re.sub(r': A\b(?=[,)])', ': Global', re.sub(r'\bA::', 'Global::', text))
     text = re.sub(r'\*[\w.]+\.allocator\(\)', 'Global', text)
-    text = re.sub(r'\b(String|Vec|VecDeque|BytesMut)::new\((?:Global|[a-z.]*\balloc(?:\(\))?|memory)\)', r'\1::new()', text)
+    text = re.sub(r'\b(IndexMap|String|Vec|VecDeque|BytesMut)::new\((?:Global|[a-z.]*\balloc(?:\(\))?|memory)\)', r'\1::new()', text)
     text = re.sub(r'^use std::alloc::[^;]*;\n', '', text, flags=re.M)
-    text = re.sub(r'^(use (?:crate|pgp_base)::\{?[^;]*?)\b(?:Memory, |, Memory\b)', r'\1', text, flags=re.M)
-    text = re.sub(r'^use (?:pgp_base|crate::memory)::Memory;\n', '', text, flags=re.M)
+    text = re.sub(r'^(use (?:crate|pgp_base|pgp_names)::\{?[^;]*?)\b(?:(?:Map)?Memory, |, (?:Map)?Memory\b)', r'\1', text, flags=re.M)
+    text = re.sub(r'^use (?:pgp_base|pgp_names|crate::memory)::(?:Map)?Memory;\n', '', text, flags=re.M)
     return re.sub(r'^(use [\w:]+::)\{(\w+)\};', r'\1\2;', text, flags=re.M)
 
 
@@ -181,7 +199,7 @@ def single_places(text, name, used):
 LEFT = re.compile(r'\b(ghost|requires|ensures|decreases|Model|tactic|Allocator|allocator|rattlefmt|laws|unsafe|DeriveError|simdutf8|final fn)\b'
                   r'|[:+] Memory\b|\buse .*\bMemory\b|\+ Drop\b|: Drop\b|\bA::|\bA>|<A\b|: A\b|(?<!\} )\belse(?= \{)')
 FOREIGN = re.compile(r'^(?:pub )?use ([a-z]\w*)::')
-CRATES = {'std', 'crate', 'self', 'super', 'bytes', 'memchr', 'byteorder'}
+CRATES = {'std', 'crate', 'self', 'super', 'bytes', 'memchr', 'byteorder', 'itoa'}
 
 
 def leftovers(text, modules):

@@ -1,11 +1,13 @@
 """The rows of tests/c/test.c through the Python module: bytes of the manual's "Message Formats", worked by hand, and a session with the
 server of server.py."""
+import os
 import socket
 import subprocess
 import sys
 import threading
 
 import postgres_protocol as pg
+from postgres_protocol._library import declare
 from postgres_protocol.registry import DECODERS
 from faults import check_faults
 from rows import check_rows
@@ -255,6 +257,7 @@ def queries():
     same('another password', (run.returncode, run.stdout, run.stderr, seen), (1, '', 'query: 28P01: password authentication failed\n', [False]))
 
 
+same('is_proved', declare('is_proved')(), int(os.environ.get('PROVED', '1')))
 writers()
 wrong_arguments()
 streams()

@@ -5,7 +5,7 @@ use super::later::DividedUp as _;
 use super::{hex, AllocError, AllocFailed, Global};
 use ::bytes::{Buf, BufMut, Bytes, BytesMut};
 use std::collections::{TryReserveError, VecDeque};
-use std::fmt::Display;
+use std::fmt::{Display, Write as _};
 use std::mem;
 
 type Made<T> = Result<T, AllocError>;
@@ -104,7 +104,7 @@ impl Global {
     }
 
     pub fn push_shown<D: Display>(text: &mut String, value: D) -> Made<()> {
-        Global::push_str(text, &value.to_string())
+        write!(text, "{value}").map_err(|_| AllocError)
     }
 
     pub fn hex_of(self, bytes: &[u8]) -> Made<String> {

@@ -176,12 +176,22 @@ from_complete len n s digits i np sp dp names =
     let e4 : count_of digits ≡ Ok i = count_of-is digits i names in
     bind_is _ _ _ e1 ∙ (rw (one.1, one.0) (bind_is _ _ _ e2 ∙ (rw (two.1, two.0) (bind_is _ _ _ e3 ∙ (rw (three.0, three.1) (bind_is _ _ _ e4))))))
 
+abbrev count_of_ok : Result FirstParts Fault → ℕ
+count_of_ok (Ok p) = p.count
+count_of_ok (Err f) = 0
+
 pub read_first-complete : (t n s : List ℕ) (i : ℕ) → ServerFirst t n s i → read_first t ≡ Ok (record { nonce = n; salt_text = s; count = i })
 unfolding read_first
 read_first-complete t n s i f =
     let whole = from_complete (length t) n s f.digits i f.nonce_chars f.salt_chars f.digit_chars f.names in
     let P : List ℕ → Type 0 = λ x. read_from (length t) x ≡ Ok (record { nonce = n; salt_text = s; count = i }) in
     subst P (sym f.text_is) whole
+
+-- a text has one count
+pub one_count : (t n s m r : List ℕ) (i j : ℕ) → ServerFirst t n s i → ServerFirst t m r j → i ≡ j
+one_count t n s m r i j f g =
+    let same : Ok (record { nonce = n; salt_text = s; count = i }) ≡ Ok (record { nonce = m; salt_text = r; count = j }) = sym (read_first-complete t n s i f) ∙ read_first-complete t m r j g in
+    ap count_of_ok same
 
 -- ---- the faults
 

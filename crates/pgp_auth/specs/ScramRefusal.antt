@@ -1,6 +1,6 @@
 -- Why a client refuses a server's text. The causes are in order: each stands with the conditions under
 -- which none comes before it. Lack of memory isn't one of them.
-use Rattle.std.specs.Prelude.{◌≡◌, ◌≢◌, ℕ, ◌-◌, ◌<◌, ◌≤◌, List, [], ◌∷◌, ◌++◌, length, codes}
+use Rattle.std.specs.Prelude.{◌≡◌, ◌≢◌, ℕ, ◌-◌, ◌<◌, ◌≤◌, List, [], ◌∷◌, ◌++◌, length, codes, max}
 use Rattle.std.specs.List.{AllPass}
 use Rattle.std.specs.Str.{IsUtf8}
 use Rattle.pgp_auth.specs.Base64.{Shows}
@@ -53,6 +53,14 @@ pub record Meets (client_nonce text nonce salt : List ℕ) (count : ℕ) : Type 
   pub nonce_is : nonce ≡ client_nonce ++ more
   pub few : count ≤ 100000
   pub shows : Shows salt_text salt
+
+-- a server's first text that asks for fewer rounds than these, or for none
+pub record AsksFewer (least : ℕ) (text : List ℕ) : Type 0 where
+  pub nonce : List ℕ
+  pub salt_text : List ℕ
+  pub count : ℕ
+  pub text_is : ServerFirst text nonce salt_text count
+  pub fewer : count < max least 1
 
 -- why a client with this nonce rejects a server's first text
 pub data RefusesFirst (client_nonce text : List ℕ) : Refusal → Type 0 where

@@ -55,6 +55,7 @@ pub(crate) fn connected(alloc: Global, bytes: &[u8]) -> Result<u64, Error> {
         md5: None,
         cleartext: None,
         none: true,
+        least_rounds: 0,
     };
     let mut connection = Connection::new(alloc, ways, 65_536);
     let summed = rows_of(&mut connection, bytes);

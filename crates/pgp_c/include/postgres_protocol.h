@@ -99,6 +99,7 @@ typedef enum pgp_status {
     PGP_LOGIN_UNDUE = 89,               /* the message has no place there in a log-in */
     PGP_LOGIN_NOT_ADMITTED = 90,        /* the server asks for a way of logging in that isn't admitted */
     PGP_LOGIN_OTHER_MECHANISM = 91,     /* the mechanism isn't that of the channel binding */
+    PGP_LOGIN_TOO_FEW_ROUNDS = 92,      /* the server asks for fewer rounds than are admitted */
     PGP_MORE = 100,                     /* bytes are missing: read more, and call again                  */
     PGP_DONE = 101,                     /* the iterator is at its end                                    */
     PGP_FULL = 102                      /* pgp_*_all: the array is full, and more items follow           */
@@ -109,6 +110,9 @@ struct pgp_bytes { const void *bytes; size_t len; };
 #define PGP_TEXT(literal) (literal), sizeof(literal) - 1
 static inline struct pgp_bytes pgp_bytes_of(const void *bytes, size_t len) { struct pgp_bytes b; b.bytes = bytes; b.len = len; return b; }
 static inline struct pgp_bytes pgp_text(const char *text) { return pgp_bytes_of(text, strlen(text)); }   /* up to its 0 byte */
+
+/* 1 of the proved library; 0 of one that is built of the same sources without their proofs (`make quick`). */
+uint32_t pgp_is_proved(void);
 
 /* Whether the bytes are a text as a server in UTF-8 takes one: PGP_OK, PGP_E_NOT_UTF8, or PGP_E_EMBEDDED_NULL for UTF-8 with a 0 byte. */
 pgp_status pgp_is_text(const void *bytes, size_t len);
@@ -727,7 +731,7 @@ static inline const char *pgp_status_name(int status)
         "PGP_SCRAM_INVALID_NUMBER", "PGP_SCRAM_INVALID_NONCE", "PGP_SCRAM_TOO_MANY_ITERATIONS", "PGP_SCRAM_INVALID_BASE64",
         "PGP_SCRAM_SERVER", "PGP_SCRAM_VERIFICATION", "?", "?", "?", "PGP_BAD_NONCE", "PGP_BAD_BINDING", "PGP_NOT_A_VERIFIER",
         "PGP_WRONG_PASSWORD", "PGP_SCRAM_UNSUPPORTED_BINDING", "PGP_SCRAM_INVALID_FIRST", "PGP_SCRAM_OTHER_EXCHANGE",
-        "PGP_SCRAM_INVALID_ENCODING", "PGP_SCRAM_INVALID_PROOF", "PGP_LOGIN_UNDUE", "PGP_LOGIN_NOT_ADMITTED", "PGP_LOGIN_OTHER_MECHANISM"
+        "PGP_SCRAM_INVALID_ENCODING", "PGP_SCRAM_INVALID_PROOF", "PGP_LOGIN_UNDUE", "PGP_LOGIN_NOT_ADMITTED", "PGP_LOGIN_OTHER_MECHANISM", "PGP_LOGIN_TOO_FEW_ROUNDS"
     };
     if (status >= 0 && status < (int)(sizeof names / sizeof *names)) return names[status];
     if (status >= 32 && status < 32 + (int)(sizeof more / sizeof *more)) return more[status - 32];

@@ -70,12 +70,13 @@ static inline void pgp_nonce(const uint8_t random[18], uint8_t nonce[24])
  *   pgp_login_sasl       PGP_AUTHENTICATION_SASL, once for each mechanism that pgp_mechanism_next gives, until the answer isn't
  *                        PGP_LOGIN_OTHER_MECHANISM: what to send in pgp_sasl_initial_response, with this mechanism. SCRAM-SHA-256-PLUS is
  *                        the mechanism of PGP_BINDING_TLS_SERVER_END_POINT, SCRAM-SHA-256 that of the others
- *   pgp_login_continue   PGP_AUTHENTICATION_SASL_CONTINUE: what to send by pgp_sasl_response
+ *   pgp_login_continue   PGP_AUTHENTICATION_SASL_CONTINUE: what to send by pgp_sasl_response. PGP_LOGIN_TOO_FEW_ROUNDS where the server asks for fewer rounds
+ *                        than `least_rounds` (0 is taken for 1; servers have 4096 unless they are told otherwise)
  *   pgp_login_final      PGP_AUTHENTICATION_SASL_FINAL: PGP_OK only if it shows the server's signature
  *   pgp_login_ok         PGP_AUTHENTICATION_OK: PGP_OK where the log-in is done. After an exchange has begun that is so only after
  *                        pgp_login_final returned PGP_OK, and with no request before it only where PGP_WAY_NONE is admitted
  * An answer other than PGP_OK leaves the struct, `out` and 0 in `written`; but for PGP_NO_ROOM the connection is best closed then. Other
- * requests (GSSAPI, SSPI, Kerberos) are answered by no way here. What the statuses 64 to 81 mean stands above.
+ * requests (GSSAPI, SSPI, Kerberos) are answered by no way here. What the statuses mean stands in postgres_protocol.h.
  */
 enum { PGP_WAY_NONE = 1, PGP_WAY_PASSWORD = 2, PGP_WAY_MD5 = 4, PGP_WAY_SCRAM = 8 };
 enum { PGP_LOGIN_DONE = 4 };
@@ -88,7 +89,7 @@ pgp_status pgp_login_md5(struct pgp_login *login, uint8_t ways, const void *user
                          const void *password, size_t password_len, const void *salt, size_t salt_len, uint8_t *out, size_t room, size_t *written);
 pgp_status pgp_login_sasl(struct pgp_login *login, uint8_t ways, const void *mechanism, size_t mechanism_len,
                           uint8_t kind, const void *certificate, size_t certificate_len, const void *nonce, size_t nonce_len, uint8_t *out, size_t room, size_t *written);
-pgp_status pgp_login_continue(struct pgp_login *login, const void *password, size_t password_len,
+pgp_status pgp_login_continue(struct pgp_login *login, uint32_t least_rounds, const void *password, size_t password_len,
                               uint8_t kind, const void *certificate, size_t certificate_len, const void *nonce, size_t nonce_len,
                               const void *server_first, size_t server_first_len, uint8_t *out, size_t room, size_t *written, size_t *at);
 pgp_status pgp_login_final(struct pgp_login *login, const void *server_final, size_t server_final_len, size_t *at);

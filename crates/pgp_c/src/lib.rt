@@ -30,6 +30,7 @@ mod numeric;
 mod opening;
 mod part;
 mod points;
+mod proved;
 mod range;
 mod record;
 mod record_writing;

@@ -2,7 +2,7 @@
 
 ghost use Rattle.std.specs.Prelude.{◌≡◌, ◌≢◌, ◌⊎◌, ℕ, Bool, length, [], true, false};
 ghost use Rattle.pgp_auth.specs.Md5Text.{md5_answer};
-ghost use Rattle.pgp_auth.specs.ScramRefusal.{Verifies};
+ghost use Rattle.pgp_auth.specs.ScramRefusal.{AsksFewer, Verifies};
 ghost use Rattle.pgp_c_auth.specs.Delivering.{Delivers, IsLonger, LacksRoom, NotDelivered};
 ghost use Rattle.pgp_c_auth.specs.Login.{Asked, Came, Comes, Declined, IsAdmitted, LetIn, MayWelcome, MechanismOf, Step, at_phase, awaits_final, awaits_first, awaits_request, awaits_welcome, by_cleartext, by_md5, by_none, by_scram, done};
 ghost use Rattle.pgp_c_auth.specs.Scram.{AnswersWith, BeginRefused, FirstText, NoRoom, NotAnswered, ShownRefused, start};
@@ -11,6 +11,7 @@ ghost use Rattle.pgp_c_auth.specs.declared.login.PgpLogin.{PgpLogin as Kept};
 use crate::exchange::{PgpScram, finished, updated};
 use crate::password::md5;
 use crate::scram::first;
+use pgp_auth::authentication::sasl::asks_fewer;
 use pgp_base::Memory;
 use std::alloc::Global;
 
@@ -48,6 +49,9 @@ const NOT_ADMITTED: u32 = 90;
 
 /// The answer where the mechanism is another.
 const NOT_OFFERED: u32 = 91;
+
+/// The answer where the exchange is of too few rounds.
+const TOO_FEW_ROUNDS: u32 = 92;
 
 /// Whether a request for this way may be answered: 0, or why not.
 fn declined(login: &PgpLogin, ways: u8, way: u8) -> u32
@@ -212,11 +216,12 @@ fn is_mechanism(kind: u8, mechanism: &[u8]) -> bool
     mechanism == b"SCRAM-SHA-256".as_slice()
 }
 
-/// The server's first text of the exchange: the client's answer.
+/// The server's first text of the exchange: the client's answer, unless it asks for fewer rounds than the client does, 0 taken for 1.
 #[unsafe(no_mangle)]
 pub extern "C" fn pgp_login_continue(
     alloc: Global,
     login: &mut PgpLogin,
+    least_rounds: u32,
     password: &[u8],
     kind: u8,
     certificate: &[u8],
@@ -229,14 +234,16 @@ pub extern "C" fn pgp_login_continue(
     ensures sent { result ≡ 0 → Delivers (AnswersWith (start password.now kind certificate.now nonce.now) server_first.now login.new.signature) out.old out.new written.new }
     ensures step { result ≡ 0 → (ways : ℕ) → Step ways login.old login.new }
     ensures so_far { result ≡ 0 → Came awaits_first awaits_final login.old login.new }
+    ensures counted { result ≡ 0 → ¬ AsksFewer least_rounds server_first.now }
     ensures no_place { result ≡ 0 → at.new ≡ 0 }
     ensures refused { result ≢ 0 → NotDelivered out.old out.new written.new × (login.new ≡ login.old) }
-    ensures why { result ≢ 0 → ((result ≡ 89) × (at.new ≡ 0) × (login.old.phase ≢ awaits_first)) ⊎ (NotAnswered (Unit {0}) (start password.now kind certificate.now nonce.now) server_first.now result at.new
-        ⊎ NoRoom (start password.now kind certificate.now nonce.now) server_first.now out.old result at.new) }
+    ensures why { result ≢ 0 → ((result ≡ 89) × (at.new ≡ 0) × (login.old.phase ≢ awaits_first)) ⊎ (((result ≡ 92) × (at.new ≡ 0) × AsksFewer least_rounds server_first.now) ⊎ (NotAnswered (Unit {0}) (start password.now kind certificate.now nonce.now) server_first.now result at.new
+        ⊎ NoRoom (start password.now kind certificate.now nonce.now) server_first.now out.old result at.new)) }
 {
     continued(
         alloc,
         login,
+        least_rounds,
         password,
         kind,
         certificate,
@@ -252,6 +259,7 @@ pub extern "C" fn pgp_login_continue(
 pub fn continued<A: Memory>(
     alloc: A,
     login: &mut PgpLogin,
+    least_rounds: u32,
     password: &[u8],
     kind: u8,
     certificate: &[u8],
@@ -264,15 +272,19 @@ pub fn continued<A: Memory>(
     ensures sent { result ≡ 0 → Delivers (AnswersWith (start password.now kind certificate.now nonce.now) server_first.now login.new.signature) out.old out.new written.new }
     ensures step { result ≡ 0 → (ways : ℕ) → Step ways login.old login.new }
     ensures so_far { result ≡ 0 → Came awaits_first awaits_final login.old login.new }
+    ensures counted { result ≡ 0 → ¬ AsksFewer least_rounds server_first.now }
     ensures no_place { result ≡ 0 → at.new ≡ 0 }
     ensures refused { result ≢ 0 → NotDelivered out.old out.new written.new × (login.new ≡ login.old) }
-    ensures why { result ≢ 0 → ((result ≡ 89) × (at.new ≡ 0) × (login.old.phase ≢ awaits_first)) ⊎ (NotAnswered A.Lacks (start password.now kind certificate.now nonce.now) server_first.now result at.new
-        ⊎ NoRoom (start password.now kind certificate.now nonce.now) server_first.now out.old result at.new) }
+    ensures why { result ≢ 0 → ((result ≡ 89) × (at.new ≡ 0) × (login.old.phase ≢ awaits_first)) ⊎ (((result ≡ 92) × (at.new ≡ 0) × AsksFewer least_rounds server_first.now) ⊎ (NotAnswered A.Lacks (start password.now kind certificate.now nonce.now) server_first.now result at.new
+        ⊎ NoRoom (start password.now kind certificate.now nonce.now) server_first.now out.old result at.new)) }
 {
     *written = 0;
     *at = 0;
     if login.phase != AWAITS_FIRST {
         return UNDUE;
+    }
+    if asks_fewer(server_first, least_rounds) {
+        return TOO_FEW_ROUNDS;
     }
     let mut kept = PgpScram {
         signature: login.signature,

@@ -106,7 +106,7 @@ reply_secret : (asked : Asking) (m : ClientMessage) (l after : Login) → LogsOn
 reply_secret asked m l after (ByCleartext password p e) = refl
 reply_secret asked m l after (ByMd5 who p e) = refl
 reply_secret asked m l after (ScramBegins x text p e o f) = refl
-reply_secret asked m l after (ScramGoesOn x y answer p e a f) = refl
+reply_secret asked m l after (ScramGoesOn x y answer p e many a f) = refl
 
 secrets_replied : (l : List ClientMessage) (asked : Asking) (reply : Option ClientMessage) (before after : Login) → LogsOn asked reply before after → secrets_of (l ++ option_to_list reply) ≡ and_reply reply (secrets_of l)
 secrets_replied l asked None before after logs = ap secrets_of (append-nil l)
@@ -220,7 +220,7 @@ module _ (ways : Ways) (observed : List Message) (gave : List ClientMessage) (m 
         none = i.none;
         stands = (x, e, record { mechanisms = mechanisms; mine = text; from = sym st.0 ∙ e; offers = o; received = received_more (offer mechanisms) is NoneWanted; says = f; given = alone (initial text) st.1 });
       }
-  step asked reply l after is (ScramGoesOn {text = text} x y answer p e a f) i =
+  step asked reply l after is (ScramGoesOn {text = text} x y answer p e many a f) i =
       let st = at l AwaitsFirst p i in
       let same : st.0 ≡ x = same_client l.ways.scram st.0 x st.1 e in
       record {
@@ -288,7 +288,7 @@ module _ (ways : Ways) (observed : List Message) (gave : List ClientMessage) (m 
   reply_allowed asked x l after (ByCleartext password p e) i = inl (sym i.cleartext ∙ e)
   reply_allowed asked x l after (ByMd5 {salt = salt} who p e) i = inr (who, sym i.md5 ∙ e, salt, refl)
   reply_allowed asked x l after (ScramBegins y text p e o f) i = (y, sym (at l AwaitsOffer p i).0 ∙ e, text, f, refl)
-  reply_allowed asked x l after (ScramGoesOn {text = text} y z answer p e a f) i =
+  reply_allowed asked x l after (ScramGoesOn {text = text} y z answer p e many a f) i =
       let st = at l AwaitsFirst p i in
       (y, st.2.from ∙ ap Some (same_client l.ways.scram st.0 y st.1 e), text, z, a, f)
 

@@ -19,7 +19,7 @@ use Rattle.pgp_base.specs.declared.error.Error.TheVariants.{InvalidLength, OutOf
 use Rattle.pgp_client.specs.Kinds.{kind_of, request_of}
 use Rattle.pgp_client.specs.Taking.{awaits_data, is_copying}
 use Rattle.pgp_client.specs.declared.request.Request.{Request}
-use Rattle.pgp_session.specs.Connection.{Advances, Comes, Hears, IsNone, Nexts, Notes, SendsGiven, Sent, Shown, Stops, Took, asked_of, is_bulk, is_end, in_phase, is_logged_in, is_part, is_longer, may_ask, may_send, moved, next_name, noted, said, with_incoming, with_login, with_out}
+use Rattle.pgp_session.specs.Connection.{Advances, Comes, Hears, IsNone, IsUnfit, Nexts, Notes, SendsGiven, Sent, Shown, Stops, Took, asked_of, is_bulk, is_end, in_phase, is_logged_in, is_part, is_longer, limit_of, may_ask, may_send, moved, next_name, noted, said, with_incoming, with_login, with_out}
 use Rattle.pgp_session.specs.declared.connection_error.ConnectionError.{ConnectionError}
 use Rattle.pgp_session.specs.declared.connection_error.ConnectionError.TheVariants.{Malformed, OutOfMemory as OutOfMemoryThere}
 use Rattle.pgp_session.specs.declared.connection.ConnectionPhase.{ConnectionPhase}
@@ -29,7 +29,7 @@ use Rattle.pgp_session.specs.Incoming.{Reads}
 use Rattle.pgp_session.proofs.Incomings.{frame_there, rest_there}
 use Rattle.pgp_auth.specs.ScramClient.{Client}
 use Rattle.pgp_session.specs.Login as login
-use Rattle.pgp_session.specs.Login.{Added, AnswersFirst, Asking, AsksCleartext, AsksMd5, AsksSasl, Cleartext, Final, First, HearsDue, Login, Md5, Nothing, NothingAsked, Other, Puts, Sasl, VerifiesFinal, Welcome, WelcomesAt, asking, is_due}
+use Rattle.pgp_session.specs.Login.{Added, AnswersFirst, Asking, CountsFirst, AsksCleartext, AsksMd5, AsksSasl, Cleartext, Final, First, HearsDue, Login, Md5, Nothing, NothingAsked, Other, Puts, Sasl, VerifiesFinal, Welcome, WelcomesAt, asking, is_due}
 use Rattle.pgp_session.specs.declared.scram_login.LoginPhase.{LoginPhase}
 use Rattle.pgp_session.specs.declared.scram_login.LoginPhase.TheVariants.{AwaitsOffer}
 use Rattle.pgp_session.specs.Settings.{HasRoom, Said, heard, most, setting_in}
@@ -156,8 +156,8 @@ part_goes_on e is = cc
 -- a row and data of a copy come to nothing else
 pub took_bulk : (m : Meant) (e : Event) (t : Talk) (old : Shown) → is_bulk m e ≡ true → taken old.talk (kind_of m) ≡ Ok (e, t)
     → Took m old (record { phase = old.phase; login = old.login; out = old.out; incoming = old.incoming; talk = t; server = old.server; names = old.names; limit = old.limit }) e
-took_bulk (DataRow row) e t old bulk is = record { taken = is; kept = tt; goes_on = part_goes_on e bulk; logged = record { reply = None; logs = NothingAsked; adds = refl }; is = refl }
-took_bulk (CopyData bytes) e t old bulk is = record { taken = is; kept = tt; goes_on = part_goes_on e bulk; logged = record { reply = None; logs = NothingAsked; adds = refl }; is = refl }
+took_bulk (DataRow row) e t old bulk is = record { taken = is; due = refl; sound = refl; kept = tt; goes_on = part_goes_on e bulk; logged = record { reply = None; logs = NothingAsked; adds = refl }; is = refl }
+took_bulk (CopyData bytes) e t old bulk is = record { taken = is; due = refl; sound = refl; kept = tt; goes_on = part_goes_on e bulk; logged = record { reply = None; logs = NothingAsked; adds = refl }; is = refl }
 took_bulk m e t old bulk is = cc
 
 -- the bytes that came are the same
@@ -201,6 +201,10 @@ module _ (A : Type 0) (lacks : Type 0) where
   no_first None text old new out grown h = cc
   no_first (Some x) text old new out grown h = absurd h.1
 
+  no_count : (text : List ℕ) (old new : Login) (out grown : List ℕ) → CountsFirst {A = A} lacks text old new out grown (Err OutOfMemoryThere) → ⊥
+  no_count text old new out grown (inl h) = let e = h.1 in cc
+  no_count text old new out grown (inr h) = no_first old.ways.scram text old new out grown h.1
+
   no_final : (way : Option Client) (text : List ℕ) (old new : Login) → VerifiesFinal {A = A} lacks way text old new (Err OutOfMemoryThere) → ⊥
   no_final None text old new h = cc
   no_final (Some x) text old new h = absurd h
@@ -215,49 +219,55 @@ module _ (A : Type 0) (lacks : Type 0) where
   no_login true Cleartext old new out grown h = no_cleartext old.ways.cleartext old new out grown h
   no_login true (Md5 salt) old new out grown h = no_md5 old.ways.md5 salt old new out grown h
   no_login true (Sasl mechanisms) old new out grown h = no_sasl old.ways.scram mechanisms old new out grown h
-  no_login true (First text) old new out grown h = no_first old.ways.scram text old new out grown h
+  no_login true (First text) old new out grown h = no_count text old new out grown h
   no_login true (Final text) old new out grown h = no_final old.ways.scram text old new h.0
   no_login true Welcome old new out grown h = no_welcome old.phase old.ways.none old new h.0
   no_login true Other old new out grown h = cc
 
+  no_unfit : (p : LoginPhase) (m : Meant) → IsUnfit {A = A} lacks p m OutOfMemoryThere → ⊥
+  no_unfit p m (inl h) = let e = h.1 in cc
+  no_unfit p m (inr h) = let e = h.2 in cc
+
   no_stop : (phase : ConnectionPhase) (m : Meant) (old new : Shown) → Stops {A = A} lacks phase m old new OutOfMemoryThere → ⊥
   no_stop phase m old new (inl h) = let e = h.2 in cc
-  no_stop phase m old new (inr (inl h)) = let e = h.4 in cc
-  no_stop phase m old new (inr (inr h)) = no_login (is_due old.login.phase (asking m)) (asking m) old.login new.login old.out old.out h.4
+  no_stop phase m old new (inr (inl h)) = no_unfit old.login.phase m h.2
+  no_stop phase m old new (inr (inr (inl h))) = let e = h.4 in cc
+  no_stop phase m old new (inr (inr (inr h))) = no_login (is_due old.login.phase (asking m)) (asking m) old.login new.login old.out old.out h.4
 
   stops_else : (phase : ConnectionPhase) (m : Meant) (old new : Shown) (e : ConnectionError A) → Stops {A = A} lacks phase m old new e → e ≢ OutOfMemoryThere
   stops_else phase m old new e h same = no_stop phase m old new (subst (λ x. Stops {A = A} lacks phase m old new x) same h)
 
 module _ {A : Type 0} (lacks : Type 0) (old new : Shown) (all rest frame behind : List ℕ) (left : ℕ) (same : all ≡ old.incoming) (n : left ≡ length rest) (b : behind ≡ drop (length all - left) all) where
   -- the message was taken, and its frame is the current one
-  pub advanced : (m : Meant) (e : Event) → old.phase ≡ Started → is_longer old.limit old.incoming ≡ false → TakesFrame all (Ok m) rest → frame ≡ take (length all - left) all
+  pub advanced : (m : Meant) (e : Event) → old.phase ≡ Started → is_longer (limit_of old) old.incoming ≡ false → TakesFrame all (Ok m) rest → frame ≡ take (length all - left) all
       → Hears {A = A} lacks m (with_incoming behind old) new (Ok (Some (e, m))) → Advances {A = A} lacks old new frame (Ok (Some e))
   advanced m e phase short t f h =
       let whole : Reads frame (Some m) = subst (λ l. Reads l (Some m)) (sym (f ∙ ap (λ k. take (length all - k) all) n)) (frame_there all rest m t) in
       (m, whole, Comes m behind phase short (behind_it old all rest behind left same n b (Ok m) t) h)
 
   -- the connection stopped at it
-  pub stopped_at : (m : Meant) (e : ConnectionError A) → old.phase ≡ Started → is_longer old.limit old.incoming ≡ false → TakesFrame all (Ok m) rest → frame ≡ []
+  pub stopped_at : (m : Meant) (e : ConnectionError A) → old.phase ≡ Started → is_longer (limit_of old) old.incoming ≡ false → TakesFrame all (Ok m) rest → frame ≡ []
       → Hears {A = A} lacks m (with_incoming behind old) new (Err e) → Advances {A = A} lacks old new frame (Err e)
   stopped_at m e phase short t f h = (f, stops_else A lacks Over m (with_incoming behind old) new e h, Comes m behind phase short (behind_it old all rest behind left same n b (Ok m) t) h)
 
   -- what came is no message
-  pub malformed_at : (e : Error) → old.phase ≡ Started → is_longer old.limit old.incoming ≡ false → Step ⊥ all (Err e) rest → frame ≡ [] → new ≡ in_phase Over (with_incoming behind old)
+  pub malformed_at : (e : Error) → old.phase ≡ Started → is_longer (limit_of old) old.incoming ≡ false → Step ⊥ all (Err e) rest → frame ≡ [] → new ≡ in_phase Over (with_incoming behind old)
       → Advances {A = A} lacks old new frame (Err (Malformed e))
   malformed_at e phase short s f is = let t = not_taken old all rest behind left same n b lacks e s in (f, (λ p. cc), IsNone e behind phase short t.0 t.1 is)
 
 -- the same with the end of the connection
 pub stops_over : {A : Type 0} (lacks : Type 0) (m : Meant) (old new : Shown) (e : ConnectionError A) → Stops {A = A} lacks old.phase m old new e → Stops {A = A} lacks Over m old (in_phase Over new) e
 stops_over lacks m old new e (inl h) = inl (h.0, h.1, h.2, h.3, ap (λ (c : Shown). in_phase Over c) h.4)
-stops_over lacks m old new e (inr (inl h)) = inr (inl (h.0, h.1, h.2, h.3, h.4, ap (λ (c : Shown). in_phase Over c) h.5))
-stops_over lacks m old new e (inr (inr h)) = inr (inr (h.0, h.1, h.2, h.3, h.4, h.5, ap (λ (c : Shown). in_phase Over c) h.6))
+stops_over lacks m old new e (inr (inl h)) = inr (inl (h.0, h.1, h.2, ap (λ (c : Shown). in_phase Over c) h.3))
+stops_over lacks m old new e (inr (inr (inl h))) = inr (inr (inl (h.0, h.1, h.2, h.3, h.4, ap (λ (c : Shown). in_phase Over c) h.5)))
+stops_over lacks m old new e (inr (inr (inr h))) = inr (inr (inr (h.0, h.1, h.2, h.3, h.4, h.5, ap (λ (c : Shown). in_phase Over c) h.6)))
 
 -- the log-in stopped at a message, with nothing appended
 pub stopped_log_in : {A : Type 0} (lacks : Type 0) (m : Meant) (old : Shown) (t : Talk) (l : Login) (grown : List ℕ) (k : Said) (e : Event) (x : ConnectionError A) → taken old.talk (kind_of m) ≡ Ok (e, t)
     → HasRoom most (setting_in m) old.server.settings → is_end e ≡ false → login.Hears lacks (asking m) old.login l old.out grown (Err x) → grown ≡ old.out → l.phase ≡ old.login.phase → k ≡ heard m old.server
     → Stops {A = A} lacks old.phase m old (record { phase = old.phase; login = l; out = grown; incoming = old.incoming; talk = t; server = k; names = old.names; limit = old.limit }) x
 stopped_log_in {A} lacks m old t l grown k e x is room live hears same phase known =
-    inr (inr (
+    inr (inr (inr (
       (e, t),
       is,
       room,
@@ -265,4 +275,4 @@ stopped_log_in {A} lacks m old t l grown k e x is room live hears same phase kno
       subst (λ (o : List ℕ). login.Hears {A = A} lacks (asking m) old.login l old.out o (Err x)) same hears,
       phase,
       ap₂ (λ (o : List ℕ) (s : Said). record { phase = old.phase; login = l; out = o; incoming = old.incoming; talk = t; server = s; names = old.names; limit = old.limit }) same known,
-    ))
+    )))

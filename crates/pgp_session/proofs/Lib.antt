@@ -1,7 +1,3 @@
-pub mod Pieces
-pub mod Readings
-pub mod Additions
-pub mod StartupPairs
 pub mod Lent
 pub mod Known
 pub mod Listed

@@ -9,8 +9,9 @@ use Rattle.pgp_frontend.specs.Payload.{WritesMessage, bytes_of, cause}
 use Rattle.pgp_frontend.specs.ClientMessage.{ClientMessage, PasswordMessage, SaslResponse}
 use Rattle.pgp_auth.specs.Md5Text.{md5_answer}
 use Rattle.pgp_auth.specs.ScramClient.{Client}
+use Rattle.pgp_auth.specs.ScramRefusal.{AsksFewer}
 use Rattle.pgp_session.specs.ScramLogin.{initial}
-use Rattle.pgp_session.specs.Login.{AddsReply, Asking, Nothing, Cleartext, Md5, Sasl, First, Final, Welcome, Other, AnswersFirst, AsksCleartext, AsksMd5, AsksSasl, Hears, HearsDue, LoggedOn, Login, LogsOn, Puts, RepliesFirst, Unsent, NothingAsked, ByCleartext, ByMd5, ScramBegins, ScramGoesOn, ScramEnds, Welcomed, Trusted, VerifiesFinal, WelcomesAt, goes_on, in_phase, is_due}
+use Rattle.pgp_session.specs.Login.{AddsReply, Asking, Nothing, Cleartext, Md5, Sasl, First, Final, Welcome, Other, AnswersFirst, AsksCleartext, CountsFirst, AsksMd5, AsksSasl, Hears, HearsDue, LoggedOn, Login, LogsOn, Puts, RepliesFirst, Unsent, NothingAsked, ByCleartext, ByMd5, ScramBegins, ScramGoesOn, ScramEnds, Welcomed, Trusted, VerifiesFinal, WelcomesAt, goes_on, in_phase, is_due}
 use Rattle.pgp_session.specs.declared.connection_error.ConnectionError.{ConnectionError}
 use Rattle.pgp_session.specs.declared.scram_login.LoginPhase.{LoginPhase}
 use Rattle.pgp_session.specs.declared.scram_login.LoginPhase.TheVariants.{AwaitsOffer, AwaitsFirst, AwaitsFinal, AwaitsOk, Done, Over}
@@ -52,9 +53,13 @@ module _ (A : Type 0) (lacks : Type 0) (l after : Login) (out grown : List ℕ) 
   by_scram mechanisms None p e h = absurd cc
   by_scram mechanisms (Some x) p e h = took l after out grown (Sasl mechanisms) (Some (initial h.1.0)) (in_phase AwaitsFirst l) (ScramBegins x h.1.0 p e h.0 h.1.1) h.2 h.1.2
 
-  goes_on_by : (text : List ℕ) (c : Option Client) → l.phase ≡ AwaitsFirst → l.ways.scram ≡ c → AnswersFirst {A = A} lacks c text l after out grown (Ok tt) → LoggedOn (First text) l after out grown
-  goes_on_by text None p e h = absurd cc
-  goes_on_by text (Some x) p e h = took l after out grown (First text) (Some (SaslResponse h.1.1.0)) (goes_on AwaitsFinal h.0 l) (ScramGoesOn x h.0 h.1.1.0 p e h.1.0 h.1.1.1) h.2 h.1.1.2
+  goes_on_by : (text : List ℕ) (c : Option Client) → l.phase ≡ AwaitsFirst → l.ways.scram ≡ c → (AsksFewer l.ways.least text → ⊥) → AnswersFirst {A = A} lacks c text l after out grown (Ok tt) → LoggedOn (First text) l after out grown
+  goes_on_by text None p e many h = absurd cc
+  goes_on_by text (Some x) p e many h = took l after out grown (First text) (Some (SaslResponse h.1.1.0)) (goes_on AwaitsFinal h.0 l) (ScramGoesOn x h.0 h.1.1.0 p e many h.1.0 h.1.1.1) h.2 h.1.1.2
+
+  counts_by : (text : List ℕ) → l.phase ≡ AwaitsFirst → CountsFirst {A = A} lacks text l after out grown (Ok tt) → LoggedOn (First text) l after out grown
+  counts_by text p (inl fewer) = let e = fewer.1 in cc
+  counts_by text p (inr h) = goes_on_by text l.ways.scram p refl h.0 h.1
 
   ends_by : (text : List ℕ) (c : Option Client) → l.phase ≡ AwaitsFinal → l.ways.scram ≡ c → grown ≡ out → VerifiesFinal {A = A} lacks c text l after (Ok tt) → LoggedOn (Final text) l after out grown
   ends_by text None p e same h = absurd cc
@@ -69,7 +74,7 @@ module _ (A : Type 0) (lacks : Type 0) (l after : Login) (out grown : List ℕ) 
   logs_at Cleartext AwaitsOffer e h = by_cleartext l.ways.cleartext e refl h
   logs_at (Md5 salt) AwaitsOffer e h = by_md5 salt l.ways.md5 e refl h
   logs_at (Sasl mechanisms) AwaitsOffer e h = by_scram mechanisms l.ways.scram e refl h
-  logs_at (First text) AwaitsFirst e h = goes_on_by text l.ways.scram e refl h
+  logs_at (First text) AwaitsFirst e h = counts_by text e h
   logs_at (Final text) AwaitsFinal e h = ends_by text l.ways.scram e refl h.1 h.0
   logs_at Welcome AwaitsOffer e h = welcomed l.ways.none e refl h.1 (subst (λ (q : LoginPhase). WelcomesAt {A = A} q l.ways.none l after (Ok tt)) e h.0)
   logs_at Welcome AwaitsOk e h =

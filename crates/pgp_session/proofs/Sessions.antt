@@ -100,14 +100,14 @@ reply_tagged : (asked : Asking) (m : ClientMessage) (l after : Login) → LogsOn
 reply_tagged asked m l after (ByCleartext password p e) = λ none. cc
 reply_tagged asked m l after (ByMd5 who p e) = λ none. cc
 reply_tagged asked m l after (ScramBegins x text p e o f) = λ none. cc
-reply_tagged asked m l after (ScramGoesOn x y answer p e a f) = λ none. cc
+reply_tagged asked m l after (ScramGoesOn x y answer p e many a f) = λ none. cc
 
 -- a reply is a message of the log-in, to which the server gives no answer of its own
 reply_unasked : (asked : Asking) (m : ClientMessage) (l after : Login) → LogsOn asked (Some m) l after → request_of m ≡ None
 reply_unasked asked m l after (ByCleartext password p e) = refl
 reply_unasked asked m l after (ByMd5 who p e) = refl
 reply_unasked asked m l after (ScramBegins x text p e o f) = refl
-reply_unasked asked m l after (ScramGoesOn x y answer p e a f) = refl
+reply_unasked asked m l after (ScramGoesOn x y answer p e many a f) = refl
 
 tagged_may : (l : List ClientMessage) (m : ClientMessage) → is_opened l ≡ true → tag_of m ≢ None → MayCome m (is_opened l)
 tagged_may l m e tagged = subst (λ (b : Bool). MayCome m b) (sym e) tagged

@@ -5,7 +5,7 @@ use Rattle.std.specs.Int.Signed.{lt_z}
 use Rattle.pgp_base.specs.Held.{Held}
 use Rattle.pgp_frontend.specs.ClientMessage.{ClientMessage, Query, Terminate}
 use Rattle.pgp_message.specs.BackendMessage.{Message, Authentication, AuthenticationOk, BackendKeyData, CommandComplete, DataRow, EmptyQueryResponse, ErrorResponse, NegotiateProtocolVersion, NoticeResponse, NotificationResponse, ParameterStatus, ReadyForQuery, RowDescription}
-use Rattle.pgp_session.specs.ClientStream.{Sent, IsAdded, IsLeft, RefusesMessage}
+use Rattle.pgp_stream.specs.ClientStream.{Sent, IsAdded, IsLeft, RefusesMessage}
 use Rattle.pgp_session.specs.declared.client.Phase.{Phase}
 use Rattle.pgp_session.specs.declared.client.Phase.TheVariants.{LoggingIn, Starting, Querying, Over}
 use Rattle.pgp_session.specs.declared.client.Event.{Event}

@@ -1,6 +1,7 @@
 -- A client's connection: what each call makes of it.
 -- PostgreSQL manual, "Message Flow"; "SSL Session Encryption".
-use Rattle.std.specs.Prelude.{◌≡◌, ◌≢◌, ◌⊎◌, ℕ, ◌+◌, nat_lt, Bool, true, false, not, List, [], ◌∷◌, ◌++◌, drop, take, Option, Some, None, Result, Ok, Err, if◌then◌else◌, ◌==◌, ◌&&◌}
+use Rattle.std.specs.Prelude.{◌≡◌, ◌≢◌, ◌⊎◌, ℕ, ◌+◌, nat_lt, Bool, true, false, not, List, [], ◌∷◌, ◌++◌, drop, take, Option, Some, None, Result, Ok, Err, if◌then◌else◌, ◌==◌, ◌&&◌, ◌||◌, min, ℤ, pos}
+use Rattle.std.specs.Int.Signed.{lt_z}
 use Rattle.pgp_base.specs.declared.error.Error.{Error}
 use Rattle.pgp_base.specs.declared.error.Error.TheVariants.{OutOfMemory as NoMemory}
 use Rattle.pgp_client.specs.Kinds.{kind_of, request_of}
@@ -13,13 +14,13 @@ use Rattle.pgp_client.specs.declared.request.Request.{Request}
 use Rattle.pgp_client.specs.declared.stage.Stage.TheVariants.{Over as NothingMore}
 use Rattle.pgp_frontend.specs.ClientMessage.{ClientMessage, Bind, CancelRequest, Close, CopyData, CopyDone, CopyFail, Describe, Execute, Flush, Parse, Query, Sync}
 use Rattle.pgp_frontend.specs.Payload.{bytes_of}
-use Rattle.pgp_message.specs.BackendMessage.{Message, CopyData as DataCame, DataRow}
+use Rattle.pgp_message.specs.BackendMessage.{Message, CopyData as DataCame, DataRow, NegotiateProtocolVersion, NoticeResponse, NotificationResponse, ParameterStatus, ReadyForQuery}
 use Rattle.pgp_message.specs.Remembered.{header_of}
 use Rattle.pgp_client.specs.declared.event.Refusal.{Refusal}
 use Rattle.pgp_message.specs.Stream.{BeginsWithKept, IsPartial, Step, TakesFrame}
 use Rattle.pgp_message.specs.Views.{view}
 use Rattle.pgp_message.specs.declared.message as code
-use Rattle.pgp_session.specs.Login.{Added, LoggedOn, Login, Unsent, Ways, asking, seen}
+use Rattle.pgp_session.specs.Login.{Added, LoggedOn, Login, Unsent, Ways, asking, is_first, seen}
 use Rattle.pgp_session.specs.Login as login
 use Rattle.pgp_session.specs.Settings.{HasRoom, IsUnkept, Said, heard, most, nothing_said, setting_in}
 use Rattle.pgp_session.specs.declared.connection.Connection.{Connection as Kept}
@@ -28,7 +29,7 @@ use Rattle.pgp_session.specs.declared.connection_state.ConnectionState.{Connecti
 use Rattle.pgp_session.specs.declared.connection.ConnectionPhase.{ConnectionPhase}
 use Rattle.pgp_session.specs.declared.connection.ConnectionPhase.TheVariants.{Opening, Encrypting, Started, Over}
 use Rattle.pgp_session.specs.declared.connection_error.ConnectionError.{ConnectionError}
-use Rattle.pgp_session.specs.declared.connection_error.ConnectionError.TheVariants.{BadAnswer, Malformed, Misplaced, OutOfMemory, OutOfPhase, TooLong, Unkept, Unwritten}
+use Rattle.pgp_session.specs.declared.connection_error.ConnectionError.TheVariants.{BadAnswer, BadStatus, Malformed, Misplaced, OutOfMemory, OutOfPhase, TooLong, Undue, Unkept, Unwritten}
 use Rattle.pgp_session.specs.declared.server_state.BackendKey.{BackendKey}
 use Rattle.pgp_session.specs.declared.scram_login.LoginPhase.{LoginPhase}
 use Rattle.pgp_session.specs.declared.scram_login.LoginPhase.TheVariants.{AwaitsOffer, Done}
@@ -161,6 +162,14 @@ longer limit (Some header) = nat_lt limit header.1
 abbrev pub is_longer : ℕ → List ℕ → Bool
 is_longer limit bytes = longer limit (header_of bytes)
 
+-- how long a message of a server may be that has proved nothing yet, its length counted, as libpq has it
+abbrev pub early_limit : ℕ
+early_limit = 30000
+
+-- how long one may be now
+abbrev pub limit_of : Shown → ℕ
+limit_of c = if is_logged_in c then c.limit else min c.limit early_limit
+
 abbrev pub in_phase : ConnectionPhase → Shown → Shown
 in_phase phase c = record { phase = phase; login = c.login; out = c.out; incoming = c.incoming; talk = c.talk; server = c.server; names = c.names; limit = c.limit }
 
@@ -179,6 +188,27 @@ with_login l out c = record { phase = c.phase; login = l; out = out; incoming = 
 abbrev pub left_at : ConnectionPhase → Talk → Login → Said → Shown → Shown
 left_at phase t l s c = record { phase = phase; login = l; out = c.out; incoming = c.incoming; talk = t; server = s; names = c.names; limit = c.limit }
 
+-- the version's number is that of 3.0
+abbrev pub is_3_0 : ℤ → Bool
+is_3_0 version = not (lt_z version (pos 196608) || lt_z (pos 196608) version)
+
+-- A message that has a place among the answers before the log-in is done, and isn't taken there. A server asks for a password, reports an error, or, right behind the
+-- startup packet, answers that it speaks the version of the packet, 3.0; what else it says would be kept of one that has proved nothing.
+abbrev pub is_early : LoginPhase → Message → Bool
+is_early p (ParameterStatus setting) = not (done_at p)
+is_early p (NoticeResponse fields) = not (done_at p)
+is_early p (NotificationResponse n) = not (done_at p)
+is_early p (NegotiateProtocolVersion v) = not (is_first p && is_3_0 v.version)
+is_early p m = false
+
+-- The status of a ReadyForQuery is that of no transaction, of one, or of a failed one.
+abbrev pub is_status : ℕ → Bool
+is_status s = (s == 73) || (s == 84) || (s == 69)  -- I, T, E
+
+abbrev pub lacks_status : Message → Bool
+lacks_status (ReadyForQuery s) = not (is_status s)
+lacks_status m = false
+
 abbrev pub is_end : Event → Bool
 is_end Ended = true
 is_end e = false
@@ -196,6 +226,8 @@ is_bulk m e = false
 -- The message was attributed so, what it reports was kept, and the log-in took it: its reply was appended.
 pub record Took (m : Message) (old new : Shown) (e : Event) : Type 0 where
   pub taken : taken old.talk (kind_of m) ≡ Ok (e, new.talk)
+  pub due : is_early old.login.phase m ≡ false
+  pub sound : lacks_status m ≡ false
   pub kept : HasRoom most (setting_in m) old.server.settings
   pub goes_on : is_end e ≡ false
   pub logged : LoggedOn (asking m) old.login new.login old.out new.out
@@ -209,11 +241,15 @@ pub record TookEnd (m : Message) (old new : Shown) (e : Event) : Type 0 where
   pub is : new ≡ moved Over new.talk m old
 
 module _ {A : Type 0} (lacks : Type 0) where
-  -- Why a message isn't taken, and what is left in this phase: it isn't attributed, so that no message is any more; or what it reports can't be kept; or the
-  -- log-in stops at it, and is no further.
+  -- Why a message isn't taken, and what is left in this phase: it isn't attributed, so that no message is any more; or it comes before the log-in is done; or its
+  -- status is none; or what it reports can't be kept; or the log-in stops at it, and is no further.
+  abbrev pub IsUnfit : LoginPhase → Message → ConnectionError A → Type 0
+  IsUnfit p m e = ((is_early p m ≡ true) × (e ≡ Undue)) ⊎ ((is_early p m ≡ false) × (lacks_status m ≡ true) × (e ≡ BadStatus))
+
   abbrev pub Stops : ConnectionPhase → Message → Shown → Shown → ConnectionError A → Type 0
   Stops phase m old new e = ((r : Refusal) × (taken old.talk (kind_of m) ≡ Err r) × (e ≡ Misplaced r) × (new.talk.stage ≡ NothingMore)
       × (new ≡ left_at phase new.talk old.login old.server old))
+      ⊎ ((x : Event × Talk) × (taken old.talk (kind_of m) ≡ Ok x) × IsUnfit old.login.phase m e × (new ≡ left_at phase x.1 old.login old.server old))
       ⊎ ((x : Event × Talk) × (taken old.talk (kind_of m) ≡ Ok x) × (cause : Error) × IsUnkept lacks most (setting_in m) old.server.settings cause × (e ≡ Unkept cause)
       × (new ≡ left_at phase x.1 old.login old.server old))
       ⊎ ((x : Event × Talk) × (taken old.talk (kind_of m) ≡ Ok x) × HasRoom most (setting_in m) old.server.settings × (is_end x.0 ≡ false)
@@ -233,14 +269,14 @@ module _ {A : Type 0} (lacks : Type 0) where
   pub data Nexts (old new : Shown) : Result (Option (Event × Message)) (ConnectionError A) → Type 0 where
     -- none is awaited
     OutOfTurn : old.phase ≢ Started → new ≡ old → Nexts old new (Err OutOfPhase)
-    IsLonger : old.phase ≡ Started → is_longer old.limit old.incoming ≡ true → new ≡ in_phase Over old → Nexts old new (Err TooLong)
+    IsLonger : old.phase ≡ Started → is_longer (limit_of old) old.incoming ≡ true → new ≡ in_phase Over old → Nexts old new (Err TooLong)
     -- bytes are missing, of a message within the limit
-    IsCut : old.phase ≡ Started → is_longer old.limit old.incoming ≡ false → IsPartial old.incoming → new ≡ old → Nexts old new (Ok None)
-    WantsMemory : old.phase ≡ Started → is_longer old.limit old.incoming ≡ false → BeginsWithKept old.incoming → lacks → new ≡ old → Nexts old new (Err OutOfMemory)
+    IsCut : old.phase ≡ Started → is_longer (limit_of old) old.incoming ≡ false → IsPartial old.incoming → new ≡ old → Nexts old new (Ok None)
+    WantsMemory : old.phase ≡ Started → is_longer (limit_of old) old.incoming ≡ false → BeginsWithKept old.incoming → lacks → new ≡ old → Nexts old new (Err OutOfMemory)
     -- what came is no message
-    IsNone : (e : Error) (rest : List ℕ) → old.phase ≡ Started → is_longer old.limit old.incoming ≡ false → Step lacks old.incoming (Err e) rest → e ≢ NoMemory
+    IsNone : (e : Error) (rest : List ℕ) → old.phase ≡ Started → is_longer (limit_of old) old.incoming ≡ false → Step lacks old.incoming (Err e) rest → e ≢ NoMemory
         → new ≡ in_phase Over (with_incoming rest old) → Nexts old new (Err (Malformed e))
-    Comes : (m : Message) (rest : List ℕ) {result : Result (Option (Event × Message)) (ConnectionError A)} → old.phase ≡ Started → is_longer old.limit old.incoming ≡ false
+    Comes : (m : Message) (rest : List ℕ) {result : Result (Option (Event × Message)) (ConnectionError A)} → old.phase ≡ Started → is_longer (limit_of old) old.incoming ≡ false
         → TakesFrame old.incoming (Ok m) rest → Hears m (with_incoming rest old) new result → Nexts old new result
 
 -- *private*: the answer for a message

@@ -1,6 +1,3 @@
-pub mod ServerStream
-pub mod ServerSteps
-pub mod ClientStream
 pub mod Client
 pub mod ScramLogin
 pub mod Serving

@@ -7,13 +7,13 @@ use Rattle.pgp_base.specs.declared.error.Error.{Error}
 use Rattle.pgp_auth.specs.Md5Text.{md5_answer}
 use Rattle.pgp_auth.specs.ScramClient.{Client, Answers, Finished, FinishRefused, UpdateRefused, message_of}
 use Rattle.pgp_auth.specs.ScramErrorView.{refusal}
-use Rattle.pgp_auth.specs.ScramRefusal.{WrongState}
+use Rattle.pgp_auth.specs.ScramRefusal.{AsksFewer, WrongState}
 use Rattle.pgp_frontend.specs.ClientMessage.{ClientMessage, PasswordMessage, SaslResponse}
 use Rattle.pgp_frontend.specs.Payload.{bytes_of, cause, IsInRange}
 use Rattle.pgp_message.specs.BackendMessage.{Message, Authentication, AuthenticationOk, AuthenticationCleartextPassword, AuthenticationMd5Password, AuthenticationSasl, AuthenticationSaslContinue, AuthenticationSaslFinal}
 use Rattle.pgp_session.specs.ScramLogin.{Offers, initial}
 use Rattle.pgp_session.specs.declared.connection_error.ConnectionError.{ConnectionError}
-use Rattle.pgp_session.specs.declared.connection_error.ConnectionError.TheVariants.{NotAdmitted, NotOffered, Scram, Undue, Unwritten}
+use Rattle.pgp_session.specs.declared.connection_error.ConnectionError.TheVariants.{NotAdmitted, NotOffered, Scram, TooFewRounds, Undue, Unwritten}
 use Rattle.pgp_session.specs.declared.login.Asking.{Asking as Asked}
 use Rattle.pgp_session.specs.declared.login.Asking.TheVariants as code
 use Rattle.pgp_session.specs.declared.login.Login.{Login as Kept}
@@ -21,12 +21,13 @@ use Rattle.pgp_session.specs.declared.login.Ways.{Ways as Given}
 use Rattle.pgp_session.specs.declared.scram_login.LoginPhase.{LoginPhase}
 use Rattle.pgp_session.specs.declared.scram_login.LoginPhase.TheVariants.{AwaitsOffer, AwaitsFirst, AwaitsFinal, AwaitsOk, Done}
 
--- The ways that are admitted: SCRAM-SHA-256 by this exchange, MD5 by this user and password, this password in clear text, and none.
+-- The ways that are admitted: SCRAM-SHA-256 by this exchange, of at least so many rounds, MD5 by this user and password, this password in clear text, and none.
 pub record Ways : Type 0 where
   pub scram : Option Client
   pub md5 : Option (List ℕ × List ℕ)
   pub cleartext : Option (List ℕ)
   pub none : Bool
+  pub least : ℕ
 
 -- how far a log-in is, and with which ways
 pub record Login : Type 0 where
@@ -77,7 +78,7 @@ abbrev pub in_phase : LoginPhase → Login → Login
 in_phase phase l = record { phase = phase; ways = l.ways }
 
 abbrev pub with_exchange : Client → Ways → Ways
-with_exchange x w = record { scram = Some x; md5 = w.md5; cleartext = w.cleartext; none = w.none }
+with_exchange x w = record { scram = Some x; md5 = w.md5; cleartext = w.cleartext; none = w.none; least = w.least }
 
 abbrev pub goes_on : LoginPhase → Client → Login → Login
 goes_on phase x l = record { phase = phase; ways = with_exchange x l.ways }
@@ -136,6 +137,11 @@ module _ {A : Type 0} (lacks : Type 0) where
   AnswersFirst (Some x) text old new out grown (Ok done) = (y : Client) × RepliesFirst text x y out grown (Ok done) × (new ≡ goes_on AwaitsFinal y old)
   AnswersFirst (Some x) text old new out grown (Err e) = (y : Client) × RepliesFirst text x y out grown (Err e)
 
+  -- but not where the text asks for fewer rounds than the client does
+  abbrev pub CountsFirst : List ℕ → Login → Login → List ℕ → List ℕ → Result (Unit {0}) (ConnectionError A) → Type 0
+  CountsFirst text old new out grown result = (AsksFewer old.ways.least text × (result ≡ Err TooFewRounds))
+      ⊎ ((AsksFewer old.ways.least text → ⊥) × AnswersFirst old.ways.scram text old new out grown result)
+
   -- the final text shows the server's signature
   abbrev pub VerifiesFinal : Option Client → List ℕ → Login → Login → Result (Unit {0}) (ConnectionError A) → Type 0
   VerifiesFinal None text old new result = result ≡ Err NotAdmitted
@@ -157,7 +163,7 @@ module _ {A : Type 0} (lacks : Type 0) where
   HearsAsked Cleartext old new out grown result = AsksCleartext lacks old.ways.cleartext old new out grown result
   HearsAsked (Md5 salt) old new out grown result = AsksMd5 lacks old.ways.md5 salt old new out grown result
   HearsAsked (Sasl mechanisms) old new out grown result = AsksSasl lacks old.ways.scram mechanisms old new out grown result
-  HearsAsked (First text) old new out grown result = AnswersFirst lacks old.ways.scram text old new out grown result
+  HearsAsked (First text) old new out grown result = CountsFirst lacks text old new out grown result
   HearsAsked (Final text) old new out grown result = VerifiesFinal lacks old.ways.scram text old new result × (grown ≡ out)
   HearsAsked Welcome old new out grown result = Welcomes old new result × (grown ≡ out)
   HearsAsked Other old new out grown result = result ≡ Err NotAdmitted
@@ -181,7 +187,7 @@ pub data LogsOn : Asking → Option ClientMessage → Login → Login → Type 0
       → LogsOn (Md5 salt) (Some (PasswordMessage (md5_answer who.0 who.1 salt))) l (in_phase AwaitsOk l)
   ScramBegins : {l : Login} {mechanisms : List ℕ} (x : Client) (text : List ℕ) → l.phase ≡ AwaitsOffer → l.ways.scram ≡ Some x → Offers x mechanisms
       → message_of x.state ≡ Some text → LogsOn (Sasl mechanisms) (Some (initial text)) l (in_phase AwaitsFirst l)
-  ScramGoesOn : {l : Login} {text : List ℕ} (x y : Client) (answer : List ℕ) → l.phase ≡ AwaitsFirst → l.ways.scram ≡ Some x → Answers x text y
+  ScramGoesOn : {l : Login} {text : List ℕ} (x y : Client) (answer : List ℕ) → l.phase ≡ AwaitsFirst → l.ways.scram ≡ Some x → (AsksFewer l.ways.least text → ⊥) → Answers x text y
       → message_of y.state ≡ Some answer → LogsOn (First text) (Some (SaslResponse answer)) l (goes_on AwaitsFinal y l)
   ScramEnds : {l : Login} {text : List ℕ} (x y : Client) → l.phase ≡ AwaitsFinal → l.ways.scram ≡ Some x → Finished x text y
       → LogsOn (Final text) None l (goes_on AwaitsOk y l)
@@ -216,7 +222,7 @@ abbrev pub user_of : Bor (List ℕ) × Bor (List ℕ) → List ℕ × List ℕ
 user_of who = (who.0.now, who.1.now)
 
 abbrev pub given : {A : Type 0} → Given A → Ways
-given w = record { scram = w.scram; md5 = option_map user_of w.md5; cleartext = option_map (λ (p : Bor (List ℕ)). p.now) w.cleartext; none = w.none }
+given w = record { scram = w.scram; md5 = option_map user_of w.md5; cleartext = option_map (λ (p : Bor (List ℕ)). p.now) w.cleartext; none = w.none; least = w.least_rounds }
 
 abbrev pub seen : {A : Type 0} → Kept A → Login
 seen l = record { phase = l.phase; ways = given l.ways }

@@ -10,7 +10,7 @@ use Rattle.pgp_auth.specs.ScramRefusal.{WrongState}
 use Rattle.pgp_frontend.specs.ClientMessage.{ClientMessage, SaslInitialResponse, SaslResponse}
 use Rattle.pgp_message.specs.BackendMessage.{Message, Authentication, AuthenticationOk, AuthenticationSasl, AuthenticationSaslContinue, AuthenticationSaslFinal, ErrorResponse, NoticeResponse}
 use Rattle.pgp_message.specs.Items.{TextSpelled, TextRefused}
-use Rattle.pgp_session.specs.ClientStream.{Sent, IsAdded, IsLeft, RefusesMessage}
+use Rattle.pgp_stream.specs.ClientStream.{Sent, IsAdded, IsLeft, RefusesMessage}
 use Rattle.pgp_session.specs.declared.scram_login.Observed.{Observed}
 use Rattle.pgp_session.specs.declared.scram_login.Observed.TheVariants as code
 use Rattle.pgp_session.specs.declared.scram_login.LoginPhase.{LoginPhase}

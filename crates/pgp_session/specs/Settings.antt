@@ -52,23 +52,26 @@ abbrev pub settled : Option Setting → List Setting → List Setting
 settled None kept = kept
 settled (Some s) kept = replaced s kept
 
--- how many bytes of names and values are kept at most
+-- how many bytes are kept at most
 abbrev pub most : ℕ
 most = 65536
 
--- the bytes of their names and values
+-- what a setting takes: its name, its value, and 128 bytes, so that many short ones are no way past the limit
+abbrev pub cost : Setting → ℕ
+cost s = 128 + (length s.name + length s.value)
+
 abbrev pub size : List Setting → ℕ
-size kept = sum_by (λ s. length s.name + length s.value) kept
+size kept = sum_by cost kept
 
 -- It has room in what the settings of other names leave of the limit.
 abbrev pub HasRoom : ℕ → Option Setting → List Setting → Type 0
 HasRoom limit None kept = Unit {0}
-HasRoom limit (Some s) kept = length s.name + length s.value ≤ limit - size (without s.name kept)
+HasRoom limit (Some s) kept = cost s ≤ limit - size (without s.name kept)
 
 -- why it isn't kept
 abbrev pub IsUnkept : Type 0 → ℕ → Option Setting → List Setting → Error → Type 0
 IsUnkept lacks limit None kept e = ⊥
-IsUnkept lacks limit (Some s) kept e = WantsMemory lacks e ⊎ ((e ≡ TooLarge) × (limit - size (without s.name kept) < length s.name + length s.value))
+IsUnkept lacks limit (Some s) kept e = WantsMemory lacks e ⊎ ((e ≡ TooLarge) × (limit - size (without s.name kept) < cost s))
 
 -- What becomes of a report, where there is one.
 abbrev pub Keeps : Type 0 → ℕ → Option Setting → List Setting → List Setting → Result (Unit {0}) Error → Type 0

@@ -4,13 +4,13 @@
 ghost use Rattle.std.specs.Prelude.{◌≡◌, [], ◌∷◌, codes, true, false, IfOk, IfErr};
 ghost use Rattle.pgp_frontend.specs.ClientMessage.{Startup};
 ghost use Rattle.pgp_message.specs.Views.{view};
-ghost use Rattle.pgp_session.specs.ClientStream.{IsAdded, RefusesMessage};
+ghost use Rattle.pgp_stream.specs.ClientStream.{IsAdded, RefusesMessage};
 ghost use Rattle.pgp_session.specs.Client.{Steps, at_login, at_version, at_start, at_query, event_of};
 
-use crate::client_stream::ClientStream;
 use pgp_base::{Buffer, Error};
 use pgp_frontend::ProtocolVersion;
 use pgp_message::{Message, Storage};
+use pgp_stream::ClientStream;
 
 /// How far a session is.
 #[derive(Debug, Clone, Copy, PartialEq, Eq)]

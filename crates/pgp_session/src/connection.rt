@@ -11,7 +11,7 @@ ghost use Rattle.pgp_session.specs.Login.{given};
 ghost use Rattle.pgp_client.specs.Taking.{is_idle};
 ghost use Rattle.pgp_session.specs.Settings.{value_of};
 ghost use Rattle.pgp_session.specs.Incoming.{Reads};
-ghost use Rattle.pgp_session.specs.Connection.{Advances, Answers, Cancels, Feeds, Nexts, Sends, Starts, Writes, begun, can_send, current, dropped, is_logged_in, may_ask, nexted, shown};
+ghost use Rattle.pgp_session.specs.Connection.{Advances, Answers, Cancels, Feeds, Nexts, Sends, Starts, Writes, begun, can_send, current, dropped, is_logged_in, limit_of, may_ask, nexted, shown};
 
 use crate::connection_error::ConnectionError;
 use crate::connection_parts::{encrypts, may_send, next_name, put_startup};
@@ -26,6 +26,9 @@ use pgp_client::{Event, Request};
 use pgp_frontend_read::ClientMessage;
 use pgp_message::{Message, Messages};
 use std::alloc::Global;
+
+/// How long a message may be of a server that has proved nothing yet, as libpq has it.
+const EARLY_LIMIT: u32 = 30_000;
 
 /// How far a connection is.
 #[derive(Debug, Clone, Copy, PartialEq, Eq)]
@@ -50,7 +53,8 @@ pub struct Connection<'a, A: Memory = Global> {
 }
 
 impl<'a, A: Memory> Connection<'a, A> {
-    /// A connection of which nothing was sent, which logs in by these ways, and takes messages of at most so many bytes after the tag.
+    /// A connection of which nothing was sent, which logs in by these ways, and takes messages of at most so many bytes after the tag, and of at
+    /// most 30,000 before the log-in is done.
     pub fn new(alloc: A, ways: Ways<'a, A>, limit: u32) -> Connection<'a, A>
         ensures { shown result ≡ begun (given ways.entry) limit }
     {
@@ -169,6 +173,17 @@ impl<'a, A: Memory> Connection<'a, A> {
         self.is_logged_in() && !self.state.dialogue.awaits_data()
     }
 
+    /// How long a message of the server may be now.
+    #[inline(always)]
+    fn limit(&self) -> u32
+        ensures { result ≡ limit_of (shown self.now) }
+    {
+        if self.is_logged_in() {
+            return self.limit;
+        }
+        self.limit.min(EARLY_LIMIT)
+    }
+
     /// The bytes to send.
     pub fn to_send(&self) -> &[u8]
         ensures { result.now ≡ (shown self.now).out }
@@ -192,7 +207,7 @@ impl<'a, A: Memory> Connection<'a, A> {
     /// On error nothing changes.
     ///
     /// - `OutOfPhase` before the log-in is done and after the end, for data of a copy or their end where no copy to the server is under
-    ///   way, for requests but Sync while the server awaits such data, and for messages of a log-in, Terminate and FunctionCall, which
+    ///   way, as after one that the server has failed (`is_logged_in` tells this from the end), for requests but Sync while the server awaits such data, and for messages of a log-in, Terminate and FunctionCall, which
     ///   aren't sent so.
     /// - `Unwritten` of `EmbeddedNull`, `TooLarge` or `OutOfMemory`.
     /// - `OutOfMemory` if there is no memory to take note of the request.
@@ -261,7 +276,8 @@ impl<'a, A: Memory> Connection<'a, A> {
         if self.state.phase != ConnectionPhase::Started {
             return Err(ConnectionError::OutOfPhase);
         }
-        if self.incoming.is_too_long(self.limit) {
+        let limit = self.limit();
+        if self.incoming.is_too_long(limit) {
             self.state.phase = ConnectionPhase::Over;
             return Err(ConnectionError::TooLong);
         }
@@ -311,11 +327,12 @@ impl<'a, A: Memory> Connection<'a, A> {
     /// `OutOfPhase` where no message is awaited and `OutOfMemory`: nothing changes. All others end the connection, with nothing added to
     /// what is to be sent.
     ///
-    /// - `TooLong` if a message is announced that is longer than the limit.
+    /// - `TooLong` if a message is announced that is longer than the limit, or before the log-in is done than 30,000 bytes.
     /// - `Malformed` of the error of `Message::parse`.
     /// - `Misplaced` if the message has no place among the answers, or a copy failed and can't be attributed.
+    /// - `BadStatus` if a ReadyForQuery has another status than `I`, `T` and `E`.
     /// - `Unkept` if the message reports a setting that can't be kept.
-    /// - `Undue`, `NotAdmitted`, `NotOffered`, `Scram` and `Unwritten` in the log-in.
+    /// - `Undue`, `NotAdmitted`, `NotOffered`, `TooFewRounds`, `Scram` and `Unwritten` in the log-in.
     pub fn next(&mut self) -> Result<Option<(Event, Message<Bytes<A>>)>, ConnectionError<A>>
         ensures next { Nexts A.Lacks (shown self.old) (shown self.new) (nexted result) }
         ensures none { Reads (current self.new) None }
@@ -324,7 +341,8 @@ impl<'a, A: Memory> Connection<'a, A> {
         if self.state.phase != ConnectionPhase::Started {
             return Err(ConnectionError::OutOfPhase);
         }
-        if self.incoming.is_too_long(self.limit) {
+        let limit = self.limit();
+        if self.incoming.is_too_long(limit) {
             self.state.phase = ConnectionPhase::Over;
             return Err(ConnectionError::TooLong);
         }
@@ -367,7 +385,8 @@ impl<'a, A: Memory> Connection<'a, A> {
     }
 
     /// The value that the server last reported under this name, as `TimeZone` or `server_version`; `None` where it reported none. Names are
-    /// the same where their bytes are, and neither a name nor a value need be UTF-8. Names and values together take at most 65,536 bytes.
+    /// the same where their bytes are, and neither a name nor a value need be UTF-8. All take at most 65,536 bytes, each with 128 more than its
+    /// name and its value.
     pub fn setting(&self, name: &[u8]) -> Option<&[u8]>
         ensures { option_map (λ value. value.now) result ≡ value_of name.now (shown self.now).server.settings }
     {

@@ -16,19 +16,24 @@ pub enum ConnectionError<A: Allocator = Global> {
     OutOfMemory,
     /// The server announces a message that is longer than the limit.
     TooLong,
-    /// What the server reports of a setting couldn't be kept: `TooLarge` where the names and values of all would exceed 65,536 bytes, or
-    /// `OutOfMemory`.
+    /// What the server reports of a setting couldn't be kept: `TooLarge` where all, each counted with 128 bytes beside its name and its value,
+    /// would exceed 65,536 bytes, or `OutOfMemory`.
     Unkept(Error),
     /// The server sent something other than a message that is known.
     Malformed(Error),
     /// The message has no place among the answers that are due, or can't be attributed.
     Misplaced(Refusal),
-    /// The message isn't due in the log-in.
+    /// The message isn't due in the log-in. Before its end a server asks for a password, reports an error, or answers that it speaks version 3.0:
+    /// all else would be kept of one that has proved nothing.
     Undue,
+    /// A ReadyForQuery has a status other than `I`, `T` and `E`.
+    BadStatus,
     /// The server asks for a way of logging in that isn't admitted.
     NotAdmitted,
     /// The server's SASL mechanisms lack that of the exchange, or their list is malformed.
     NotOffered,
+    /// The exchange is of fewer rounds than the client asks for.
+    TooFewRounds,
     /// The exchange rejected the server's text, or lacked memory for its own; or it was over before it began.
     Scram(ScramError<A>),
     /// The answer to the request for encryption isn't the byte `S` or `N` alone.

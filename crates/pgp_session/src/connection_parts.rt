@@ -8,14 +8,16 @@ ghost use Rattle.pgp_frontend.specs.Reading.{IsNamed};
 ghost use Rattle.pgp_frontend_read.specs.Views.{view as sent_view};
 ghost use Rattle.pgp_session.specs.Login.{Puts};
 ghost use Rattle.pgp_message.specs.Views.{view};
-ghost use Rattle.pgp_session.specs.Connection.{is_bulk, is_end, is_part, is_longer, letter, may_send, next_name};
+ghost use Rattle.pgp_session.specs.Connection.{is_3_0, is_bulk, is_early, is_end, is_part, is_longer, is_status, lacks_status, letter, may_send, next_name};
 
-use crate::client_stream::ClientStream;
+use crate::scram_login::LoginPhase;
 use bytes::BytesMut;
 use pgp_base::{Error, Memory};
 use pgp_client::Event;
+use pgp_frontend::ProtocolVersion;
 use pgp_frontend_read::ClientMessage;
 use pgp_message::{Message, Storage};
+use pgp_stream::ClientStream;
 
 /// Whether it ends the session.
 pub(crate) fn is_end(event: Event) -> bool
@@ -47,6 +49,42 @@ pub(crate) fn is_bulk<S: Storage>(message: &Message<S>, event: Event) -> bool
         Message::DataRow(_) | Message::CopyData(_) => is_part(event),
         _ => false,
     }
+}
+
+/// Whether the message isn't taken before the log-in is done: all but what asks for a password, an error, and, right behind the startup packet, the
+/// answer that the server speaks version 3.0.
+pub(crate) fn is_early<S: Storage>(phase: LoginPhase, message: &Message<S>) -> bool
+    ensures { result ≡ is_early phase (view message.now) }
+{
+    match message {
+        Message::ParameterStatus(_) => phase != LoginPhase::Done,
+        Message::NoticeResponse(_) | Message::NotificationResponse(_) => phase != LoginPhase::Done,
+        Message::NegotiateProtocolVersion(answer) => !(phase == LoginPhase::AwaitsOffer
+            && is_3_0(answer.version())),
+        _ => false,
+    }
+}
+
+fn is_3_0(version: i32) -> bool
+    ensures { result ≡ is_3_0 version }
+{
+    !(version < ProtocolVersion::V3_0.code() || ProtocolVersion::V3_0.code() < version)
+}
+
+/// Whether it is a ReadyForQuery whose status is none of the three that there are.
+pub(crate) fn lacks_status<S: Storage>(message: &Message<S>) -> bool
+    ensures { result ≡ lacks_status (view message.now) }
+{
+    match message {
+        Message::ReadyForQuery(body) => !is_status(body.status()),
+        _ => false,
+    }
+}
+
+fn is_status(status: u8) -> bool
+    ensures { result ≡ is_status status }
+{
+    status == b'I' || status == b'T' || status == b'E'
 }
 
 /// Whether a message may be sent after the log-in: a request where no data of a copy are awaited, or data of a copy where one is under way.

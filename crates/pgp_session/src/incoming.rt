@@ -13,6 +13,22 @@ use pgp_message::Message;
 use std::alloc::AllocError;
 use std::marker::Model;
 
+/// How much room is kept for the bytes that come next.
+const KEPT: usize = 1 << 20;
+
+/// Gives the room of a large message back, once nothing of it is left.
+fn give_back<A: Memory>(bytes: &mut BytesMut<A>)
+    ensures { bytes.new.items ≡ bytes.old.items }
+{
+    if !bytes.is_empty() {
+        return;
+    }
+    bytes.clear();
+    if bytes.capacity() > KEPT {
+        *bytes = BytesMut::new(*bytes.allocator());
+    }
+}
+
 /// Bytes that came of a server. At their front stands the frame of the message that was taken in place last, until it is passed.
 #[derive(Drop)]
 pub(crate) struct Incoming<A: Memory> {
@@ -61,6 +77,7 @@ impl<A: Memory> Incoming<A> {
         ensures lacks { OnErr result A.Lacks }
     {
         self.pass();
+        give_back(&mut self.bytes);
         A::append(&mut self.bytes, piece)
     }
 

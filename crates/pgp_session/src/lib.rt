@@ -3,8 +3,6 @@
 #![tactic(auto)]
 
 pub mod client;
-mod client_stream;
-mod client_stream_lists;
 mod connection;
 mod connection_error;
 mod connection_parts;
@@ -14,7 +12,6 @@ mod incoming;
 pub mod laws;
 mod login;
 mod out_buffer;
-mod parsed;
 pub mod pooler;
 pub mod proxy;
 mod requests;
@@ -27,15 +24,9 @@ mod serving_reply;
 mod session_storage;
 mod settings;
 mod startup_names;
-mod stream_parser;
-mod whole_stream;
 
-pub use client_stream::ClientStream;
 pub use connection::{Connection, ConnectionPhase};
 pub use connection_error::{BindSendError, ConnectionError};
 pub use login::Ways;
 pub use out_buffer::OutBuffer;
-pub use parsed::Parsed;
 pub use server_state::{BackendKey, ServerState};
-pub use stream_parser::StreamParser;
-pub use whole_stream::parse_stream;

@@ -6,13 +6,13 @@ ghost use Rattle.pgp_frontend.specs.ClientMessage.{PasswordMessage};
 ghost use Rattle.pgp_message.specs.Views.{view};
 ghost use Rattle.pgp_frontend_read.specs.Views.{view as sent_view};
 ghost use Rattle.pgp_session.specs.ScramLogin.{initial};
-ghost use Rattle.pgp_session.specs.Login.{AnswersFirst, AsksCleartext, AsksMd5, AsksSasl, Hears, Puts, RepliesFirst, Begins, VerifiesFinal, Welcomes, asking, given, is_due, seen, reported};
+ghost use Rattle.pgp_session.specs.Login.{AnswersFirst, AsksCleartext, CountsFirst, AsksMd5, AsksSasl, Hears, Puts, RepliesFirst, Begins, VerifiesFinal, Welcomes, asking, given, is_due, seen, reported};
 
 use crate::connection_error::ConnectionError;
 use crate::scram_login::{LoginPhase, SaslStorage, mechanism, offers};
 use bytes::BytesMut;
 use pgp_auth::authentication::md5_hash;
-use pgp_auth::authentication::sasl::{ScramError, ScramSha256};
+use pgp_auth::authentication::sasl::{ScramError, ScramSha256, asks_fewer};
 use pgp_base::{Error, Memory};
 use pgp_frontend_read::{ClientMessage, forward};
 use pgp_message::{AuthenticationSaslBody, Message};
@@ -29,6 +29,9 @@ pub struct Ways<'a, A: Memory = Global> {
     pub cleartext: Option<&'a [u8]>,
     /// Whether the server may let the client in without a password.
     pub none: bool,
+    /// The least rounds of an exchange (RFC 7677 wants 4096; libpq takes any). 0 is taken for 1: with no round at all each password has a key
+    /// that is known.
+    pub least_rounds: u32,
 }
 
 /// A log-in.
@@ -59,7 +62,7 @@ impl<'a, A: Memory> Login<'a, A> {
             Asking::Cleartext => self.cleartext(out),
             Asking::Md5(salt) => self.md5(salt, out),
             Asking::Sasl(body) => self.begin(body, out),
-            Asking::First(text) => self.reply(text, out),
+            Asking::First(text) => self.first(text, out),
             Asking::Final(text) => self.verify(text),
             Asking::Welcome => self.welcome(),
             Asking::Other => Err(ConnectionError::NotAdmitted),
@@ -123,7 +126,19 @@ impl<'a, A: Memory> Login<'a, A> {
         }
     }
 
-    /// The server's first text came: the exchange's final text is sent.
+    /// The server's first text came: the exchange's final text is sent, unless it asks for too few rounds.
+    fn first(&mut self, text: &[u8], out: &mut BytesMut<A>) -> Result<(), ConnectionError<A>>
+        ensures observed { CountsFirst A.Lacks text.now (seen self.old) (seen self.new) out.old.items out.new.items result }
+        ensures kept { OnErr result (out.new.items ≡ out.old.items) }
+        ensures phase { OnErr result (self.new.phase ≡ self.old.phase) }
+    {
+        if asks_fewer(text, self.ways.least_rounds) {
+            return Err(ConnectionError::TooFewRounds);
+        }
+        self.reply(text, out)
+    }
+
+    /// The exchange takes the server's first text, and its final text is sent.
     fn reply(&mut self, text: &[u8], out: &mut BytesMut<A>) -> Result<(), ConnectionError<A>>
         ensures observed { AnswersFirst A.Lacks (given self.old.ways).scram text.now (seen self.old) (seen self.new) out.old.items out.new.items result }
         ensures kept { OnErr result (out.new.items ≡ out.old.items) }

@@ -7,11 +7,11 @@ ghost use Rattle.pgp_frontend.specs.ClientMessage.{ClientMessage as Sent};
 ghost use Rattle.pgp_message.specs.BackendMessage.{Message as Received};
 ghost use Rattle.pgp_message.specs.Views.{view as received_view};
 ghost use Rattle.pgp_frontend_read.specs.Views.{view as sent_view};
-ghost use Rattle.pgp_session.specs.Pooler.{CanBeLent, IsQuiet, Receives, Saw, Sends, Shown, awaits, begun, extends, shown, waits};
+ghost use Rattle.pgp_session.specs.Pooler.{CanBeLent, IsQuiet, Receives, ReceivesResult, Saw, Sends, Shown, awaits, begun, extends, leaves, shown, waits};
 ghost use Rattle.pgp_session.specs.ServerState.{status};
 
 use pgp_base::{Error, Memory};
-use pgp_client::{Asked, Dialogue, Event, Refusal, Request};
+use pgp_client::{Asked, Dialogue, Event, Kind, Refusal, Request};
 use pgp_frontend_read::ClientMessage;
 use pgp_message::{Message, Storage};
 use std::alloc::Global;
@@ -25,6 +25,8 @@ pub struct Session<A: Memory = Global> {
     status: Option<u8>,
     /// Whether a part of an extended query came from the client, and nothing after it that ends one.
     unfinished: bool,
+    /// Whether the client ended the session.
+    left: bool,
 }
 
 impl<A: Memory> Session<A> {
@@ -36,6 +38,7 @@ impl<A: Memory> Session<A> {
             dialogue: Dialogue::new(alloc),
             status: None,
             unfinished: false,
+            left: false,
         }
     }
 
@@ -53,6 +56,7 @@ impl<A: Memory> Session<A> {
             }
         }
         self.unfinished = waits(self.unfinished, message);
+        self.left |= leaves(message);
         Ok(())
     }
 
@@ -72,8 +76,20 @@ impl<A: Memory> Session<A> {
         Ok(event)
     }
 
+    /// Takes note of a FunctionCallResponse, which no `Message` is: a reader reports its tag, `V`, as unknown, and passes it.
+    ///
+    /// # Errors
+    ///
+    /// Those of `received`.
+    pub fn received_function_result(&mut self) -> Result<Event, Refusal>
+        ensures { ReceivesResult (shown self.old) (shown self.new) result }
+    {
+        self.dialogue.take(Kind::FunctionCallResponse)
+    }
+
     /// Whether the session is idle after the bytes that came: nothing of a partial message waits on the client's side nor on the
-    /// server's, no answer is awaited, the last ReadyForQuery reported `I`, and no part of an extended query waits for its end.
+    /// server's, no answer is awaited, the last ReadyForQuery reported `I`, no part of an extended query waits for its end, and the client sent
+    /// no Terminate.
     pub fn is_idle(&self, client: &[u8], server: &[u8]) -> bool
         ensures { Decides result (IsQuiet (shown self.now) client.now server.now) }
     {
@@ -82,11 +98,12 @@ impl<A: Memory> Session<A> {
             && self.dialogue.is_idle()
             && self.status == Some(b'I')
             && !self.unfinished
+            && !self.left
     }
 }
 
-/// A session that is idle after these messages can be lent: no part of an extended query waits for its end, the last ReadyForQuery reported that
-/// no transaction is open, and what the server sends next answers nothing that was asked.
+/// A session that is idle after these messages can be lent: the client didn't end it, no part of an extended query waits for its end, the last
+/// ReadyForQuery reported that no transaction is open, and what the server sends next answers nothing that was asked.
 pub fn idle_sessions_can_be_lent()
     ensures { (sent : List Sent) (received : List Received) (session : Shown) (client server : List ℕ) → Saw sent received session → IsQuiet session client server
         → CanBeLent sent received session }
@@ -101,6 +118,16 @@ fn awaits(message: &ClientMessage<'_>) -> bool
     match message {
         ClientMessage::Startup { .. } | ClientMessage::Query(_) => true,
         ClientMessage::FunctionCall { .. } | ClientMessage::Sync => true,
+        _ => false,
+    }
+}
+
+/// Whether it ends the session.
+fn leaves(message: &ClientMessage<'_>) -> bool
+    ensures { result ≡ leaves (sent_view message.now) }
+{
+    match message {
+        ClientMessage::Terminate => true,
         _ => false,
     }
 }

@@ -8,11 +8,10 @@ ghost use Rattle.pgp_frontend.specs.ClientMessage.{Startup};
 ghost use Rattle.pgp_message.specs.BackendMessage.{Message as BackendMessage};
 ghost use Rattle.pgp_message.specs.Items.{TextSpelled, TextRefused};
 ghost use Rattle.pgp_message.specs.Views.{view};
-ghost use Rattle.pgp_session.specs.ClientStream.{IsAdded, RefusesMessage};
+ghost use Rattle.pgp_stream.specs.ClientStream.{IsAdded, RefusesMessage};
 ghost use Rattle.pgp_session.specs.ScramLogin.{HearsFinal, HearsFirst, HearsOffer, Knows, Offers, Steps, is_due, mechanism, mechanism_of, observed, says, seen};
 
 use crate::client::{Client, Phase};
-use crate::client_stream::ClientStream;
 use bytes::Bytes;
 use pgp_auth::authentication::sasl::{SCRAM_SHA_256, SCRAM_SHA_256_PLUS, ScramError, ScramSha256};
 use pgp_base::{Buffer, Error, FallibleIterator, Memory};
@@ -20,6 +19,7 @@ use pgp_message::{
     AuthenticationSaslBody, AuthenticationSaslContinueBody, AuthenticationSaslFinalBody, Message,
     SaslMechanisms, Storage,
 };
+use pgp_stream::ClientStream;
 use std::alloc::{Allocator, Global};
 
 /// How far a log-in is.

@@ -5,7 +5,7 @@ ghost use Rattle.std.specs.Bool.{Decides};
 ghost use Rattle.std.specs.Str.{bytes_eq};
 ghost use Rattle.pgp_base.specs.Cause.{WantsMemory};
 ghost use Rattle.pgp_message.specs.Views.{view};
-ghost use Rattle.pgp_session.specs.Settings.{IsPlace, Keeps, StandsAt, room_beside, setting_in, size, value_of};
+ghost use Rattle.pgp_session.specs.Settings.{IsPlace, Keeps, StandsAt, cost, room_beside, setting_in, size, value_of};
 
 use crate::session_storage::SessionStorage;
 use pgp_base::{Error, Memory};
@@ -13,8 +13,11 @@ use pgp_message::Message;
 use std::alloc::Allocator;
 use std::marker::Model;
 
-/// How many bytes of names and values a connection keeps at most: a server reports some fifteen settings, of some hundred bytes.
+/// How many bytes a connection keeps at most of settings, each counted with `SETTING_COST`: a server reports some fifteen, of some hundred bytes.
 pub(crate) const SETTINGS_MOST: usize = 65_536;
+
+/// What a setting counts beside the bytes of its name and its value: what a list and two allocations take for it.
+const SETTING_COST: usize = 128;
 
 /// A setting, as it was reported. Its bytes are copies: shared ones would hold all bytes that came with the report.
 #[derive(Drop)]
@@ -62,9 +65,10 @@ impl<A: Memory> Entry<A> {
 
     /// What it leaves of this room.
     fn left(&self, room: usize) -> usize
-        ensures { result ≡ room - (length self.now.name + length self.now.value) }
+        ensures { result ≡ room - cost self.now }
     {
-        room.saturating_sub(self.name.len())
+        room.saturating_sub(SETTING_COST)
+            .saturating_sub(self.name.len())
             .saturating_sub(self.value.len())
     }
 }
@@ -95,8 +99,8 @@ impl<A: Memory> Settings<A> {
         }
     }
 
-    /// Keeps what the message reports, in the place of an earlier report of that name. Names and values take at most `limit` bytes together,
-    /// so that no server makes a client hold more.
+    /// Keeps what the message reports, in the place of an earlier report of that name. All take at most `limit` bytes together, each with
+    /// `SETTING_COST` more than its name and its value, so that no server makes a client hold more.
     ///
     /// # Errors
     ///
@@ -187,7 +191,10 @@ fn left<A: Memory>(entries: &[Entry<A>], limit: usize) -> usize
 
 /// Whether both fit.
 fn fits(room: usize, name: &[u8], value: &[u8]) -> bool
-    ensures { Decides result (length name.now + length value.now ≤ room) }
+    ensures { Decides result (cost (record { name = name.now; value = value.now }) ≤ room) }
 {
-    name.len() <= room && value.len() <= room - name.len()
+    let Some(left) = room.checked_sub(SETTING_COST) else {
+        return false;
+    };
+    name.len() <= left && value.len() <= left - name.len()
 }

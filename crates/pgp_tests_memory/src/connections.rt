@@ -120,6 +120,7 @@ pub(crate) fn connecting<A: Allocator + Copy>(
 ) -> Connection<'static, A> {
     let ways = Ways {
         none: scram.is_none(),
+        least_rounds: 0,
         scram,
         md5: None,
         cleartext: None,

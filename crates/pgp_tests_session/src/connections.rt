@@ -1,7 +1,7 @@
 //! A client's connection, on messages of the PostgreSQL manual's formats. The manual's chapter "Message Flow" says which
 //! message answers which request.
 
-use crate::steps::{Answer, Call, Step, plays};
+use crate::steps::{Answer, Call, Fault, Step, plays};
 use pgp_auth::authentication::sasl::{ChannelBinding, NoPrep, ScramSha256, is_nonce};
 use pgp_client::Event;
 use pgp_session::{BackendKey, Connection, Ways};
@@ -46,7 +46,7 @@ pub(crate) const WELCOME: &[u8] = b"R\0\0\0\x08\0\0\0\0";
 pub(crate) const READY: &[u8] = b"Z\0\0\0\x05I";
 
 /// The messages of a log-in by that exchange.
-pub(crate) static LOGIN: [Answer; 5] = [
+pub(crate) const LOGIN: [Answer; 5] = [
     (OFFER, Event::Part(0)),
     (FIRST, Event::Part(0)),
     (FINAL, Event::Part(0)),
@@ -76,13 +76,18 @@ pub(crate) fn connecting(
     none: bool,
     limit: u32,
 ) -> Connection<'static> {
-    let ways = Ways {
+    Connection::new(alloc, ways(scram, none, 0), limit)
+}
+
+/// This exchange, if there is one, of at least so many rounds, or no password.
+fn ways(scram: Option<ScramSha256>, none: bool, least_rounds: u32) -> Ways<'static> {
+    Ways {
         scram,
         md5: None,
         cleartext: None,
         none,
-    };
-    Connection::new(alloc, ways, limit)
+        least_rounds,
+    }
 }
 
 /// A connection that logs in by SCRAM-SHA-256 alone, with this password and nonce.
@@ -101,6 +106,17 @@ const NONCE: &str = "9IZ2O01zb9IgiIZ1WJ/zgpJB";
 /// A connection that logs in by the exchange of these messages.
 pub(crate) fn known(alloc: Global) -> Connection<'static> {
     by_password(alloc, b"foobar", NONCE)
+}
+
+/// The same, of at least so many rounds.
+pub(crate) fn known_by_rounds(alloc: Global, least_rounds: u32) -> Connection<'static> {
+    let binding = ChannelBinding::unsupported();
+    let ways = ways(
+        exchange(alloc, binding, b"foobar", NONCE),
+        false,
+        least_rounds,
+    );
+    Connection::new(alloc, ways, 65_536)
 }
 
 /// The exchange with that password and nonce that is bound to the channel.
@@ -175,8 +191,8 @@ fn another_connection_cancels_by_the_key(rt: HostRuntime) {
     plays(&rt, rt.alloc(), 0, trusting(rt.alloc()), &[&CANCELLED]);
 }
 
-/// Three Sync, and the ReadyForQuery of each.
-static STATUSES: [Step; 9] = [
+/// Three Sync, and the ReadyForQuery of each; that of a fourth has a status that is none.
+static STATUSES: [Step; 13] = [
     Step::Makes(Call::Sync),
     Step::Hears(&[(b"Z\0\0\0\x05T", Event::Last(1))]),
     Step::Is(true, true, Some(b'T')),
@@ -186,6 +202,10 @@ static STATUSES: [Step; 9] = [
     Step::Makes(Call::Sync),
     Step::Hears(&[(b"Z\0\0\0\x05I", Event::Last(3))]),
     Step::Is(true, true, Some(b'I')),
+    Step::Makes(Call::Sync),
+    Step::Feeds(b"Z\0\0\0\x05q"),
+    Step::Ends(Fault::BadStatus),
+    Step::Is(false, true, Some(b'I')),
 ];
 
 #[test]

@@ -2,6 +2,7 @@
 
 use crate::checks::{holds, same_at};
 use Side::{Client, Server};
+use pgp_base::Error;
 use pgp_frontend_read::{ClientMessages, PasswordKind};
 use pgp_message::Messages;
 use pgp_session::pooler::Session;
@@ -68,6 +69,16 @@ static CALL: [Row; 3] = [
     (Server, b"Z\0\0\0\x05I", true),
 ];
 
+/// A FunctionCall that returns a null.
+static CALLED: [Row; 3] = [
+    (Client, b"F\0\0\0\x0e\0\0\x01\0\0\0\0\0\0\x01", false),
+    (Server, b"V\0\0\0\x08\xff\xff\xff\xff", false),
+    (Server, b"Z\0\0\0\x05I", true),
+];
+
+/// The client ends the session.
+static LEFT: [Row; 1] = [(Client, b"X\0\0\0\x04", false)];
+
 /// Takes note of a message; false where there is none, or it has no place. A startup packet has no tag: it begins with a 0 byte of its length.
 fn notes(session: &mut Session, side: Side, bytes: &[u8]) -> bool {
     match side {
@@ -88,6 +99,7 @@ fn notes(session: &mut Session, side: Side, bytes: &[u8]) -> bool {
                 drop(message);
                 noted
             }
+            Err(Error::UnknownTag(b'V')) => session.received_function_result().is_ok(),
             _ => false,
         },
     }
@@ -107,7 +119,15 @@ fn take(rt: &impl Abort, session: &mut Session, rows: &[Row]) {
 fn a_session_is_idle_where_nothing_is_awaited(rt: HostRuntime) {
     let mut session = Session::new(rt.alloc());
     holds(&rt, !session.is_idle(b"", b""));
-    for rows in [QUERIES.as_slice(), &SERIES, &FAILED, &COPY, &CALL] {
+    for rows in [
+        QUERIES.as_slice(),
+        &SERIES,
+        &FAILED,
+        &COPY,
+        &CALL,
+        &CALLED,
+        &LEFT,
+    ] {
         take(&rt, &mut session, rows);
     }
 }

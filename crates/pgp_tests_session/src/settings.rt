@@ -1,7 +1,7 @@
 //! The settings that a connection's server reported, on messages of the PostgreSQL manual's formats. A server reports a setting in the
 //! log-in, and again when it changes (the manual, "Asynchronous Operations").
 
-use crate::connections::connecting;
+use crate::connections::{WELCOME, connecting};
 use crate::steps::{Call, Fault, Step, plays};
 use pgp_client::Event;
 
@@ -30,8 +30,10 @@ static REPORTED: [Step; 18] = [
 ];
 
 /// A name and a value that are no text, and a value of no bytes.
-static NO_TEXTS: [Step; 7] = [
+static NO_TEXTS: [Step; 9] = [
     Step::Makes(Call::Start),
+    Step::Feeds(WELCOME),
+    Step::Next(Some(Event::Part(0))),
     Step::Feeds(b"S\0\0\0\x08\xfe\0\xff\0"),
     Step::Next(Some(Event::Aside)),
     Step::Setting(b"\xfe", Some(b"\xff")),
@@ -40,27 +42,30 @@ static NO_TEXTS: [Step; 7] = [
     Step::Setting(b"\xfe", Some(b"")),
 ];
 
-/// Names and values of 65,536 bytes stand at the limit: `a` and `b` of 32,767 letters. A shorter value makes room, and a byte more is past it.
-static FULL: [Step; 21] = [
+/// Two settings stand at the limit of 65,536 bytes: `a` and `b` of 32,639 letters, each with 128 bytes more. A value that is shorter by 129 makes room
+/// for a third, whose value is empty, and a fourth is past it.
+static FULL: [Step; 23] = [
     Step::Makes(Call::Start),
-    Step::Feeds(b"S\0\0\x80\x06a\0"),
-    Step::FeedsTimes(32_767, b"v"),
+    Step::Feeds(WELCOME),
+    Step::Next(Some(Event::Part(0))),
+    Step::Feeds(b"S\0\0\x7f\x86a\0"),
+    Step::FeedsTimes(32_639, b"v"),
     Step::Feeds(b"\0"),
     Step::Next(Some(Event::Aside)),
-    Step::Feeds(b"S\0\0\x80\x06b\0"),
-    Step::FeedsTimes(32_767, b"v"),
+    Step::Feeds(b"S\0\0\x7f\x86b\0"),
+    Step::FeedsTimes(32_639, b"v"),
     Step::Feeds(b"\0"),
     Step::Next(Some(Event::Aside)),
-    Step::Feeds(b"S\0\0\x80\x05a\0"),
-    Step::FeedsTimes(32_766, b"v"),
+    Step::Feeds(b"S\0\0\x7f\x05a\0"),
+    Step::FeedsTimes(32_510, b"v"),
     Step::Feeds(b"\0"),
     Step::Next(Some(Event::Aside)),
     Step::Feeds(b"S\0\0\0\x07c\0\0"),
     Step::Next(Some(Event::Aside)),
     Step::Feeds(b"S\0\0\0\x07d\0\0"),
     Step::Ends(Fault::Unkept),
-    Step::SettingLen(b"a", 32_766),
-    Step::SettingLen(b"b", 32_767),
+    Step::SettingLen(b"a", 32_510),
+    Step::SettingLen(b"b", 32_639),
     Step::SettingLen(b"c", 0),
     Step::Setting(b"d", None),
 ];

@@ -39,6 +39,8 @@ pub(crate) enum Fault {
     Undue,
     NotAdmitted,
     NotOffered,
+    TooFewRounds,
+    BadStatus,
     /// By the number of the exchange's error.
     Scram(u8),
     Other,
@@ -288,6 +290,8 @@ fn fault_in(error: &ConnectionError) -> Fault {
         ConnectionError::Undue => Fault::Undue,
         ConnectionError::NotAdmitted => Fault::NotAdmitted,
         ConnectionError::NotOffered => Fault::NotOffered,
+        ConnectionError::TooFewRounds => Fault::TooFewRounds,
+        ConnectionError::BadStatus => Fault::BadStatus,
         ConnectionError::Scram(e) => Fault::Scram(e.number()),
         _ => Fault::Other,
     }

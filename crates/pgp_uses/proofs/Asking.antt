@@ -25,7 +25,7 @@ use Rattle.pgp_uses.specs.declared.session.AskError.TheVariants.{Binding}
 use Rattle.pgp_frontend.specs.Given.{Arrived, Serves, before_values, BindWhole, BindRefused, Refused, ParseWhole, ParseSoFar}
 use Rattle.pgp_types.specs.Scalar.{int4}
 use Rattle.pgp_frontend.specs.ClientRun.{ClientRun, kinds_of, is_startup}
-use Rattle.pgp_session.specs.ClientStream.{Sent, IsAdded, IsLeft, Adds, RefusesMessage}
+use Rattle.pgp_stream.specs.ClientStream.{Sent, IsAdded, IsLeft, Adds, RefusesMessage}
 use Rattle.pgp_uses.specs.Asking.{AreAdded, Blames, Stops, AddsAll, NamedBinds, BindsNamed, named, named_bound}
 use Rattle.pgp_uses.specs.Values.{Serializes}
 use Rattle.pgp_uses.proofs.Bound.{written, refused}

@@ -26,7 +26,7 @@ use Rattle.pgp_message.specs.Items.{TextSpelled, TextRefused}
 use Rattle.pgp_message.specs.Stream.{Frames, TakesFrame}
 use Rattle.pgp_message_write.specs.Reply.{IsInRange, IsMechanism, IsReply, bytes_of, cause, names_of, parts}
 use Rattle.pgp_uses.specs.BothEnds.{AreRead, Facing, IsClientsWant, IsServersWant, LogsIn}
-use Rattle.pgp_session.specs.ClientStream.{IsAdded, RefusesMessage}
+use Rattle.pgp_stream.specs.ClientStream.{IsAdded, RefusesMessage}
 use Rattle.pgp_session.specs.ScramLogin as login
 use Rattle.pgp_session.specs.ScramLogin.{Offers, Shown, initial, mechanism_by, mechanism_of, observed}
 use Rattle.pgp_session.specs.Serving as serving

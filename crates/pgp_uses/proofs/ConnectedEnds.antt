@@ -1,5 +1,5 @@
 -- A client's connection and a server's core, turn by turn.
-use Rattle.std.proofs.Common.{◌≡◌, ℕ, Bool, List, [], ◌∷◌, ◌++◌, Option, Some, None, Result, Ok, Err, refl, sym, ap, subst, ◌∙◌, inl, inr, true, false}
+use Rattle.std.proofs.Common.{◌≡◌, ℕ, Bool, List, [], ◌∷◌, ◌++◌, Option, Some, None, Result, Ok, Err, refl, sym, ap, subst, ◌∙◌, inl, inr, true, false, max, ◌≤◌, arith}
 use Rattle.std.specs.Prelude.{◌⊎◌}
 use Rattle.std.specs.List.{AllByRecursion}
 use Rattle.pgp_base.specs.Held.{Held}
@@ -9,7 +9,8 @@ use Rattle.pgp_auth.specs.ScramClient.{Client, Answers, first_text as text_of, m
 use Rattle.pgp_auth.specs.ScramErrorView.{refusal}
 use Rattle.pgp_auth.specs.ScramMeeting.{Meeting}
 use Rattle.pgp_auth.specs.ScramServing.{Server, Challenges, Admits}
-use Rattle.pgp_auth.proofs.EndsMeet.{last_is, message_is, signature_never_refused, text_is, update_memory_met}
+use Rattle.pgp_auth.proofs.FirstTexts.{one_count}
+use Rattle.pgp_auth.proofs.EndsMeet.{answer_meets, last_is, message_is, signature_never_refused, text_is, update_memory_met}
 use Rattle.pgp_client.specs.Kinds.{kind_of}
 use Rattle.pgp_client.specs.Taking.{asked, taken}
 use Rattle.pgp_client.specs.Talk.{Talk}
@@ -20,12 +21,12 @@ use Rattle.pgp_client.specs.declared.event.Refusal.{Refusal}
 use Rattle.pgp_client.specs.declared.request.Request.TheVariants.{Startup}
 use Rattle.pgp_client.specs.declared.stage.Stage.TheVariants.{Authenticating, Starting}
 use Rattle.pgp_frontend.specs.ClientMessage.{ClientMessage}
-use Rattle.pgp_message.specs.BackendMessage.{Message}
+use Rattle.pgp_message.specs.BackendMessage.{Message, Authentication, Request}
 use Rattle.pgp_message.specs.Items.{TextSpelled, TextRefused}
 use Rattle.pgp_message.specs.Stream.{Frames, TakesFrame}
 use Rattle.pgp_message_write.specs.Reply.{IsMechanism, IsReply, bytes_of, names_of}
 use Rattle.pgp_uses.specs.BothEnds.{ConnectionLogsIn, Facing, HasStarted, IsConnectionsWant}
-use Rattle.pgp_session.specs.Connection.{Hears, Shown, is_end, is_logged_in, logged_in_at}
+use Rattle.pgp_session.specs.Connection.{Hears, IsUnfit, Shown, is_end, is_logged_in, logged_in_at}
 use Rattle.pgp_session.specs.Login.{Added, AddsReply, Asking, Sasl, First, Final, Welcome, LoggedOn, Login, LogsOn, ScramBegins, ScramGoesOn, ScramEnds, Welcomed, Trusted, asking, goes_on, in_phase, Unsent}
 use Rattle.pgp_session.specs.Login as login
 use Rattle.pgp_session.specs.ScramLogin.{Offers, initial, mechanism_of}
@@ -77,19 +78,26 @@ no_refusal x r o e f = cc
 -- What a message comes to that belongs to the startup packet and reports no setting: what it comes to in the log-in.
 module _ {E : Type 0} (lacks : Type 0) where
   heard : (m : Message) (name : ℕ) (next : Talk) (old new : Shown) (result : Result (Option (Event × Message)) (ConnectionError E)) → taken old.talk (kind_of m) ≡ Ok (Part name, next)
-      → ((cause : Error) → IsUnkept lacks most (setting_in m) old.server.settings cause → ⊥) → Hears lacks m old new result
+      → ((cause : Error) → IsUnkept lacks most (setting_in m) old.server.settings cause → ⊥) → ((cause : ConnectionError E) → IsUnfit lacks old.login.phase m cause → ⊥) → Hears lacks m old new result
       → ((result ≡ Ok (Some (Part name, m))) × (new.phase ≡ old.phase) × (new.talk ≡ next) × LoggedOn (asking m) old.login new.login old.out new.out)
       ⊎ ((e : ConnectionError E) × (result ≡ Err e) × (after : Login) × (grown : List ℕ) × login.Hears lacks (asking m) old.login after old.out grown (Err e))
-  heard m name next old new (Ok None) is kept h = absurd h
-  heard m name next old new (Ok (Some x)) is kept (same, inl took) =
+  heard m name next old new (Ok None) is kept fit h = absurd h
+  heard m name next old new (Ok (Some x)) is kept fit (same, inl took) =
       let at = ok_parts (taken old.talk (kind_of m)) x.0 (Part name) new.talk next took.taken is in
       inl (ap (λ (y : Event × Message). Ok (Some y)) (is_some x (Part name) m at.0 same), ap (λ (c : Shown). c.phase) took.is, at.1, took.logged)
-  heard m name next old new (Ok (Some x)) is kept (same, inr took) =
+  heard m name next old new (Ok (Some x)) is kept fit (same, inr took) =
       let at = ok_parts (taken old.talk (kind_of m)) x.0 (Part name) new.talk next took.taken is in
       absurd (no_end x.0 name at.0 took.ends)
-  heard m name next old new (Err e) is kept (inl stops) = absurd (no_refusal (Part name, next) stops.0 (taken old.talk (kind_of m)) is stops.1)
-  heard m name next old new (Err e) is kept (inr (inl stops)) = absurd (kept stops.2 stops.3)
-  heard m name next old new (Err e) is kept (inr (inr stops)) = inr (e, refl, new.login, old.out, stops.4)
+  heard m name next old new (Err e) is kept fit (inl stops) = absurd (no_refusal (Part name, next) stops.0 (taken old.talk (kind_of m)) is stops.1)
+  heard m name next old new (Err e) is kept fit (inr (inl stops)) = absurd (fit e stops.2)
+  heard m name next old new (Err e) is kept fit (inr (inr (inl stops))) = absurd (kept stops.2 stops.3)
+  heard m name next old new (Err e) is kept fit (inr (inr (inr stops))) = inr (e, refl, new.login, old.out, stops.4)
+
+-- a message of a log-in comes in time
+module _ {E : Type 0} (lacks : Type 0) where
+  in_time : (p : LoginPhase) (r : Request) (e : ConnectionError E) → IsUnfit lacks p (Authentication r) e → ⊥
+  in_time p r e (inl h) = let f = h.0 in cc
+  in_time p r e (inr h) = let f = h.1 in cc
 
 -- ---- the log-in's steps
 
@@ -105,7 +113,7 @@ begun_by mechanisms reply l after (ScramBegins x text phase admits offers said) 
 
 replied_by : (text : List ℕ) (reply : Option ClientMessage) (l after : Login) → LogsOn (First text) reply l after
     → (x : Client) × (y : Client) × (answer : List ℕ) × (l.ways.scram ≡ Some x) × Answers x text y × (message_of y.state ≡ Some answer) × (reply ≡ Some (final_message answer)) × (after ≡ goes_on AwaitsFinal y l)
-replied_by text reply l after (ScramGoesOn x y answer phase admits answers said) = (x, y, answer, admits, answers, said, refl, refl)
+replied_by text reply l after (ScramGoesOn x y answer phase admits many answers said) = (x, y, answer, admits, answers, said, refl, refl)
 
 ended_by : (text : List ℕ) (reply : Option ClientMessage) (l after : Login) → LogsOn (Final text) reply l after → (x : Client) × (after ≡ goes_on AwaitsOk x l)
 ended_by text reply l after (ScramEnds x y phase admits finished) = (y, refl)
@@ -138,6 +146,16 @@ module _ {E : Type 0} (lacks : Type 0) where
   first_want server mid start meeting first text is ch old after out grown (Scram u) (y, refused) = update_memory_met {lacks = lacks} start y server mid first text (refusal u) meeting is ch refused
   first_want server mid start meeting first text is ch old after out grown e (y, h) = absurd h
 
+  -- the server asks for as many rounds as its verifier has
+  counts_enough : (server mid : Server) (start : Client) (meeting : Meeting start server) (first text : List ℕ) → first ≡ text_of meeting.begun → Challenges server first mid text → (old after : Login) (out grown : List ℕ) (e : ConnectionError E)
+      → max old.ways.least 1 ≤ meeting.count → login.CountsFirst lacks text old after out grown (Err e) → login.AnswersFirst lacks old.ways.scram text old after out grown (Err e)
+  counts_enough server mid start meeting first text is ch old after out grown e enough (inl fewer) =
+      let asks = fewer.0 in
+      let met = answer_meets start server mid first text meeting is ch in
+      let same = one_count text asks.nonce asks.salt_text (meeting.begun.nonce ++ meeting.serving.own) met.salt_text asks.count meeting.count asks.text_is met.text_is in
+      absurd (omega (arith, asks.fewer, same, enough))
+  counts_enough server mid start meeting first text is ch old after out grown e enough (inr counted) = counted.1
+
   final_never : (server mid done : Server) (start x : Client) (meeting : Meeting start server) (first text final signed : List ℕ) → first ≡ text_of meeting.begun → Challenges server first mid text → Answers start text x
       → Admits mid final done signed → (old after : Login) (e : ConnectionError E) → login.VerifiesFinal lacks (Some x) signed old after (Err e) → ⊥
   final_never server mid done start x meeting first text final signed is ch answers admits old after (Scram u) (y, refused) =
@@ -157,6 +175,7 @@ pub record Begun (name : ℕ) (x : Client) (due : List ℕ) (old new : Shown) : 
   pub is : first ≡ due
   pub at : Is name AwaitsFirst x (under_way name) new
   pub added : Added (first_message first) old.out new.out
+  pub least : new.login.ways.least ≡ old.login.ways.least
 
 pub record Replied (name : ℕ) (start : Client) (text : List ℕ) (old new : Shown) : Type 0 where
   pub exchange : Client
@@ -177,6 +196,7 @@ module _ (name : ℕ) where
         is = text_is x there meeting b.1 (sym (ap (λ (y : Client). message_of y.state) (sym same) ∙ b.3));
         at = record { phase = phase ∙ here.phase; talk = talk; login = ap (λ (l : Login). l.phase) b.5; exchange = ap (λ (l : Login). l.ways.scram) b.5 ∙ here.exchange };
         added = added_by logged.reply (first_message b.1) old.out new.out (b.4 ∙ ap Some (unbound_first b.0 b.1 b.3 (ap mechanism_of same ∙ unbound))) logged.adds;
+        least = ap (λ (l : Login). l.ways.least) b.5;
       }
 
   replies_with : (start : Client) (text : List ℕ) (old new : Shown) → Is name AwaitsFirst start (under_way name) old
@@ -202,7 +222,7 @@ module _ {E : Type 0} (lacks : Type 0) (name : ℕ) where
       → Is name AwaitsOffer x (asked unasked (record { request = Startup; name = name })) old → Hears lacks scram_offer old new result
       → ((result ≡ Ok (Some (Part name, scram_offer))) × Begun name x (text_of meeting.begun) old new) ⊎ IsConnectionsWant lacks first_message result
   takes_offer there x meeting unbound old new result offers here h =
-      by (heard lacks scram_offer name (under_way name) old new result (ap (λ (t : Talk). taken t (kind_of scram_offer)) here.talk) (λ cause unkept. unkept) h)
+      by (heard lacks scram_offer name (under_way name) old new result (ap (λ (t : Talk). taken t (kind_of scram_offer)) here.talk) (λ cause unkept. unkept) (λ cause unfit. in_time lacks old.login.phase _ cause unfit) h)
     where
       by : ((result ≡ Ok (Some (Part name, scram_offer))) × (new.phase ≡ old.phase) × (new.talk ≡ under_way name) × LoggedOn (asking scram_offer) old.login new.login old.out new.out)
           ⊎ ((e : ConnectionError E) × (result ≡ Err e) × (after : Login) × (grown : List ℕ) × login.Hears lacks (asking scram_offer) old.login after old.out grown (Err e))
@@ -213,11 +233,11 @@ module _ {E : Type 0} (lacks : Type 0) (name : ℕ) where
           let sasl = subst (λ (o : Option Client). login.AsksSasl lacks o (names_of (scram ∷ [])) old.login stops.2 old.out stops.3 (Err stops.0)) here.exchange asks in
           inr (want_at first_message result stops.0 stops.1 (offer_want lacks (names_of (scram ∷ [])) x (text_of meeting.begun) old.login stops.2 old.out stops.3 stops.0 unbound offers (message_is x there meeting) sasl))
 
-  pub takes_text : (server mid : Server) (start : Client) (meeting : Meeting start server) (first text : List ℕ) → first ≡ text_of meeting.begun → Challenges server first mid text → (old new : Shown) (result : Result (Option (Event × Message)) (ConnectionError E))
+  pub takes_text : (server mid : Server) (start : Client) (meeting : Meeting start server) (first text : List ℕ) → first ≡ text_of meeting.begun → Challenges server first mid text → (old new : Shown) → max old.login.ways.least 1 ≤ meeting.count → (result : Result (Option (Event × Message)) (ConnectionError E))
       → Is name AwaitsFirst start (under_way name) old → Hears lacks (challenge text) old new result
       → ((result ≡ Ok (Some (Part name, challenge text))) × Replied name start text old new) ⊎ IsConnectionsWant lacks final_message result
-  takes_text server mid start meeting first text is ch old new result here h =
-      by (heard lacks (challenge text) name (under_way name) old new result (ap (λ (t : Talk). taken t (kind_of (challenge text))) here.talk) (λ cause unkept. unkept) h)
+  takes_text server mid start meeting first text is ch old new enough result here h =
+      by (heard lacks (challenge text) name (under_way name) old new result (ap (λ (t : Talk). taken t (kind_of (challenge text))) here.talk) (λ cause unkept. unkept) (λ cause unfit. in_time lacks old.login.phase _ cause unfit) h)
     where
       by : ((result ≡ Ok (Some (Part name, challenge text))) × (new.phase ≡ old.phase) × (new.talk ≡ under_way name) × LoggedOn (First text) old.login new.login old.out new.out)
           ⊎ ((e : ConnectionError E) × (result ≡ Err e) × (after : Login) × (grown : List ℕ) × login.Hears lacks (First text) old.login after old.out grown (Err e))
@@ -225,14 +245,15 @@ module _ {E : Type 0} (lacks : Type 0) (name : ℕ) where
       by (inl took) = inl (took.0, replies_with name start text old new here took.1 took.2 took.3)
       by (inr stops) =
           let asks = due_one lacks (First text) AwaitsFirst old.login stops.2 old.out stops.3 stops.0 here.login stops.4 in
-          let answers = subst (λ (o : Option Client). login.AnswersFirst lacks o text old.login stops.2 old.out stops.3 (Err stops.0)) here.exchange asks in
+          let counted = counts_enough lacks server mid start meeting first text is ch old.login stops.2 old.out stops.3 stops.0 enough asks in
+          let answers = subst (λ (o : Option Client). login.AnswersFirst lacks o text old.login stops.2 old.out stops.3 (Err stops.0)) here.exchange counted in
           inr (want_at final_message result stops.0 stops.1 (first_want lacks server mid start meeting first text is ch old.login stops.2 old.out stops.3 stops.0 answers))
 
   pub takes_signature : (server mid done : Server) (start x : Client) (meeting : Meeting start server) (first text final signed : List ℕ) → first ≡ text_of meeting.begun → Challenges server first mid text → Answers start text x
       → Admits mid final done signed → (old new : Shown) (result : Result (Option (Event × Message)) (ConnectionError E)) → Is name AwaitsFinal x (under_way name) old → Hears lacks (signature signed) old new result
       → (result ≡ Ok (Some (Part name, signature signed))) × (y : Client) × Is name AwaitsOk y (under_way name) new
   takes_signature server mid done start x meeting first text final signed is ch answers admits old new result here h =
-      by (heard lacks (signature signed) name (under_way name) old new result (ap (λ (t : Talk). taken t (kind_of (signature signed))) here.talk) (λ cause unkept. unkept) h)
+      by (heard lacks (signature signed) name (under_way name) old new result (ap (λ (t : Talk). taken t (kind_of (signature signed))) here.talk) (λ cause unkept. unkept) (λ cause unfit. in_time lacks old.login.phase _ cause unfit) h)
     where
       by : ((result ≡ Ok (Some (Part name, signature signed))) × (new.phase ≡ old.phase) × (new.talk ≡ under_way name) × LoggedOn (Final signed) old.login new.login old.out new.out)
           ⊎ ((e : ConnectionError E) × (result ≡ Err e) × (after : Login) × (grown : List ℕ) × login.Hears lacks (Final signed) old.login after old.out grown (Err e))
@@ -248,7 +269,7 @@ module _ {E : Type 0} (lacks : Type 0) (name : ℕ) where
   pub takes_welcome : (x : Client) (old new : Shown) (result : Result (Option (Event × Message)) (ConnectionError E)) → Is name AwaitsOk x (under_way name) old → Hears lacks admission old new result
       → (result ≡ Ok (Some (Part name, admission))) × (is_logged_in new ≡ true)
   takes_welcome x old new result here h =
-      by (heard lacks admission name (record { stage = Starting; name = name; pending = [] }) old new result (ap (λ (t : Talk). taken t (kind_of admission)) here.talk) (λ cause unkept. unkept) h)
+      by (heard lacks admission name (record { stage = Starting; name = name; pending = [] }) old new result (ap (λ (t : Talk). taken t (kind_of admission)) here.talk) (λ cause unkept. unkept) (λ cause unfit. in_time lacks old.login.phase _ cause unfit) h)
     where
       by : ((result ≡ Ok (Some (Part name, admission))) × (new.phase ≡ old.phase) × (new.talk ≡ record { stage = Starting; name = name; pending = [] }) × LoggedOn Welcome old.login new.login old.out new.out)
           ⊎ ((e : ConnectionError E) × (result ≡ Err e) × (after : Login) × (grown : List ℕ) × login.Hears lacks Welcome old.login after old.out grown (Err e))
@@ -268,8 +289,8 @@ module _ (one : (m : Message) (rest : List ℕ) → IsReply m → TakesFrame (by
     (next : (bytes before after : List ℕ) (results : List (Result Message Error)) (r : Result Message Error) → Frames bytes results before → TakesFrame before r after → Frames bytes (results ++ r ∷ []) after)
     (back : (names : List (List ℕ)) → AllByRecursion IsMechanism names → MarkedItems TextSpelled TextRefused (names_of names) names None)
     {A L : Type 0} (E : Type 0) (lacks memory_there : Type 0) (lacks_there : Held L → ℕ → Type 0) where
-  pub connects : (name : ℕ) (exchange : Client) (client : Shown) (there : Serving A) → HasStarted name exchange client → Facing exchange there → ConnectionLogsIn E lacks memory_there lacks_there name client there
-  connects name exchange client there started facing =
+  pub connects : (name : ℕ) (exchange : Client) (client : Shown) (there : Serving A) → HasStarted name exchange client → (facing : Facing exchange there) → max client.login.ways.least 1 ≤ facing.count → ConnectionLogsIn E lacks memory_there lacks_there name client there
+  connects name exchange client there started facing enough =
       let mate = server_of facing in
       let meeting = meeting_of exchange there facing in
       let here : Is name AwaitsOffer exchange (asked unasked (record { request = Startup; name = name })) client = record { phase = started.phase; talk = started.talk; login = started.awaits; exchange = started.admits } in (
@@ -310,7 +331,7 @@ module _ (one : (m : Message) (rest : List ℕ) → IsReply m → TakesFrame (by
                         )) (takes_final memory_there lacks_there exchange z.1.exchange mate y.1.mid meeting x.1.first y.1.text z.1.final x.1.is y.1.challenges z.1.answers z.1.is challenged through earlier later r4 y.1.phase y.1.method h4),
                       ),
                     ),
-                  )) (takes_text {E = E} lacks name mate y.1.mid exchange meeting x.1.first y.1.text x.1.is y.1.challenges begun replied r3 x.1.at h3),
+                  )) (takes_text {E = E} lacks name mate y.1.mid exchange meeting x.1.first y.1.text x.1.is y.1.challenges begun replied (subst (λ (n : ℕ). max n 1 ≤ facing.count) (sym x.1.least) enough) r3 x.1.at h3),
                 ),
               )) (takes_first memory_there lacks_there exchange mate meeting x.1.first x.1.is there challenged before behind r2 facing.awaits facing.holds h2),
             ),

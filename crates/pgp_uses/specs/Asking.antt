@@ -13,7 +13,7 @@ use Rattle.pgp_frontend.specs.ClientMessage.{ClientMessage, PasswordKind, Parse,
 use Rattle.pgp_frontend.specs.Payload.{bytes_of, cause}
 use Rattle.pgp_types.specs.Scalar.{int4}
 use Rattle.pgp_frontend.specs.ClientRun.{ClientRun, kinds_of}
-use Rattle.pgp_session.specs.ClientStream.{Sent, IsAdded, IsLeft, RefusesMessage}
+use Rattle.pgp_stream.specs.ClientStream.{Sent, IsAdded, IsLeft, RefusesMessage}
 use Rattle.postgres_protocol.specs.OneValue.{Target, PutsOne, OneRefused}
 use Rattle.pgp_uses.specs.declared.session.AskError.{AskError}
 use Rattle.pgp_uses.specs.declared.session.AskError.TheVariants.{Message, Binding}

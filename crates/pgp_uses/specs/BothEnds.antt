@@ -23,7 +23,7 @@ use Rattle.pgp_frontend.specs.ClientRun.{kinds_of}
 use Rattle.pgp_message.specs.BackendMessage.{Message}
 use Rattle.pgp_message.specs.Stream.{Frames}
 use Rattle.pgp_message_write.specs.Reply.{bytes_of}
-use Rattle.pgp_session.specs.ClientStream.{IsAdded, RefusesMessage}
+use Rattle.pgp_stream.specs.ClientStream.{IsAdded, RefusesMessage}
 use Rattle.pgp_session.specs.Connection.{Shown as Connected, is_logged_in}
 use Rattle.pgp_session.specs.Connection as connection
 use Rattle.pgp_session.specs.Login.{Added, Unsent}

@@ -7,7 +7,7 @@ use Rattle.pgp_auth.specs.ScramErrorView.{refusal}
 use Rattle.pgp_auth.specs.ScramRefusal.{OutOfMemory}
 use Rattle.pgp_frontend.specs.ClientMessage.{ClientMessage, SaslResponse}
 use Rattle.pgp_frontend.specs.Payload.{bytes_of}
-use Rattle.pgp_session.specs.ClientStream.{RefusesMessage}
+use Rattle.pgp_stream.specs.ClientStream.{RefusesMessage}
 use Rattle.pgp_uses.specs.declared.login.LoginError.{LoginError}
 use Rattle.pgp_uses.specs.declared.login.LoginError.TheVariants.{Message, Scram, Over}
 

@@ -4,7 +4,7 @@ use Rattle.pgp_base.specs.declared.error.Error.{Error}
 use Rattle.pgp_message.specs.BackendMessage.{Message, DataRow}
 use Rattle.pgp_message.specs.Parts.{CountedBytes}
 use Rattle.pgp_message.specs.Stream.{BackendRun, Step, TakesFrame}
-use Rattle.pgp_session.specs.ServerStream.{Reading, HasRead}
+use Rattle.pgp_stream.specs.ServerStream.{Reading, HasRead}
 
 -- A piece came, and these results were taken: whatever came and was taken before, all that was taken is what the
 -- grammar gives for all bytes.

@@ -1,6 +1,6 @@
 //! What holds of a client's core and a server's core together, each of which is handed what the other sends.
 
-ghost use Rattle.std.specs.Prelude.{◌≡◌, ℕ};
+ghost use Rattle.std.specs.Prelude.{◌≡◌, ◌≤◌, max, ℕ};
 ghost use Rattle.pgp_auth.specs.ScramClient.{Client as Exchange};
 ghost use Rattle.pgp_session.specs.Connection.{Shown as Connected};
 ghost use Rattle.pgp_session.specs.ScramLogin.{Shown};
@@ -23,11 +23,11 @@ pub fn login_is_let_in<A: Memory, B: Buffer, C: Memory, D: Buffer>()
     pgp_message::laws::next_frame();
 }
 
-/// So do a `Connection` that admits SCRAM-SHA-256, whatever else it admits, and the server: of each message that `next` takes, it gives the
+/// So do a `Connection` that admits SCRAM-SHA-256, whatever else it admits, and the server, if its verifier has the rounds that the client asks for: of each message that `next` takes, it gives the
 /// event of the startup packet.
 pub fn connection_is_let_in<A: Memory, C: Memory, D: Buffer>()
-    ensures { (name : ℕ) (exchange : Exchange) (client : Connected) (server : Server C) → HasStarted name exchange client → Facing exchange server
-        → ConnectionLogsIn A A.Lacks C.Lacks D.Lacks name client server }
+    ensures { (name : ℕ) (exchange : Exchange) (client : Connected) (server : Server C) → HasStarted name exchange client → (facing : Facing exchange server)
+        → max client.login.ways.least 1 ≤ facing.count → ConnectionLogsIn A A.Lacks C.Lacks D.Lacks name client server }
 {
     pgp_message_write::laws::mechanisms_are_read();
     pgp_message_write::laws::one_reply_is_taken();

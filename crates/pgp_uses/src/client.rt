@@ -45,6 +45,7 @@ pub fn connect<'a, A: Memory>(
         md5: None,
         cleartext: None,
         none: false,
+        least_rounds: 0,
     };
     let mut connection = Connection::new(alloc, ways, 16_777_216);
     match connection.start(&[("user", user)]) {

@@ -9,8 +9,8 @@ use Rattle.std.proofs.lemmas.List.Concat.{flat_map-cons}
 use Rattle.std.proofs.lemmas.Grind.{flat_map-append}
 use Rattle.pgp_base.specs.declared.error.Error.{Error}
 use Rattle.pgp_message.specs.BackendMessage.{Message}
-use Rattle.pgp_session.specs.ServerStream.{Reading, HasRead}
-use Rattle.pgp_session.proofs.Readings.{has_read_more}
+use Rattle.pgp_stream.specs.ServerStream.{Reading, HasRead}
+use Rattle.pgp_stream.proofs.Readings.{has_read_more}
 use Rattle.pgp_wire.specs.Output.{BackendOutput, line_of, last_line}
 use Rattle.pgp_wire.specs.Listing.{ListsPiece}
 

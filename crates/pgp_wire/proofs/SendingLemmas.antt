@@ -8,7 +8,7 @@ use Rattle.pgp_base.specs.Held.{Held}
 use Rattle.pgp_frontend.specs.ClientMessage.{ClientMessage, Startup, SslRequest, Sync, Terminate, Query, PasswordMessage}
 use Rattle.pgp_frontend.specs.Reading.{IsNamed}
 use Rattle.pgp_frontend.specs.ClientRun.{MayCome, kinds_of, is_startup}
-use Rattle.pgp_session.specs.ClientStream.{Sent}
+use Rattle.pgp_stream.specs.ClientStream.{Sent}
 use Rattle.pgp_frontend.proofs.ClientRuns.{opened_more}
 use Rattle.pgp_wire.specs.ClientOutput.{Ask}
 use Rattle.pgp_wire.specs.Script.{ArePairs, Says, is_space}

@@ -3,7 +3,7 @@ use Rattle.std.specs.Prelude.{◌≡◌, ℕ, List, ◌++◌, Result}
 use Rattle.std.specs.List.{flat_map}
 use Rattle.pgp_base.specs.declared.error.Error.{Error}
 use Rattle.pgp_message.specs.BackendMessage.{Message}
-use Rattle.pgp_session.specs.ServerStream.{Reading, GoesOn, HandsOut}
+use Rattle.pgp_stream.specs.ServerStream.{Reading, GoesOn, HandsOut}
 use Rattle.pgp_wire.specs.Output.{line_of}
 
 -- A piece was fed to the parser, its results were taken, and their lines added.

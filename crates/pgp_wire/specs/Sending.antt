@@ -7,7 +7,7 @@ use Rattle.std.specs.Str.{IsUtf8}
 use Rattle.pgp_base.specs.Held.{Held}
 use Rattle.pgp_frontend.specs.ClientMessage.{ClientMessage, Startup, SslRequest}
 use Rattle.pgp_frontend.specs.ClientRun.{MayCome, is_opened}
-use Rattle.pgp_session.specs.ClientStream.{Sent, IsAdded}
+use Rattle.pgp_stream.specs.ClientStream.{Sent, IsAdded}
 use Rattle.pgp_wire.specs.declared.client.LineFault.{LineFault}
 use Rattle.pgp_wire.specs.ClientOutput.{IsFaulty, Sends}
 use Rattle.pgp_wire.specs.Script.{Says, is_newline}

@@ -5,7 +5,7 @@ ghost use Rattle.std.specs.Io.KnownBytes.{IsAtEnd, Keeps};
 ghost use Rattle.std.specs.List.{slice_split};
 ghost use Rattle.hex.specs.Hex.{encode_lower};
 ghost use Rattle.pgp_frontend.specs.Reading.{IsNamed};
-ghost use Rattle.pgp_session.specs.ClientStream.{AddsMessage};
+ghost use Rattle.pgp_stream.specs.ClientStream.{AddsMessage};
 ghost use Rattle.pgp_program.specs.Interruptions.{GivesUp};
 ghost use Rattle.pgp_wire.specs.ClientOutput.{ClientOutput, reported};
 ghost use Rattle.pgp_program.specs.Run.{Caused};

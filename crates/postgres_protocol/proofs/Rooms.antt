@@ -28,7 +28,7 @@ use Rattle.pgp_types.specs.Array.{array_bytes, array_cause}
 use Rattle.postgres_protocol.specs.declared.laws.array.Step.{Step}
 use Rattle.postgres_protocol.specs.declared.laws.array.Step.TheVariants.{Append, Null, Refuse}
 use Rattle.postgres_protocol.specs.ArraySteps.{gives, Give, RefusesAt, array_of, binding, StepRefuses, ElementsWant, HasCause, IsTooLong, BindWants, BindRefused, BindsArray}
-use Rattle.pgp_session.specs.ClientStream.{Sent, IsAdded, Adds, AddsMessage, AddsGiven}
+use Rattle.pgp_stream.specs.ClientStream.{Sent, IsAdded, Adds, AddsMessage, AddsGiven}
 use Rattle.postgres_protocol.specs.Rooms.{HasRoom, LacksRoom, GoesByRoom, IsWant, BindsByRoom}
 use Rattle.postgres_protocol.proofs.StepLemmas.{array_length}
 

@@ -11,7 +11,7 @@ use Rattle.pgp_base.specs.declared.error.BindError.{BindError}
 use Rattle.pgp_base.specs.declared.error.BindError.TheVariants.{Conversion, Serialization}
 use Rattle.pgp_frontend.specs.ClientMessage.{ClientMessage}
 use Rattle.pgp_frontend.specs.Payload.{bytes_of, cause}
-use Rattle.pgp_session.specs.ClientStream.{Sent, IsAdded}
+use Rattle.pgp_stream.specs.ClientStream.{Sent, IsAdded}
 
 -- the message is no longer than the room that is left
 abbrev pub HasRoom : Held (GName × ℕ) → ClientMessage → Type 0

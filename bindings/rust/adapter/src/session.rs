@@ -2,3 +2,4 @@
 
 pub use crate::proved::pgp_frontend_read::{ClientFrame, ClientParser, Limits, ParserError, read_session};
 pub use crate::proved::pgp_session::*;
+pub use crate::proved::pgp_stream::*;

@@ -11,7 +11,7 @@ use crate::hmac::MacKey;
 use crate::lanes::xor_into;
 pub use crate::scram::{
     ChannelBinding, ChannelOffer, ExchangeError, ScramError, ScramServer, ScramSha256, ServerError,
-    StoredVerifier, VerifierError, is_nonce, verify_signature,
+    StoredVerifier, VerifierError, asks_fewer, is_nonce, iteration_count, verify_signature,
 };
 use pgp_base::{Error, Memory};
 use std::str;

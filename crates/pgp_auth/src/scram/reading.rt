@@ -140,6 +140,7 @@ fn end(total: usize, text: &[u8]) -> Result<(), Fault>
 }
 
 // The parts of a server's first text.
+#[derive(Drop)]
 pub(crate) struct ServerFirst<'a> {
     pub nonce: &'a [u8],
     pub salt: &'a [u8],

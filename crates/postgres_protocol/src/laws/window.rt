@@ -10,7 +10,7 @@ ghost use Rattle.pgp_types.specs.declared.array.ArrayDimension.{ArrayDimension};
 ghost use Rattle.pgp_types.specs.Array.{array_cause};
 ghost use Rattle.postgres_protocol.specs.declared.laws.array.Step.{Step};
 ghost use Rattle.postgres_protocol.specs.ArraySteps.{BindsArray, Give, array_of, binding};
-ghost use Rattle.pgp_session.specs.ClientStream.{AddsMessage, Sent};
+ghost use Rattle.pgp_stream.specs.ClientStream.{AddsMessage, Sent};
 ghost use Rattle.postgres_protocol.specs.Rooms.{BindsByRoom, GoesByRoom};
 
 use crate::session::ClientStream;

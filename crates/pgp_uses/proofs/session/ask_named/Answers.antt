@@ -7,7 +7,7 @@ use Rattle.pgp_base.specs.Calls.{Yielded}
 use Rattle.pgp_frontend.specs.ClientMessage.{ClientMessage, Parse, Describe, Execute, Sync}
 use Rattle.pgp_base.specs.Held.{Held}
 use Rattle.pgp_frontend.specs.Given.{ParseWhole}
-use Rattle.pgp_session.specs.ClientStream.{Sent, IsAdded}
+use Rattle.pgp_stream.specs.ClientStream.{Sent, IsAdded}
 use Rattle.pgp_types.specs.Scalar.{int4}
 use Rattle.pgp_frontend.proofs.Lists.{all_same, some_same}
 use Rattle.postgres_protocol.proofs.StepLemmas.{none_of_none}

@@ -1,5 +1,5 @@
 use Rattle.std.proofs.Common.{◌++◌}
-use Rattle.pgp_session.proofs.Readings.{has_read_more}
+use Rattle.pgp_stream.proofs.Readings.{has_read_more}
 use Rattle.pgp_uses.proofs.streams.completed.Goals as goal
 
 pub returns-clause-read : goal.returns-clause-read

@@ -3,7 +3,7 @@ use Rattle.std.specs.Str.{IsUtf8}
 use Rattle.pgp_base.specs.declared.error.Error.{Error}
 use Rattle.pgp_base.specs.declared.error.Error.TheVariants.{OutOfMemory}
 use Rattle.pgp_frontend.specs.Payload.{cause}
-use Rattle.pgp_session.specs.ClientStream.{IsAdded}
+use Rattle.pgp_stream.specs.ClientStream.{IsAdded}
 use Rattle.pgp_wire.specs.Request.{asked}
 use Rattle.pgp_wire.specs.Script.{Says}
 use Rattle.pgp_wire.specs.Sending.{is_opening}

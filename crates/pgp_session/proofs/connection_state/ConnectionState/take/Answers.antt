@@ -23,6 +23,8 @@ returns-in-Ok-hear g c = λ s.
     let old = in_state c.args.self.now s in
     inl (record {
       taken = taken_ok (taken old.talk (kind_of m)) c.in-Ok.event (talk_of (λ q. q.items) c.take_message.new.self) c.in-Ok.ensures;
+      due = sym c.is_early.ensures ∙ c.if-is_early.false;
+      sound = sym c.lacks_status.ensures ∙ c.if-lacks_status.false;
       kept = c.in-Ok-keep.ensures.0;
       goes_on = sym c.is_end.ensures ∙ c.if-is_end.false;
       logged = logs_on _ g.A.Memory.Lacks (seen c.args.self.now.login) (seen c.hear.new.self) c.args.self.now.out.items c.hear.new.out.items (asking m) c.in-Ok-hear.ensures.observed;
@@ -42,14 +44,14 @@ returns-in-Err-keep g c = λ s.
     let old = in_state c.args.self.now s in
     let talk = talk_of (λ q. q.items) c.take_message.new.self in
     let is = taken_ok (taken old.talk (kind_of (view c.args.message.now))) c.in-Ok.event talk c.in-Ok.ensures in
-    inr (inl (
+    inr (inr (inl (
       (c.in-Ok.event, talk),
       is,
       c.in-Err-keep.e,
       c.in-Err-keep.ensures.0,
       refl,
       ap (λ (k : List Setting). left_at old.phase talk old.login (record { state = old.server.state; settings = k }) old) c.in-Err-keep.ensures.1,
-    ))
+    )))
 
 pub returns-in-Err-hear : goal.returns-in-Err-hear
 returns-in-Err-hear g c = λ s.
@@ -60,3 +62,17 @@ returns-in-Err-hear g c = λ s.
     stopped_log_in g.A.Memory.Lacks m old talk (seen c.hear.new.self) c.hear.new.out.items (record { state = c.note.new.self; settings = c.keep.new.self.entries.items }) c.in-Ok.event c.in-Err-hear.e
     is c.in-Ok-keep.ensures.0 (sym c.is_end.ensures ∙ c.if-is_end.false) c.in-Err-hear.ensures.observed c.in-Err-hear.ensures.kept c.in-Err-hear.ensures.phase
     (heard_so m c.note.new.self c.keep.new.self.entries.items old.server c.note.ensures c.in-Ok-keep.ensures.1)
+
+pub returns-then-is_early : goal.returns-then-is_early
+returns-then-is_early g c = λ s.
+    let old = in_state c.args.self.now s in
+    let talk = talk_of (λ q. q.items) c.take_message.new.self in
+    let is = taken_ok (taken old.talk (kind_of (view c.args.message.now))) c.in-Ok.event talk c.in-Ok.ensures in
+    inr (inl ((c.in-Ok.event, talk), is, inl (sym c.is_early.ensures ∙ c.if-is_early.true, refl), refl))
+
+pub returns-then-lacks_status : goal.returns-then-lacks_status
+returns-then-lacks_status g c = λ s.
+    let old = in_state c.args.self.now s in
+    let talk = talk_of (λ q. q.items) c.take_message.new.self in
+    let is = taken_ok (taken old.talk (kind_of (view c.args.message.now))) c.in-Ok.event talk c.in-Ok.ensures in
+    inr (inl ((c.in-Ok.event, talk), is, inr (sym c.is_early.ensures ∙ c.if-is_early.false, sym c.lacks_status.ensures ∙ c.if-lacks_status.true, refl), refl))

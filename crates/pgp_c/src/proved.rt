@@ -1,0 +1,11 @@
+//! Which build of the library this is.
+
+ghost use Rattle.std.specs.Prelude.{◌≡◌};
+
+/// 1: each function is proved. A build of these sources without their proofs has another body here, which answers 0.
+#[unsafe(no_mangle)]
+pub extern "C" fn pgp_is_proved() -> u32
+    ensures { result ≡ 1 }
+{
+    1
+}

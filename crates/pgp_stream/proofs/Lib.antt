@@ -1,0 +1,4 @@
+pub mod Pieces
+pub mod Readings
+pub mod Additions
+pub mod StartupPairs

@@ -1,0 +1,33 @@
+use Rattle.std.proofs.Common.{ap}
+use Rattle.std.specs.Prelude.{is_some}
+use Rattle.pgp_frontend.specs.Payload.{tag_of}
+use Rattle.pgp_stream.proofs.Additions.{is_plain}
+use Rattle.pgp_stream.proofs.Additions.{same_phase, later_added, later_stays, left, still}
+use Rattle.pgp_stream.proofs.client_stream.ClientStream.parse.Goals as goal
+use Rattle.pgp_stream.proofs.client_stream.ClientStream.parse.Goals.{in-Ok, in-Err}
+
+pub returns : goal.returns
+returns g c =
+    let held = g.B.Buffer.held in
+    let a = c.self.inside.buf in
+    let b = c.parse.new.buf in
+    let o = c.self.inside.opened in
+    rw (← c.self.view_is) (elim c.match-parse.branch [
+      | in-Ok w ↦ rw w.result-is
+          (let e = w.in-Ok.ensures in
+          (e.message, e.whole, later_added held a b o c.self.invariant e.message (ap is_plain e.whole.2) (same_phase c.self.view_is c.requires.opened) (ap (λ m. is_some (tag_of m)) e.whole.2) e.in_range e.none e.appended))
+      | in-Err w ↦ rw w.result-is (w.in-Err.ensures.0, left held a b o c.self.invariant w.in-Err.ensures.1)
+    ])
+
+pub invariant_of-self : goal.invariant_of-self
+invariant_of-self g c =
+    let held = g.B.Buffer.held in
+    let a = c.self.inside.buf in
+    let b = c.parse.new.buf in
+    let o = c.self.inside.opened in
+    elim c.match-parse.branch [
+      | in-Ok w ↦
+          (let e = w.in-Ok.ensures in
+          later_stays held a b o c.self.invariant e.message (ap is_plain e.whole.2) (same_phase c.self.view_is c.requires.opened) (ap (λ m. is_some (tag_of m)) e.whole.2) e.in_range e.none e.appended)
+      | in-Err w ↦ still held a b o c.self.invariant w.in-Err.ensures.1
+    ]

@@ -1,0 +1,10 @@
+use Rattle.std.proofs.Common.{◌≡◌, take, [], false}
+use Rattle.std.specs.List.{flat_map}
+use Rattle.pgp_stream.specs.ServerStream.{HasRead}
+use Rattle.pgp_stream.proofs.whole_stream.parse_stream.Given as goal
+
+abbrev pub invariant-loop-piece : goal.invariant-loop-piece
+invariant-loop-piece g l = record {
+  sound : l.parser.failed ≡ false;
+  read : HasRead (flat_map (λ piece. piece.now) (take l.piece-index l.pieces)) [] l.parser;
+}

@@ -1,0 +1,3 @@
+pub mod ServerStream
+pub mod ServerSteps
+pub mod ClientStream
