@@ -1,5 +1,6 @@
 """Where to connect to, and how: what a caller says, a connection string or URL, a service file, the environment and a password file, as libpq has them."""
 import os
+import pwd
 import re
 import ssl as tls
 import stat
@@ -54,7 +55,7 @@ class Options:
             if kept.pop(name, values[0]) not in values:
                 raise InterfaceError('%s: no other value than %s is supported' % (name, ' or '.join(map(repr, values))))
         self.places = _places(kept)
-        self.user: str = kept.pop('user', None) or os.environ.get('USER') or os.environ.get('LOGNAME') or 'postgres'
+        self.user: str = kept.pop('user', None) or _account()
         self.dbname: str = kept.pop('dbname', None) or self.user
         self.password: Optional[str] = kept.pop('password', None)
         self._passfile: str = kept.pop('passfile', None) or os.path.expanduser('~/.pgpass')
@@ -65,22 +66,22 @@ class Options:
         if self.sslmode not in SSL_MODES:
             raise InterfaceError('sslmode: one of %s is expected, not %r' % (', '.join(SSL_MODES), self.sslmode))
         self._files = {name: kept.pop(name, None) for name in ('sslrootcert', 'sslcert', 'sslkey')}
-        self._context = ssl
+        self._context, self._is_given = ssl, ssl is not None
         #: Settings of the session.
         self.parameters: Dict[str, str] = {name: str(value) for name, value in kept.items() if name not in _IGNORED}
 
     def ways(self, place: Place) -> Sequence[bool]:
         """Whether encryption is asked for there; the second way follows where the server rejects the log-in of the first."""
-        if place.is_local or (self._context is None and self.sslmode == 'disable'):
-            return (False,)
-        if self.must_encrypt:
+        if self._is_given or (self.must_encrypt and not place.is_local):
             return (True,)
+        if place.is_local or self.sslmode == 'disable':
+            return (False,)
         return (False, True) if self.sslmode == 'allow' else (True, False)
 
     @property
     def must_encrypt(self) -> bool:
         """Whether there is no session without encryption."""
-        return self._context is not None or self.sslmode in ('require', 'verify-ca', 'verify-full')
+        return self._is_given or self.sslmode in ('require', 'verify-ca', 'verify-full')
 
     def context(self) -> tls.SSLContext:
         """The context of TLS: which certificates count."""
@@ -189,6 +190,14 @@ def _places(kept: Dict[str, Any]) -> List[Place]:
         number = int(port or 5432)
         places.append(Place(host, address or host or _default(number), number))
     return places
+
+
+def _account() -> str:
+    """The name of who runs this."""
+    try:
+        return pwd.getpwuid(os.geteuid()).pw_name
+    except KeyError:
+        raise InterfaceError('user: the system has no name for who runs this') from None
 
 
 def _default(port: int) -> str:
