@@ -187,6 +187,8 @@ class Connection:
 
     def data_to_send(self) -> bytes:
         """The bytes that are to be sent now."""
+        if not self._out:
+            return self._stream.drain()
         data = b''.join([*self._out, self._stream.drain()])
         self._out = []
         return data
@@ -232,6 +234,8 @@ class Connection:
 
     def _take_more(self) -> bool:
         """Takes the messages that are there; False where there is none."""
+        if not self._more and self._at == len(self._data) and self._fault == OK:
+            return False
         self._gather()
         if self._encrypting:
             return bool(self._data)
