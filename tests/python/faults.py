@@ -185,7 +185,7 @@ def check_files(same, home):
     del os.environ['PGPASSWORD']
     (home / '.pgpass').chmod(0o644)
     same('a password file that others read', of()[3], None)
-    for given in ({'service': 'none'}, {'sslmode': 'sure'}, {'port': '0'}, {'host': 'a,b', 'port': '1,2,3'}, {'target_session_attrs': 'primary'}, {'channel_binding': 'require'},
+    for given in ({'service': 'none'}, {'sslmode': 'sure'}, {'port': '0'}, {'host': 'a,b', 'port': '1,2,3'}, {'target_session_attrs': 'primary'}, {'channel_binding': 'yes'},
                   {'connect_timeout': 'x'}, {'require_auth': 'gss'}):
         same(str(given), type(_error(lambda: of(**given))), client.InterfaceError)
 

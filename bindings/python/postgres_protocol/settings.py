@@ -20,7 +20,7 @@ _ENVIRONMENT = {
 _IGNORED = frozenset(('keepalives', 'keepalives_idle', 'keepalives_interval', 'keepalives_count', 'tcp_user_timeout', 'gssencmode', 'krbsrvname', 'gsslib',
                       'sslcompression', 'sslsni', 'gssdelegation', 'fallback_application_name'))
 #: What would make a connection stricter than it can be here, with the one value that is taken.
-_FIXED = {'target_session_attrs': ('any',), 'channel_binding': ('prefer', 'disable'), 'sslcrl': ('',), 'sslcrldir': ('',), 'load_balance_hosts': ('disable',)}
+_FIXED = {'target_session_attrs': ('any',), 'sslcrl': ('',), 'sslcrldir': ('',), 'load_balance_hosts': ('disable',)}
 SSL_MODES = ('disable', 'allow', 'prefer', 'require', 'verify-ca', 'verify-full')
 _FOLDERS = ('/var/run/postgresql', '/tmp')
 _PAIR = re.compile(r"\s*(\w+)\s*=\s*(?:'((?:[^'\\]|\\.)*)'|((?:[^\s'\\]|\\.)(?:[^\s\\]|\\.)*|))(?=\s|$)", re.DOTALL)
@@ -62,6 +62,10 @@ class Options:
         self.connect_timeout = _seconds(kept.pop('connect_timeout', None))
         methods = kept.pop('require_auth', None) or METHODS
         self.require_auth = tuple(methods.split(',')) if isinstance(methods, str) else tuple(methods)
+        binding = kept.pop('channel_binding', None) or 'prefer'
+        if binding not in ('disable', 'prefer', 'require'):
+            raise InterfaceError("channel_binding: 'disable', 'prefer' or 'require' is expected, not %r" % binding)
+        self._must_bind = binding == 'require'
         self.sslmode: str = kept.pop('sslmode', None) or 'prefer'
         if self.sslmode not in SSL_MODES:
             raise InterfaceError('sslmode: one of %s is expected, not %r' % (', '.join(SSL_MODES), self.sslmode))
@@ -95,7 +99,7 @@ class Options:
         if password is None:
             password = _password_of(self._passfile, place, self.dbname, self.user)
         try:
-            return Core(self.user, password, self.dbname, self.parameters, self.require_auth, encrypt=encrypts)
+            return Core(self.user, password, self.dbname, self.parameters, self.require_auth, encrypt=encrypts, must_bind=self._must_bind)
         except ValueError as error:
             raise InterfaceError(str(error)) from error
 
