@@ -60,6 +60,9 @@ class Calls:
             self.error('no transaction', client.ProgrammingError, lambda: c.cursor('part').execute(BIG))
             with c.transaction():
                 self.same('in one', len(c.cursor('part').execute(BIG).fetchall()), 10000)
+                self.same('a stream', sum(a for a, _ in c.stream(BIG)), sum(range(1, 10001)))
+                stream = c.stream(BIG)
+                self.same('closed early', (next(stream), stream.close(), c.execute("SELECT count(*) FROM pg_cursors WHERE name LIKE 'stream%'").fetchone()), ((1, 2), None, (0,)))
 
     def blocks(self):
         for autocommit in (True, False):
