@@ -22,6 +22,7 @@ def over_tcp(server):
     def work():
         while True:
             client, other = listening.accept()[0], socket.socket(socket.AF_UNIX)
+            client.setsockopt(socket.IPPROTO_TCP, socket.TCP_NODELAY, 1)
             other.connect(server.socket)
             for ends in (client, other), (other, client):
                 threading.Thread(target=pass_on, args=ends, daemon=True).start()

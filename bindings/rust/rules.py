@@ -8,7 +8,7 @@ with open(os.path.join(os.path.dirname(os.path.abspath(__file__)), '../../VERSIO
 UNPROVED = VERSION + '+unproved'
 
 # The allocator: each text is taken at the global one, so that its parameters and arguments go.
-PARAMETER = re.compile(r'(?:, )?\bA: (?:Allocator|Memory)(?: \+ Copy)?(?: = Global)?(?:, )?')
+PARAMETER = re.compile(r'(?:, )?\bA: (?:Allocator|(?:Map)?Memory)(?: \+ Copy)?(?: = Global)?(?:, )?')
 
 # From the kit's crates to the shim: (text of the source, text of the package).
 NAMES = [
@@ -28,6 +28,8 @@ NAMES = [
     ('use thiserror::Error as DeriveError;\n', ''),
     ('fn fmt<W: fmt::Write>(&self, f: &mut fmt::Formatter<W>)', "fn fmt(&self, f: &mut fmt::Formatter<'_>)"),
     ('#[rattlefmt::skip]\n', ''),
+    ('use std::hash::{BuildHasherDefault, FoldHasher};\n', ''),
+    (', BuildHasherDefault<FoldHasher>', ''),
     ('use std::env::FillError;\n', 'use crate::kit::host::FillError;\n'),
     ('use std::time::{Duration, Instant};', 'use crate::kit::host::Instant;\nuse std::time::Duration;'),
     ('std::env::args(', 'crate::kit::host::args('),
@@ -49,7 +51,7 @@ NAMES = [
 ]
 
 # Crates of the kit whose names stand for modules of the shim.
-SHIMS = re.compile(r'(?<![\w:])(arrayvec|clap|jiff|jiff_core|jiff_fmt|rand_core|regex|ryu|ucd_category|uuid)::')
+SHIMS = re.compile(r'(?<![\w:])(arrayvec|clap|indexmap|jiff|jiff_core|jiff_fmt|rand_core|regex|ryu|ucd_category|uuid)::')
 
 # Single places: file, how often, text, its substitute.
 PLACES = [
@@ -80,6 +82,8 @@ PLACES = [
     ('pgp_tests_callers/trace_words', 1, f'"pgtrace {VERSION}\\n"', f'"pgtrace {UNPROVED}\\n"'),
     # The shim's trait has one call.
     ('pgp_test_alloc/counting', 1, '    fn next_u32(&mut self) -> u32 {\n        self.next_word()\n    }\n\n    fn next_u64(&mut self) -> u64 {\n        utils::next_u64_via_u32(self)\n    }\n\n', ''),
+    # Memory is the global one's.
+    ('pgp_names/names', 1, '    /// What its memory is taken from.\n    pub fn allocator(&self) -> &A {\n        self.map.allocator()\n    }\n\n', ''),
     # The adapter compiles these for single tags.
     ('pgp_message/message', 1, '    pub fn parse(', '    #[inline(always)]\n    pub fn parse('),
     ('pgp_message/parser', 1, '    pub fn parse(', '    #[inline(always)]\n    pub fn parse('),
@@ -94,7 +98,7 @@ SLICED = {'pgp_rows/client_read', 'pgp_rows/server'}
 
 def without_drop_bounds(text):
     """In Rattle `Drop` as a bound says that a value may be dropped; in Rust each may."""
-    text = re.sub(r'^ *\w+::\w+: Drop,\n', '', text.replace(' + Drop', ''), flags=re.M)
+    text = re.sub(r'^ *\w+::\w+: Drop,\n|(?<=where\n) *\w+: Drop,\n', '', text.replace(' + Drop', ''), flags=re.M)
     return re.sub(r'^ *where\n(?= *\{)', '', re.sub(r'\b([A-Z]\w*): Drop\b', r'\1', text), flags=re.M)
 
 
@@ -109,10 +113,10 @@ def global_allocator(text):
     text = text.replace('<Global>', '').replace('<Global, ', '<').replace(', Global>', '>')
     text = re.sub(r': A\b(?=[,)])', ': Global', re.sub(r'\bA::', 'Global::', text))
     text = re.sub(r'\*[\w.]+\.allocator\(\)', 'Global', text)
-    text = re.sub(r'\b(String|Vec|VecDeque|BytesMut)::new\((?:Global|[a-z.]*\balloc(?:\(\))?|memory)\)', r'\1::new()', text)
+    text = re.sub(r'\b(IndexMap|String|Vec|VecDeque|BytesMut)::new\((?:Global|[a-z.]*\balloc(?:\(\))?|memory)\)', r'\1::new()', text)
     text = re.sub(r'^use std::alloc::[^;]*;\n', '', text, flags=re.M)
-    text = re.sub(r'^(use (?:crate|pgp_base)::\{?[^;]*?)\b(?:Memory, |, Memory\b)', r'\1', text, flags=re.M)
-    text = re.sub(r'^use (?:pgp_base|crate::memory)::Memory;\n', '', text, flags=re.M)
+    text = re.sub(r'^(use (?:crate|pgp_base|pgp_names)::\{?[^;]*?)\b(?:(?:Map)?Memory, |, (?:Map)?Memory\b)', r'\1', text, flags=re.M)
+    text = re.sub(r'^use (?:pgp_base|pgp_names|crate::memory)::(?:Map)?Memory;\n', '', text, flags=re.M)
     return re.sub(r'^(use [\w:]+::)\{(\w+)\};', r'\1\2;', text, flags=re.M)
 
 

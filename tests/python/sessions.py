@@ -132,7 +132,7 @@ def check_mutations(same, raises):
 
 
 def play(listening, answers, seen):
-    """A server that answers each Sync, Query or Terminate with the next of these bytes."""
+    """A server that answers each Sync, Query, CopyDone, CopyFail or Terminate with the next of these bytes."""
     peer = listening.accept()[0]
     file = peer.makefile('rb')
     file.read(int.from_bytes(file.read(4), 'big') - 4)
@@ -140,11 +140,12 @@ def play(listening, answers, seen):
     for answer in answers:
         while True:
             tag = file.read(1)
-            payload = file.read(int.from_bytes(file.read(4), 'big') - 4)
+            payload = file.read(int.from_bytes(file.read(4), 'big') - 4) if tag else b''
             seen.append((tag, payload))
-            if tag in (b'S', b'Q', b'X', b''):
+            if tag in (b'S', b'Q', b'X', b'c', b'f', b''):
                 break
-        peer.sendall(answer)
+        if tag:
+            peer.sendall(answer)
     peer.close()
 
 
@@ -183,7 +184,7 @@ def check_client(same, raises):
 
 def check_asyncio(same, raises):
     async def run(port):
-        async with await aio.connect('127.0.0.1', port, 'alice') as connection:
+        async with await aio.connect('127.0.0.1', port, 'alice', sslmode='disable') as connection:
             result = await connection.execute('SELECT id, name FROM t WHERE id = $1', (5,))
         return result.rows, result.tag
     answered = frame(b'2', b'') + ROW + frame(b'C', b'SELECT 1\0') + READY

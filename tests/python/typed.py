@@ -66,10 +66,15 @@ VALUES += (
      '0000000400000017' '00000004ffffffff'),
 )
 #: A type's number, a value that it doesn't take, and the exception.
-WRONG = ((23, 'x', TypeError), (23, 2 ** 31, OverflowError), (16, 1, TypeError), (25, 5, TypeError), (1184, datetime.datetime(2000, 1, 1), TypeError),
+WRONG = ((23, 'x', TypeError), (23, 2 ** 31, OverflowError), (16, 1, TypeError), (25, b'x', TypeError), (25, [1], TypeError), (1184, datetime.datetime(2000, 1, 1), TypeError),
          (1266, datetime.time(1, 0), TypeError), (1007, [[1], [2, 3]], ValueError), (1700, 'abc', pg.ProtocolError), (1700, '1e200000', pg.ProtocolError),
          (3614, [pg.Lexeme('a', (pg.Position(16384),))], OverflowError), (3614, [pg.Lexeme('a\0')], pg.ProtocolError), (3615, [pg.Operator('-')], ValueError),
          (790, 2 ** 63, OverflowError), (5069, -1, OverflowError), (22, [1, None], TypeError), (22, [32768], OverflowError), (30, [-1], OverflowError))
+
+
+#: Values of other types as texts, which the server reads as the same values.
+SHOWN = ((5, b'5'), (True, b'true'), (-0.5, b'-0.5'), (float('inf'), b'inf'), (Decimal('1.50'), b'1.50'), (datetime.date(2026, 1, 2), b'2026-01-02'),
+         (datetime.datetime(2026, 1, 2, 3, 4, tzinfo=datetime.timezone.utc), b'2026-01-02 03:04:00+00:00'), (ipaddress.ip_interface('10.0.0.1/8'), b'10.0.0.1/8'))
 
 
 def check_typed(same, raises):
@@ -80,6 +85,8 @@ def check_typed(same, raises):
         same('encode %s %r' % (kept.name, value), kept.encode(value).hex(), data)
         read = apply(kept.decode, bytes.fromhex(data))
         same('decode %s %r' % (kept.name, value), (str(read), type(read)), (str(value), type(value)))
+    for value, text in SHOWN:
+        same('%r as a text' % (value,), registry.get(25).encode(value), text)
     record = '00000003' '00000017' '00000004' '00000001' '000002c1' '00000001' '78' '000002c1' 'ffffffff'  # (1,x,)
     same('a record', apply(registry.get(2249).decode, bytes.fromhex(record)), (1, b'x', None))
     snapshot = '00000003' '000000000000000a' '0000000000000014' '000000000000000a' '000000000000000e' '000000000000000f'  # 10:20:10,14,15

@@ -8,216 +8,53 @@
 
 Parameters stand as `$1`, `$2`, .. in a statement. A transaction begins with the first statement unless `autocommit` is set.
 """
-import os
-import select
-import socket
+import contextlib
 import ssl as tls
+import threading
 from types import TracebackType
-from typing import Any, Iterable, Iterator, List, Optional, Sequence, Tuple, Type
+from typing import Any, Iterable, Iterator, List, Optional, Sequence, Type, Union
 
-from . import cancel_request, errors, events
+from . import errors, events
 from ._library import ProtocolError
 from .binding import certificate_hash
-from .connection import METHODS, Connection as Core, DecodeError, LogInError
+from .connection import DecodeError
+from .cursor import Cursor
 from .dbtypes import (BINARY, DATETIME, NUMBER, ROWID, STRING, Binary, Date, DateFromTicks, Time, TimeFromTicks, Timestamp, TimestampFromTicks)
 from .errors import (DatabaseError, DataError, Error, IntegrityError, InterfaceError, InternalError, NotSupportedError, OperationalError, ProgrammingError,
-                     Warning)
-from .session import SEND, Flow, Result, Session, count_of
+                     Timeout, Warning)
+from .settings import Options, Place
 from .registry import Registry
+from .session import SEND, Flow, Result
+from .shared import END, GRACE, Behaviour, RowFactory, Shared, as_chunk, attempts, dict_row, is_over, namedtuple_row, translated
+from .wire import Wire, cancel
 
 __all__ = ['BINARY', 'Binary', 'Connection', 'Cursor', 'DATETIME', 'DataError', 'DatabaseError', 'Date', 'DateFromTicks', 'Error', 'IntegrityError',
-           'InterfaceError', 'InternalError', 'NUMBER', 'NotSupportedError', 'OperationalError', 'ProgrammingError', 'ROWID', 'STRING', 'Time', 'TimeFromTicks',
-           'Timestamp', 'TimestampFromTicks', 'Warning', 'apilevel', 'connect', 'paramstyle', 'threadsafety']
+           'InterfaceError', 'InternalError', 'NUMBER', 'NotSupportedError', 'OperationalError', 'ProgrammingError', 'ROWID', 'Result', 'STRING', 'Time',
+           'TimeFromTicks', 'Timeout', 'Timestamp', 'TimestampFromTicks', 'Warning', 'apilevel', 'connect', 'dict_row', 'namedtuple_row', 'paramstyle',
+           'threadsafety']
 
 apilevel, threadsafety = '2.0', 1
 #: `$1`, `$2`, ..: PEP 249 has no name for the server's own style.
 paramstyle = 'numeric_dollar'
-_PIECE = 262144
 
 
-class _Socket:
-    """A socket that goes on reading while it sends, so that neither side waits for the other for ever."""
+class Connection(Shared):
+    """A connection to a server. `connect` opens one. One call runs at a time: another thread's raises InterfaceError."""
 
-    def __init__(self, sock: socket.socket, core: Core) -> None:
-        self._sock, self._core = sock, core
-        sock.setblocking(False)
-
-    def wrap(self, context: tls.SSLContext, host: str) -> None:
-        """Encrypts the channel."""
-        self._sock.setblocking(True)
-        try:
-            self._sock = context.wrap_socket(self._sock, server_hostname=host)
-        except OSError as error:
-            raise OperationalError('no encryption: %s' % error) from error
-        self._sock.setblocking(False)
-
-    def certificate(self) -> Optional[bytes]:
-        """The server's certificate, where there is one."""
-        return self._sock.getpeercert(True) if isinstance(self._sock, tls.SSLSocket) else None
-
-    def read(self, timeout: Optional[float] = None) -> bool:
-        """Waits for bytes; False where none came in this time."""
-        while True:
-            try:
-                data = self._sock.recv(_PIECE)
-            except (BlockingIOError, tls.SSLWantReadError):
-                if not select.select([self._sock], [], [], timeout)[0]:
-                    return False
-                continue
-            except OSError as error:
-                raise OperationalError('the connection broke: %s' % error) from error
-            if not data:
-                raise OperationalError('the server closed the connection')
-            self._core.receive_data(data)
-            return True
-
-    def send(self, data: bytes) -> None:
-        """Sends all of the bytes."""
-        rest = memoryview(data)
-        while rest:
-            try:
-                rest = rest[self._sock.send(rest):]
-            except (BlockingIOError, tls.SSLWantWriteError, tls.SSLWantReadError):
-                if select.select([self._sock], [self._sock], [])[0]:
-                    self.read(0)
-            except OSError as error:
-                raise OperationalError('the connection broke: %s' % error) from error
-
-    def close(self) -> None:
-        """Closes the socket."""
-        self._sock.close()
-
-
-class Cursor:
-    """A cursor: `execute` runs a statement, `fetchone`, `fetchmany`, `fetchall` or iteration give its rows."""
-
-    def __init__(self, connection: 'Connection') -> None:
-        self.connection, self.arraysize = connection, 1
-        self._result: Optional[Result] = None
-        self._at = 0
-        self._is_closed = False
-
-    def __enter__(self) -> 'Cursor':
-        return self
-
-    def __exit__(self, *what: object) -> None:
-        self.close()
-
-    def __iter__(self) -> Iterator[Tuple[Any, ...]]:
-        return iter(self.fetchone, None)
-
-    @property
-    def description(self) -> Optional[List[Tuple[str, int, None, Optional[int], None, None, None]]]:
-        """The columns: a name, a type's number and a size each; None where the statement has no rows."""
-        if self._result is None or not self._result.fields:
-            return None
-        return [(f.name, f.type_oid, None, f.type_size if f.type_size > 0 else None, None, None, None) for f in self._result.fields]
-
-    @property
-    def rowcount(self) -> int:
-        """How many rows the statement gave or changed; -1 where that isn't known."""
-        return -1 if self._result is None else count_of(self._result.tag)
-
-    @property
-    def statusmessage(self) -> Optional[str]:
-        """The server's tag, as `INSERT 0 5`."""
-        return None if self._result is None else self._result.tag
-
-    def _keep(self, result: Optional[Result]) -> None:
-        self._result, self._at = result, 0
-
-    def _check(self) -> None:
-        if self._is_closed:
-            raise InterfaceError('the cursor is closed')
-
-    def execute(self, sql: str, parameters: Sequence[Any] = ()) -> 'Cursor':
-        """Runs a statement with these values for `$1`, `$2`, .."""
-        self._check()
-        self._keep(None)
-        self._keep(self.connection._run(self.connection._session.execute(sql, parameters)))
-        return self
-
-    def executemany(self, sql: str, rows: Iterable[Sequence[Any]]) -> 'Cursor':
-        """Runs a statement for each list of values, without waiting between them."""
-        self._check()
-        self._keep(None)
-        results: List[Result] = self.connection._run(self.connection._session.execute_many(sql, rows))
-        total = sum(max(count_of(r.tag), 0) for r in results)
-        self._keep(Result([], [row for r in results for row in r.rows], 'TOTAL %d' % total))
-        return self
-
-    def copy_in(self, sql: str, chunks: Iterable[bytes]) -> 'Cursor':
-        """Sends data to a `COPY .. FROM STDIN`."""
-        self._check()
-        self._keep(self.connection._run(self.connection._session.copy_in(sql, chunks)))
-        return self
-
-    def copy_out(self, sql: str) -> List[bytes]:
-        """The data of a `COPY .. TO STDOUT`, a row each."""
-        self._check()
-        data: List[bytes] = self.connection._run(self.connection._session.copy_out(sql))
-        return data
-
-    def _rows(self) -> List[Tuple[Any, ...]]:
-        self._check()
-        if self._result is None:
-            raise InterfaceError('no statement was executed')
-        return self._result.rows
-
-    def fetchone(self) -> Optional[Tuple[Any, ...]]:
-        """The next row, or None."""
-        rows = self._rows()
-        self._at += 1
-        return rows[self._at - 1] if self._at <= len(rows) else None
-
-    def fetchmany(self, size: Optional[int] = None) -> List[Tuple[Any, ...]]:
-        """The next rows, `arraysize` of them unless another number is given."""
-        rows, count = self._rows(), self.arraysize if size is None else size
-        self._at += count
-        return rows[self._at - count:self._at]
-
-    def fetchall(self) -> List[Tuple[Any, ...]]:
-        """The rows that are left."""
-        rows, at = self._rows(), self._at
-        self._at = max(len(rows), at)
-        return rows[at:]
-
-    def close(self) -> None:
-        """Ends the cursor."""
-        self._is_closed = True
-
-    def setinputsizes(self, sizes: object) -> None:
-        """Does nothing: the server knows the parameters' types."""
-
-    def setoutputsize(self, size: object, column: object = None) -> None:
-        """Does nothing: no value is cut."""
-
-
-class Connection:
-    """A connection to a server. `connect` opens one."""
-
-    Error, DatabaseError, OperationalError, ProgrammingError = Error, DatabaseError, OperationalError, ProgrammingError
+    Warning, Error, DatabaseError, OperationalError, ProgrammingError = Warning, Error, DatabaseError, OperationalError, ProgrammingError
     DataError, IntegrityError, InternalError, InterfaceError, NotSupportedError = DataError, IntegrityError, InternalError, InterfaceError, NotSupportedError
 
-    def __init__(self, host: str, port: int, core: Core, autocommit: bool, context: Optional[tls.SSLContext], must_encrypt: bool, timeout: Optional[float],
-                 registry: Optional[Registry]) -> None:
-        self._place = (host, port)
-        self.autocommit = autocommit
-        #: The notifications and notices that came, in their order.
-        self.notifications: List[events.Notification] = []
-        self.notices: List[events.Notice] = []
-        self._core, self._session, self._is_closed = core, Session(core, registry), False
-        self._socket = _Socket(_open(host, port, timeout), core)
+    def __init__(self, options: Options, place: Place, encrypts: bool, behaviour: Behaviour) -> None:
+        super().__init__(options.core(place, encrypts), behaviour)
+        self._options, self._lock, self._is_outside = options, threading.Lock(), False
+        self._wire = Wire(place, self._core, options.connect_timeout)
         try:
-            if context is not None:
-                self._encrypt(context, host, must_encrypt)
-            self._run(self._session.log_in(), begins=False)
-        except (ProtocolError, LogInError) as error:
+            if encrypts:
+                self._encrypt()
+            self._drive(self._session.log_in())
+        except BaseException as error:
             self._end()
-            raise OperationalError(str(error)) from error
-        except BaseException:
-            self._end()
-            raise
+            raise translated(error) from error
 
     def __enter__(self) -> 'Connection':
         return self
@@ -226,161 +63,193 @@ class Connection:
         """Commits, or rolls back where an exception is raised. The connection stays open."""
         if kind is None:
             self.commit()
-        else:
+        elif not self._is_closed:
             self.rollback()
 
-    def _encrypt(self, context: tls.SSLContext, host: str, must: bool) -> None:
-        self._socket.send(self._core.data_to_send())
+    def _encrypt(self) -> None:
         answer = self._event()
         if isinstance(answer, events.Encryption) and answer.accepted:
-            self._socket.wrap(context, host)
-            self._core.encrypted(certificate_hash(self._socket.certificate()))
-        elif must:
+            self._wire.encrypt(self._options.context())
+            self._core.encrypted(certificate_hash(self._wire.certificate()))
+        elif self._options.must_encrypt:
             raise OperationalError('the server does not encrypt')
         else:
             self._core.not_encrypted()
 
     def _event(self) -> events.Event:
-        """The next event that answers a request; others are kept."""
+        """Sends what is to be sent, and waits for the next event that answers a request."""
         while True:
-            event = self._core.next_event()
-            if event is None:
-                self._socket.send(self._core.data_to_send())
-                self._socket.read()
-            elif isinstance(event, events.Notification):
-                self.notifications.append(event)
-            elif isinstance(event, events.Notice):
-                self.notices.append(event)
-            elif not isinstance(event, events.Setting):
+            event = self._answer()
+            if event is not None:
                 return event
+            self._wire.send(self._core.data_to_send())
+            self._wire.read()
 
-    def _run(self, flow: Flow, begins: bool = True) -> Any:
+    def _drive(self, flow: Flow, chunks: Iterable[bytes] = ()) -> Any:
         """Runs a generator of the session to its end."""
-        if self._is_closed:
-            raise InterfaceError('the connection is closed')
-        if begins and not self.autocommit and self._core.status == 'I':
-            self._session.begin_first('BEGIN')
+        source = iter(chunks)
         try:
             wanted = next(flow)
             while True:
-                self._socket.send(self._core.data_to_send())
-                wanted = next(flow) if wanted == SEND else flow.send(self._event())
+                if wanted is None:
+                    wanted = flow.send(self._event())
+                elif wanted is SEND:
+                    self._wire.send(self._core.data_to_send())
+                    wanted = next(flow)
+                else:
+                    self._is_outside = True
+                    chunk = as_chunk(next(source, END))
+                    self._is_outside = False
+                    wanted = flow.send(chunk)
         except StopIteration as done:
             return done.value
-        except DecodeError as error:
-            raise DataError(str(error)) from error
-        except (ProtocolError, LogInError) as error:
+
+    def _claim(self, timeout: Optional[float]) -> None:
+        self._check_open()
+        if not self._lock.acquire(False):
+            raise InterfaceError('another call is under way on this connection')
+        self._wire.set_limit(self.timeout if timeout is None else timeout)
+        self._is_outside = False
+
+    def _run(self, flow: Flow, timeout: Optional[float] = None, chunks: Iterable[bytes] = ()) -> Any:
+        """Runs a call, which is cancelled at the server where it is broken off or takes longer than its limit."""
+        self._claim(timeout)
+        try:
+            return self._drive(flow, chunks)
+        except BaseException as error:
+            self._clear_up(flow, error)
+            raise self._last_words(error) from error.__cause__
+        finally:
+            self._lock.release()
+
+    def _iterate(self, flow: Flow) -> Iterator[bytes]:
+        """The same of a call that gives data as they come."""
+        self._claim(None)
+        try:
+            wanted = next(flow)
+            while True:
+                if isinstance(wanted, bytes):
+                    self._is_outside = True
+                    yield wanted
+                    self._is_outside = False
+                wanted = flow.send(self._event() if wanted is None else None)
+        except StopIteration:
+            pass
+        except BaseException as error:
+            self._clear_up(flow, error, isinstance(error, GeneratorExit))
+            raise self._last_words(error) from error.__cause__
+        finally:
+            self._lock.release()
+
+    def _clear_up(self, flow: Flow, error: BaseException, cancels: bool = False) -> None:
+        """Brings the connection to where the next call may begin, or closes it: where it is gone, or was broken off while bytes were under way."""
+        flow.close()
+        cancels = cancels or self._wire.is_waiting
+        if self._is_closed:
+            return
+        if is_over(error) or not (cancels or self._is_outside or isinstance(error, (Error, DecodeError))):
             self._end()
-            raise OperationalError('the server sent what it may not: %s' % error) from error
+        elif not self._core.is_idle or self._core.needs_sync or self._wire.is_waiting:
+            try:
+                if cancels:
+                    self.cancel()
+                self._wire.set_limit(GRACE if cancels else self.timeout)
+                self._drive(self._session.settle())
+            except BaseException as other:
+                self._end()
+                if not isinstance(other, (Error, ProtocolError)):
+                    raise
 
     def _end(self) -> None:
         self._is_closed = True
-        self._socket.close()
+        self._wire.close()
 
-    @property
-    def closed(self) -> bool:
-        """Whether the connection is closed."""
-        return self._is_closed
+    def cursor(self, name: Optional[str] = None, itersize: int = 1000) -> Cursor:
+        """A cursor. With a name the server keeps the rows of a statement, which come `itersize` at a time, within a transaction."""
+        self._check_open()
+        return Cursor(self, name, itersize)
 
-    @property
-    def in_transaction(self) -> bool:
-        """Whether a transaction is open."""
-        return self._core.status in ('T', 'E')
-
-    def setting(self, name: str) -> Optional[str]:
-        """The value of a setting that the server reports, as `server_version`."""
-        return self._core.settings.get(name)
-
-    def cursor(self) -> Cursor:
-        """A cursor."""
-        return Cursor(self)
-
-    def execute(self, sql: str, parameters: Sequence[Any] = ()) -> Cursor:
+    def execute(self, sql: str, parameters: Sequence[Any] = (), timeout: Optional[float] = None) -> Cursor:
         """Runs a statement on a new cursor."""
-        return self.cursor().execute(sql, parameters)
+        return self.cursor().execute(sql, parameters, timeout)
 
-    def script(self, sql: str) -> List[Result]:
+    def script(self, sql: str, timeout: Optional[float] = None) -> List[Result]:
         """Runs any number of statements as one simple query; their values are texts."""
-        results: List[Result] = self._run(self._session.script(sql))
+        results: List[Result] = self._run(self._session.script(sql), timeout)
         return results
 
     def commit(self) -> None:
-        """Commits the transaction, if one is open."""
-        self._finish('COMMIT')
+        """Commits the transaction, if one is open. Where it had failed it is rolled back, and InternalError says so."""
+        self._run(self._session.finish('COMMIT'))
 
     def rollback(self) -> None:
         """Rolls the transaction back, if one is open."""
-        self._finish('ROLLBACK')
+        self._run(self._session.finish('ROLLBACK'))
 
-    def _finish(self, sql: str) -> None:
-        if self._is_closed:
-            raise InterfaceError('the connection is closed')
-        if self.in_transaction:
-            self._run(self._session.script(sql), begins=False)
+    @contextlib.contextmanager
+    def transaction(self) -> Iterator['Connection']:
+        """A transaction, or a savepoint within one: `with connection.transaction(): ..`. It is taken back where an exception is raised."""
+        begin, end, back = self._block()
+        self._run(self._session.plain(begin))
+        try:
+            yield self
+        except BaseException:
+            if not self._is_closed:
+                self._run(self._session.plain(back))
+            raise
+        self._run(self._session.finish(end) if end == 'COMMIT' else self._session.plain(end))
 
     def wait(self, timeout: Optional[float] = None) -> List[events.Notification]:
         """Waits for notifications, and returns those that came."""
-        if not self.notifications:
-            event = self._core.next_event()
-            while event is not None or self._socket.read(timeout):
-                if isinstance(event, events.Notification):
-                    self.notifications.append(event)
-                    break
+        self._claim(None)
+        self._wire.set_limit(None)
+        try:
+            while not self.notifications:
+                event = self._answer()
                 if isinstance(event, events.Failed):
                     raise errors.of_fields(event.fields)
-                event = self._core.next_event()
+                if event is None and not self.notifications and not self._wire.read(timeout):
+                    break
+        except BaseException as error:
+            if not self._wire.is_waiting:
+                self._end()
+            raise translated(error) from error
+        finally:
+            self._lock.release()
         found, self.notifications = self.notifications, []
         return found
 
     def cancel(self) -> None:
-        """Cancels the query that runs on this connection, from another thread."""
-        with _open(*self._place, 10) as sock:
-            sock.sendall(cancel_request(self._core.process_id, self._core.secret_key))
-            sock.recv(1)
+        """Cancels the call that runs on this connection, from another thread. It is encrypted where the connection is."""
+        cancel(self._wire.place, self._core, self._options.context() if self._wire.is_encrypted else None)
 
     def close(self) -> None:
-        """Ends the session."""
+        """Ends the session. What isn't committed is rolled back."""
         if not self._is_closed:
             try:
+                self._wire.set_limit(GRACE)
                 self._core.terminate()
-                self._socket.send(self._core.data_to_send())
+                self._wire.send(self._core.data_to_send())
             except (Error, ProtocolError):
                 pass
             self._end()
 
 
-def _open(host: str, port: int, timeout: Optional[float]) -> socket.socket:
-    """A socket to a host, or to the Unix socket in a folder."""
-    try:
-        if host.startswith('/'):
-            sock = socket.socket(socket.AF_UNIX)
-            sock.settimeout(timeout)
-            sock.connect('%s/.s.PGSQL.%d' % (host, port))
-            return sock
-        sock = socket.create_connection((host, port), timeout)
-        sock.setsockopt(socket.IPPROTO_TCP, socket.TCP_NODELAY, 1)
-        return sock
-    except OSError as error:
-        raise OperationalError('no connection to %s, port %d: %s' % (host, port, error)) from error
-
-
-def connect(host: str = 'localhost', port: int = 5432, user: Optional[str] = None, password: Optional[str] = None, dbname: Optional[str] = None, *,
-            autocommit: bool = False, ssl: Optional[tls.SSLContext] = None, sslmode: str = 'prefer', require_auth: Sequence[str] = METHODS,
-            connect_timeout: Optional[float] = None, registry: Optional[Registry] = None, **parameters: str) -> Connection:
-    """Opens a connection. A host that begins with `/` is the folder of a Unix socket. `sslmode` is `disable`, `prefer` or `require`; the context
-    `ssl` says which certificates count, and requires encryption. `require_auth` names the admitted ways of logging in. Other names are settings
-    of the session, as `application_name`."""
-    if sslmode not in ('disable', 'prefer', 'require'):
-        raise InterfaceError("sslmode: 'disable', 'prefer' or 'require' is expected, not %r" % sslmode)
-    encrypts = ssl is not None or (sslmode != 'disable' and not host.startswith('/'))
-    context = (ssl or _any_certificate()) if encrypts else None
-    name = user or os.environ.get('PGUSER') or os.environ.get('USER') or 'postgres'
-    core = Core(name, password if password is not None else os.environ.get('PGPASSWORD'), dbname, parameters, require_auth, encrypt=encrypts)
-    return Connection(host, port, core, autocommit, context, ssl is not None or sslmode == 'require', connect_timeout, registry)
-
-
-def _any_certificate() -> tls.SSLContext:
-    """Encryption without a check of who the server is, as libpq has it for `prefer` and `require`."""
-    context = tls.create_default_context()
-    context.check_hostname, context.verify_mode = False, tls.CERT_NONE
-    return context
+def connect(host: Optional[str] = None, port: Union[int, str, None] = None, user: Optional[str] = None, password: Optional[str] = None, dbname: Optional[str] = None, *,
+            autocommit: bool = False, ssl: Optional[tls.SSLContext] = None, sslmode: Optional[str] = None, require_auth: Union[str, Sequence[str], None] = None,
+            connect_timeout: Optional[float] = None, timeout: Optional[float] = None, prepare: int = 256, row_factory: Optional[RowFactory] = None,
+            registry: Optional[Registry] = None, **parameters: str) -> Connection:
+    """Opens a connection. `host` may be a connection string, `host=.. user=..`, or a URL, `postgresql://..`; what isn't given is taken from the service
+    file, the environment and the password file, as libpq has them. A host that begins with `/` is the folder of a Unix socket. `sslmode` is one of libpq's; the context `ssl`
+    says which certificates count, and requires encryption. `require_auth` names the admitted ways of logging in. `connect_timeout` is the limit of time of the
+    log-in, `timeout` that of each call, in seconds. `prepare` is how many prepared statements are kept, 0 for a pooler. Other names are settings of the session, as `application_name`."""
+    given = {'host': host, 'port': port, 'user': user, 'password': password, 'dbname': dbname, 'sslmode': sslmode, 'require_auth': require_auth,
+             'connect_timeout': connect_timeout, **parameters}
+    options = Options(given, ssl)
+    tries = attempts(options)
+    attempt = next(tries)
+    while True:
+        try:
+            return Connection(options, *attempt, Behaviour(autocommit, timeout, prepare, row_factory, registry))
+        except OperationalError as error:
+            attempt = tries.send(error)

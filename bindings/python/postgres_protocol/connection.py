@@ -9,15 +9,16 @@ Each request returns a number, and each event says the number of the request tha
 """
 from typing import Any, Callable, Dict, List, Mapping, Optional, Sequence, Tuple
 
-from . import events
-from ._library import ProtocolError
-from ._rows import rows
+from . import _rows, events
+from ._library import NO_ROOM, OK, ProtocolError
 from .auth import Scram, md5_answer, saslprep
-from .dialogue import Dialogue, Taken
-from .reading import Message, error_fields, fields, formats, mechanisms, messages, types
+from .dialogue import Dialogue
+from .reading import Message, error_fields, fields, formats, mechanisms, types
 from .stream import Stream
 from .registry import DECODERS, Decoder
 
+#: The requests that a Sync has to follow.
+_SERIES = frozenset(('Parse', 'Bind', 'Execute', 'DescribeStatement', 'DescribePortal', 'Close'))
 _ASIDE = ('NoticeResponse', 'NotificationResponse', 'ParameterStatus')
 #: The ways of logging in, by the names of libpq's `require_auth`.
 METHODS = ('scram-sha-256', 'md5', 'password', 'none')
@@ -54,11 +55,16 @@ class Connection:
         self._data, self._at, self._size = b'', 0, 0
         self._more: List[bytes] = []
         self._decoders: Dict[int, Tuple[Decoder, ...]] = {}
+        #: What was taken and isn't reported yet, the last of it first; and the status that ended it.
+        self._taken: List[Tuple[Optional[int], bool, Any]] = []
+        self._fault = OK
         self._last, self._encrypting, self._tls = 0, encrypt, False
         self._certificate: Optional[bytes] = None
         self._scram: Optional[Scram] = None
         self._proved: Optional[str] = None
         self._is_open = self._is_over = False
+        #: Whether a series of extended queries waits for its Sync; whether values of rows are passed over.
+        self.needs_sync = self.skips_values = False
         #: `I`, `T` or `E`, as the last Ready said; the settings that the server reported; the number and the key for a cancel request.
         self.status, self.process_id, self.secret_key = '', 0, b''
         self.settings: Dict[str, str] = {}
@@ -97,6 +103,7 @@ class Connection:
         send(*arguments)
         number = self._number()
         self._dialogue.ask(request, number)
+        self.needs_sync = request in _SERIES
         return number
 
     def query(self, sql: str) -> int:
@@ -122,6 +129,31 @@ class Connection:
         if decoders is not None:
             self._decoders[number] = decoders
         return number
+
+    def run(self, portal: bytes, statement: bytes, formats: bytes, values: List[Optional[bytes]], result_formats: bytes, max_rows: int, decoders: Tuple[Decoder, ...],
+            syncs: bool) -> int:
+        """`bind`, `execute` and perhaps `sync` in one call; the number is that of the Execute. The formats are arrays of 16 bits each."""
+        if not self._is_open:
+            raise ProtocolError(32)
+        while True:
+            status = _rows.ask(self._stream.address, self._dialogue.address, portal, statement, formats, values, result_formats, max_rows, self._last + 1, syncs)
+            if status == OK:
+                break
+            if status not in (NO_ROOM, -1):
+                raise ProtocolError(status)
+            if status == NO_ROOM:
+                self._stream.widen()
+            else:
+                self._dialogue.widen()
+        number = self._last + 2
+        self._last, self.needs_sync = number + syncs, not syncs
+        self._decoders[number] = decoders
+        return number
+
+    @property
+    def last_number(self) -> int:
+        """The number of the last request."""
+        return self._last
 
     def close(self, variant: str, name: str) -> int:
         """Closes a statement ('S') or a portal ('P')."""
@@ -162,7 +194,7 @@ class Connection:
     @property
     def is_idle(self) -> bool:
         """Whether no request awaits an answer."""
-        return self._dialogue.is_idle
+        return self._dialogue.is_idle and all(request is None for request, _, _ in self._taken)
 
     def receive_data(self, data: bytes) -> None:
         """Takes bytes that came."""
@@ -190,54 +222,49 @@ class Connection:
 
         Raises ProtocolError for bytes that no server sends there, and LogInError: the connection is to be closed then."""
         while True:
-            self._gather()
+            if not self._taken and not self._take_more():
+                return None
             if self._encrypting:
                 return self._encryption()
-            message = next(messages(self._data, self._at), None)
-            if message is None:
-                self._needed()
-                return None
-            event = self._event(message)
+            event = self._event(*self._taken.pop())
             if event is not None:
                 return event
 
-    def _encryption(self) -> Optional[events.Event]:
+    def _take_more(self) -> bool:
+        """Takes the messages that are there; False where there is none."""
+        self._gather()
+        if self._encrypting:
+            return bool(self._data)
+        if self._fault == OK:
+            taken, self._at, self._fault = _rows.take(self._dialogue.address, self._data, self._at, {} if self.skips_values else self._decoders)
+            self._taken = taken[::-1]
+        if not self._taken:
+            if self._fault != OK:
+                raise ProtocolError(self._fault, self._at)
+            self._needed()
+        return bool(self._taken)
+
+    def _encryption(self) -> events.Event:
         """The one byte that answers the request for encryption. Bytes after an `S` were sent before the channel was encrypted: they are rejected."""
-        if not self._data:
-            return None
         answer, rest = self._data[:1], self._data[1:]
         if answer not in (b'S', b'N') or (answer == b'S' and rest):
             raise LogInError('the server answered the request for encryption with %r' % self._data[:20])
         self._encrypting, self._data = False, rest
         return events.Encryption(None, answer == b'S')
 
-    def _event(self, message: Message) -> Optional[events.Event]:
-        """The event of the message at the front, and of the rows after it."""
-        taken = self._dialogue.take(message.kind)
-        self._at = message.at + len(message.frame)
+    def _event(self, request: Optional[int], is_last: bool, what: Any) -> Optional[events.Event]:
+        """The event of a message, or of rows."""
+        if isinstance(what, list):
+            return events.Rows(request, what)
+        if isinstance(what, Exception):
+            if self.skips_values:
+                return None
+            raise DecodeError('a value in the rows of request %s: %s' % (request, what)) from what
+        message: Message = what
         if not self._is_open and message.kind.startswith('Authentication'):
             self._authenticate(message)
             return None
-        if message.kind == 'DataRow':
-            return self._rows(message, taken)
-        if message.kind in _ASIDE:
-            return self._aside(message)
-        return self._answer(message, taken)
-
-    def _rows(self, message: Message, taken: Taken) -> events.Event:
-        decoders = self._decoders.get(taken.request or 0) or (DECODERS['bytes'],) * message.count
-        if len(decoders) != message.count:
-            raise ProtocolError(11)
-        try:
-            found, self._at = rows(self._data, decoders, message.at)
-        except ProtocolError:
-            raise
-        except Exception as error:
-            _, self._at = rows(self._data, (DECODERS['bytes'],) * message.count, message.at)
-            raise DecodeError('a value in the rows of request %s: %s' % (taken.request, error)) from error
-        if len(found) > 1:
-            self._dialogue.take('DataRow')
-        return events.Rows(taken.request, found)
+        return self._aside(message) if message.kind in _ASIDE else self._answer(message, request, is_last)
 
     def _aside(self, message: Message) -> events.Event:
         if message.kind == 'NoticeResponse':
@@ -248,9 +275,9 @@ class Connection:
         self.settings[first] = second
         return events.Setting(None, first, second)
 
-    def _answer(self, message: Message, taken: Taken) -> Optional[events.Event]:
-        kind, request = message.kind, taken.request
-        if taken.is_last and request is not None and kind != 'PortalSuspended':
+    def _answer(self, message: Message, request: Optional[int], is_last: bool) -> Optional[events.Event]:
+        kind = message.kind
+        if is_last and request is not None and kind != 'PortalSuspended':
             self._decoders.pop(request, None)
         if kind == 'ReadyForQuery':
             return self._ready(message, request)
@@ -259,7 +286,7 @@ class Connection:
             return events.Failed(request, _words(message))
         if kind == 'RowDescription':
             columns = fields(message)
-            if request is not None and not taken.is_last:
+            if request is not None and not is_last:
                 self._decoders[request] = (DECODERS['text'],) * len(columns)
             return events.Columns(request, columns)
         if kind == 'CommandComplete':
@@ -287,7 +314,7 @@ class Connection:
         if method not in self._require:
             raise LogInError('the server asks for %s, which require_auth does not admit' % method)
         if self._password is None:
-            raise LogInError('the server asks for a password, and none is given')
+            raise LogInError('the server asks for a password, and none is given (password=, PGPASSWORD, or a password file)')
         self._proved = method
         return self._password.encode()
 

@@ -54,12 +54,18 @@ class Dialogue:
         number = as_integer(name, 'name', 0, 2 ** 64 - 1)
         status = _ask(byref(self._dialogue), _ASKED[request], number)
         if status == NO_ROOM:
-            self._grow()
+            self.widen()
             status = _ask(byref(self._dialogue), _ASKED[request], number)
         if status != OK:
             raise ProtocolError(status)
 
-    def _grow(self) -> None:
+    @property
+    def address(self) -> int:
+        """The state's address, for a call in C."""
+        return ctypes.addressof(self._dialogue)
+
+    def widen(self) -> None:
+        """Makes more room."""
         wider = (_Slot * (4 * len(self._room)))()
         ctypes.memmove(wider, self._room, ctypes.sizeof(self._room))
         self._room, self._dialogue.room, self._dialogue.room_len = wider, wider, len(wider)

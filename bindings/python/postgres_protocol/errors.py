@@ -1,18 +1,49 @@
 """The exceptions of DB-API 2.0, chosen by an error's SQLSTATE."""
-from typing import Dict, Optional
+from typing import Any, Dict, NamedTuple, Optional
 
 
 class Warning(Exception):  # noqa: A001 (the name is DB-API's)
     """A warning; no call raises it."""
 
 
+class Diag(NamedTuple):
+    """The parts of a server's error, by name; None where the server says nothing of it."""
+    severity: Optional[str]
+    sqlstate: Optional[str]
+    message_primary: Optional[str]
+    message_detail: Optional[str]
+    message_hint: Optional[str]
+    statement_position: Optional[str]
+    internal_position: Optional[str]
+    internal_query: Optional[str]
+    context: Optional[str]
+    schema_name: Optional[str]
+    table_name: Optional[str]
+    column_name: Optional[str]
+    datatype_name: Optional[str]
+    constraint_name: Optional[str]
+    source_file: Optional[str]
+    source_line: Optional[str]
+    source_function: Optional[str]
+    severity_nonlocalized: Optional[str]
+
+
 class Error(Exception):
-    """What a call of a client raises. `sqlstate` and `fields` (by their letters) are those of the server's error, where it is one."""
+    """What a call of a client raises. `sqlstate` and `fields` (by their letters) are those of the server's error, where it is one; `diag` has the
+    fields by name."""
 
     def __init__(self, message: str, fields: Optional[Dict[str, str]] = None) -> None:
         self.fields: Dict[str, str] = fields or {}
         self.sqlstate: Optional[str] = self.fields.get('C')
         super().__init__(message)
+
+    @property
+    def diag(self) -> Diag:
+        """The parts of the server's error: `diag.constraint_name`, `diag.message_detail`, .."""
+        return Diag(*map(self.fields.get, 'SCMDHPpqWstcdnFLRV'))
+
+    def __reduce__(self) -> Any:
+        return type(self), (str(self), self.fields)
 
 
 class InterfaceError(Error):
@@ -29,6 +60,14 @@ class DataError(DatabaseError):
 
 class OperationalError(DatabaseError):
     """The connection or the server's operation failed (classes 08, 28, 40, 53 to 58)."""
+
+
+class Broken(OperationalError):
+    """There is no connection, or it broke."""
+
+
+class Timeout(OperationalError):
+    """A call took longer than its limit of time."""
 
 
 class IntegrityError(DatabaseError):
@@ -57,3 +96,13 @@ def of_fields(fields: Dict[str, str]) -> DatabaseError:
     """The exception of a server's error."""
     state = fields.get('C', '')
     return _CLASSES.get(state[:2], DatabaseError)('%s: %s' % (state, fields.get('M', '')), fields)
+
+
+def is_end(fields: Dict[str, str], request: Optional[int]) -> bool:
+    """Whether a server's error ends the session."""
+    return request is None or fields.get('V') in ('FATAL', 'PANIC')
+
+
+def is_stale(error: Error) -> bool:
+    """Whether a prepared statement is gone, or its columns changed."""
+    return error.sqlstate == '26000' or (error.sqlstate == '0A000' and error.fields.get('R') == 'RevalidateCachedQuery')

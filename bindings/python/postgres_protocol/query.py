@@ -1,9 +1,9 @@
 """python -m postgres_protocol.query "host=.. port=.. user=.. password=.. dbname=.." "SELECT .." [VALUE ..]: runs a statement, and prints its rows.
 
-The values take the places of $1, $2 and so on, as texts. `sslmode` may be disable, prefer or require.
+The first word is a connection string or a URL, as libpq has them. The values take the places of $1, $2 and so on, as texts.
 """
 import sys
-from typing import Any, Dict, List
+from typing import List
 
 from .client import Error, connect
 from .registry import Registry, Type
@@ -16,20 +16,13 @@ class _Texts(Registry):
         return super().get(-1)
 
 
-def words(text: str) -> Dict[str, str]:
-    """`name=value` words."""
-    return dict((a, b) for a, _, b in (word.partition('=') for word in text.split()))
-
-
 def main(arguments: List[str]) -> int:
     """The program."""
     if len(arguments) < 2:
         print(__doc__, file=sys.stderr)
         return 2
-    given: Dict[str, Any] = words(arguments[0])
-    given['port'] = int(given.get('port', '5432'))
     try:
-        connection = connect(autocommit=True, registry=_Texts(), **given)
+        connection = connect(arguments[0], autocommit=True, registry=_Texts())
         for row in connection.execute(arguments[1], arguments[2:]):
             print('\t'.join('NULL' if value is None else value for value in row))
         connection.close()

@@ -5,11 +5,14 @@ A `Registry` knows the server's own types; `Registry.add` takes further ones, as
 import json
 import uuid
 from datetime import date, datetime, time, timedelta, timezone
+from decimal import Decimal
+from functools import partial
 from ipaddress import IPv4Interface, IPv6Interface, ip_interface
 from typing import Any, Callable, Dict, List, NamedTuple, Optional, Sequence, Tuple, Union
 
 from . import _rows
 from ._library import ProtocolError
+from .reading import KINDS, Message
 from .search import get_tsquery, get_tsvector, put_tsquery, put_tsvector
 from .shapes import (get_box, get_circle, get_label, get_line, get_lseg, get_macaddr8, get_multirange, get_path, get_point, get_polygon, get_record, get_snapshot, get_tid,
                      put_box, put_circle, put_cidr, put_label, put_line, put_lseg, put_macaddr8, put_multirange, put_path, put_point, put_polygon, put_record, put_snapshot,
@@ -39,7 +42,11 @@ class _Infinity:
 INFINITY, NEGATIVE_INFINITY = _Infinity(1), _Infinity(-1)
 _EPOCH, _EPOCH_UTC, _EPOCH_DATE = datetime(2000, 1, 1), datetime(2000, 1, 1, tzinfo=timezone.utc), date(2000, 1, 1)
 _MICROSECOND, _DAY = timedelta(microseconds=1), timedelta(days=1)
-_rows.setup(ProtocolError, timedelta, _EPOCH, _EPOCH_UTC, _EPOCH_DATE, NEGATIVE_INFINITY, INFINITY)
+_rows.setup(ProtocolError, timedelta, _EPOCH, _EPOCH_UTC, _EPOCH_DATE, NEGATIVE_INFINITY, INFINITY, (*KINDS, 'CopyBothResponse', 'FunctionCallResponse'), Message)
+
+
+#: What a server reads as Python shows it.
+_SHOWN = (str, int, float, Decimal, uuid.UUID, date, time, IPv4Interface, IPv6Interface)
 
 
 class Type(NamedTuple):
@@ -150,9 +157,12 @@ def _put_bits(value: str) -> bytes:
 
 
 def _text(value: Any) -> bytes:
-    if not isinstance(value, str):
+    """A text. Of a parameter whose type the server doesn't know it takes `text`: so numbers, times and the like are sent as the server's texts of them."""
+    if isinstance(value, bool):
+        return b'true' if value else b'false'
+    if not isinstance(value, _SHOWN):
         raise TypeError('a str is expected, not %s' % type(value).__name__)
-    return value.encode(errors='surrogateescape')
+    return str(value).encode(errors='surrogateescape')
 
 
 def _bytes(value: Any) -> bytes:
@@ -164,7 +174,7 @@ def _json(value: Any) -> bytes:
 
 
 def _putter(name: str) -> Callable[[Any], bytes]:
-    return lambda value: put(name, value)
+    return partial(_rows.put, DECODERS.get(name, -1), lambda value: put(name, value))
 
 
 def _nested(values: Sequence[Any], lengths: Sequence[int]) -> List[Any]:

@@ -1,45 +1,60 @@
 """What a client does on a connection, without input or output: each call is a generator that yields where it needs the next event. The blocking
 client and the one for asyncio run the same generators."""
-from typing import Any, Dict, Generator, Iterable, List, NamedTuple, Optional, Sequence, Tuple
+from array import array
+from typing import Any, Callable, Dict, Generator, List, NamedTuple, Optional, Sequence, Tuple
 
 from . import errors, events
+from .auth import escape_identifier
 from .connection import Connection
+from .copying import first_word
 from .reading import Field
-from .registry import Decoder, Registry
+from .registry import Decoder, Registry, Type
 
-#: What a generator yields where what was written is to be sent; else it yields None, for the next event.
-SEND = 'send'
-Flow = Generator[Optional[str], events.Event, Any]
+#: What a generator yields where what was written is to be sent, and where it wants the next piece of a copy (None: there is none); data of a copy are
+#: given to the caller. Else it yields None, for the next event.
+SEND, CHUNK = 'send', 'chunk'
+Wanted = Optional[object]
+Flow = Generator[Wanted, Any, Any]
+Found = Generator[Wanted, Any, List[events.Event]]
+#: So many bytes of a copy are sent at once.
+_PIECE = 65536
+_OTHER_CALL = 'the statement copies: copy_in(..) and copy_out(..) are the calls for it'
 
 
 class Statement(NamedTuple):
-    """A prepared statement: its name, the types of its parameters, its columns, and what decodes them."""
+    """A prepared statement: its name, what encodes its parameters, its columns, what decodes them, and the formats of both."""
     name: str
-    types: List[int]
+    encoders: List[Callable[[Any], bytes]]
+    formats: bytes
     fields: List[Field]
     decoders: Tuple[Decoder, ...]
-    formats: List[int]
+    result_formats: bytes
 
 
 class Result(NamedTuple):
-    """What a statement came to: its columns, its rows, and the server's tag."""
+    """What a statement came to: its columns, its rows, and the server's tag; whether a portal has further rows."""
     fields: List[Field]
-    rows: List[Tuple[Any, ...]]
+    rows: List[Any]
     tag: str
+    has_more: bool = False
 
 
 class Session:
-    """The statements of one connection. Prepared statements are kept by their text, the oldest of them closed where there are too many."""
+    """The statements of one connection. Prepared statements are kept by their text, the oldest of them closed where there are too many; with
+    `most_statements` 0 none is kept. Unless `autocommit` is set, each call that sends a statement opens a transaction before it, if none is open."""
 
     def __init__(self, connection: Connection, registry: Optional[Registry] = None, most_statements: int = 256) -> None:
         self.connection, self.registry, self._most = connection, registry or Registry(), most_statements
+        self.autocommit = True
         self._statements: Dict[str, Statement] = {}
-        self._named, self._first = 0, 0
-        self._begin: Optional[str] = None
+        self._dropped: List[str] = []
+        self._named = 0
+        self._is_copying = False
 
-    def begin_first(self, sql: Optional[str]) -> None:
-        """This statement goes before the next one, in one piece with it: `BEGIN`, where a transaction is to be opened."""
-        self._begin = sql
+    @property
+    def _begins(self) -> bool:
+        """Whether the next statement opens a transaction: the one place that says so, at the time when the statement is sent."""
+        return not self.autocommit and self.connection.status == 'I'
 
     def log_in(self) -> Flow:
         """Waits until the server is ready."""
@@ -50,152 +65,285 @@ class Session:
             if isinstance(event, events.Failed):
                 raise errors.of_fields(event.fields)
 
-    def _start(self) -> None:
-        """What was asked before, as by a call that was broken off, is not answered to the calls from here on."""
-        self._first = self.connection.next_number
+    def settle(self) -> Flow:
+        """Ends what a call has left under way, and passes over its answers."""
+        connection = self.connection
+        connection.skips_values = True
+        try:
+            if self._is_copying:
+                self._give_up('the call was broken off')
+            if connection.needs_sync:
+                connection.sync()
+            while not connection.is_idle:
+                event = yield None
+                if isinstance(event, events.CopyStarted) and event.kind == 'CopyInResponse':
+                    self._give_up('the call was broken off')
+                elif isinstance(event, events.Failed) and errors.is_end(event.fields, event.request):
+                    raise errors.of_fields(event.fields)
+        finally:
+            connection.skips_values = False
 
-    def _until_ready(self, last: int) -> Generator[Optional[str], events.Event, List[events.Event]]:
-        """The events up to the Ready of a request; a server's error is raised then."""
+    def _give_up(self, why: str) -> None:
+        self._is_copying = False
+        self.connection.copy_fail(why)
+
+    def _until_ready(self, last: int, copies: bool = False) -> Found:
+        """The events up to the Ready of a request; a server's error is raised then. A copy that isn't expected ends there."""
         found: List[events.Event] = []
-        failed: Optional[errors.Error] = None
+        failed: Optional[Exception] = None
         while True:
             event = yield None
-            if event.request is not None and event.request < self._first:
-                continue
             if isinstance(event, events.Failed):
                 failed = failed or errors.of_fields(event.fields)
-                if event.request is None:
+                if errors.is_end(event.fields, event.request):
                     raise failed
             elif isinstance(event, events.Ready) and event.request == last:
                 if failed is not None:
                     raise failed
                 return found
-            else:
+            elif isinstance(event, events.CopyStarted) and not copies:
+                failed = errors.ProgrammingError(_OTHER_CALL)
+                if event.kind == 'CopyInResponse':
+                    self._give_up(_OTHER_CALL)
+            elif failed is None:
                 found.append(event)
 
+    def _described(self) -> Found:
+        """The events up to a statement's columns."""
+        found: List[events.Event] = []
+        while True:
+            event = yield None
+            if isinstance(event, events.Failed):
+                raise errors.of_fields(event.fields)
+            found.append(event)
+            if isinstance(event, events.Columns) or (isinstance(event, events.Completed) and event.kind == 'NoData'):
+                return found
+
     def prepare(self, sql: str) -> Flow:
-        """The statement of this text, prepared now or before."""
-        kept = self._statements.get(sql)
-        if kept is not None:
-            return kept
-        self._named += 1
-        name, connection = 's%d' % self._named, self.connection
-        self._start()
-        connection.parse(name, sql)
-        connection.describe('S', name)
+        """Prepares the statement of this text, and keeps it. With no statement kept it has no name, and the series of requests goes on."""
+        if not self._most:
+            return (yield from self._prepare('', sql, False))
         if len(self._statements) >= self._most:
-            connection.close('S', self._statements.pop(next(iter(self._statements))).name)
-        found = yield from self._until_ready(connection.sync())
-        types: List[int] = next((e.types for e in found if isinstance(e, events.Parameters)), [])
-        fields: List[Field] = next((e.fields for e in found if isinstance(e, events.Columns)), [])
-        known = [self.registry.get(f.type_oid) for f in fields]
-        kept = Statement(name, types, fields, tuple(k.decode for k in known), [0 if k.is_text else 1 for k in known])
-        self._statements[sql] = kept
+            self._dropped.append(self._statements.pop(next(iter(self._statements))).name)
+        while self._dropped:
+            self.connection.close('S', self._dropped.pop())
+        self._named += 1
+        self._statements[sql] = yield from self._prepare('s%d' % self._named, sql, True)
+        return self._statements[sql]
+
+    def describe(self, sql: str) -> Flow:
+        """The parameters and columns of a statement, which isn't kept."""
+        return (yield from self._prepare('', sql, True))
+
+    def columns(self, table: str, names: Sequence[str]) -> Tuple[str, str]:
+        """The columns of a copy, quoted and in parentheses, or nothing for all; and the query that describes them."""
+        quoted = ', '.join(escape_identifier(name.encode()).decode() for name in names)
+        return quoted and '(%s)' % quoted, 'SELECT %s FROM %s' % (quoted or '*', table)
+
+    def known(self, statement: Statement) -> List[Type]:
+        """The types of a statement's columns, all of which have to be known in the binary format."""
+        kept = [self.registry.get(field.type_oid) for field in statement.fields]
+        if any(one.is_text for one in kept):
+            raise errors.ProgrammingError('columns of types that are not known here: %s' % [one.oid for one in kept if one.is_text])
         return kept
 
-    def _values(self, statement: Statement, values: Sequence[Any]) -> Tuple[List[int], List[Optional[bytes]]]:
-        """The parameters' formats and bytes."""
-        if len(values) != len(statement.types):
-            raise errors.InterfaceError('the statement has %d parameters, and %d values are given' % (len(statement.types), len(values)))
-        known = [self.registry.get(oid) for oid in statement.types]
+    def _prepare(self, name: str, sql: str, syncs: bool) -> Flow:
+        connection = self.connection
+        connection.parse(name, sql)
+        connection.describe('S', name)
+        if syncs:
+            found = yield from self._until_ready(connection.sync())
+        else:
+            connection.flush()
+            found = yield from self._described()
+        types = [self.registry.get(oid) for oid in next((e.types for e in found if isinstance(e, events.Parameters)), [])]
+        fields: List[Field] = next((e.fields for e in found if isinstance(e, events.Columns)), [])
+        known = [self.registry.get(f.type_oid) for f in fields]
+        return Statement(name, [k.encode for k in types], _formats(types), fields, tuple(k.decode for k in known), _formats(known))
+
+    def _values(self, statement: Statement, values: Sequence[Any]) -> List[Optional[bytes]]:
+        """The parameters' bytes."""
+        if len(values) != len(statement.encoders):
+            raise errors.InterfaceError('the statement has %d parameters, and %d values are given' % (len(statement.encoders), len(values)))
         try:
-            data = [None if v is None else k.encode(v) for k, v in zip(known, values)]
+            return [None if v is None else encode(v) for encode, v in zip(statement.encoders, values)]
         except (TypeError, ValueError, OverflowError, AttributeError) as error:
             raise errors.DataError('a parameter is no value of its type: %s' % error) from error
-        return [0 if k.is_text else 1 for k in known], data
 
-    def _bind(self, statement: Statement, values: Sequence[Any]) -> int:
-        formats, data = self._values(statement, values)
-        self.connection.bind('', statement.name, formats, data, statement.formats)
-        return self.connection.execute('', 0, statement.decoders)
+    def _begin(self) -> None:
+        """Opens a transaction where one is due, in one series with what follows."""
+        if self._begins:
+            connection, name = self.connection, '' if self._most else 'begin'
+            connection.parse(name, 'BEGIN')
+            connection.bind('', name, [], [])
+            connection.execute('')
+            if name:
+                connection.close('S', name)
 
-    def _open(self) -> None:
-        if self._begin is not None:
-            self.connection.parse('', self._begin)
-            self.connection.bind('', '', [], [])
-            self.connection.execute('')
-            self._begin = None
+    def _execute(self, statement: Statement, rows: Sequence[Sequence[Any]], portal: str = '', size: int = 0) -> Flow:
+        """Executes a statement for each list of values, in one series; the results, in their order."""
+        connection, place, name = self.connection, portal.encode(), statement.name.encode()
+        bound = [self._values(statement, values) for values in rows]
+        self._begin()
+        results: Dict[Optional[int], Result] = {}
+        for number, data in enumerate(bound, 1 - len(bound)):
+            asked = connection.run(place, name, statement.formats, data, statement.result_formats, size, statement.decoders, number == 0)
+            results[asked] = Result(statement.fields, [], '')
+        found = yield from self._until_ready(connection.last_number if bound else connection.sync())
+        return _gathered(results, found)
+
+    def _run(self, sql: str, rows: Sequence[Sequence[Any]], portal: str = '', size: int = 0) -> Flow:
+        """The same by a statement's text; the statement, and the results. A statement that was kept and went stale is prepared anew, unless its error ended a transaction of the caller's."""
+        kept, began = self._statements.get(sql), self.connection.status == 'I'
+        if kept is not None:
+            try:
+                return kept, (yield from self._execute(kept, rows, portal, size))
+            except errors.DatabaseError as error:
+                if not errors.is_stale(error):
+                    raise
+                self._dropped.append(self._statements.pop(sql).name)
+                if not began:
+                    raise
+            if self.connection.status == 'E':
+                yield from self._until_ready(self.connection.query('ROLLBACK'))
+        elif first_word(sql) == 'COPY':
+            raise errors.ProgrammingError(_OTHER_CALL)
+        statement: Statement = yield from self.prepare(sql)
+        return statement, (yield from self._execute(statement, rows, portal, size))
 
     def execute(self, sql: str, values: Sequence[Any] = ()) -> Flow:
         """Runs a statement; its rows are values of Python's."""
-        statement: Statement = yield from self.prepare(sql)
-        self._values(statement, values)
-        self._start()
-        self._open()
-        number = self._bind(statement, values)
-        found = yield from self._until_ready(self.connection.sync())
-        return _result(statement, [e for e in found if e.request == number])
+        if not values and sql not in self._statements and first_word(sql) == 'COPY':
+            return (yield from self.script(sql))[-1]
+        return (yield from self._run(sql, [values]))[1][0]
 
-    def execute_many(self, sql: str, rows: Iterable[Sequence[Any]]) -> Flow:
+    def execute_many(self, sql: str, rows: Sequence[Sequence[Any]]) -> Flow:
         """Runs a statement for each list of values, all in one piece: where one fails, none of them counts."""
-        statement: Statement = yield from self.prepare(sql)
-        kept = list(rows)
-        for values in kept:
-            self._values(statement, values)
-        self._start()
-        self._open()
-        numbers = {self._bind(statement, values): index for index, values in enumerate(kept)}
+        return (yield from self._run(sql, rows))[1]
+
+    def open_portal(self, portal: str, sql: str, values: Sequence[Any], size: int) -> Flow:
+        """The first rows of a statement, of which `fetch` gives the next ones, up to the transaction's end."""
+        if self.autocommit and self.connection.status == 'I':
+            raise errors.ProgrammingError('rows that come in parts need a transaction')
+        statement, results = yield from self._run(sql, [values], portal, size)
+        return statement, results[0]
+
+    def fetch(self, portal: str, statement: Statement, size: int) -> Flow:
+        """The next rows of a portal."""
+        number = self.connection.execute(portal, size, statement.decoders)
         found = yield from self._until_ready(self.connection.sync())
-        parts: List[List[events.Event]] = [[] for _ in kept]
-        for event in found:
-            if event.request in numbers:
-                parts[numbers[event.request]].append(event)
-        return [_result(statement, part) for part in parts]
+        return _gathered({number: Result(statement.fields, [], '')}, found)[0]
+
+    def close_portal(self, portal: str) -> Flow:
+        """Closes a portal."""
+        self.connection.close('P', portal)
+        yield from self._until_ready(self.connection.sync())
+
+    def _query(self, sql: str, copies: bool = False) -> Found:
+        """The events of a simple query, in a transaction where one is due."""
+        if self._begins:
+            yield from self._until_ready(self.connection.query('BEGIN'))
+        return (yield from self._until_ready(self.connection.query(sql), copies))
 
     def script(self, sql: str) -> Flow:
         """Runs any number of statements as one simple query; their values are texts."""
-        if self._begin is not None:
-            yield from self.execute('SELECT 1')
-        self._start()
-        found = yield from self._until_ready(self.connection.query(sql))
-        results: List[Result] = []
-        fields: List[Field] = []
-        rows: List[Tuple[Any, ...]] = []
-        for event in found:
-            if isinstance(event, events.Columns):
-                fields = event.fields
-            elif isinstance(event, events.Rows):
-                rows += event.rows
-            elif isinstance(event, events.CommandCompleted):
-                results.append(Result(fields, rows, event.tag))
-                fields, rows = [], []
-        return results
+        return _results((yield from self._query(sql)))
 
-    def copy_in(self, sql: str, chunks: Iterable[bytes]) -> Flow:
-        """Sends data to a `COPY .. FROM STDIN`; an error of the chunks gives the copy up."""
-        connection = self.connection
-        self._start()
-        number = connection.query(sql)
-        started: Optional[events.Event] = None
-        while not isinstance(started, (events.CopyStarted, events.Ready, events.Failed)):
-            started = yield None
-        if isinstance(started, events.CopyStarted):
-            try:
-                for chunk in chunks:
-                    connection.copy_data(bytes(chunk))
-                    yield SEND
-                connection.copy_done()
-            except Exception as error:
-                connection.copy_fail(str(error) or type(error).__name__)
-        elif isinstance(started, events.Failed):
-            yield from self._until_ready(number)
-            raise errors.of_fields(started.fields)
-        else:
-            raise errors.ProgrammingError('the statement asks for no data')
-        found = yield from self._until_ready(number)
-        return _result(None, found)
+    def plain(self, sql: str) -> Flow:
+        """A statement that opens no transaction but its own."""
+        yield from self._until_ready(self.connection.query(sql))
+
+    def finish(self, sql: str) -> Flow:
+        """`COMMIT` or `ROLLBACK`, where a transaction is open. The server rolls one that failed back at its COMMIT: that is an error."""
+        if self.connection.status in ('T', 'E'):
+            results: List[Result] = _results((yield from self._until_ready(self.connection.query(sql))))
+            if sql == 'COMMIT' and results[-1].tag == 'ROLLBACK':
+                raise errors.InternalError('the transaction failed before its COMMIT: it is rolled back')
+
+    def _copy(self, sql: str, kind: str) -> Flow:
+        """Begins a copy in this direction; the number of its request."""
+        if first_word(sql) != 'COPY':
+            raise errors.ProgrammingError('the statement is no COPY')
+        if self._begins:
+            yield from self._until_ready(self.connection.query('BEGIN'))
+        number = self.connection.query(sql)
+        event = yield None
+        if isinstance(event, events.Failed):
+            raise errors.of_fields(event.fields)
+        if not isinstance(event, events.CopyStarted):
+            raise errors.ProgrammingError('the statement has run, and copies no data through the connection')
+        if event.kind != kind:
+            self._is_copying = event.kind == 'CopyInResponse'
+            raise errors.ProgrammingError('the statement copies in the other direction')
+        return number
+
+    def copy_in(self, sql: str) -> Flow:
+        """Sends data to a `COPY .. FROM STDIN`."""
+        number = yield from self._copy(sql, 'CopyInResponse')
+        self._is_copying = True
+        held: List[bytes] = []
+        size = 0
+        while True:
+            chunk = yield CHUNK
+            if chunk is not None:
+                held.append(chunk)
+                size += len(chunk)
+            if held and (chunk is None or size >= _PIECE):
+                self.connection.copy_data(b''.join(held))
+                held, size = [], 0
+                yield SEND
+            if chunk is None:
+                break
+        self._is_copying = False
+        self.connection.copy_done()
+        return _results((yield from self._until_ready(number)))[-1]
 
     def copy_out(self, sql: str) -> Flow:
-        """The data of a `COPY .. TO STDOUT`, a row each."""
-        self._start()
-        found = yield from self._until_ready(self.connection.query(sql))
-        return [event.data for event in found if isinstance(event, events.CopyBytes)]
+        """The data of a `COPY .. TO STDOUT`, which are yielded piece by piece."""
+        number = yield from self._copy(sql, 'CopyOutResponse')
+        while True:
+            event = yield None
+            if isinstance(event, events.CopyBytes):
+                yield event.data
+            elif isinstance(event, events.Failed):
+                raise errors.of_fields(event.fields)
+            elif isinstance(event, events.Ready) and event.request == number:
+                return
 
 
-def _result(statement: Optional[Statement], found: List[events.Event]) -> Result:
-    rows = [row for event in found if isinstance(event, events.Rows) for row in event.rows]
-    tag = next((event.tag for event in found if isinstance(event, events.CommandCompleted)), '')
-    return Result(statement.fields if statement is not None else [], rows, tag)
+def _formats(types: Sequence[Type]) -> bytes:
+    return array('h', [0 if one.is_text else 1 for one in types]).tobytes()
+
+
+def _gathered(results: Dict[Optional[int], Result], found: List[events.Event]) -> List[Result]:
+    """The results by their requests, with the rows and tags that came."""
+    for event in found:
+        kept = results.get(event.request)
+        if kept is None:
+            continue
+        if isinstance(event, events.Rows):
+            kept.rows.extend(event.rows)
+        elif isinstance(event, events.CommandCompleted):
+            results[event.request] = kept._replace(tag=event.tag)
+        elif isinstance(event, events.Completed) and event.kind == 'PortalSuspended':
+            results[event.request] = kept._replace(has_more=True)
+    return list(results.values())
+
+
+def _results(found: List[events.Event]) -> List[Result]:
+    """The results of a simple query."""
+    results: List[Result] = []
+    fields: List[Field] = []
+    rows: List[Tuple[Any, ...]] = []
+    for event in found:
+        if isinstance(event, events.Columns):
+            fields = event.fields
+        elif isinstance(event, events.Rows):
+            rows += event.rows
+        elif isinstance(event, events.CommandCompleted):
+            results.append(Result(fields, rows, event.tag))
+            fields, rows = [], []
+    return results
 
 
 def count_of(tag: str) -> int:

@@ -51,6 +51,11 @@ class Stream:
         self._stream = _Stream(ctypes.cast(self._room, c_void_p).value, len(self._room), 0, False)
 
     @property
+    def address(self) -> int:
+        """The state's address, for a call in C."""
+        return ctypes.addressof(self._stream)
+
+    @property
     def is_open(self) -> bool:
         """Whether the startup packet was sent."""
         return bool(self._stream.is_open)
@@ -67,11 +72,17 @@ class Stream:
             status = call(byref(self._stream), *words)
             if status == OK:
                 return
-            if status != NO_ROOM or len(self._room) >= 1 << 31:
+            if status != NO_ROOM:
                 raise ProtocolError(status)
-            wider = ctypes.create_string_buffer(4 * len(self._room))
-            ctypes.memmove(wider, self._room, self._stream.len)
-            self._room, self._stream.room, self._stream.room_len = wider, ctypes.cast(wider, c_void_p).value, len(wider)
+            self.widen()
+
+    def widen(self) -> None:
+        """Makes more room."""
+        if len(self._room) >= 1 << 31:
+            raise ProtocolError(NO_ROOM)
+        wider = ctypes.create_string_buffer(4 * len(self._room))
+        ctypes.memmove(wider, self._room, self._stream.len)
+        self._room, self._stream.room, self._stream.room_len = wider, ctypes.cast(wider, c_void_p).value, len(wider)
 
     def ssl_request(self) -> None:
         """Asks for an encrypted session."""

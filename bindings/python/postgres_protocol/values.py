@@ -69,7 +69,10 @@ def put(name: str, value: object) -> bytes:
     elif name in _FLOATS:
         if isinstance(value, bool) or not isinstance(value, (int, float)):
             raise TypeError('value: a number is expected, not %s' % type(value).__name__)
-        value = kind.from_buffer_copy(_FLOATS[name](value)).value
+        kept = _FLOATS[name](value)
+        if math.isinf(kept.value) and not math.isinf(value):
+            raise OverflowError('%s: %r is past its range' % (name, value))
+        value = kind.from_buffer_copy(kept).value
     else:
         value = as_integer(value, name, *_BOUNDS[name])
     return written(lambda *out: _PUTS[name](value, *out))

@@ -9,6 +9,7 @@ pub mod ChunkLists
 pub mod Sessions
 pub mod OneSession
 pub mod EachSide
+pub mod TableRows
 pub mod Turns
 pub mod PrintedMarks
 pub mod PrintedObjects
@@ -17,7 +18,6 @@ pub mod Summaries
 pub mod Secrets
 pub mod SettingLemmas
 pub mod Endings
-pub mod ShelfLemmas
 pub mod RowLemmas
 pub mod TypedFrames
 pub mod Sayings

@@ -13,7 +13,7 @@ use Rattle.pgp_message.proofs.FieldLemmas.{field_reader}
 use Rattle.pgp_message.proofs.NumberLemmas.{type_reader}
 use Rattle.pgp_message.proofs.RangeLemmas.{range_reader}
 use Rattle.pgp_frontend.specs.ClientMessage.{ClientMessage, Bind}
-use Rattle.pgp_line.specs.Line.{ListEnds, Value, closing, followed}
+use Rattle.pgp_line.specs.Line.{Part, ListEnds, Value, closing, followed}
 use Rattle.pgp_line.specs.declared.style.Style.{Style}
 use Rattle.pgp_trace.specs.Client.{counted, signed_part}
 use Rattle.pgp_trace.specs.Shown.{ending}
@@ -65,14 +65,14 @@ abbrev pub OneText : Type 0
 OneText = (type_oid : ℕ) → is_float (format_in known_formats type_oid) ≡ false → (bytes a b : List ℕ) → IsTextOf type_oid bytes a → IsTextOf type_oid bytes b → a ≡ b
 
 module _ (one_text : OneText) where
-  bytes_one : (binary : Bool) (oid : ℕ) (bytes : List ℕ) (x y : Option (List ℕ)) → ShowsBytes binary oid bytes x → ShowsBytes binary oid bytes y → x ≡ y
+  bytes_one : (binary : Bool) (oid : ℕ) (bytes : List ℕ) (x y : Part) → ShowsBytes binary oid bytes x → ShowsBytes binary oid bytes y → x ≡ y
   bytes_one false oid bytes x y a b = a ∙ sym b
-  bytes_one true oid bytes x y (inl a) (inl b) = a.2 ∙ ap (λ t. Some t) (one_text oid a.1.0 bytes a.0 b.0 a.1.1 b.1.1) ∙ sym b.2
+  bytes_one true oid bytes x y (inl a) (inl b) = a.2 ∙ ap (λ t. Value (Some t)) (one_text oid a.1.0 bytes a.0 b.0 a.1.1 b.1.1) ∙ sym b.2
   bytes_one true oid bytes x y (inl a) (inr b) = absurd (b.0 a.0 a.1)
   bytes_one true oid bytes x y (inr a) (inl b) = absurd (a.0 b.0 b.1)
   bytes_one true oid bytes x y (inr a) (inr b) = a.1 ∙ sym b.1
 
-  value_one : (c : Column) (value x y : Option (List ℕ)) → ShowsValue c value x → ShowsValue c value y → x ≡ y
+  value_one : (c : Column) (value : Option (List ℕ)) (x y : Part) → ShowsValue c value x → ShowsValue c value y → x ≡ y
   value_one c None x y a b = a ∙ sym b
   value_one c (Some bytes) x y a b = bytes_one c.binary c.oid bytes x y a b
 
@@ -80,7 +80,7 @@ module _ (one_text : OneText) where
   values_one style columns [] old x y a b = a ∙ sym b
   values_one style columns (v ∷ vs) old x y a b =
       let same = value_one (column_first columns) v a.0 b.0 a.1 b.1 in
-      values_one style (drop 1 columns) vs (followed style old (Value b.0 ∷ [])) x y (subst (λ s. ShowsValues style (drop 1 columns) vs (followed style old (Value s ∷ [])) x) same a.2) b.2
+      values_one style (drop 1 columns) vs (followed style old (b.0 ∷ [])) x y (subst (λ s. ShowsValues style (drop 1 columns) vs (followed style old (s ∷ [])) x) same a.2) b.2
 
   row_one : (style : Style) (place len : ℕ) (columns : List Column) (row : CountedBytes) (x y : List ℕ) → IsRowLine style place len columns row x → IsRowLine style place len columns row y → x ≡ y
   row_one style place len columns row x y a b =

@@ -27,33 +27,45 @@ in_cell width text p = plain_join (blanks (width - length text) ++ text) (32 ∷
 in_columns : (l : Line) → Plain (columns l)
 in_columns l =
     let a = cell 8 (decimal l.count) in
-    let b = a ++ cell 10 (decimal l.rows) in
-    let c = b ++ cell 10 (millis l.least) in
-    let d = c ++ cell 10 (millis l.median) in
+    let b = a ++ cell 8 (decimal l.errors) in
+    let c = b ++ cell 10 (decimal l.rows) in
+    let d = c ++ cell 10 (millis l.total) in
+    let e = d ++ cell 10 (millis l.least) in
+    let f = e ++ cell 10 (millis l.median) in
     let pa : Plain a = in_cell 8 (decimal l.count) (plain_number l.count) in
-    let pb : Plain b = plain_join a (cell 10 (decimal l.rows)) pa (in_cell 10 (decimal l.rows) (plain_number l.rows)) in
-    let pc : Plain c = plain_join b (cell 10 (millis l.least)) pb (in_cell 10 (millis l.least) (thousandths l.least)) in
-    let pd : Plain d = plain_join c (cell 10 (millis l.median)) pc (in_cell 10 (millis l.median) (thousandths l.median)) in
-    plain_join d (cell 10 (millis l.greatest)) pd (in_cell 10 (millis l.greatest) (thousandths l.greatest))
+    let pb : Plain b = plain_join a (cell 8 (decimal l.errors)) pa (in_cell 8 (decimal l.errors) (plain_number l.errors)) in
+    let pc : Plain c = plain_join b (cell 10 (decimal l.rows)) pb (in_cell 10 (decimal l.rows) (plain_number l.rows)) in
+    let pd : Plain d = plain_join c (cell 10 (millis l.total)) pc (in_cell 10 (millis l.total) (thousandths l.total)) in
+    let pe : Plain e = plain_join d (cell 10 (millis l.least)) pd (in_cell 10 (millis l.least) (thousandths l.least)) in
+    let pf : Plain f = plain_join e (cell 10 (millis l.median)) pe (in_cell 10 (millis l.median) (thousandths l.median)) in
+    plain_join f (cell 10 (millis l.greatest)) pf (in_cell 10 (millis l.greatest) (thousandths l.greatest))
 
 in_counts : (l : Line) → Plain (counts l)
 in_counts l =
     let a = codes "{\"count\":" ++ decimal l.count in
-    let b = a ++ codes ",\"rows\":" in
+    let b = a ++ codes ",\"errors\":" in
+    let c = b ++ decimal l.errors in
+    let d = c ++ codes ",\"rows\":" in
     let pa : Plain a = plain_join (codes "{\"count\":") (decimal l.count) refl (plain_number l.count) in
-    plain_join b (decimal l.rows) (plain_join a (codes ",\"rows\":") pa refl) (plain_number l.rows)
+    let pb : Plain b = plain_join a (codes ",\"errors\":") pa refl in
+    let pc : Plain c = plain_join b (decimal l.errors) pb (plain_number l.errors) in
+    plain_join d (decimal l.rows) (plain_join c (codes ",\"rows\":") pc refl) (plain_number l.rows)
 
 in_times : (l : Line) → Plain (times l)
 in_times l =
-    let a = codes ",\"least\":" ++ number l.least in
-    let b = a ++ codes ",\"median\":" in
-    let c = b ++ number l.median in
-    let d = c ++ codes ",\"greatest\":" in
-    let pa : Plain a = plain_join (codes ",\"least\":") (number l.least) refl (seconds l.least) in
-    let pb : Plain b = plain_join a (codes ",\"median\":") pa refl in
-    let pc : Plain c = plain_join b (number l.median) pb (seconds l.median) in
-    let pd : Plain d = plain_join c (codes ",\"greatest\":") pc refl in
-    plain_join d (number l.greatest) pd (seconds l.greatest)
+    let a = codes ",\"total\":" ++ number l.total in
+    let b = a ++ codes ",\"least\":" in
+    let c = b ++ number l.least in
+    let d = c ++ codes ",\"median\":" in
+    let e = d ++ number l.median in
+    let f = e ++ codes ",\"greatest\":" in
+    let pa : Plain a = plain_join (codes ",\"total\":") (number l.total) refl (seconds l.total) in
+    let pb : Plain b = plain_join a (codes ",\"least\":") pa refl in
+    let pc : Plain c = plain_join b (number l.least) pb (seconds l.least) in
+    let pd : Plain d = plain_join c (codes ",\"median\":") pc refl in
+    let pe : Plain e = plain_join d (number l.median) pd (seconds l.median) in
+    let pf : Plain f = plain_join e (codes ",\"greatest\":") pe refl in
+    plain_join f (number l.greatest) pf (seconds l.greatest)
 
 in_members : (l : Line) → Plain (members l)
 in_members l = plain_join (counts l ++ times l) (codes ",\"statement\":") (plain_join (counts l) (times l) (in_counts l) (in_times l)) refl
@@ -68,4 +80,4 @@ pub rows_printed : (style : Style) (e : Tally) → IsPrintedLine (row_of style e
 rows_printed style e = row_printed style.form style.limit (line_of e) e.text
 
 pub heading_printed : IsPrintedLine (heading Columns)
-heading_printed = (codes "   count       rows      least     median   greatest ms", refl, plain (codes "   count       rows      least     median   greatest ms") refl)
+heading_printed = (codes "   count   errors       rows      total      least     median   greatest ms", refl, plain (codes "   count   errors       rows      total      least     median   greatest ms") refl)

@@ -4,7 +4,7 @@ use Rattle.std.specs.Prelude.{map, codes}
 use Rattle.pgp_message.specs.BackendMessage.{Message, DataRow}
 use Rattle.pgp_message.specs.Parts.{CountedBytes}
 use Rattle.pgp_message.specs.Table.{value_at}
-use Rattle.pgp_line.specs.Line.{Part, Count, Length, ListEnds, Name, Tag, Text, Value, closing, followed, key, opening}
+use Rattle.pgp_line.specs.Line.{Part, Count, Length, ListEnds, Name, Tag, Text, closing, followed, key, opening}
 use Rattle.pgp_line.specs.Quoting.{IsPrinted}
 use Rattle.pgp_line.specs.declared.style.Style.{Style}
 use Rattle.pgp_frontend.specs.ClientMessage.{ClientMessage, Bind}
@@ -26,7 +26,7 @@ front_printed style place len count = parts_printable style (opening style place
 
 values_printed : (style : Style) (columns : List Column) (values : List (Option (List ℕ))) (old new : List ℕ) → IsPrinted old → ShowsValues style columns values old new → IsPrinted new
 values_printed style columns [] old new a s = rw s a
-values_printed style columns (v ∷ vs) old new a s = values_printed style (drop 1 columns) vs (followed style old (Value s.0 ∷ [])) new (parts_printable style old (Value s.0 ∷ []) a) s.2
+values_printed style columns (v ∷ vs) old new a s = values_printed style (drop 1 columns) vs (followed style old (s.0 ∷ [])) new (parts_printable style old (s.0 ∷ []) a) s.2
 
 row_printed : (style : Style) (place len : ℕ) (columns : List Column) (row : CountedBytes) (line : List ℕ) → IsRowLine style place len columns row line → IsLine line
 row_printed style place len columns row line is =

@@ -3,7 +3,7 @@ use Rattle.std.specs.Prelude.{ℕ, ◌-◌, if◌then◌else◌, List, [], Optio
 use Rattle.pgp_frontend.specs.ClientMessage.{ClientMessage, Bind, Execute, Parse, Query}
 use Rattle.pgp_frontend_read.specs.declared.error.ClientError.{ClientError}
 use Rattle.pgp_line.specs.declared.style.Style.{Style}
-use Rattle.pgp_summary.specs.Summary.{State, asked, ended, row}
+use Rattle.pgp_summary.specs.Summary.{State, asked, ended, failed, row}
 use Rattle.pgp_summary.specs.declared.work.Work.{Work}
 use Rattle.pgp_summary.specs.declared.work.Work.TheVariants as works
 use Rattle.pgp_summary.specs.declared.work.Reply.{Reply}
@@ -49,7 +49,6 @@ reply_named name =
     else if bytes_eq name (codes "CommandComplete") then Some ExecuteEnd
     else if bytes_eq name (codes "EmptyQueryResponse") then Some ExecuteEnd
     else if bytes_eq name (codes "PortalSuspended") then Some ExecuteEnd
-    else if bytes_eq name (codes "ErrorResponse") then Some ExecuteEnd
     else if bytes_eq name (codes "ReadyForQuery") then Some ReadyForQuery
     else None
 
@@ -66,7 +65,10 @@ ends_so (Some reply) number micros s = ended number reply micros s
 
 -- a message that belongs to the request of this number, and came so long after it
 abbrev pub answers_so : (name : List ℕ) → (number micros : ℕ) → State → State
-answers_so name number micros s = if bytes_eq name (codes "DataRow") then row number s else ends_so (reply_named name) number micros s
+answers_so name number micros s =
+    if bytes_eq name (codes "DataRow") then row number s
+    else if bytes_eq name (codes "ErrorResponse") then ended number ExecuteEnd micros (failed number s)
+    else ends_so (reply_named name) number micros s
 
 -- a frame of this name that its mark says this of, and that asks for this. (Where the clock was set back no time has gone by.)
 abbrev pub takes_note : Told → Option Asking → (name : List ℕ) → State → State

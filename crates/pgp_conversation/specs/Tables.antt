@@ -15,17 +15,17 @@ use Rattle.pgp_conversation.specs.Marks.{millis, number}
 abbrev pub cell : (width : ℕ) → List ℕ → List ℕ
 cell width text = blanks (width - length text) ++ text ++ 32 ∷ []
 
--- how often a statement ran, its rows, and the least, the median and the greatest of its times, in milliseconds
+-- how often a statement ran, its errors and rows, and the sum, the least, the median and the greatest of its times, in milliseconds
 abbrev pub columns : Line → List ℕ
-columns l = cell 8 (decimal l.count) ++ cell 10 (decimal l.rows) ++ cell 10 (millis l.least) ++ cell 10 (millis l.median) ++ cell 10 (millis l.greatest)
+columns l = cell 8 (decimal l.count) ++ cell 8 (decimal l.errors) ++ cell 10 (decimal l.rows) ++ cell 10 (millis l.total) ++ cell 10 (millis l.least) ++ cell 10 (millis l.median) ++ cell 10 (millis l.greatest)
 
 -- the same as members of an object, the times in seconds
 
 abbrev pub counts : Line → List ℕ
-counts l = codes "{\"count\":" ++ decimal l.count ++ codes ",\"rows\":" ++ decimal l.rows
+counts l = codes "{\"count\":" ++ decimal l.count ++ codes ",\"errors\":" ++ decimal l.errors ++ codes ",\"rows\":" ++ decimal l.rows
 
 abbrev pub times : Line → List ℕ
-times l = codes ",\"least\":" ++ number l.least ++ codes ",\"median\":" ++ number l.median ++ codes ",\"greatest\":" ++ number l.greatest
+times l = codes ",\"total\":" ++ number l.total ++ codes ",\"least\":" ++ number l.least ++ codes ",\"median\":" ++ number l.median ++ codes ",\"greatest\":" ++ number l.greatest
 
 abbrev pub members : Line → List ℕ
 members l = counts l ++ times l ++ codes ",\"statement\":"
@@ -38,8 +38,12 @@ row_by Json limit l text = members l ++ json_value limit text ++ codes "}" ++ 10
 abbrev pub row_of : Style → Tally → List ℕ
 row_of style e = row_by style.form style.limit (line_of e) e.text
 
+abbrev pub row_at : Style → Option Tally → List ℕ
+row_at style None = []
+row_at style (Some e) = row_of style e
+
 abbrev pub heading : Form → List ℕ
-heading Columns = codes "   count       rows      least     median   greatest ms" ++ 10 ∷ []
+heading Columns = codes "   count   errors       rows      total      least     median   greatest ms" ++ 10 ∷ []
 heading Json = []
 
 -- a line for each statement that ran

@@ -11,7 +11,7 @@ use Rattle.pgp_message.specs.Parts.{CountedBytes}
 use Rattle.pgp_message.specs.Table.{HasPlaces, value_at}
 use Rattle.pgp_frontend.specs.ClientMessage.{ClientMessage, Bind, Close, Describe, Execute, Parse, Query, Sync}
 use Rattle.pgp_frontend_read.specs.declared.error.ClientError.{ClientError}
-use Rattle.pgp_line.specs.Line.{Count, Length, ListEnds, Name, Tag, Text, Value, closing, followed, key, opening}
+use Rattle.pgp_line.specs.Line.{Part, Binary, Count, Length, ListEnds, Name, Tag, Text, Value, closing, followed, key, opening}
 use Rattle.pgp_line.specs.declared.style.Style.{Style}
 use Rattle.pgp_trace.specs.Client.{counted, signed_part}
 use Rattle.pgp_trace.specs.Listing.{LineOf}
@@ -142,15 +142,15 @@ Learns told said old new = new ≡ old
 abbrev pub IsOneText : ℕ → List ℕ → List ℕ → Type 0
 IsOneText oid bytes text = (is_float (format_in known_formats oid) ≡ false) × IsTextOf oid bytes text
 
--- A value of this type in this format: where that is the binary one, its text, if it has one.
-abbrev pub ShowsBytes : (binary : Bool) (oid : ℕ) (bytes : List ℕ) (shown : Option (List ℕ)) → Type 0
-ShowsBytes false oid bytes shown = shown ≡ Some bytes
+-- A value of this type in this format: where that is the binary one, its text, if it has one, or hex digits.
+abbrev pub ShowsBytes : (binary : Bool) (oid : ℕ) (bytes : List ℕ) (shown : Part) → Type 0
+ShowsBytes false oid bytes shown = shown ≡ Value (Some bytes)
 ShowsBytes true oid bytes shown =
-    ((text : List ℕ) × IsOneText oid bytes text × (shown ≡ Some text))
-    ⊎ (((text : List ℕ) → IsOneText oid bytes text → ⊥) × (shown ≡ Some bytes))
+    ((text : List ℕ) × IsOneText oid bytes text × (shown ≡ Value (Some text)))
+    ⊎ (((text : List ℕ) → IsOneText oid bytes text → ⊥) × (shown ≡ Binary bytes))
 
-abbrev pub ShowsValue : Column → (value shown : Option (List ℕ)) → Type 0
-ShowsValue c None shown = shown ≡ None
+abbrev pub ShowsValue : Column → (value : Option (List ℕ)) (shown : Part) → Type 0
+ShowsValue c None shown = shown ≡ Value None
 ShowsValue c (Some bytes) shown = ShowsBytes c.binary c.oid bytes shown
 
 -- of which no type is known
@@ -164,7 +164,7 @@ column_first (c ∷ rest) = c
 -- a line with these values after it, each under the column at its place
 abbrev pub ShowsValues : Style → List Column → List (Option (List ℕ)) → (old new : List ℕ) → Type 0
 ShowsValues style columns [] old new = new ≡ old
-ShowsValues style columns (v ∷ vs) old new = (shown : Option (List ℕ)) × ShowsValue (column_first columns) v shown × ShowsValues style (drop 1 columns) vs (followed style old (Value shown ∷ [])) new
+ShowsValues style columns (v ∷ vs) old new = (shown : Part) × ShowsValue (column_first columns) v shown × ShowsValues style (drop 1 columns) vs (followed style old (shown ∷ [])) new
 
 abbrev pub row_front : Style → (place len count : ℕ) → List ℕ
 row_front style place len count = followed style (opening style place) (Length len ∷ Tag 68 ∷ Name false (codes "DataRow") ∷ key (codes "values") ∷ Count count ∷ [])

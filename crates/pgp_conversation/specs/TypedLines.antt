@@ -5,7 +5,7 @@ use Rattle.pgp_message.specs.BackendMessage.{Message}
 use Rattle.pgp_frontend.specs.ClientMessage.{PasswordKind}
 use Rattle.pgp_frontend_read.specs.Pieces.{step_of}
 use Rattle.pgp_frontend_read.specs.Step as client
-use Rattle.pgp_line.specs.Line.{ListEnds, Value, followed}
+use Rattle.pgp_line.specs.Line.{Part, ListEnds, followed}
 use Rattle.pgp_line.specs.declared.style.Style.{Style}
 use Rattle.pgp_trace.specs.Shown.{ending}
 use Rattle.pgp_trace.specs.Steps.{IsFrameOf}
@@ -19,14 +19,14 @@ use Rattle.pgp_conversation.specs.Types.{Types, first}
 
 -- one value
 pub record AddsBytes (style : Style) (binary : Bool) (oid : ℕ) (bytes old new : List ℕ) : Type 0 where
-  pub shown : Option (List ℕ)
+  pub shown : Part
   pub under : ShowsBytes binary oid bytes shown
-  pub text : new ≡ followed style old (Value shown ∷ [])
+  pub text : new ≡ followed style old (shown ∷ [])
 
 pub record AddsValue (style : Style) (column : Column) (value : Option (List ℕ)) (old new : List ℕ) : Type 0 where
-  pub shown : Option (List ℕ)
+  pub shown : Part
   pub under : ShowsValue column value shown
-  pub text : new ≡ followed style old (Value shown ∷ [])
+  pub text : new ≡ followed style old (shown ∷ [])
 
 -- all of a row, and the end of their list
 pub record AddsValues (style : Style) (columns : List Column) (values : List (Option (List ℕ))) (end : Option Error) (old new : List ℕ) : Type 0 where

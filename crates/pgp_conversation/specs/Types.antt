@@ -1,10 +1,11 @@
 -- What is known of the types of statements and portals. PostgreSQL manual, "Extended Query".
 use Rattle.std.specs.Prelude.{ℕ, Bool, ◌==◌, nat_lt, if◌then◌else◌, List, [], ◌∷◌, ◌++◌, Option, None, Some, bytes_eq}
 use Rattle.std.specs.Option.{option_map}
+use Rattle.pgp_names.specs.Names.{found}
 use Rattle.pgp_conversation.specs.declared.awaited.Object.{Object}
 use Rattle.pgp_conversation.specs.declared.awaited.Object.TheVariants.{Statement, Portal, Simple}
 use Rattle.pgp_conversation.specs.declared.column.Column.{Column}
-use Rattle.pgp_conversation.specs.Shelves.{Shape, formatted, found, kept}
+use Rattle.pgp_conversation.specs.Shelves.{formatted, kept}
 
 -- A request about a statement or a portal, by its number. A Bind also names a statement, and the formats of its columns. The parameters of a Parse are those
 -- that it gives.
@@ -25,11 +26,11 @@ pub record BoundPortal : Type 0 where
 -- and the portal that was bound last.
 pub record Types : Type 0 where
   pub awaited : List Awaited
-  pub statements : List Shape
-  pub portals : List Shape
+  pub statements : List (List ℕ × List Column)
+  pub portals : List (List ℕ × List Column)
   pub last : Option BoundPortal
-  pub sent : List Shape
-  pub told : List Shape
+  pub sent : List (List ℕ × List Column)
+  pub told : List (List ℕ × List Column)
   pub binds : List Column
   pub parse : ℕ
 
@@ -79,7 +80,7 @@ parameters_by None None = []
 abbrev pub parameters_of : List ℕ → Types → List Column
 parameters_of name t = parameters_by (found name t.told) (found name t.sent)
 
-abbrev pub told_by : Object → List ℕ → Option (List Column) → List Shape → List Shape
+abbrev pub told_by : Object → List ℕ → Option (List Column) → List (List ℕ × List Column) → List (List ℕ × List Column)
 told_by Statement name parameters told = kept name parameters told
 told_by Portal name parameters told = told
 told_by Simple name parameters told = told
@@ -103,7 +104,7 @@ abbrev pub statement_of : List ℕ → Option BoundPortal → Option (List ℕ)
 statement_of name None = None
 statement_of name (Some portal) = if bytes_eq portal.name name then Some portal.statement else None
 
-abbrev pub passed_on : (statement : Option (List ℕ)) → Option (List Column) → List Shape → List Shape
+abbrev pub passed_on : (statement : Option (List ℕ)) → Option (List Column) → List (List ℕ × List Column) → List (List ℕ × List Column)
 passed_on None columns statements = statements
 passed_on (Some name) columns statements = kept name columns statements
 

@@ -3,7 +3,6 @@ use Rattle.std.specs.Prelude.{List, map, Option, None, Some}
 use Rattle.pgp_conversation.specs.declared.awaited.Awaited as code_awaited
 use Rattle.pgp_conversation.specs.declared.types.BoundPortal as code_portal
 use Rattle.pgp_conversation.specs.declared.types.Types as code_types
-use Rattle.pgp_conversation.specs.Shelves.{shelf_of}
 use Rattle.pgp_conversation.specs.Types.{Awaited, BoundPortal, Types}
 
 abbrev pub awaited_of : {A : Type 0} → code_awaited.Awaited A → Awaited
@@ -17,7 +16,7 @@ last_of None = None
 last_of (Some portal) = Some (record { name = portal.name.items; statement = portal.statement.items })
 
 abbrev pub types_of : {A : Type 0} → code_types.Types A → Types
-types_of t = record { awaited = queue_of t.awaited.items; statements = shelf_of t.statements.items; portals = shelf_of t.portals.items; last = last_of t.last; sent = shelf_of t.sent.items; told = shelf_of t.told.items; binds = t.binds.items; parse = t.parse }
+types_of t = record { awaited = queue_of t.awaited.items; statements = t.statements; portals = t.portals; last = last_of t.last; sent = t.sent; told = t.told; binds = t.binds.items; parse = t.parse }
 
 abbrev pub types_in : {A : Type 0} → Option (code_types.Types A) → Option Types
 types_in None = None

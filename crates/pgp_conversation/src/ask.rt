@@ -17,6 +17,7 @@ use crate::shelf::formatted;
 use crate::types::{Types, parameters_of, parse, sync};
 use pgp_base::Memory;
 use pgp_frontend_read::{ClientMessage, ClientMessages, Formats, PasswordKind};
+use pgp_names::MapMemory;
 use std::alloc::AllocError;
 
 /// Takes note of a client's frame, which is the request of this number, where a startup packet came before it or not.
@@ -24,7 +25,7 @@ use std::alloc::AllocError;
 /// # Errors
 ///
 /// Returns `AllocError` if there is no memory for what it is about.
-pub fn ask_frame<A: Memory>(
+pub fn ask_frame<A: MapMemory>(
     number: u64,
     opened: bool,
     kind: PasswordKind,
@@ -44,7 +45,7 @@ pub fn ask_frame<A: Memory>(
 }
 
 /// Takes note of a request.
-fn ask<A: Memory>(
+fn ask<A: MapMemory>(
     number: u64,
     message: ClientMessage<'_>,
     types: &mut Types<A>,
@@ -96,7 +97,7 @@ fn ask<A: Memory>(
 }
 
 /// Takes note of a Bind.
-fn ask_bind<A: Memory>(
+fn ask_bind<A: MapMemory>(
     number: u64,
     portal: &[u8],
     statement: &[u8],
@@ -123,7 +124,7 @@ fn ask_bind<A: Memory>(
 }
 
 /// Takes note of a Describe or a Close, by its letter.
-fn ask_by<A: Memory>(
+fn ask_by<A: MapMemory>(
     number: u64,
     variant: u8,
     name: &[u8],

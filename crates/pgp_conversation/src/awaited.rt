@@ -7,6 +7,7 @@ ghost use Rattle.pgp_conversation.specs.TypesKept.{awaited_of, queue_of};
 
 use crate::column::Column;
 use pgp_base::Memory;
+use pgp_names::MapMemory;
 use std::alloc::AllocError;
 use std::collections::VecDeque;
 
@@ -21,7 +22,7 @@ pub enum Object {
 
 /// A request about a statement or a portal.
 #[derive(Drop)]
-pub struct Awaited<A: Memory> {
+pub struct Awaited<A: MapMemory> {
     pub number: u64,
     pub object: Object,
     pub name: Vec<u8, A>,
@@ -33,7 +34,7 @@ pub struct Awaited<A: Memory> {
 }
 
 /// Lets the requests before this number go: their answers are over.
-pub fn reach<A: Memory>(number: u64, awaited: &mut VecDeque<Awaited<A>, A>)
+pub fn reach<A: MapMemory>(number: u64, awaited: &mut VecDeque<Awaited<A>, A>)
     ensures { queue_of awaited.new.items ≡ since number (queue_of awaited.old.items) }
 {
     'older: while let Some(asked) = awaited.front() {
@@ -45,7 +46,7 @@ pub fn reach<A: Memory>(number: u64, awaited: &mut VecDeque<Awaited<A>, A>)
 }
 
 /// The first request, if it has this number.
-pub fn first<A: Memory>(number: u64, awaited: &VecDeque<Awaited<A>, A>) -> Option<&Awaited<A>>
+pub fn first<A: MapMemory>(number: u64, awaited: &VecDeque<Awaited<A>, A>) -> Option<&Awaited<A>>
     ensures { option_map (λ asked. awaited_of asked.now) result ≡ first number (queue_of awaited.now.items) }
 {
     match awaited.front() {
@@ -65,7 +66,7 @@ pub fn first<A: Memory>(number: u64, awaited: &VecDeque<Awaited<A>, A>) -> Optio
 /// # Errors
 ///
 /// Returns `AllocError` if there is no memory for it.
-pub fn wait<A: Memory>(
+pub fn wait<A: MapMemory>(
     number: u64,
     object: Object,
     name: &[u8],
@@ -91,7 +92,7 @@ pub fn wait<A: Memory>(
 /// # Errors
 ///
 /// Returns `AllocError` if there is no memory for it.
-pub fn wait_bound<A: Memory>(
+pub fn wait_bound<A: MapMemory>(
     number: u64,
     object: Object,
     name: &[u8],

@@ -20,6 +20,7 @@ use pgp_frontend_read::{ClientMessage, ClientMessages, Formats, PasswordKind, Va
 use pgp_line::line::{put_called, put_end, put_text};
 use pgp_line::nesting::{end_list, put_count, put_key};
 use pgp_line::style::Style;
+use pgp_names::MapMemory;
 use pgp_trace::client_lists::put_formats;
 use pgp_trace::frame::begin_line;
 use pgp_trace::lists::put_fault;
@@ -31,7 +32,7 @@ use std::alloc::AllocError;
 /// # Errors
 ///
 /// Returns `AllocError` if there is no memory for it.
-pub fn show_frame<A: Memory>(
+pub fn show_frame<A: MapMemory>(
     style: Style,
     place: u64,
     opened: bool,
@@ -54,7 +55,7 @@ pub fn show_frame<A: Memory>(
 }
 
 /// Writes the line of a message of so many bytes anew.
-fn show_sent<A: Memory>(
+fn show_sent<A: MapMemory>(
     style: Style,
     place: u64,
     len: usize,
@@ -116,7 +117,7 @@ fn show_sent<A: Memory>(
 }
 
 /// Writes the line of a Bind.
-fn put_bind<A: Memory>(
+fn put_bind<A: MapMemory>(
     style: Style,
     place: u64,
     len: usize,
@@ -148,7 +149,7 @@ fn put_bind<A: Memory>(
 }
 
 /// Begins the line of a Bind of so many values.
-fn put_front<A: Memory>(
+fn put_front<A: MapMemory>(
     style: Style,
     place: u64,
     len: usize,
@@ -174,7 +175,7 @@ fn put_front<A: Memory>(
 
 /// Adds the values of a Bind, each under the parameter at its place.
 #[tactic(auto, using(crate::proofs::RowLemmas::each_more, crate::proofs::RowLemmas::each_end, crate::proofs::RowLemmas::each_fault))]
-fn put_each<A: Memory>(
+fn put_each<A: MapMemory>(
     style: Style,
     parameters: &[Column],
     mut values: Values<'_>,

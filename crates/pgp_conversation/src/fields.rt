@@ -9,6 +9,7 @@ use crate::column::{Column, is_binary};
 use pgp_base::{FallibleIterator, Memory};
 use pgp_frontend_read::{Formats, ParamTypes};
 use pgp_message::{Field, Fields, Parameters};
+use pgp_names::MapMemory;
 use std::alloc::AllocError;
 
 /// The columns of a description, if it doesn't break off.
@@ -17,7 +18,7 @@ use std::alloc::AllocError;
 ///
 /// Returns `AllocError` if there is no memory for them.
 #[tactic(auto, using(crate::proofs::RowLemmas::columns_more, crate::proofs::RowLemmas::columns_end, crate::proofs::RowLemmas::columns_cut))]
-pub fn columns_of<A: Memory>(
+pub fn columns_of<A: MapMemory>(
     alloc: A,
     mut fields: Fields<'_>,
 ) -> Result<Option<Vec<Column, A>>, AllocError>
@@ -48,7 +49,7 @@ fn column_of(field: &Field<'_>) -> Column
 /// # Errors
 ///
 /// Returns `AllocError` if there is no memory for them.
-pub fn binaries_of<A: Memory>(
+pub fn binaries_of<A: MapMemory>(
     alloc: A,
     mut formats: Formats<'_>,
 ) -> Result<Vec<bool, A>, AllocError>
@@ -77,7 +78,7 @@ fn parameter(oid: u32) -> Column
 /// # Errors
 ///
 /// Returns `AllocError` if there is no memory for them.
-pub fn given_types<A: Memory>(
+pub fn given_types<A: MapMemory>(
     alloc: A,
     mut types: ParamTypes<'_>,
 ) -> Result<Vec<Column, A>, AllocError>
@@ -100,7 +101,7 @@ pub fn given_types<A: Memory>(
 ///
 /// Returns `AllocError` if there is no memory for them.
 #[tactic(auto, using(crate::proofs::RowLemmas::parameters_more, crate::proofs::RowLemmas::parameters_end, crate::proofs::RowLemmas::parameters_cut))]
-pub fn described_types<A: Memory>(
+pub fn described_types<A: MapMemory>(
     alloc: A,
     mut types: Parameters<'_>,
 ) -> Result<Option<Vec<Column, A>>, AllocError>

@@ -19,13 +19,14 @@ use bytes::BytesMut;
 use pgp_base::Memory;
 use pgp_line::line::{put_called, put_end};
 use pgp_line::style::Style;
+use pgp_names::MapMemory;
 use pgp_trace::frame::{Next, begin_line, front_of};
 use pgp_trace::view::{View, add_shown};
 use std::alloc::AllocError;
 
 /// Memory for the texts of a listing.
 #[derive(Drop)]
-pub struct Texts<A: Memory> {
+pub struct Texts<A: MapMemory> {
     /// The time of a chunk.
     pub time: String<A>,
     /// The mark of its messages.
@@ -43,7 +44,7 @@ pub struct Texts<A: Memory> {
 }
 
 /// Memory for texts, of which none is written.
-pub fn no_texts<A: Memory>(alloc: A) -> Texts<A>
+pub fn no_texts<A: MapMemory>(alloc: A) -> Texts<A>
     ensures time { string_bytes result.time ≡ [] }
     ensures mark { string_bytes result.mark ≡ [] }
     ensures word { string_bytes result.word ≡ [] }
@@ -70,7 +71,7 @@ pub fn no_texts<A: Memory>(alloc: A) -> Texts<A>
 /// # Errors
 ///
 /// Returns `AllocError` if there is no memory for them.
-pub fn list_frames<A: Memory>(
+pub fn list_frames<A: MapMemory>(
     view: View<'_>,
     sender: Sender,
     place: u64,
@@ -97,7 +98,7 @@ pub fn list_frames<A: Memory>(
 }
 
 /// Adds the line of the frame that stands first. Returns what stands after it.
-fn list_next<'b, A: Memory>(
+fn list_next<'b, A: MapMemory>(
     view: View<'_>,
     sender: Sender,
     place: u64,
@@ -140,7 +141,7 @@ fn list_next<'b, A: Memory>(
 }
 
 /// Adds a line with this name, whose mark says this of requests; an answer under the name of the request for encryption that it belongs to.
-fn list_line<A: Memory>(
+fn list_line<A: MapMemory>(
     view: View<'_>,
     place: u64,
     name: &str,
@@ -209,7 +210,7 @@ fn answer_to(request: Encryption) -> &'static str
 }
 
 /// Writes the line of an answer anew, where it is known to which request it belongs.
-fn reline<A: Memory>(
+fn reline<A: MapMemory>(
     style: Style,
     place: u64,
     requests: &[Encryption],
@@ -226,7 +227,7 @@ fn reline<A: Memory>(
 }
 
 /// The same, where this is the first of them.
-fn reline_after<A: Memory>(
+fn reline_after<A: MapMemory>(
     style: Style,
     place: u64,
     first: Encryption,
@@ -244,7 +245,7 @@ fn reline_after<A: Memory>(
 }
 
 /// Writes the line of the answer to a request.
-fn answer_line<A: Memory>(
+fn answer_line<A: MapMemory>(
     style: Style,
     place: u64,
     request: Encryption,

@@ -15,6 +15,7 @@ use bytes::BytesMut;
 use pgp_base::Memory;
 use pgp_line::style::Style;
 use pgp_message::{Message, Messages, ParameterDescriptionBody, RowDescriptionBody};
+use pgp_names::MapMemory;
 use std::alloc::AllocError;
 
 /// Takes note of a server's frame that answers the request of this number, and writes the line of a row anew where its types are known.
@@ -22,7 +23,7 @@ use std::alloc::AllocError;
 /// # Errors
 ///
 /// Returns `AllocError` if there is no memory for it.
-pub fn hear_frame<A: Memory>(
+pub fn hear_frame<A: MapMemory>(
     style: Style,
     place: u64,
     number: u64,
@@ -56,7 +57,7 @@ pub fn hear_frame<A: Memory>(
 }
 
 /// Takes note of a message of so many bytes.
-fn hear<A: Memory>(
+fn hear<A: MapMemory>(
     style: Style,
     place: u64,
     len: usize,
@@ -76,7 +77,7 @@ fn hear<A: Memory>(
 }
 
 /// Takes note of what a message tells of types.
-fn learn<A: Memory>(
+fn learn<A: MapMemory>(
     number: u64,
     message: &Message<&[u8]>,
     types: &mut Types<A>,
@@ -102,7 +103,7 @@ fn learn<A: Memory>(
 }
 
 /// The object of a request has the columns that are described.
-fn describe_row<A: Memory>(
+fn describe_row<A: MapMemory>(
     number: u64,
     row: &RowDescriptionBody<&[u8]>,
     types: &mut Types<A>,
@@ -118,7 +119,7 @@ fn describe_row<A: Memory>(
 }
 
 /// The statement of a request has the parameters that are described.
-fn tell_types<A: Memory>(
+fn tell_types<A: MapMemory>(
     number: u64,
     row: &ParameterDescriptionBody<&[u8]>,
     types: &mut Types<A>,
@@ -134,7 +135,7 @@ fn tell_types<A: Memory>(
 }
 
 /// Writes the line of a row anew.
-fn show<A: Memory>(
+fn show<A: MapMemory>(
     style: Style,
     place: u64,
     len: usize,

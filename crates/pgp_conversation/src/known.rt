@@ -14,6 +14,7 @@ use crate::types::Types;
 use pgp_base::Memory;
 use pgp_frontend_read::PasswordKind;
 use pgp_line::style::Style;
+use pgp_names::MapMemory;
 use pgp_trace::answer::first_line;
 use pgp_trace::client::client_line;
 use pgp_trace::frame::{Next, server_line};
@@ -23,7 +24,7 @@ use std::alloc::AllocError;
 
 /// What is known of both sides.
 #[derive(Drop)]
-pub struct Known<A: Memory> {
+pub struct Known<A: MapMemory> {
     /// Whether a startup packet of the client came.
     pub opened: bool,
     /// Which its next messages of tag `p` are.
@@ -41,7 +42,7 @@ pub struct Known<A: Memory> {
 }
 
 /// Before a connection's first byte.
-pub fn at_first<A: Memory>(alloc: A, marking: Marking) -> Known<A>
+pub fn at_first<A: MapMemory>(alloc: A, marking: Marking) -> Known<A>
     ensures { known_of result ≡ at_first marking }
 {
     Known {
@@ -67,7 +68,7 @@ fn counts(marking: Marking) -> bool
 /// # Errors
 ///
 /// Returns `AllocError` if there is no memory for the line.
-pub fn next_line<'b, A: Memory>(
+pub fn next_line<'b, A: MapMemory>(
     style: Style,
     sender: Sender,
     place: u64,
@@ -84,7 +85,7 @@ pub fn next_line<'b, A: Memory>(
     }
 }
 
-fn next_of_client<'b, A: Memory>(
+fn next_of_client<'b, A: MapMemory>(
     style: Style,
     place: u64,
     bytes: &'b [u8],
@@ -110,7 +111,7 @@ fn next_of_client<'b, A: Memory>(
 }
 
 /// Lets the first kind go, where fewer are left.
-fn keep_last<A: Memory>(left: usize, kinds: &mut Vec<PasswordKind, A>)
+fn keep_last<A: MapMemory>(left: usize, kinds: &mut Vec<PasswordKind, A>)
     ensures { kinds.new.items ≡ (if nat_lt left (vec_len kinds.old) then drop 1 kinds.old.items else kinds.old.items) }
 {
     if left < kinds.len() {
@@ -118,7 +119,7 @@ fn keep_last<A: Memory>(left: usize, kinds: &mut Vec<PasswordKind, A>)
     }
 }
 
-fn next_of_server<'b, A: Memory>(
+fn next_of_server<'b, A: MapMemory>(
     style: Style,
     place: u64,
     bytes: &'b [u8],
@@ -141,7 +142,7 @@ fn next_of_server<'b, A: Memory>(
 }
 
 /// The same where messages follow one another, in a replication stream or not.
-fn next_message<'b, A: Memory>(
+fn next_message<'b, A: MapMemory>(
     style: Style,
     place: u64,
     replicating: bool,
@@ -173,7 +174,7 @@ pub fn is_replicating(phase: Phase) -> bool
 /// # Errors
 ///
 /// Returns `AllocError` if there is no memory for it.
-pub fn note<A: Memory>(noted: Noted, known: &mut Known<A>) -> Result<(), AllocError>
+pub fn note<A: MapMemory>(noted: Noted, known: &mut Known<A>) -> Result<(), AllocError>
     ensures noted { OnOk result (known_of known.new ≡ note noted (known_of known.old)) }
     ensures lacks { OnErr result A.Lacks }
 {
@@ -195,7 +196,7 @@ pub fn note<A: Memory>(noted: Noted, known: &mut Known<A>) -> Result<(), AllocEr
 }
 
 /// Lets the first request go.
-fn drop_first<A: Memory>(requests: &mut Vec<Encryption, A>)
+fn drop_first<A: MapMemory>(requests: &mut Vec<Encryption, A>)
     ensures { requests.new.items ≡ drop 1 requests.old.items }
 {
     if !requests.is_empty() {

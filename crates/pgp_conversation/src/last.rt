@@ -17,6 +17,7 @@ use crate::told::{Told, told_by};
 use crate::word::put_word;
 use pgp_base::Memory;
 use pgp_line::line::add_line;
+use pgp_names::MapMemory;
 use pgp_trace::stream::put_rest;
 use pgp_trace::view::View;
 use std::alloc::AllocError;
@@ -26,7 +27,7 @@ use std::alloc::AllocError;
 /// # Errors
 ///
 /// Returns `AllocError` if there is no memory for it.
-pub fn add_end<A: Memory>(
+pub fn add_end<A: MapMemory>(
     view: View<'_>,
     talk: &Talk<A>,
     texts: &mut Texts<A>,
@@ -41,7 +42,7 @@ pub fn add_end<A: Memory>(
 }
 
 /// Adds the last lines of both sides.
-fn add_both<A: Memory>(
+fn add_both<A: MapMemory>(
     view: View<'_>,
     talk: &Talk<A>,
     texts: &mut Texts<A>,
@@ -61,7 +62,7 @@ fn add_both<A: Memory>(
 /// # Errors
 ///
 /// Returns `AllocError` if there is no memory for it.
-fn add_last<A: Memory>(
+fn add_last<A: MapMemory>(
     view: View<'_>,
     told: Option<Told>,
     sender: Sender,

@@ -8,6 +8,7 @@ use crate::chunk::Sender;
 use pgp_base::Memory;
 use pgp_line::line::add_line;
 use pgp_line::style::Form;
+use pgp_names::MapMemory;
 use std::alloc::AllocError;
 
 /// How many characters a time takes.
@@ -18,7 +19,7 @@ const WIDTH: usize = 12;
 /// # Errors
 ///
 /// Returns `AllocError` if there is no memory for it.
-pub fn put_mark<A: Memory>(
+pub fn put_mark<A: MapMemory>(
     form: Form,
     sender: Sender,
     start: u64,
@@ -40,7 +41,11 @@ pub fn put_mark<A: Memory>(
 /// # Errors
 ///
 /// Returns `AllocError` if there is no memory for them.
-pub fn put_since<A: Memory>(start: u64, micros: u64, text: &mut String<A>) -> Result<(), AllocError>
+pub fn put_since<A: MapMemory>(
+    start: u64,
+    micros: u64,
+    text: &mut String<A>,
+) -> Result<(), AllocError>
     ensures text { OnOk result (string_bytes text.new ≡ string_bytes text.old ++ since start micros) }
     ensures lacks { OnErr result A.Lacks }
 {
@@ -58,7 +63,7 @@ pub fn put_since<A: Memory>(start: u64, micros: u64, text: &mut String<A>) -> Re
 ///
 /// Returns `AllocError` if there is no memory for them.
 #[tactic(auto, unfolding(crate::specs::Marks::number))]
-pub fn put_number<A: Memory>(n: u64, text: &mut String<A>) -> Result<(), AllocError>
+pub fn put_number<A: MapMemory>(n: u64, text: &mut String<A>) -> Result<(), AllocError>
     ensures text { OnOk result (string_bytes text.new ≡ string_bytes text.old ++ number n) }
     ensures lacks { OnErr result A.Lacks }
 {
@@ -73,7 +78,7 @@ pub fn put_number<A: Memory>(n: u64, text: &mut String<A>) -> Result<(), AllocEr
 }
 
 /// Adds a mark with this time.
-fn put_time<A: Memory>(
+fn put_time<A: MapMemory>(
     form: Form,
     sender: Sender,
     time: &str,
@@ -101,7 +106,7 @@ fn put_time<A: Memory>(
 /// # Errors
 ///
 /// Returns `AllocError` if there is no memory for it.
-pub fn put_last_mark<A: Memory>(
+pub fn put_last_mark<A: MapMemory>(
     form: Form,
     sender: Sender,
     text: &mut String<A>,
@@ -141,7 +146,7 @@ fn member_of(sender: Sender) -> &'static str
 /// # Errors
 ///
 /// Returns `AllocError` if there is no memory for them.
-pub fn put_blanks<A: Memory>(len: usize, text: &mut String<A>) -> Result<(), AllocError>
+pub fn put_blanks<A: MapMemory>(len: usize, text: &mut String<A>) -> Result<(), AllocError>
     ensures text { OnOk result (string_bytes text.new ≡ string_bytes text.old ++ blanks len) }
     ensures lacks { OnErr result A.Lacks }
 {
@@ -156,7 +161,7 @@ pub fn put_blanks<A: Memory>(len: usize, text: &mut String<A>) -> Result<(), All
 /// # Errors
 ///
 /// Returns `AllocError` if there is no memory for it.
-pub fn put_marked<A: Memory>(
+pub fn put_marked<A: MapMemory>(
     form: Form,
     mark: &str,
     line: &str,
@@ -173,7 +178,7 @@ pub fn put_marked<A: Memory>(
 }
 
 /// Adds one text after the other.
-fn put_both<A: Memory>(mark: &str, line: &str, text: &mut String<A>) -> Result<(), AllocError>
+fn put_both<A: MapMemory>(mark: &str, line: &str, text: &mut String<A>) -> Result<(), AllocError>
     ensures text { OnOk result (string_bytes text.new ≡ string_bytes text.old ++ mark.now ++ line.now) }
     ensures lacks { OnErr result A.Lacks }
 {
@@ -182,7 +187,7 @@ fn put_both<A: Memory>(mark: &str, line: &str, text: &mut String<A>) -> Result<(
 }
 
 /// Adds an object with the members of a mark first.
-fn put_inside<A: Memory>(mark: &str, line: &str, text: &mut String<A>) -> Result<(), AllocError>
+fn put_inside<A: MapMemory>(mark: &str, line: &str, text: &mut String<A>) -> Result<(), AllocError>
     ensures text { OnOk result (string_bytes text.new ≡ string_bytes text.old ++ marked Form.Json mark.now line.now) }
     ensures lacks { OnErr result A.Lacks }
 {

@@ -11,13 +11,14 @@ use crate::role::{Role, role_of};
 use crate::told::Told;
 use pgp_base::Memory;
 use pgp_client::{Asked, Dialogue, Event, Kind, Request};
+use pgp_names::MapMemory;
 use pgp_summary::Summary;
 use std::alloc::AllocError;
 use std::collections::VecDeque;
 
 /// What is known of the client's requests.
 #[derive(Drop)]
-pub struct Numbers<A: Memory> {
+pub struct Numbers<A: MapMemory> {
     /// Which of the server's messages belongs to which of them; nothing from the first message on that has no place there.
     pub dialogue: Option<Dialogue<VecDeque<Asked, A>>>,
     /// When each was sent, in microseconds: 8 bytes a request, as long as the recording is read.
@@ -29,7 +30,7 @@ pub struct Numbers<A: Memory> {
 }
 
 /// Before the first request, where requests are numbered.
-pub fn first_numbers<A: Memory>(alloc: A, numbered: bool, summed: bool) -> Option<Numbers<A>>
+pub fn first_numbers<A: MapMemory>(alloc: A, numbered: bool, summed: bool) -> Option<Numbers<A>>
     ensures { numbers_in result ≡ first_numbers numbered summed }
 {
     if numbered {
@@ -40,7 +41,7 @@ pub fn first_numbers<A: Memory>(alloc: A, numbered: bool, summed: bool) -> Optio
 }
 
 /// Before the first request.
-fn no_numbers<A: Memory>(alloc: A, summed: bool) -> Numbers<A>
+fn no_numbers<A: MapMemory>(alloc: A, summed: bool) -> Numbers<A>
     ensures { numbers_of result ≡ no_numbers summed }
 {
     Numbers {
@@ -52,7 +53,7 @@ fn no_numbers<A: Memory>(alloc: A, summed: bool) -> Numbers<A>
 }
 
 /// Before the first request, where a summary is asked for.
-fn first_summary<A: Memory>(alloc: A, summed: bool) -> Option<Summary<A>>
+fn first_summary<A: MapMemory>(alloc: A, summed: bool) -> Option<Summary<A>>
     ensures { result ≡ first_summary summed }
 {
     if summed {
@@ -63,7 +64,7 @@ fn first_summary<A: Memory>(alloc: A, summed: bool) -> Option<Summary<A>>
 }
 
 /// A chunk came at this time.
-pub fn set_time<A: Memory>(micros: u64, numbers: &mut Option<Numbers<A>>)
+pub fn set_time<A: MapMemory>(micros: u64, numbers: &mut Option<Numbers<A>>)
     ensures { numbers_in numbers.new ≡ at_time micros (numbers_in numbers.old) }
 {
     match numbers {
@@ -73,7 +74,7 @@ pub fn set_time<A: Memory>(micros: u64, numbers: &mut Option<Numbers<A>>)
 }
 
 /// What the mark of a line says of requests that is no message's: nothing, where requests are numbered.
-pub fn unnumbered<A: Memory>(numbers: &Option<Numbers<A>>) -> Option<Told>
+pub fn unnumbered<A: MapMemory>(numbers: &Option<Numbers<A>>) -> Option<Told>
     ensures { result ≡ unnumbered (numbers_in numbers.now) }
 {
     match numbers {
@@ -83,7 +84,7 @@ pub fn unnumbered<A: Memory>(numbers: &Option<Numbers<A>>) -> Option<Told>
 }
 
 /// What the requests ran, where that is known.
-pub fn summary_of<A: Memory>(numbers: &Option<Numbers<A>>) -> Option<&Summary<A>>
+pub fn summary_of<A: MapMemory>(numbers: &Option<Numbers<A>>) -> Option<&Summary<A>>
     ensures { option_map (λ summary. summary.now) result ≡ summary_in (numbers_in numbers.now) }
 {
     match numbers {
@@ -98,7 +99,7 @@ pub fn summary_of<A: Memory>(numbers: &Option<Numbers<A>>) -> Option<&Summary<A>
 /// # Errors
 ///
 /// Returns `AllocError` if there is no memory for one more request.
-pub fn tell_frame<A: Memory>(
+pub fn tell_frame<A: MapMemory>(
     sender: Sender,
     opened: bool,
     name: &str,
@@ -118,7 +119,7 @@ pub fn tell_frame<A: Memory>(
 }
 
 /// Takes note of a frame. Returns what its mark says of requests.
-fn tell<A: Memory>(role: Role, numbers: &mut Numbers<A>) -> Result<Told, AllocError>
+fn tell<A: MapMemory>(role: Role, numbers: &mut Numbers<A>) -> Result<Told, AllocError>
     ensures told { IfOk result (λ told. tell role (numbers_of numbers.old) ≡ (told, numbers_of numbers.new)) }
     ensures lacks { OnErr result A.Lacks }
 {
@@ -134,7 +135,7 @@ fn tell<A: Memory>(role: Role, numbers: &mut Numbers<A>) -> Result<Told, AllocEr
 }
 
 /// Takes note of a request, under the next number.
-fn ask<A: Memory>(request: Request, numbers: &mut Numbers<A>) -> Result<Told, AllocError>
+fn ask<A: MapMemory>(request: Request, numbers: &mut Numbers<A>) -> Result<Told, AllocError>
     ensures told { IfOk result (λ told. tell (Role.Request request) (numbers_of numbers.old) ≡ (told, numbers_of numbers.new)) }
     ensures lacks { OnErr result A.Lacks }
 {
@@ -146,7 +147,7 @@ fn ask<A: Memory>(request: Request, numbers: &mut Numbers<A>) -> Result<Told, Al
 }
 
 /// Has the dialogue take note of a request, as long as there is one.
-fn put_asked<A: Memory>(
+fn put_asked<A: MapMemory>(
     request: Request,
     number: u64,
     dialogue: &mut Option<Dialogue<VecDeque<Asked, A>>>,
@@ -164,7 +165,7 @@ fn put_asked<A: Memory>(
 }
 
 /// Takes a server's message of this kind. Returns what its mark says of requests.
-fn hear<A: Memory>(kind: Kind, numbers: &mut Numbers<A>) -> Told
+fn hear<A: MapMemory>(kind: Kind, numbers: &mut Numbers<A>) -> Told
     ensures { tell (Role.Message kind) (numbers_of numbers.old) ≡ (result, numbers_of numbers.new) }
 {
     let event = take(kind, &mut numbers.dialogue);
@@ -172,7 +173,10 @@ fn hear<A: Memory>(kind: Kind, numbers: &mut Numbers<A>) -> Told
 }
 
 /// To which request a message of this kind belongs, as long as each has its place.
-fn take<A: Memory>(kind: Kind, dialogue: &mut Option<Dialogue<VecDeque<Asked, A>>>) -> Option<Event>
+fn take<A: MapMemory>(
+    kind: Kind,
+    dialogue: &mut Option<Dialogue<VecDeque<Asked, A>>>,
+) -> Option<Event>
     ensures { place kind (talk_in dialogue.old) ≡ (result, talk_in dialogue.new) }
 {
     match dialogue {

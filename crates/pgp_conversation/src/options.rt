@@ -6,6 +6,7 @@ ghost use Rattle.pgp_conversation.specs.Chosen.{Sets, flags_of, settings_view};
 
 use crate::marking::Marking;
 use pgp_base::Memory;
+use pgp_names::MapMemory;
 use pgp_trace::options::{Choice, Options, choose, first_choice, len};
 use std::alloc::AllocError;
 
@@ -34,7 +35,7 @@ pub enum Setting<'a> {
 
 /// What the options come to.
 #[derive(Drop)]
-pub struct Settings<'a, A: Memory> {
+pub struct Settings<'a, A: MapMemory> {
     pub options: Options<'a, A>,
     /// What the marks of the listing say.
     pub marking: Marking,
@@ -45,7 +46,7 @@ pub struct Settings<'a, A: Memory> {
 /// # Errors
 ///
 /// Returns `AllocError` if there is no memory for the names.
-pub fn settings_of<'a, A: Memory>(
+pub fn settings_of<'a, A: MapMemory>(
     alloc: A,
     terminal: bool,
     words: &[&'a str],
@@ -84,7 +85,7 @@ pub fn settings_of<'a, A: Memory>(
 }
 
 /// Adds an option.
-fn set<'a, A: Memory>(
+fn set<'a, A: MapMemory>(
     terminal: bool,
     setting: Setting<'a>,
     settings: &mut Settings<'a, A>,

@@ -15,6 +15,7 @@ use pgp_line::line::{put_called, put_end};
 use pgp_line::nesting::{end_list, put_count, put_key};
 use pgp_line::style::Style;
 use pgp_message::{DataRowBody, DataRowRanges};
+use pgp_names::MapMemory;
 use pgp_trace::frame::begin_line;
 use pgp_trace::lists::put_fault;
 use std::alloc::AllocError;
@@ -26,7 +27,7 @@ use std::ops::Range;
 /// # Errors
 ///
 /// Returns `AllocError` if there is no memory for it.
-pub fn type_row<A: Memory>(
+pub fn type_row<A: MapMemory>(
     style: Style,
     place: u64,
     len: usize,
@@ -72,7 +73,7 @@ pub fn has_binary(columns: &[Column]) -> bool
 }
 
 /// Writes the line of a row.
-fn put_row<A: Memory>(
+fn put_row<A: MapMemory>(
     style: Style,
     place: u64,
     len: usize,
@@ -95,7 +96,7 @@ fn put_row<A: Memory>(
 
 /// Adds the values of a row, each under the column at its place.
 #[tactic(auto, using(crate::proofs::RowLemmas::values_more, crate::proofs::RowLemmas::values_end, crate::proofs::RowLemmas::values_fault))]
-fn put_values<A: Memory>(
+fn put_values<A: MapMemory>(
     style: Style,
     columns: &[Column],
     buffer: &[u8],
@@ -144,7 +145,7 @@ pub fn behind_first(columns: &[Column]) -> &[Column]
 }
 
 /// Adds the value at a place, under the first of these columns.
-fn put_next<A: Memory>(
+fn put_next<A: MapMemory>(
     style: Style,
     columns: &[Column],
     buffer: &[u8],
@@ -160,7 +161,7 @@ fn put_next<A: Memory>(
 }
 
 /// Adds the value at a place.
-fn put_place<A: Memory>(
+fn put_place<A: MapMemory>(
     style: Style,
     column: Column,
     buffer: &[u8],

@@ -19,6 +19,7 @@ use crate::outcome::{Ended, of_outcome, tell};
 use crate::session::{Said, list_session};
 use pgp_base::Memory;
 use pgp_line::style::style_of;
+use pgp_names::MapMemory;
 use pgp_program::fault::Fault;
 use pgp_program::outcome::Outcome;
 use pgp_program::ports::{Output, Words};
@@ -30,7 +31,7 @@ use pgp_trace::view::View;
 use std::alloc::AllocError;
 
 /// How the words ask for the listing of a recording to look, if they ask for one.
-fn session_of<'a, A: Memory>(
+fn session_of<'a, A: MapMemory>(
     alloc: A,
     terminal: bool,
     words: &[&'a str],
@@ -49,7 +50,7 @@ fn session_of<'a, A: Memory>(
 }
 
 /// Lists a recording.
-fn list<A: Memory, R: Input, W: Output>(
+fn list<A: MapMemory, R: Input, W: Output>(
     alloc: A,
     view: View<'_>,
     marking: Marking,
@@ -73,7 +74,7 @@ fn list<A: Memory, R: Input, W: Output>(
 const NO_NAME: &[&str] = &[""];
 
 /// How a listing with these options looks. With a summary no line of a message is written.
-fn view_by<'a, A: Memory>(settings: &'a Settings<'_, A>) -> View<'a>
+fn view_by<'a, A: MapMemory>(settings: &'a Settings<'_, A>) -> View<'a>
     ensures { view_of result ≡ settings_view settings.now }
 {
     let options = &settings.options;
@@ -94,7 +95,7 @@ fn view_by<'a, A: Memory>(settings: &'a Settings<'_, A>) -> View<'a>
 }
 
 /// Lists a recording, and says how that ended.
-fn perform<A: Memory, R: Input, W: Output>(
+fn perform<A: MapMemory, R: Input, W: Output>(
     alloc: A,
     settings: &Settings<'_, A>,
     input: &mut R,
@@ -130,7 +131,7 @@ fn stopped(fault: Fault) -> Ended
 }
 
 /// Does what the words ask for, where a terminal shows what is written or not: a session, or what `pgp_trace` does.
-pub fn obey<A: Memory, R: Input, W: Output>(
+pub fn obey<A: MapMemory, R: Input, W: Output>(
     alloc: A,
     terminal: bool,
     words: &[&str],
@@ -153,7 +154,7 @@ pub fn obey<A: Memory, R: Input, W: Output>(
 /// Does what the words ask for, where a terminal shows what is written or not, says on `errors` what is to be said there, and returns the status.
 ///
 /// Where `errors` fails, a front of that is said.
-pub fn run<A: Memory, R: Input, W: Output, E: Output>(
+pub fn run<A: MapMemory, R: Input, W: Output, E: Output>(
     alloc: A,
     terminal: bool,
     words: &[&str],
@@ -171,7 +172,7 @@ pub fn run<A: Memory, R: Input, W: Output, E: Output>(
 }
 
 /// Does what the program's own words ask for, where there is memory for them. A word that isn't UTF-8 asks for nothing that there is.
-fn try_own<A: Memory, V: Words, R: Input, W: Output>(
+fn try_own<A: MapMemory, V: Words, R: Input, W: Output>(
     alloc: A,
     terminal: bool,
     env: &V,
@@ -195,7 +196,7 @@ fn try_own<A: Memory, V: Words, R: Input, W: Output>(
 }
 
 /// Does what the program's own words ask for.
-fn obey_own<A: Memory, V: Words, R: Input, W: Output>(
+fn obey_own<A: MapMemory, V: Words, R: Input, W: Output>(
     alloc: A,
     terminal: bool,
     env: &V,
@@ -215,7 +216,7 @@ fn obey_own<A: Memory, V: Words, R: Input, W: Output>(
 }
 
 /// Runs on the words of the process, after its name, where a terminal shows what is written or not.
-pub fn run_own<A: Memory, V: Words, R: Input, W: Output, E: Output>(
+pub fn run_own<A: MapMemory, V: Words, R: Input, W: Output, E: Output>(
     alloc: A,
     terminal: bool,
     env: &V,

@@ -24,6 +24,7 @@ use crate::marking::Marking;
 use crate::talk::{Half, Talk, list_chunk};
 use bytes::{Buf, BytesMut};
 use pgp_base::Memory;
+use pgp_names::MapMemory;
 use pgp_program::fault::Fault;
 use pgp_program::ports::Output;
 use pgp_program::print::put;
@@ -38,7 +39,7 @@ const PIECE: usize = 65536;
 
 /// What is kept of a recording.
 #[derive(Drop)]
-struct Held<A: Memory> {
+struct Held<A: MapMemory> {
     /// Whether its beginning was read.
     begun: bool,
     talk: Talk<A>,
@@ -61,7 +62,7 @@ pub struct Said {
 /// # Errors
 ///
 /// Returns `Memory` if an allocation fails, `Read` if reading fails, and `Write` if writing or a flush fails.
-pub fn list_session<A: Memory, R: Input, W: Output>(
+pub fn list_session<A: MapMemory, R: Input, W: Output>(
     alloc: A,
     view: View<'_>,
     marking: Marking,
@@ -95,7 +96,7 @@ pub fn list_session<A: Memory, R: Input, W: Output>(
 }
 
 /// Before the first byte of a recording.
-fn held_at_first<A: Memory>(alloc: A, marking: Marking) -> Held<A>
+fn held_at_first<A: MapMemory>(alloc: A, marking: Marking) -> Held<A>
     ensures begun { result.begun ≡ false }
     ensures talk { kept_of result.talk ≡ held_first (record { absolute = false; numbered = marking.numbered; summed = marking.summed; raw = marking.raw }) }
     ensures bytes { result.bytes.items ≡ [] }
@@ -109,7 +110,7 @@ fn held_at_first<A: Memory>(alloc: A, marking: Marking) -> Held<A>
 }
 
 /// Before the first chunk.
-fn talk_at_first<A: Memory>(alloc: A, marking: Marking) -> Talk<A>
+fn talk_at_first<A: MapMemory>(alloc: A, marking: Marking) -> Talk<A>
     ensures { kept_of result ≡ held_first (record { absolute = false; numbered = marking.numbered; summed = marking.summed; raw = marking.raw }) }
 {
     Talk {
@@ -120,7 +121,7 @@ fn talk_at_first<A: Memory>(alloc: A, marking: Marking) -> Talk<A>
     }
 }
 
-fn half_at_first<A: Memory>(alloc: A) -> Half<A>
+fn half_at_first<A: MapMemory>(alloc: A) -> Half<A>
     ensures { half_of result ≡ held_nothing }
 {
     Half {
@@ -139,7 +140,7 @@ fn first_start(absolute: bool) -> Option<u64>
 }
 
 /// Lists a recording, a piece at a time.
-fn list_pieces<A: Memory, R: Input, W: Output>(
+fn list_pieces<A: MapMemory, R: Input, W: Output>(
     view: View<'_>,
     marking: Marking,
     input: &mut R,
@@ -186,7 +187,7 @@ fn list_pieces<A: Memory, R: Input, W: Output>(
 }
 
 /// Lists the chunks that are whole with this piece, and has their lines passed on. Returns whether no chunk comes after them.
-fn list_piece<A: Memory, W: Output>(
+fn list_piece<A: MapMemory, W: Output>(
     view: View<'_>,
     piece: &[u8],
     held: &mut Held<A>,
@@ -216,7 +217,7 @@ fn list_piece<A: Memory, W: Output>(
 
 /// Adds the lines of the whole chunks at the front of the bytes. Returns whether the beginning of the recording was read, how many bytes they
 /// take, and whether no chunk comes after them.
-fn list_chunks<A: Memory>(
+fn list_chunks<A: MapMemory>(
     view: View<'_>,
     begun: bool,
     bytes: &[u8],
@@ -259,7 +260,7 @@ fn put_lines<W: Output>(lines: &str, output: &mut W) -> Result<(), Fault>
 }
 
 /// Writes the last lines, where no chunk comes any more. Returns what is to be said then.
-fn list_last<A: Memory, W: Output>(
+fn list_last<A: MapMemory, W: Output>(
     view: View<'_>,
     stopped: bool,
     held: &mut Held<A>,

@@ -1,60 +1,46 @@
 //! What is known under names.
 
-ghost use Rattle.std.specs.Prelude.{◌≡◌, ◌++◌, ◌∷◌, ◌<◌, [], length, IfOk, IfNone, IfSome, OnErr, OnOk};
-ghost use Rattle.std.specs.List.{remove};
+ghost use Rattle.std.specs.Prelude.{◌≡◌, IfOk, OnErr, OnOk};
 ghost use Rattle.std.specs.Option.{option_map};
-ghost use Rattle.pgp_conversation.specs.Shelves.{formatted, found, kept, shelf_of, without};
+ghost use Rattle.pgp_names.specs.Names.{found, without};
+ghost use Rattle.pgp_conversation.specs.Shelves.{formatted, kept};
 
 use crate::column::{Column, binary_at};
 use pgp_base::Memory;
-use std::alloc::AllocError;
+use pgp_names::{MapMemory, Names};
+use std::alloc::{AllocError, Allocator};
+use std::marker::Model;
 
-/// Columns under a name.
+/// Columns, or parameters.
 #[derive(Drop)]
-pub struct Shape<A: Memory> {
-    pub name: Vec<u8, A>,
-    pub columns: Vec<Column, A>,
+pub struct Columns<A: Allocator> {
+    list: Vec<Column, A>,
+}
+
+impl<A: Allocator> Model for Columns<A> {
+    ghost use Rattle.std.specs.Prelude.{List};
+    ghost use Rattle.pgp_conversation.specs.declared.column.Column.{Column};
+
+    ghost Value = { List Column };
+
+    ghost view = { λ x. x.list.items };
+}
+
+impl<A: Allocator> Columns<A> {
+    fn as_slice(&self) -> &[Column]
+        ensures { result.now ≡ self.now }
+    {
+        self.list.as_slice()
+    }
 }
 
 /// The columns under a name.
-pub fn found<'a, A: Memory>(name: &[u8], shelf: &'a [Shape<A>]) -> Option<&'a [Column]>
-    ensures { option_map (λ columns. columns.now) result ≡ found name.now (shelf_of shelf.now) }
+pub fn found<'a, A: MapMemory>(name: &[u8], shelf: &'a Names<Columns<A>, A>) -> Option<&'a [Column]>
+    ensures { option_map (λ columns. columns.now) result ≡ found name.now shelf.now }
 {
-    let mut rest = shelf;
-    'shapes: while let Some((shape, behind)) = rest.split_first() {
-        if shape.name.as_slice() == name {
-            return Some(shape.columns.as_slice());
-        }
-        rest = behind;
-    }
-    None
-}
-
-/// Where columns under a name stand.
-fn place_of<A: Memory>(name: &[u8], shelf: &[Shape<A>]) -> Option<usize>
-    ensures within { IfSome result (λ at. at < length shelf.now) }
-    ensures some { IfSome result (λ at. without name.now (shelf_of shelf.now) ≡ shelf_of (remove shelf.now at)) }
-    ensures none { IfNone result (without name.now (shelf_of shelf.now) ≡ shelf_of shelf.now) }
-{
-    let mut rest = shelf;
-    'shapes: while let Some((shape, behind)) = rest.split_first() {
-        if shape.name.as_slice() == name {
-            return Some(shelf.len() - rest.len());
-        }
-        rest = behind;
-    }
-    None
-}
-
-/// Lets the columns under a name go.
-pub fn forget<A: Memory>(name: &[u8], shelf: &mut Vec<Shape<A>, A>)
-    ensures { shelf_of shelf.new.items ≡ without name.now (shelf_of shelf.old.items) }
-{
-    match place_of(name, shelf.as_slice()) {
-        Some(at) => {
-            let _ = shelf.remove(at);
-        }
-        None => {}
+    match shelf.get(name) {
+        Some(columns) => Some(columns.as_slice()),
+        None => None,
     }
 }
 
@@ -63,35 +49,25 @@ pub fn forget<A: Memory>(name: &[u8], shelf: &mut Vec<Shape<A>, A>)
 /// # Errors
 ///
 /// Returns `AllocError` if there is no memory for them.
-pub fn keep<A: Memory>(
+pub fn keep<A: MapMemory>(
     name: &[u8],
     columns: Option<&[Column]>,
-    shelf: &mut Vec<Shape<A>, A>,
+    shelf: &mut Names<Columns<A>, A>,
 ) -> Result<(), AllocError>
-    ensures kept { OnOk result (shelf_of shelf.new.items ≡ kept name.now (option_map (λ columns. columns.now) columns.entry) (shelf_of shelf.old.items)) }
+    ensures kept { OnOk result (shelf.new ≡ kept name.now (option_map (λ columns. columns.now) columns.entry) shelf.old) }
     ensures lacks { OnErr result A.Lacks }
 {
-    forget(name, shelf);
     match columns {
-        Some(columns) => put(name, columns, shelf),
-        None => Ok(()),
+        Some(columns) => {
+            let alloc = *shelf.allocator();
+            let list = alloc.list_of(columns)?;
+            shelf.put(name, Columns { list })
+        }
+        None => {
+            shelf.forget(name);
+            Ok(())
+        }
     }
-}
-
-/// Adds columns under a name.
-fn put<A: Memory>(
-    name: &[u8],
-    columns: &[Column],
-    shelf: &mut Vec<Shape<A>, A>,
-) -> Result<(), AllocError>
-    ensures kept { OnOk result (shelf_of shelf.new.items ≡ Rattle.std.specs.Prelude.◌++◌ (shelf_of shelf.old.items) (Rattle.std.specs.Prelude.◌∷◌ (record { name = name.now; columns = columns.now }) Rattle.std.specs.Prelude.[])) }
-    ensures lacks { OnErr result A.Lacks }
-{
-    let alloc = *shelf.allocator();
-    let name = alloc.list_of(name)?;
-    let columns = alloc.list_of(columns)?;
-    A::push(shelf, Shape { name, columns })?;
-    Ok(())
 }
 
 /// The columns in these formats.
@@ -99,7 +75,7 @@ fn put<A: Memory>(
 /// # Errors
 ///
 /// Returns `AllocError` if there is no memory for them.
-pub fn formatted<A: Memory>(
+pub fn formatted<A: MapMemory>(
     alloc: A,
     formats: &[bool],
     columns: &[Column],

@@ -12,6 +12,7 @@ use crate::numbers::Numbers;
 use crate::told::Told;
 use pgp_base::Memory;
 use pgp_base::reading::string_at;
+use pgp_names::MapMemory;
 use pgp_summary::{Reply, Summary, Work};
 use std::alloc::AllocError;
 
@@ -20,7 +21,7 @@ use std::alloc::AllocError;
 /// # Errors
 ///
 /// Returns `AllocError` if there is no memory for it.
-pub fn sum_frame<A: Memory>(
+pub fn sum_frame<A: MapMemory>(
     sender: Sender,
     name: &str,
     frame: &[u8],
@@ -40,7 +41,7 @@ pub fn sum_frame<A: Memory>(
 }
 
 /// The same where the mark says this.
-fn sum_told<A: Memory>(
+fn sum_told<A: MapMemory>(
     sender: Sender,
     name: &str,
     frame: &[u8],
@@ -57,7 +58,7 @@ fn sum_told<A: Memory>(
 }
 
 /// Takes note of a frame whose mark says this.
-fn note_told<A: Memory>(
+fn note_told<A: MapMemory>(
     sender: Sender,
     name: &str,
     frame: &[u8],
@@ -77,7 +78,7 @@ fn note_told<A: Memory>(
 }
 
 /// Takes note of a request, under its number.
-fn note_request<A: Memory>(
+fn note_request<A: MapMemory>(
     sender: Sender,
     name: &str,
     frame: &[u8],
@@ -94,7 +95,7 @@ fn note_request<A: Memory>(
 }
 
 /// The same of a client's frame of this name.
-fn note_named<A: Memory>(
+fn note_named<A: MapMemory>(
     name: &str,
     frame: &[u8],
     number: u64,
@@ -123,7 +124,7 @@ fn work_named(name: &str) -> Option<Work>
 }
 
 /// Takes note of a request that does this, under its number.
-fn note_work<A: Memory>(
+fn note_work<A: MapMemory>(
     work: Work,
     frame: &[u8],
     number: u64,
@@ -159,7 +160,7 @@ fn front_text(bytes: &[u8]) -> (&[u8], &[u8])
 }
 
 /// Takes note of a message of this name that belongs to the request of this number, so many microseconds after it.
-fn note_answer<A: Memory>(
+fn note_answer<A: MapMemory>(
     name: &str,
     number: u64,
     micros: u64,
@@ -173,12 +174,16 @@ fn note_answer<A: Memory>(
             summary.row(number);
             Ok(())
         }
+        "ErrorResponse" => {
+            summary.fail(number)?;
+            summary.end(number, Reply::ExecuteEnd, micros)
+        }
         _ => note_end(reply_named(name), number, micros, summary),
     }
 }
 
 /// Takes note of what ends an answer, if it does.
-fn note_end<A: Memory>(
+fn note_end<A: MapMemory>(
     reply: Option<Reply>,
     number: u64,
     micros: u64,
@@ -203,7 +208,6 @@ fn reply_named(name: &str) -> Option<Reply>
         "CommandComplete" => Some(Reply::ExecuteEnd),
         "EmptyQueryResponse" => Some(Reply::ExecuteEnd),
         "PortalSuspended" => Some(Reply::ExecuteEnd),
-        "ErrorResponse" => Some(Reply::ExecuteEnd),
         "ReadyForQuery" => Some(Reply::ReadyForQuery),
         _ => None,
     }

@@ -1,19 +1,20 @@
 //! The table of a summary.
 
-ghost use Rattle.std.specs.Prelude.{◌≡◌, ◌++◌, ◌∷◌, [], OnErr, OnOk, decimal, string_bytes};
+ghost use Rattle.std.specs.Prelude.{◌≡◌, ◌++◌, ◌∷◌, [], slice_get, OnErr, OnOk, decimal, string_bytes};
 ghost use Rattle.std.specs.List.{flat_map};
 ghost use Rattle.pgp_conversation.specs.Marks.{millis, number};
-ghost use Rattle.pgp_conversation.specs.Tables.{cell, columns, counts, heading, members, row_by, row_of, table, times};
+ghost use Rattle.pgp_conversation.specs.Tables.{cell, columns, counts, heading, members, row_at, row_by, row_of, table, times};
 
 use crate::mark::{put_blanks, put_number};
 use crate::word::put_millis;
 use pgp_base::Memory;
 use pgp_line::quote::{put_cut_text, put_json};
 use pgp_line::style::{Form, Style};
-use pgp_summary::{Entry, Line, Summary};
+use pgp_names::MapMemory;
+use pgp_summary::{Line, Summary};
 use std::alloc::AllocError;
 
-/// How many characters a count of runs takes, and how many a count of rows, or a time.
+/// How many characters a count of runs or of errors takes, and how many a count of rows, or a time.
 const COUNT: usize = 8;
 
 const WIDTH: usize = 10;
@@ -23,7 +24,7 @@ const WIDTH: usize = 10;
 /// # Errors
 ///
 /// Returns `AllocError` if there is no memory for it.
-pub fn put_table<A: Memory>(
+pub fn put_table<A: MapMemory>(
     style: Style,
     summary: &Summary<A>,
     part: &mut String<A>,
@@ -33,42 +34,61 @@ pub fn put_table<A: Memory>(
     ensures lacks { OnErr result A.Lacks }
 {
     put_heading(style.form, text)?;
-    put_rows(style, summary.entries(), part, text)
+    put_rows(style, summary, part, text)
 }
 
 /// Adds the line above the others.
-fn put_heading<A: Memory>(form: Form, text: &mut String<A>) -> Result<(), AllocError>
+fn put_heading<A: MapMemory>(form: Form, text: &mut String<A>) -> Result<(), AllocError>
     ensures text { OnOk result (string_bytes text.new ≡ string_bytes text.old ++ heading form) }
     ensures lacks { OnErr result A.Lacks }
 {
     match form {
         Form::Columns => A::push_str(
             text,
-            "   count       rows      least     median   greatest ms\n",
+            "   count   errors       rows      total      least     median   greatest ms\n",
         ),
         Form::Json => Ok(()),
     }
 }
 
 /// Adds the lines of statements.
-fn put_rows<A: Memory>(
+fn put_rows<A: MapMemory>(
     style: Style,
-    entries: &[Entry<A>],
+    summary: &Summary<A>,
     part: &mut String<A>,
     text: &mut String<A>,
 ) -> Result<(), AllocError>
-    ensures text { OnOk result (string_bytes text.new ≡ string_bytes text.old ++ flat_map (row_of style) entries.now) }
+    ensures text { OnOk result (string_bytes text.new ≡ string_bytes text.old ++ flat_map (row_of style) summary.now.tallies) }
     ensures lacks { OnErr result A.Lacks }
 {
-    for entry in entries {
-        let line = entry.line()?;
-        put_row(style, line, entry.text(), part, text)?;
+    'rows: for place in 0..summary.len() {
+        put_place(style, summary, place, part, text)?;
     }
     Ok(())
 }
 
+/// Adds the line of the statement at this place.
+fn put_place<A: MapMemory>(
+    style: Style,
+    summary: &Summary<A>,
+    place: usize,
+    part: &mut String<A>,
+    text: &mut String<A>,
+) -> Result<(), AllocError>
+    ensures text { OnOk result (string_bytes text.new ≡ string_bytes text.old ++ row_at style (slice_get summary.now.tallies place)) }
+    ensures lacks { OnErr result A.Lacks }
+{
+    match summary.entry(place) {
+        Some(entry) => {
+            let line = entry.line()?;
+            put_row(style, line, entry.text(), part, text)
+        }
+        None => Ok(()),
+    }
+}
+
 /// Adds the line of a statement.
-fn put_row<A: Memory>(
+fn put_row<A: MapMemory>(
     style: Style,
     line: Line,
     statement: &[u8],
@@ -93,7 +113,7 @@ fn put_row<A: Memory>(
 }
 
 /// Adds counts and times in columns.
-fn put_columns<A: Memory>(
+fn put_columns<A: MapMemory>(
     line: Line,
     part: &mut String<A>,
     text: &mut String<A>,
@@ -102,14 +122,16 @@ fn put_columns<A: Memory>(
     ensures lacks { OnErr result A.Lacks }
 {
     put_count(COUNT, line.count, part, text)?;
+    put_count(COUNT, line.errors, part, text)?;
     put_count(WIDTH, line.rows, part, text)?;
+    put_time(line.total, part, text)?;
     put_time(line.least, part, text)?;
     put_time(line.median, part, text)?;
     put_time(line.greatest, part, text)
 }
 
 /// Adds a count at the right of so many characters.
-fn put_count<A: Memory>(
+fn put_count<A: MapMemory>(
     width: usize,
     n: u64,
     part: &mut String<A>,
@@ -124,7 +146,7 @@ fn put_count<A: Memory>(
 }
 
 /// Adds so many microseconds as milliseconds, at the right of their column.
-fn put_time<A: Memory>(
+fn put_time<A: MapMemory>(
     micros: u64,
     part: &mut String<A>,
     text: &mut String<A>,
@@ -138,7 +160,7 @@ fn put_time<A: Memory>(
 }
 
 /// Adds a text at the right of so many characters, and a blank.
-fn put_cell<A: Memory>(width: usize, part: &str, text: &mut String<A>) -> Result<(), AllocError>
+fn put_cell<A: MapMemory>(width: usize, part: &str, text: &mut String<A>) -> Result<(), AllocError>
     ensures text { OnOk result (string_bytes text.new ≡ string_bytes text.old ++ cell width part.now) }
     ensures lacks { OnErr result A.Lacks }
 {
@@ -148,7 +170,7 @@ fn put_cell<A: Memory>(width: usize, part: &str, text: &mut String<A>) -> Result
 }
 
 /// Adds counts and times as members of an object.
-fn put_members<A: Memory>(line: Line, text: &mut String<A>) -> Result<(), AllocError>
+fn put_members<A: MapMemory>(line: Line, text: &mut String<A>) -> Result<(), AllocError>
     ensures text { OnOk result (string_bytes text.new ≡ string_bytes text.old ++ members line) }
     ensures lacks { OnErr result A.Lacks }
 {
@@ -158,27 +180,32 @@ fn put_members<A: Memory>(line: Line, text: &mut String<A>) -> Result<(), AllocE
 }
 
 /// Adds the counts.
-fn put_counts<A: Memory>(line: Line, text: &mut String<A>) -> Result<(), AllocError>
+fn put_counts<A: MapMemory>(line: Line, text: &mut String<A>) -> Result<(), AllocError>
     ensures text { OnOk result (string_bytes text.new ≡ string_bytes text.old ++ counts line) }
     ensures lacks { OnErr result A.Lacks }
 {
     let count = line.count;
+    let errors = line.errors;
     let rows = line.rows;
-    A::push_shown(text, format_args!("{{\"count\":{count},\"rows\":{rows}"))
+    A::push_shown(
+        text,
+        format_args!("{{\"count\":{count},\"errors\":{errors},\"rows\":{rows}"),
+    )
 }
 
 /// Adds the times.
-fn put_times<A: Memory>(line: Line, text: &mut String<A>) -> Result<(), AllocError>
+fn put_times<A: MapMemory>(line: Line, text: &mut String<A>) -> Result<(), AllocError>
     ensures text { OnOk result (string_bytes text.new ≡ string_bytes text.old ++ times line) }
     ensures lacks { OnErr result A.Lacks }
 {
+    put_member(",\"total\":", line.total, text)?;
     put_member(",\"least\":", line.least, text)?;
     put_member(",\"median\":", line.median, text)?;
     put_member(",\"greatest\":", line.greatest, text)
 }
 
 /// Adds a time after its name.
-fn put_member<A: Memory>(name: &str, micros: u64, text: &mut String<A>) -> Result<(), AllocError>
+fn put_member<A: MapMemory>(name: &str, micros: u64, text: &mut String<A>) -> Result<(), AllocError>
     ensures text { OnOk result (string_bytes text.new ≡ string_bytes text.old ++ name.now ++ number micros) }
     ensures lacks { OnErr result A.Lacks }
 {

@@ -13,12 +13,13 @@ use crate::mark::put_mark;
 use crate::numbers::set_time;
 use bytes::{Buf, BytesMut};
 use pgp_base::Memory;
+use pgp_names::MapMemory;
 use pgp_trace::view::View;
 use std::alloc::AllocError;
 
 /// What is kept of what one side sent.
 #[derive(Drop)]
-pub struct Half<A: Memory> {
+pub struct Half<A: MapMemory> {
     /// The bytes that aren't listed yet.
     pub bytes: BytesMut<A>,
     /// Where they stand.
@@ -31,7 +32,7 @@ pub struct Half<A: Memory> {
 
 /// What is kept of a connection.
 #[derive(Drop)]
-pub struct Talk<A: Memory> {
+pub struct Talk<A: MapMemory> {
     pub known: Known<A>,
     pub client: Half<A>,
     pub server: Half<A>,
@@ -44,7 +45,7 @@ pub struct Talk<A: Memory> {
 /// # Errors
 ///
 /// Returns `AllocError` if there is no memory for them.
-pub fn list_chunk<A: Memory>(
+pub fn list_chunk<A: MapMemory>(
     view: View<'_>,
     chunk: Chunk<'_>,
     talk: &mut Talk<A>,
@@ -95,7 +96,7 @@ fn first_time(start: Option<u64>, micros: u64) -> u64
 }
 
 /// Adds the lines of all frames that are whole with these bytes of a side.
-fn list_bytes<A: Memory>(
+fn list_bytes<A: MapMemory>(
     view: View<'_>,
     sender: Sender,
     bytes: &[u8],

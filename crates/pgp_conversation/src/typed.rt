@@ -17,10 +17,11 @@ use bytes::BytesMut;
 use pgp_base::Memory;
 use pgp_frontend_read::PasswordKind;
 use pgp_line::style::Style;
+use pgp_names::MapMemory;
 use std::alloc::AllocError;
 
 /// Before the first frame, where values are shown as their bytes or not.
-pub fn first_types<A: Memory>(alloc: A, raw: bool) -> Option<Types<A>>
+pub fn first_types<A: MapMemory>(alloc: A, raw: bool) -> Option<Types<A>>
     ensures { types_in result ≡ first_types raw }
 {
     if raw { None } else { Some(no_types(alloc)) }
@@ -41,7 +42,7 @@ pub fn expected(kinds: &[PasswordKind]) -> PasswordKind
 /// # Errors
 ///
 /// Returns `AllocError` if there is no memory for it.
-pub fn type_frame<A: Memory>(
+pub fn type_frame<A: MapMemory>(
     style: Style,
     place: u64,
     sender: Sender,
@@ -65,7 +66,7 @@ pub fn type_frame<A: Memory>(
 }
 
 /// Takes note of a frame of which this is told.
-fn type_told<A: Memory>(
+fn type_told<A: MapMemory>(
     style: Style,
     place: u64,
     sender: Sender,
@@ -96,7 +97,7 @@ fn type_told<A: Memory>(
 }
 
 /// Takes note of a request of this number.
-fn type_request<A: Memory>(
+fn type_request<A: MapMemory>(
     style: Style,
     place: u64,
     sender: Sender,
@@ -121,7 +122,7 @@ fn type_request<A: Memory>(
 }
 
 /// Takes note of a client's frame, and writes its line anew.
-fn type_sent<A: Memory>(
+fn type_sent<A: MapMemory>(
     style: Style,
     place: u64,
     number: u64,
@@ -140,7 +141,7 @@ fn type_sent<A: Memory>(
 }
 
 /// Takes note of an answer to the request of this number.
-fn type_answer<A: Memory>(
+fn type_answer<A: MapMemory>(
     style: Style,
     place: u64,
     sender: Sender,

@@ -2,39 +2,41 @@
 
 ghost use Rattle.std.specs.Prelude.{◌≡◌, [], Some, IfOk, OnErr, OnOk};
 ghost use Rattle.std.specs.Option.{option_map};
-ghost use Rattle.pgp_conversation.specs.Shelves.{formatted, found, kept, shelf_of};
+ghost use Rattle.pgp_conversation.specs.Shelves.{formatted, kept};
+ghost use Rattle.pgp_names.specs.Names.{found, without};
 ghost use Rattle.pgp_conversation.specs.Types.{bound, closed, described, ended, first, no_types, parameters_of, parsed, parses, passed_on, reached, rows_of, statement_of, syncs, tells, told_by, waits};
 ghost use Rattle.pgp_conversation.specs.TypesKept.{awaited_of, last_of, types_of};
 
 use crate::awaited::{Awaited, Object, first, reach, wait_bound};
 use crate::column::Column;
-use crate::shelf::{Shape, forget, formatted, found, keep};
+use crate::shelf::{Columns, formatted, found, keep};
 use pgp_base::Memory;
+use pgp_names::{MapMemory, Names};
 use std::alloc::AllocError;
 use std::collections::VecDeque;
 
 /// A portal, and the statement that it was bound to.
 #[derive(Drop)]
-pub struct BoundPortal<A: Memory> {
+pub struct BoundPortal<A: MapMemory> {
     pub name: Vec<u8, A>,
     pub statement: Vec<u8, A>,
 }
 
 /// What is known of statements and portals.
 #[derive(Drop)]
-pub struct Types<A: Memory> {
+pub struct Types<A: MapMemory> {
     /// The requests about them whose answers are to come.
     pub awaited: VecDeque<Awaited<A>, A>,
     /// The columns of the statements, in text format.
-    pub statements: Vec<Shape<A>, A>,
+    pub statements: Names<Columns<A>, A>,
     /// The columns of the portals.
-    pub portals: Vec<Shape<A>, A>,
+    pub portals: Names<Columns<A>, A>,
     /// The portal that was bound last, where no statement was prepared and nothing was closed after that.
     pub last: Option<BoundPortal<A>>,
     /// The parameters of the Parses that were sent after the last Sync.
-    pub sent: Vec<Shape<A>, A>,
+    pub sent: Names<Columns<A>, A>,
     /// The parameters of statements that were told.
-    pub told: Vec<Shape<A>, A>,
+    pub told: Names<Columns<A>, A>,
     /// Those of the Bind that was sent last, in its formats.
     pub binds: Vec<Column, A>,
     /// The number of the last Parse.
@@ -42,34 +44,34 @@ pub struct Types<A: Memory> {
 }
 
 /// Before the first request.
-pub fn no_types<A: Memory>(alloc: A) -> Types<A>
+pub fn no_types<A: MapMemory>(alloc: A) -> Types<A>
     ensures { types_of result ≡ no_types }
 {
     Types {
         awaited: VecDeque::new(alloc),
-        statements: Vec::new(alloc),
-        portals: Vec::new(alloc),
+        statements: Names::new(alloc),
+        portals: Names::new(alloc),
         last: None,
-        sent: Vec::new(alloc),
-        told: Vec::new(alloc),
+        sent: Names::new(alloc),
+        told: Names::new(alloc),
         binds: Vec::new(alloc),
         parse: 0,
     }
 }
 
 /// The columns of the rows that answer a request.
-pub fn rows_of<A: Memory>(number: u64, types: &Types<A>) -> Option<&[Column]>
+pub fn rows_of<A: MapMemory>(number: u64, types: &Types<A>) -> Option<&[Column]>
     ensures { option_map (λ columns. columns.now) result ≡ rows_of (first number (types_of types.now).awaited) (types_of types.now) }
 {
     let asked = first(number, &types.awaited)?;
     match asked.object {
         Object::Statement => None,
-        Object::Portal | Object::Simple => found(asked.name.as_slice(), types.portals.as_slice()),
+        Object::Portal | Object::Simple => found(asked.name.as_slice(), &types.portals),
     }
 }
 
 /// An answer to this request comes: those to the requests before it are over.
-pub fn reach_answer<A: Memory>(number: u64, types: &mut Types<A>)
+pub fn reach_answer<A: MapMemory>(number: u64, types: &mut Types<A>)
     ensures { types_of types.new ≡ reached number (types_of types.old) }
 {
     reach(number, &mut types.awaited);
@@ -80,7 +82,7 @@ pub fn reach_answer<A: Memory>(number: u64, types: &mut Types<A>)
 /// # Errors
 ///
 /// Returns `AllocError` if there is no memory for them.
-pub fn describe<A: Memory>(
+pub fn describe<A: MapMemory>(
     number: u64,
     columns: Option<&[Column]>,
     types: &mut Types<A>,
@@ -103,13 +105,13 @@ pub fn describe<A: Memory>(
 }
 
 /// The statement of the portal of this name, if it was bound last, has these columns.
-fn pass_on<A: Memory>(
+fn pass_on<A: MapMemory>(
     name: &[u8],
     columns: Option<&[Column]>,
     last: &Option<BoundPortal<A>>,
-    statements: &mut Vec<Shape<A>, A>,
+    statements: &mut Names<Columns<A>, A>,
 ) -> Result<(), AllocError>
-    ensures kept { OnOk result (shelf_of statements.new.items ≡ passed_on (statement_of name.now (last_of last.now)) (option_map (λ columns. columns.now) columns.entry) (shelf_of statements.old.items)) }
+    ensures kept { OnOk result (statements.new ≡ passed_on (statement_of name.now (last_of last.now)) (option_map (λ columns. columns.now) columns.entry) (statements.old)) }
     ensures lacks { OnErr result A.Lacks }
 {
     match last {
@@ -129,13 +131,13 @@ fn pass_on<A: Memory>(
 /// # Errors
 ///
 /// Returns `AllocError` if there is no memory for them.
-pub fn bind<A: Memory>(number: u64, types: &mut Types<A>) -> Result<(), AllocError>
+pub fn bind<A: MapMemory>(number: u64, types: &mut Types<A>) -> Result<(), AllocError>
     ensures bound { OnOk result (types_of types.new ≡ bound (first number (types_of types.old).awaited) (types_of types.old)) }
     ensures lacks { OnErr result A.Lacks }
 {
     match first(number, &types.awaited) {
         Some(asked) => {
-            bind_to(asked, types.statements.as_slice(), &mut types.portals)?;
+            bind_to(asked, &types.statements, &mut types.portals)?;
             types.last = Some(bound_portal(asked)?);
             Ok(())
         }
@@ -144,7 +146,7 @@ pub fn bind<A: Memory>(number: u64, types: &mut Types<A>) -> Result<(), AllocErr
 }
 
 /// The portal that a Bind made.
-fn bound_portal<A: Memory>(asked: &Awaited<A>) -> Result<BoundPortal<A>, AllocError>
+fn bound_portal<A: MapMemory>(asked: &Awaited<A>) -> Result<BoundPortal<A>, AllocError>
     ensures name { IfOk result (λ portal. portal.name.items ≡ asked.now.name.items) }
     ensures statement { IfOk result (λ portal. portal.statement.items ≡ asked.now.statement.items) }
     ensures lacks { OnErr result A.Lacks }
@@ -156,12 +158,12 @@ fn bound_portal<A: Memory>(asked: &Awaited<A>) -> Result<BoundPortal<A>, AllocEr
 }
 
 /// Keeps the columns of a portal.
-fn bind_to<A: Memory>(
+fn bind_to<A: MapMemory>(
     asked: &Awaited<A>,
-    statements: &[Shape<A>],
-    portals: &mut Vec<Shape<A>, A>,
+    statements: &Names<Columns<A>, A>,
+    portals: &mut Names<Columns<A>, A>,
 ) -> Result<(), AllocError>
-    ensures bound { OnOk result (shelf_of portals.new.items ≡ kept asked.now.name.items (option_map (formatted asked.now.formats.items) (found asked.now.statement.items (shelf_of statements.now))) (shelf_of portals.old.items)) }
+    ensures bound { OnOk result (portals.new ≡ kept asked.now.name.items (option_map (formatted asked.now.formats.items) (found asked.now.statement.items statements.now)) (portals.old)) }
     ensures lacks { OnErr result A.Lacks }
 {
     let name = asked.name.as_slice();
@@ -176,7 +178,7 @@ fn bind_to<A: Memory>(
 }
 
 /// The server is ready, in this state: no portal outlives its transaction.
-pub fn end<A: Memory>(status: u8, types: &mut Types<A>)
+pub fn end<A: MapMemory>(status: u8, types: &mut Types<A>)
     ensures { types_of types.new ≡ ended status (types_of types.old) }
 {
     if status == b'I' {
@@ -190,7 +192,7 @@ pub fn end<A: Memory>(status: u8, types: &mut Types<A>)
 /// # Errors
 ///
 /// Returns `AllocError` if there is no memory for it.
-pub fn parse<A: Memory>(
+pub fn parse<A: MapMemory>(
     number: u64,
     name: &[u8],
     parameters: Vec<Column, A>,
@@ -201,7 +203,7 @@ pub fn parse<A: Memory>(
 {
     let alloc = *types.awaited.allocator();
     keep(name, Some(parameters.as_slice()), &mut types.sent)?;
-    forget(name, &mut types.told);
+    types.told.forget(name);
     types.parse = number;
     wait_bound(
         number,
@@ -215,19 +217,19 @@ pub fn parse<A: Memory>(
 }
 
 /// A Sync is sent.
-pub fn sync<A: Memory>(types: &mut Types<A>)
+pub fn sync<A: MapMemory>(types: &mut Types<A>)
     ensures { types_of types.new ≡ syncs (types_of types.old) }
 {
     types.sent.clear();
 }
 
 /// The parameters of a statement, as far as they are known to who sends a Bind now.
-pub fn parameters_of<'a, A: Memory>(name: &[u8], types: &'a Types<A>) -> &'a [Column]
+pub fn parameters_of<'a, A: MapMemory>(name: &[u8], types: &'a Types<A>) -> &'a [Column]
     ensures { result.now ≡ parameters_of name.now (types_of types.now) }
 {
-    match found(name, types.told.as_slice()) {
+    match found(name, &types.told) {
         Some(parameters) => parameters,
-        None => match found(name, types.sent.as_slice()) {
+        None => match found(name, &types.sent) {
             Some(parameters) => parameters,
             None => &[],
         },
@@ -239,7 +241,7 @@ pub fn parameters_of<'a, A: Memory>(name: &[u8], types: &'a Types<A>) -> &'a [Co
 /// # Errors
 ///
 /// Returns `AllocError` if there is no memory for them.
-pub fn tell<A: Memory>(
+pub fn tell<A: MapMemory>(
     number: u64,
     parameters: Option<&[Column]>,
     types: &mut Types<A>,
@@ -265,13 +267,13 @@ pub fn tell<A: Memory>(
 }
 
 /// Keeps the parameters of a statement.
-fn put_told<A: Memory>(
+fn put_told<A: MapMemory>(
     object: Object,
     name: &[u8],
     parameters: Option<&[Column]>,
-    told: &mut Vec<Shape<A>, A>,
+    told: &mut Names<Columns<A>, A>,
 ) -> Result<(), AllocError>
-    ensures told { OnOk result (shelf_of told.new.items ≡ told_by object name.now (option_map (λ list. list.now) parameters.entry) (shelf_of told.old.items)) }
+    ensures told { OnOk result (told.new ≡ told_by object name.now (option_map (λ list. list.now) parameters.entry) (told.old)) }
     ensures lacks { OnErr result A.Lacks }
 {
     match object {
@@ -285,7 +287,7 @@ fn put_told<A: Memory>(
 /// # Errors
 ///
 /// Returns `AllocError` if there is no memory for what it gave.
-pub fn finish<A: Memory>(number: u64, types: &mut Types<A>) -> Result<(), AllocError>
+pub fn finish<A: MapMemory>(number: u64, types: &mut Types<A>) -> Result<(), AllocError>
     ensures parsed { OnOk result (types_of types.new ≡ parsed (first number (types_of types.old).awaited) (types_of types.old)) }
     ensures lacks { OnErr result A.Lacks }
 {
@@ -313,7 +315,7 @@ pub fn finish<A: Memory>(number: u64, types: &mut Types<A>) -> Result<(), AllocE
 /// # Errors
 ///
 /// Returns `AllocError` if there is no memory.
-pub fn close<A: Memory>(number: u64, types: &mut Types<A>) -> Result<(), AllocError>
+pub fn close<A: MapMemory>(number: u64, types: &mut Types<A>) -> Result<(), AllocError>
     ensures closed { OnOk result (types_of types.new ≡ closed (first number (types_of types.old).awaited) (types_of types.old)) }
     ensures lacks { OnErr result A.Lacks }
 {

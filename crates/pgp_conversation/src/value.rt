@@ -10,8 +10,9 @@ ghost use Rattle.pgp_conversation.specs.TypedLines.{AddsBytes, AddsValue};
 use crate::column::Column;
 use bytes::BytesMut;
 use pgp_base::Memory;
-use pgp_line::line::{put_null, put_some};
+use pgp_line::line::{put_null, put_some, put_unread};
 use pgp_line::style::Style;
+use pgp_names::MapMemory;
 use pgp_value_text::put_value;
 use pgp_values::{BinaryFormat, binary_format_of};
 use std::alloc::AllocError;
@@ -21,7 +22,7 @@ use std::alloc::AllocError;
 /// # Errors
 ///
 /// Returns `AllocError` if there is no memory for it.
-pub fn put_typed<A: Memory>(
+pub fn put_typed<A: MapMemory>(
     style: Style,
     column: Column,
     value: Option<&[u8]>,
@@ -37,7 +38,7 @@ pub fn put_typed<A: Memory>(
     }
 }
 
-fn put_bytes<A: Memory>(
+fn put_bytes<A: MapMemory>(
     style: Style,
     column: Column,
     bytes: &[u8],
@@ -54,8 +55,8 @@ fn put_bytes<A: Memory>(
     }
 }
 
-/// Adds the text of bytes in binary format, or the bytes. A floating-point number may have several texts, so its bytes are added.
-fn put_binary<A: Memory>(
+/// Adds the text of bytes in binary format, or their hex digits. A floating-point number may have several texts, so its bytes are added.
+fn put_binary<A: MapMemory>(
     style: Style,
     oid: u32,
     bytes: &[u8],
@@ -66,7 +67,7 @@ fn put_binary<A: Memory>(
     ensures lacks { OnErr result A.Lacks }
 {
     if is_float(oid) {
-        put_some(style, bytes, line)
+        put_unread(style, bytes, line)
     } else {
         put_shown(style, oid, bytes, text, line)
     }
@@ -84,7 +85,7 @@ fn is_float(oid: u32) -> bool
 }
 
 /// The same of a type whose values have one text.
-fn put_shown<A: Memory>(
+fn put_shown<A: MapMemory>(
     style: Style,
     oid: u32,
     bytes: &[u8],
@@ -99,6 +100,6 @@ fn put_shown<A: Memory>(
     if put_value(oid, bytes, text)? {
         put_some(style, text.as_slice(), line)
     } else {
-        put_some(style, bytes, line)
+        put_unread(style, bytes, line)
     }
 }

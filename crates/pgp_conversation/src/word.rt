@@ -7,6 +7,7 @@ use crate::mark::{put_blanks, put_since};
 use crate::told::Told;
 use pgp_base::Memory;
 use pgp_line::style::Form;
+use pgp_names::MapMemory;
 use std::alloc::AllocError;
 
 /// How many characters a word takes.
@@ -17,7 +18,7 @@ const WIDTH: usize = 16;
 /// # Errors
 ///
 /// Returns `AllocError` if there is no memory for it.
-pub fn put_stamp<A: Memory>(
+pub fn put_stamp<A: MapMemory>(
     form: Form,
     mark: &str,
     told: Option<Told>,
@@ -33,7 +34,7 @@ pub fn put_stamp<A: Memory>(
 }
 
 /// Adds what a mark says of requests, where they are numbered.
-pub fn put_word<A: Memory>(
+pub fn put_word<A: MapMemory>(
     form: Form,
     told: Option<Told>,
     part: &mut String<A>,
@@ -48,7 +49,7 @@ pub fn put_word<A: Memory>(
     }
 }
 
-fn put_told<A: Memory>(
+fn put_told<A: MapMemory>(
     form: Form,
     told: Told,
     part: &mut String<A>,
@@ -68,7 +69,7 @@ fn put_told<A: Memory>(
 }
 
 /// Adds a text, and blanks up to the width.
-fn put_padded<A: Memory>(said: &str, text: &mut String<A>) -> Result<(), AllocError>
+fn put_padded<A: MapMemory>(said: &str, text: &mut String<A>) -> Result<(), AllocError>
     ensures text { OnOk result (string_bytes text.new ≡ string_bytes text.old ++ padded said.now) }
     ensures lacks { OnErr result A.Lacks }
 {
@@ -77,7 +78,7 @@ fn put_padded<A: Memory>(said: &str, text: &mut String<A>) -> Result<(), AllocEr
 }
 
 /// Adds it as text.
-fn put_says<A: Memory>(told: Told, text: &mut String<A>) -> Result<(), AllocError>
+fn put_says<A: MapMemory>(told: Told, text: &mut String<A>) -> Result<(), AllocError>
     ensures text { OnOk result (string_bytes text.new ≡ string_bytes text.old ++ says told) }
     ensures lacks { OnErr result A.Lacks }
 {
@@ -93,7 +94,7 @@ fn put_says<A: Memory>(told: Told, text: &mut String<A>) -> Result<(), AllocErro
 }
 
 /// Adds it as members of an object.
-fn put_members<A: Memory>(told: Told, text: &mut String<A>) -> Result<(), AllocError>
+fn put_members<A: MapMemory>(told: Told, text: &mut String<A>) -> Result<(), AllocError>
     ensures text { OnOk result (string_bytes text.new ≡ string_bytes text.old ++ members told) }
     ensures lacks { OnErr result A.Lacks }
 {
@@ -110,7 +111,7 @@ fn put_members<A: Memory>(told: Told, text: &mut String<A>) -> Result<(), AllocE
 }
 
 /// Adds the milliseconds from one time to another, with their sign.
-fn put_later<A: Memory>(sent: u64, now: u64, text: &mut String<A>) -> Result<(), AllocError>
+fn put_later<A: MapMemory>(sent: u64, now: u64, text: &mut String<A>) -> Result<(), AllocError>
     ensures text { OnOk result (string_bytes text.new ≡ string_bytes text.old ++ later sent now) }
     ensures lacks { OnErr result A.Lacks }
 {
@@ -129,7 +130,7 @@ fn put_later<A: Memory>(sent: u64, now: u64, text: &mut String<A>) -> Result<(),
 ///
 /// Returns `AllocError` if there is no memory for them.
 #[tactic(auto, unfolding(crate::specs::Marks::millis))]
-pub fn put_millis<A: Memory>(n: u64, text: &mut String<A>) -> Result<(), AllocError>
+pub fn put_millis<A: MapMemory>(n: u64, text: &mut String<A>) -> Result<(), AllocError>
     ensures text { OnOk result (string_bytes text.new ≡ string_bytes text.old ++ millis n) }
     ensures lacks { OnErr result A.Lacks }
 {

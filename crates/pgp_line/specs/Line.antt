@@ -2,7 +2,7 @@
 use Rattle.std.specs.Prelude.{ℕ, ◌-◌, ◌/◌, ◌%◌, ◌^◌, ℤ, Bool, true, false, ◌==◌, ◌||◌, if◌then◌else◌, List, [], ◌∷◌, ◌++◌, length, replicate, slice_get, Option, Some, None, codes, decimal}
 use Rattle.std.specs.Fmt.{digits, signed_decimal}
 use Rattle.std.specs.List.{flat_map}
-use Rattle.pgp_line.specs.Quoting.{escaped_byte, json_value, quoted, value, up_to}
+use Rattle.pgp_line.specs.Quoting.{digits as hex_digits, escaped_byte, json_hex, json_value, quoted, value, up_to}
 use Rattle.pgp_line.specs.Types.{type_of}
 use Rattle.pgp_line.specs.declared.style.Form.{Form}
 use Rattle.pgp_line.specs.declared.style.Form.TheVariants.{Columns, Json}
@@ -73,6 +73,8 @@ pub data Part : Type 0 where
   Text : (bytes : List ℕ) → Part
   -- a value of a row, none for a null
   Value : (bytes : Option (List ℕ)) → Part
+  -- one in binary format that isn't read
+  Binary : (bytes : List ℕ) → Part
   -- a secret of so many bytes
   Hidden : (n : ℕ) → Part
 
@@ -95,6 +97,7 @@ shown limit (Oid oid) = decimal oid ++ type_name (type_of oid)
 shown limit (Text bytes) = up_to limit (quoted Columns) bytes
 shown limit (Value None) = codes "NULL"
 shown limit (Value (Some bytes)) = value limit bytes
+shown limit (Binary bytes) = up_to limit hex_digits bytes
 shown limit (Hidden n) = codes "(" ++ decimal n ++ codes " bytes)"
 shown limit part = []
 
@@ -118,6 +121,7 @@ json limit (Oid oid) = codes "{\"oid\":" ++ decimal oid ++ json_name (type_of oi
 json limit (Text bytes) = json_value limit bytes
 json limit (Value None) = codes "null"
 json limit (Value (Some bytes)) = json_value limit bytes
+json limit (Binary bytes) = json_hex limit bytes
 json limit (Hidden n) = codes "{\"bytes\":" ++ decimal n ++ codes "}"
 
 -- before each part that a line of text shows stands a space

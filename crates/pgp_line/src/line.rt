@@ -2,11 +2,13 @@
 #![tactic(auto, unfolding(crate::specs::Line::extended))]
 
 ghost use Rattle.std.specs.Prelude.{◌≡◌, ◌∷◌, ◌++◌, [], pos, None, Some, OnErr, OnOk, codes, decimal, string_bytes};
-ghost use Rattle.pgp_line.specs.Line.{Length, Tag, Name, Refusal, Word, Number, Oid, Text, Value, Hidden, blanks, closing, followed, json_name, named, opening, right, type_name};
+ghost use Rattle.pgp_line.specs.Line.{Length, Tag, Name, Refusal, Word, Number, Oid, Text, Value, Binary, Hidden, blanks, closing, followed, json_name, named, opening, right, type_name};
 ghost use Rattle.std.specs.Option.{option_map};
 
 use crate::nesting::{put_comma, put_string};
-use crate::quote::{put_byte, put_bytes, put_cut_text, put_json, put_value};
+use crate::quote::{
+    put_byte, put_bytes, put_cut_digits, put_cut_text, put_json, put_json_hex, put_value,
+};
 use crate::style::{Form, Style};
 use crate::types::type_of;
 use pgp_base::Memory;
@@ -320,6 +322,27 @@ pub fn put_some<A: Memory>(
         Form::Json => {
             put_comma(line)?;
             put_json(style.limit, bytes, line)
+        }
+    }
+}
+
+/// Adds the hex digits of a value in binary format, up to the limit.
+pub fn put_unread<A: Memory>(
+    style: Style,
+    bytes: &[u8],
+    line: &mut String<A>,
+) -> Result<(), AllocError>
+    ensures part { OnOk result (string_bytes line.new ≡ followed style (string_bytes line.old) (Binary bytes.now ∷ [])) }
+    ensures lacks { OnErr result A.Lacks }
+{
+    match style.form {
+        Form::Columns => {
+            A::push_char(line, ' ')?;
+            put_cut_digits(style.limit, bytes, line)
+        }
+        Form::Json => {
+            put_comma(line)?;
+            put_json_hex(style.limit, bytes, line)
         }
     }
 }

@@ -50,7 +50,7 @@ pub fn put_cut_text<A: Memory>(
 
 /// Adds hex digits, up to the limit.
 #[tactic(auto, unfolding(crate::specs::Quoting::up_to))]
-fn put_cut_digits<A: Memory>(
+pub(crate) fn put_cut_digits<A: Memory>(
     limit: usize,
     bytes: &[u8],
     line: &mut String<A>,
@@ -102,7 +102,7 @@ fn put_json_text<A: Memory>(
 
 /// Adds hex digits in an object, or those of a front and how long it is.
 #[tactic(auto, unfolding(crate::specs::Quoting::json_hex))]
-fn put_json_hex<A: Memory>(
+pub(crate) fn put_json_hex<A: Memory>(
     limit: usize,
     bytes: &[u8],
     line: &mut String<A>,

@@ -1,6 +1,7 @@
 -- A client's connection: what each call makes of it.
 -- PostgreSQL manual, "Message Flow"; "SSL Session Encryption".
-use Rattle.std.specs.Prelude.{◌≡◌, ◌≢◌, ◌⊎◌, ℕ, ◌+◌, nat_lt, Bool, true, false, not, List, [], ◌∷◌, ◌++◌, drop, take, Option, Some, None, Result, Ok, Err, if◌then◌else◌, ◌==◌, ◌&&◌, ◌||◌, min, ℤ, pos, lt_z}
+use Rattle.std.specs.Prelude.{◌≡◌, ◌≢◌, ◌⊎◌, ℕ, ◌+◌, nat_lt, Bool, true, false, not, List, [], ◌∷◌, ◌++◌, drop, take, Option, Some, None, Result, Ok, Err, if◌then◌else◌, ◌==◌, ◌&&◌, ◌||◌, min, ℤ, pos}
+use Rattle.std.specs.Int.Signed.{lt_z}
 use Rattle.pgp_base.specs.declared.error.Error.{Error}
 use Rattle.pgp_base.specs.declared.error.Error.TheVariants.{OutOfMemory as NoMemory}
 use Rattle.pgp_client.specs.Kinds.{kind_of, request_of}
@@ -204,9 +205,9 @@ is_early p m = false
 abbrev pub is_status : ℕ → Bool
 is_status s = (s == 73) || (s == 84) || (s == 69)  -- I, T, E
 
-abbrev pub has_status : Message → Bool
-has_status (ReadyForQuery s) = is_status s
-has_status m = true
+abbrev pub lacks_status : Message → Bool
+lacks_status (ReadyForQuery s) = not (is_status s)
+lacks_status m = false
 
 abbrev pub is_end : Event → Bool
 is_end Ended = true
@@ -226,7 +227,7 @@ is_bulk m e = false
 pub record Took (m : Message) (old new : Shown) (e : Event) : Type 0 where
   pub taken : taken old.talk (kind_of m) ≡ Ok (e, new.talk)
   pub due : is_early old.login.phase m ≡ false
-  pub sound : has_status m ≡ true
+  pub sound : lacks_status m ≡ false
   pub kept : HasRoom most (setting_in m) old.server.settings
   pub goes_on : is_end e ≡ false
   pub logged : LoggedOn (asking m) old.login new.login old.out new.out
@@ -243,7 +244,7 @@ module _ {A : Type 0} (lacks : Type 0) where
   -- Why a message isn't taken, and what is left in this phase: it isn't attributed, so that no message is any more; or it comes before the log-in is done; or its
   -- status is none; or what it reports can't be kept; or the log-in stops at it, and is no further.
   abbrev pub IsUnfit : LoginPhase → Message → ConnectionError A → Type 0
-  IsUnfit p m e = ((is_early p m ≡ true) × (e ≡ Undue)) ⊎ ((is_early p m ≡ false) × (has_status m ≡ false) × (e ≡ BadStatus))
+  IsUnfit p m e = ((is_early p m ≡ true) × (e ≡ Undue)) ⊎ ((is_early p m ≡ false) × (lacks_status m ≡ true) × (e ≡ BadStatus))
 
   abbrev pub Stops : ConnectionPhase → Message → Shown → Shown → ConnectionError A → Type 0
   Stops phase m old new e = ((r : Refusal) × (taken old.talk (kind_of m) ≡ Err r) × (e ≡ Misplaced r) × (new.talk.stage ≡ NothingMore)

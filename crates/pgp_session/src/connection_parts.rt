@@ -8,7 +8,7 @@ ghost use Rattle.pgp_frontend.specs.Reading.{IsNamed};
 ghost use Rattle.pgp_frontend_read.specs.Views.{view as sent_view};
 ghost use Rattle.pgp_session.specs.Login.{Puts};
 ghost use Rattle.pgp_message.specs.Views.{view};
-ghost use Rattle.pgp_session.specs.Connection.{has_status, is_3_0, is_bulk, is_early, is_end, is_part, is_longer, is_status, letter, may_send, next_name};
+ghost use Rattle.pgp_session.specs.Connection.{is_3_0, is_bulk, is_early, is_end, is_part, is_longer, is_status, lacks_status, letter, may_send, next_name};
 
 use crate::scram_login::LoginPhase;
 use bytes::BytesMut;
@@ -71,13 +71,13 @@ fn is_3_0(version: i32) -> bool
     !(version < ProtocolVersion::V3_0.code() || ProtocolVersion::V3_0.code() < version)
 }
 
-/// Whether the status of a ReadyForQuery is one of the three that there are.
-pub(crate) fn has_status<S: Storage>(message: &Message<S>) -> bool
-    ensures { result ≡ has_status (view message.now) }
+/// Whether it is a ReadyForQuery whose status is none of the three that there are.
+pub(crate) fn lacks_status<S: Storage>(message: &Message<S>) -> bool
+    ensures { result ≡ lacks_status (view message.now) }
 {
     match message {
-        Message::ReadyForQuery(body) => is_status(body.status()),
-        _ => true,
+        Message::ReadyForQuery(body) => !is_status(body.status()),
+        _ => false,
     }
 }
 

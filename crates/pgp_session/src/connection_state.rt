@@ -7,7 +7,7 @@ ghost use Rattle.pgp_session.specs.Connection.{Hears, Shown, Takes, answered, be
 
 use crate::connection::ConnectionPhase;
 use crate::connection_error::ConnectionError;
-use crate::connection_parts::{has_status, is_bulk, is_early, is_end};
+use crate::connection_parts::{is_bulk, is_early, is_end, lacks_status};
 use crate::login::{Login, Ways};
 use crate::scram_login::LoginPhase;
 use crate::server_state::ServerState;
@@ -81,7 +81,7 @@ impl<'a, A: Memory> ConnectionState<'a, A> {
         if is_early(self.login.phase, message) {
             return Err(ConnectionError::Undue);
         }
-        if !has_status(message) {
+        if lacks_status(message) {
             return Err(ConnectionError::BadStatus);
         }
         match self.settings.keep(self.login.alloc, SETTINGS_MOST, message) {

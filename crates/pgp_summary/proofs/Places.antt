@@ -1,53 +1,57 @@
--- Where a name or a statement stands.
-use Rattle.std.proofs.Common.{◌≡◌, ℕ, zero, suc, ◌<◌, Bool, true, false, List, [], ◌∷◌, length, get_or, take, Some, None, refl, sym, ap, arith}
-use Rattle.std.specs.Prelude.{◌&&◌, not}
-use Rattle.std.specs.List.{list_all}
+-- One more run of a statement.
+use Rattle.std.proofs.Common.{◌≡◌, ℕ, Bool, true, false, Option, List, [], ◌∷◌, Some, None, refl, sym, ap, ◌∙◌, inl, inr}
+use Rattle.std.specs.Prelude.{if◌then◌else◌}
 use Rattle.std.specs.Str.{bytes_eq}
-use Rattle.pgp_summary.specs.Places.{StandsIn, StandsUnder}
-use Rattle.pgp_summary.specs.Runs.{Tally}
-use Rattle.pgp_summary.specs.Summary.{Text}
+use Rattle.std.proofs.lemmas.Bool.{cases_Bool}
+use Rattle.std.proofs.lemmas.Slice.Eq.{bytes_eq-Decides}
+use Rattle.pgp_names.specs.Names.{found, put}
+use Rattle.pgp_summary.specs.Places.{Ran, more_of, no_run, tallies_of, tally_of}
+use Rattle.pgp_summary.specs.Runs.{tallied}
 
--- of another name
-abbrev pub is_other : List ℕ → Text → Bool
-is_other name x = not (bytes_eq x.name name)
+not_both : (b : Bool) → b ≡ true → b ≡ false → ⊥
+not_both true e f = cc
+not_both false e f = cc
 
--- of another statement
-abbrev pub differs : List ℕ → Tally → Bool
-differs text e = not (bytes_eq e.text text)
+same_back : (x y : List ℕ) → bytes_eq x y ≡ true → bytes_eq y x ≡ true
+same_back x y e = (bytes_eq-Decides y x).1 (sym ((bytes_eq-Decides x y).0 e))
 
-first_of : (a b : Bool) → (not a && b) ≡ true → a ≡ false
-first_of true b e = sym e
-first_of false b e = refl
+differs_back : (x y : List ℕ) → bytes_eq x y ≡ false → bytes_eq y x ≡ false
+differs_back x y e =
+    elim (cases_Bool (bytes_eq y x)) [
+      | inl same ↦ absurd (not_both (bytes_eq x y) (same_back y x same) e)
+      | inr differs ↦ differs
+    ]
 
-second_of : (a b : Bool) → (not a && b) ≡ true → b ≡ true
-second_of true b e = absurd (no e)
+-- what is put twice is put the second time
+pub put_put : {V : Type 0} (name : List ℕ) (v w : V) (list : List (List ℕ × V)) → put name w (put name v list) ≡ put name w list
+put_put name v w [] = rw ((bytes_eq-Decides name name).1 refl) refl
+put_put name v w (e ∷ more) =
+    elim (cases_Bool (bytes_eq name e.0)) [
+      | inl same ↦ rw (same, same) refl
+      | inr other ↦ rw (other, other) (ap (λ l. e ∷ l) (put_put name v w more))
+    ]
+
+no_none : {V : Type 0} {v : V} → None ≡ Some v → ⊥
+no_none e = cc
+
+pub some_more : (text : List ℕ) (rows errors : ℕ) (micros : Option ℕ) (had : Ran) (list : List (List ℕ × Ran)) → found text list ≡ Some had
+    → tallies_of (put text (more_of rows errors micros had) list) ≡ tallied (record { text = text; rows = rows; micros = micros; errors = errors }) (tallies_of list)
+some_more text rows errors micros had [] is = absurd (no_none is)
+some_more text rows errors micros had (e ∷ more) is =
+    elim (cases_Bool (bytes_eq text e.0)) [
+      | inl same ↦ (let x : e.1 ≡ had = here (ap (λ b. if b then Some e.1 else found text more) (sym same) ∙ is) in
+          rw (same, same_back text e.0 same) (ap (λ (r : Ran). tally_of (e.0, more_of rows errors micros r) ∷ tallies_of more) (sym x)))
+      | inr other ↦ rw (other, differs_back text e.0 other) (ap (λ l. tally_of e ∷ l) (some_more text rows errors micros had more (ap (λ b. if b then Some e.1 else found text more) (sym other) ∙ is)))
+    ]
   where
-    no : false ≡ true → ⊥
-    no e = cc
-second_of false b e = e
+    here : {x y : Ran} → Some x ≡ Some y → x ≡ y
+    here e = cc
 
-pub stands : (name : List ℕ) (list : List Text) (i : ℕ) (d : Text) → i < length list → list_all (is_other name) (take i list) ≡ true → bytes_eq (get_or list i d).name name ≡ true → StandsUnder name list (Some i)
-stands name [] i d lt others same = absurd (omega (arith, lt))
-stands name (x ∷ list) zero d lt others same = rw same (omega arith, λ e. refl, λ text. refl)
-stands name (x ∷ list) (suc i) d lt others same =
-    let rest = stands name list i d (omega (arith, lt)) (second_of (bytes_eq x.name name) (list_all (is_other name) (take i list)) others) same in
-    rw (first_of (bytes_eq x.name name) (list_all (is_other name) (take i list)) others) (omega (arith, rest.0), rest.1, λ text. ap (λ l. x ∷ l) (rest.2 text))
-
-pub none_stands : (name : List ℕ) (list : List Text) → list_all (is_other name) list ≡ true → StandsUnder name list None
-none_stands name [] others = (refl, λ text. refl)
-none_stands name (x ∷ list) others =
-    let rest = none_stands name list (second_of (bytes_eq x.name name) (list_all (is_other name) list) others) in
-    rw (first_of (bytes_eq x.name name) (list_all (is_other name) list) others) (rest.0, λ text. ap (λ l. x ∷ l) (rest.1 text))
-
-pub ran_at : (text : List ℕ) (list : List Tally) (i : ℕ) (d : Tally) → i < length list → list_all (differs text) (take i list) ≡ true → bytes_eq (get_or list i d).text text ≡ true → StandsIn text list (Some i)
-ran_at text [] i d lt others same = absurd (omega (arith, lt))
-ran_at text (e ∷ list) zero d lt others same = rw same (omega arith, λ other rows micros. refl)
-ran_at text (e ∷ list) (suc i) d lt others same =
-    let rest = ran_at text list i d (omega (arith, lt)) (second_of (bytes_eq e.text text) (list_all (differs text) (take i list)) others) same in
-    rw (first_of (bytes_eq e.text text) (list_all (differs text) (take i list)) others) (omega (arith, rest.0), λ other rows micros. ap (λ l. e ∷ l) (rest.1 other rows micros))
-
-pub ran_never : (text : List ℕ) (list : List Tally) → list_all (differs text) list ≡ true → StandsIn text list None
-ran_never text [] others = λ rows micros. refl
-ran_never text (e ∷ list) others =
-    let rest = ran_never text list (second_of (bytes_eq e.text text) (list_all (differs text) list) others) in
-    rw (first_of (bytes_eq e.text text) (list_all (differs text) list) others) (λ rows micros. ap (λ l. e ∷ l) (rest rows micros))
+pub none_more : (text : List ℕ) (rows errors : ℕ) (micros : Option ℕ) (list : List (List ℕ × Ran)) → found text list ≡ None
+    → tallies_of (put text (more_of rows errors micros no_run) list) ≡ tallied (record { text = text; rows = rows; micros = micros; errors = errors }) (tallies_of list)
+none_more text rows errors micros [] is = refl
+none_more text rows errors micros (e ∷ more) is =
+    elim (cases_Bool (bytes_eq text e.0)) [
+      | inl same ↦ absurd (no_none (sym (ap (λ b. if b then Some e.1 else found text more) (sym same) ∙ is)))
+      | inr other ↦ rw (other, differs_back text e.0 other) (ap (λ l. tally_of e ∷ l) (none_more text rows errors micros more (ap (λ b. if b then Some e.1 else found text more) (sym other) ∙ is)))
+    ]

@@ -1,11 +1,12 @@
 -- Each run is tallied, among those of its statement.
-use Rattle.std.proofs.Common.{◌≡◌, ℕ, ◌+◌, ◌<◌, ◌^◌, ◌-◌, Bool, true, false, List, [], ◌∷◌, ◌++◌, min, Option, Some, None, refl, sym, ap, arith, ◌∙◌, inl, inr, append_assoc}
+use Rattle.std.proofs.Common.{◌≡◌, ℕ, ◌+◌, ◌^◌, ◌-◌, Bool, true, false, List, [], ◌∷◌, ◌++◌, min, Option, Some, None, refl, sym, ap, arith, ◌∙◌, inl, inr, append_assoc}
 use Rattle.std.specs.Prelude.{if◌then◌else◌}
+use Rattle.std.specs.Option.{option_to_list, unwrap_or}
 use Rattle.std.specs.Str.{bytes_eq}
 use Rattle.std.proofs.lemmas.Bool.{cases_Bool}
 use Rattle.std.proofs.lemmas.List.{append-nil}
 use Rattle.std.proofs.lemmas.Slice.Eq.{bytes_eq-Decides}
-use Rattle.pgp_summary.specs.Calls.{AreApart, AreCounted, Call, Ask, Row, End, after, all_rows, called, found, run_by, run_in, run_of, runs_in, said_of, stands_in, times_of}
+use Rattle.pgp_summary.specs.Calls.{AreApart, Call, Ask, Row, End, Fail, after, all_errors, all_micros, all_rows, called, found, run_by, run_in, run_of, runs_in, said_of, stands_in, times_of}
 use Rattle.pgp_summary.specs.Runs.{Run, Tally, begun, capped, grown, tallied, tally, tally_after}
 use Rattle.pgp_summary.specs.Summary.{Request, State, done, nothing, skipped, taken, with_waiting}
 use Rattle.pgp_summary.specs.declared.work.Work.{Work}
@@ -26,6 +27,7 @@ done_tally (Some r) micros waiting s = did_tally r.work r micros waiting s
 call_tally : (call : Call) (s : State) → (called call s).tallies ≡ tally_after s.tallies (run_in call s)
 call_tally (Ask request) s = refl
 call_tally (Row number) s = refl
+call_tally (Fail number) s = refl
 call_tally (End number reply micros) s = done_tally (taken number reply (skipped number s.waiting)).0 micros (taken number reply (skipped number s.waiting)).1 s
 
 tally_join : (tallies : List Tally) (xs ys : List Run) → tally_after (tally_after tallies xs) ys ≡ tally_after tallies (xs ++ ys)
@@ -95,34 +97,37 @@ found_all text tallies (run ∷ more) = found_all text (tallied run tallies) mor
 capped_sum : (m n k : ℕ) → m ≡ min n (2 ^ 64 - 1) → min (m + k) (2 ^ 64 - 1) ≡ min (n + k) (2 ^ 64 - 1)
 capped_sum m n k e = omega (arith, e)
 
-tally_is : (e : Tally) (text times : List ℕ) (rows : ℕ) → e.text ≡ text → e.rows ≡ rows → e.times ≡ times → Some e ≡ Some (record { text = text; rows = rows; times = times })
-tally_is e text times rows a b c =
-    ap (λ t. Some (let x : Tally = record { text = t; rows = e.rows; times = e.times } in x)) a ∙ ap (λ n. Some (let x : Tally = record { text = text; rows = n; times = e.times } in x)) b
-    ∙ ap (λ l. Some (let x : Tally = record { text = text; rows = rows; times = l } in x)) c
+abbrev tally_with : List ℕ → (rows : ℕ) → List ℕ → (total errors : ℕ) → Option Tally
+tally_with text rows times total errors = Some (record { text = text; rows = rows; times = times; total = total; errors = errors })
 
-some_joined : (text : List ℕ) (e : Tally) (n : ℕ) (runs : List Run) → e.text ≡ text → e.rows ≡ capped n → joined_all text (Some e) runs ≡ Some (record { text = text; rows = capped (n + all_rows text runs); times = e.times ++ times_of text runs })
-some_joined text e n [] is counted = tally_is e text (e.times ++ []) (capped (n + 0)) is (counted ∙ ap capped (omega arith)) (sym (append-nil e.times))
-some_joined text e n (run ∷ more) is counted =
+some_joined : (text : List ℕ) (e : Tally) (rows total errors : ℕ) (runs : List Run) → e.text ≡ text → e.rows ≡ capped rows → e.total ≡ capped total → e.errors ≡ capped errors
+    → joined_all text (Some e) runs ≡ tally_with text (capped (rows + all_rows text runs)) (e.times ++ times_of text runs) (capped (total + all_micros text runs)) (capped (errors + all_errors text runs))
+some_joined text e rows total errors [] is a b c = λ i. tally_with (is i) ((a ∙ no_more rows) i) (sym (append-nil e.times) i) ((b ∙ no_more total) i) ((c ∙ no_more errors) i)
+  where
+    no_more : (n : ℕ) → capped n ≡ capped (n + 0)
+    no_more n = ap capped (omega arith)
+some_joined text e rows total errors (run ∷ more) is a b c =
     elim (cases_Bool (bytes_eq run.text text)) [
-      | inl same ↦ rw same (some_joined text (grown run e) (n + run.rows) more is (capped_sum e.rows n run.rows counted)
-          ∙ ap (λ k. Some (let x : Tally = record { text = text; rows = capped k; times = (e.times ++ run.micros ∷ []) ++ times_of text more } in x)) (omega arith)
-          ∙ ap (λ l. Some (let x : Tally = record { text = text; rows = capped (n + (run.rows + all_rows text more)); times = l } in x)) (append_assoc e.times (run.micros ∷ []) (times_of text more)))
-      | inr other ↦ rw other (some_joined text e n more is counted)
+      | inl same ↦ rw same (some_joined text (grown run e) (rows + run.rows) (total + unwrap_or run.micros 0) (errors + run.errors) more is
+          (capped_sum e.rows rows run.rows a) (capped_sum e.total total (unwrap_or run.micros 0) b) (capped_sum e.errors errors run.errors c)
+          ∙ (λ i. tally_with text (capped (sum_apart rows run.rows (all_rows text more) i)) (append_assoc e.times (option_to_list run.micros) (times_of text more) i)
+          (capped (sum_apart total (unwrap_or run.micros 0) (all_micros text more) i)) (capped (sum_apart errors run.errors (all_errors text more) i))))
+      | inr other ↦ rw other (some_joined text e rows total errors more is a b c)
+    ]
+  where
+    sum_apart : (x y z : ℕ) → (x + y) + z ≡ x + (y + z)
+    sum_apart x y z = omega arith
+
+none_joined : (text : List ℕ) (runs : List Run) → joined_all text None runs ≡ said_of text runs
+none_joined text [] = refl
+none_joined text (run ∷ more) =
+    elim (cases_Bool (bytes_eq run.text text)) [
+      | inl same ↦ rw same (some_joined text (begun run) run.rows (unwrap_or run.micros 0) run.errors more (same_text run.text text same) (ap capped (omega arith)) (ap capped (omega arith)) (ap capped (omega arith)))
+      | inr other ↦ rw other (none_joined text more)
     ]
 
-small : (n : ℕ) → n < 2 ^ 64 → n ≡ min n (2 ^ 64 - 1)
-small n less = omega (arith, less)
-
-none_joined : (text : List ℕ) (runs : List Run) → AreCounted runs → joined_all text None runs ≡ said_of text runs
-none_joined text [] counted = refl
-none_joined text (run ∷ more) counted =
-    elim (cases_Bool (bytes_eq run.text text)) [
-      | inl same ↦ rw same (some_joined text (begun run) run.rows more (same_text run.text text same) (small run.rows counted.0))
-      | inr other ↦ rw other (none_joined text more counted.1)
-    ]
-
-pub all_found : (runs : List Run) (text : List ℕ) → AreCounted runs → found text (tally runs) ≡ said_of text runs
-all_found runs text counted = found_all text [] runs ∙ none_joined text runs counted
+pub all_found : (runs : List Run) (text : List ℕ) → found text (tally runs) ≡ said_of text runs
+all_found runs text = found_all text [] runs ∙ none_joined text runs
 
 -- ---- apart
 

@@ -1,19 +1,23 @@
 -- Runs of statements, and what is said of each statement.
-use Rattle.std.specs.Prelude.{ℕ, ◌+◌, ◌-◌, ◌/◌, ◌%◌, ◌^◌, ◌==◌, min, nat_lt, if◌then◌else◌, List, [], ◌∷◌, ◌++◌, length, get_or}
+use Rattle.std.specs.Prelude.{ℕ, ◌+◌, ◌-◌, ◌/◌, ◌%◌, ◌^◌, ◌==◌, min, nat_lt, if◌then◌else◌, List, [], ◌∷◌, ◌++◌, length, get_or, Option}
+use Rattle.std.specs.Option.{option_to_list, unwrap_or}
 use Rattle.std.specs.Str.{bytes_eq}
 use Rattle.pgp_summary.specs.declared.entry.Line.{Line}
 
--- a run of a statement that is over: its text, the rows that the server sent, and the microseconds that it took
+-- what a request came to: the text of its statement, the rows that the server sent, the microseconds that a run took which is over, and how many errors there were
 pub record Run : Type 0 where
   pub text : List ℕ
   pub rows : ℕ
-  pub micros : ℕ
+  pub micros : Option ℕ
+  pub errors : ℕ
 
--- a statement: its text, the rows of all its runs, and the times of each, in the order in which they ended
+-- a statement: its text, the rows of all its runs, the times of each, in the order in which they ended, their sum, and its errors
 pub record Tally : Type 0 where
   pub text : List ℕ
   pub rows : ℕ
   pub times : List ℕ
+  pub total : ℕ
+  pub errors : ℕ
 
 -- as far as 64 bits count
 abbrev pub capped : ℕ → ℕ
@@ -21,18 +25,18 @@ capped n = min n (2 ^ 64 - 1)
 
 -- with one more run of it
 abbrev pub grown : Run → Tally → Tally
-grown run e = record { text = e.text; rows = capped (e.rows + run.rows); times = e.times ++ run.micros ∷ [] }
+grown run e = record { text = e.text; rows = capped (e.rows + run.rows); times = e.times ++ option_to_list run.micros; total = capped (e.total + unwrap_or run.micros 0); errors = capped (e.errors + run.errors) }
 
 -- with its first
 abbrev pub begun : Run → Tally
-begun run = record { text = run.text; rows = run.rows; times = run.micros ∷ [] }
+begun run = grown run (record { text = run.text; rows = 0; times = []; total = 0; errors = 0 })
 
 -- one more run, among those of its statement
 abbrev pub tallied : Run → List Tally → List Tally
 tallied run [] = begun run ∷ []
 tallied run (e ∷ more) = if bytes_eq e.text run.text then grown run e ∷ more else e ∷ tallied run more
 
--- the statements of these runs, in the order in which the first run of each ended
+-- the statements of these runs, in the order in which the first run or error of each came
 abbrev pub tally_after : List Tally → List Run → List Tally
 tally_after tallies [] = tallies
 tally_after tallies (run ∷ more) = tally_after (tallied run tallies) more
@@ -56,9 +60,9 @@ ascending (x ∷ xs) = inserted x (ascending xs)
 abbrev pub median_of : List ℕ → ℕ
 median_of times = if length times % 2 == 1 then get_or times (length times / 2) 0 else (get_or times (length times / 2 - 1) 0 + get_or times (length times / 2) 0) / 2
 
--- how many runs, their rows, and the least, the median and the greatest of their times, which stand in ascending order
-abbrev pub line_by : (rows : ℕ) → List ℕ → Line
-line_by rows times = record { count = length times; rows = rows; least = get_or times 0 0; median = median_of times; greatest = get_or times (length times - 1) 0 }
+-- how many runs and errors, their rows, and the sum, the least, the median and the greatest of their times, which stand in ascending order
+abbrev pub line_by : (errors rows total : ℕ) → List ℕ → Line
+line_by errors rows total times = record { count = length times; errors = errors; rows = rows; total = total; least = get_or times 0 0; median = median_of times; greatest = get_or times (length times - 1) 0 }
 
 abbrev pub line_of : Tally → Line
-line_of e = line_by e.rows (ascending e.times)
+line_of e = line_by e.errors e.rows e.total (ascending e.times)

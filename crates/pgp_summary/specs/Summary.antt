@@ -1,7 +1,8 @@
 -- What requests ran, by the messages that ended their answers.
 use Rattle.std.specs.Prelude.{ℕ, ◌+◌, Bool, true, false, ◌&&◌, ◌==◌, nat_lt, if◌then◌else◌, List, [], ◌∷◌, ◌++◌, Option, None, Some, codes}
-use Rattle.std.specs.Str.{bytes_eq}
-use Rattle.pgp_summary.specs.Runs.{Run, Tally, capped, tallied}
+use Rattle.std.specs.Option.{unwrap_or}
+use Rattle.pgp_names.specs.Names.{found, put}
+use Rattle.pgp_summary.specs.Runs.{Run, Tally, capped, tallied, tally_after}
 use Rattle.pgp_summary.specs.declared.work.Work.{Work}
 use Rattle.pgp_summary.specs.declared.work.Work.TheVariants.{Query, Parse, Bind, Execute}
 use Rattle.pgp_summary.specs.declared.work.Reply.{Reply}
@@ -9,23 +10,16 @@ use Rattle.pgp_summary.specs.declared.work.Reply.TheVariants.{ParseComplete, Bin
 
 -- ---- texts by their names
 
--- a statement or a portal, and its text
-pub record Text : Type 0 where
-  pub name : List ℕ
-  pub text : List ℕ
-
 -- what stands for the text of what has none
 abbrev pub unknown : List ℕ
 unknown = codes "?"
 
-abbrev pub text_under : List ℕ → List Text → List ℕ
-text_under name [] = unknown
-text_under name (x ∷ more) = if bytes_eq x.name name then x.text else text_under name more
+abbrev pub text_under : List ℕ → List (List ℕ × List ℕ) → List ℕ
+text_under name list = unwrap_or (found name list) unknown
 
 -- a name has this text from now on
-abbrev pub named : (name text : List ℕ) → List Text → List Text
-named name text [] = record { name = name; text = text } ∷ []
-named name text (x ∷ more) = if bytes_eq x.name name then record { name = name; text = text } ∷ more else x ∷ named name text more
+abbrev pub named : (name text : List ℕ) → List (List ℕ × List ℕ) → List (List ℕ × List ℕ)
+named name text list = put name text list
 
 -- ---- requests
 
@@ -89,12 +83,17 @@ abbrev pub taken : ℕ → Reply → List Request → Option Request × List Req
 taken number reply [] = (None, [])
 taken number reply (first ∷ more) = if is_ended number reply first then (Some first, more) else (None, first ∷ more)
 
+-- the first of them, if it has this number
+abbrev pub first_of : ℕ → List Request → Option Request
+first_of number [] = None
+first_of number (first ∷ more) = if first.number == number then Some first else None
+
 -- ---- what is known of the requests
 
 -- The texts of statements and portals; the requests whose answers aren't complete, in order; how many rows of which request came; and the statements that ran.
 pub record State : Type 0 where
-  pub statements : List Text
-  pub portals : List Text
+  pub statements : List (List ℕ × List ℕ)
+  pub portals : List (List ℕ × List ℕ)
   pub waiting : List Request
   pub counted : ℕ
   pub rows : ℕ
@@ -130,7 +129,7 @@ with_run run s = record { statements = s.statements; portals = s.portals; waitin
 
 -- a run of this text by the request of this number
 abbrev pub ran : (text : List ℕ) (number micros : ℕ) → State → State
-ran text number micros s = with_run (record { text = text; rows = rows_of number s; micros = micros }) s
+ran text number micros s = with_run (record { text = text; rows = rows_of number s; micros = Some micros; errors = 0 }) s
 
 -- what a request did that took so long
 abbrev pub did : Work → Request → (micros : ℕ) → State → State
@@ -142,6 +141,24 @@ did Execute r micros s = ran (text_under r.first s.portals) r.number micros s
 abbrev pub done : Option Request → (micros : ℕ) → State → State
 done None micros s = s
 done (Some r) micros s = did r.work r micros s
+
+-- the text of what a request runs, or is to run
+abbrev pub text_of : Work → Request → (statements portals : List (List ℕ × List ℕ)) → List ℕ
+text_of Query r statements portals = r.first
+text_of Parse r statements portals = r.second
+text_of Bind r statements portals = text_under r.second statements
+text_of Execute r statements portals = text_under r.first portals
+
+abbrev pub error_of : Option Request → State → List Run
+error_of None s = []
+error_of (Some r) s = record { text = text_of r.work r s.statements s.portals; rows = 0; micros = None; errors = 1 } ∷ []
+
+abbrev pub with_runs : List Run → State → State
+with_runs runs s = record { statements = s.statements; portals = s.portals; waiting = s.waiting; counted = s.counted; rows = s.rows; tallies = tally_after s.tallies runs }
+
+-- the server sent an error for the request of this number
+abbrev pub failed : ℕ → State → State
+failed number s = with_runs (error_of (first_of number (skipped number s.waiting)) s) (with_waiting (skipped number s.waiting) s)
 
 abbrev pub ended_by : Option Request × List Request → (micros : ℕ) → State → State
 ended_by x micros s = done x.0 micros (with_waiting x.1 s)

@@ -1,47 +1,73 @@
 //! What a statement came to.
 
-ghost use Rattle.std.specs.Prelude.{◌≡◌, ◌+◌, ◌/◌, ◌++◌, ◌∷◌, [], get_or, IfOk, OnErr, OnOk};
-ghost use Rattle.std.specs.Str.{bytes_eq};
-ghost use Rattle.pgp_summary.specs.Runs.{ascending, capped, line_of, median_of, tallied};
-ghost use Rattle.pgp_summary.specs.Places.{StandsIn};
+ghost use Rattle.std.specs.Prelude.{◌≡◌, ◌+◌, ◌/◌, get_or, slice_get, IfOk, OnErr, OnOk};
+ghost use Rattle.pgp_summary.specs.Runs.{ascending, capped, line_by, line_of, median_of, tallied};
+ghost use Rattle.pgp_summary.specs.Places.{more_of, no_run, tallies_of};
 
 use pgp_base::Memory;
+use pgp_names::{MapMemory, Names};
 use std::alloc::{AllocError, Allocator};
 use std::marker::Model;
 
-/// A statement, the rows of all its runs, and the time that each run took, in microseconds.
+/// The rows of all runs of a statement, the time that each run took, in microseconds, the sum of these, and how many errors there were.
 #[derive(Drop)]
-pub struct Entry<A: Allocator> {
-    text: Vec<u8, A>,
+pub(crate) struct Ran<A: Allocator> {
     rows: u64,
     times: Vec<u64, A>,
+    total: u64,
+    errors: u64,
 }
 
-impl<A: Allocator> Model for Entry<A> {
+impl<A: Allocator> Model for Ran<A> {
+    ghost use Rattle.pgp_summary.specs.Places as spec;
+
+    ghost Value = { spec.Ran };
+
+    ghost view = { λ x. record { rows = x.rows; times = x.times.items; total = x.total; errors = x.errors } };
+}
+
+/// A statement that ran.
+#[derive(Drop)]
+pub struct Entry<'a, A: Allocator> {
+    text: &'a [u8],
+    ran: &'a Ran<A>,
+}
+
+impl<'a, A: Allocator> Model for Entry<'a, A> {
     ghost use Rattle.pgp_summary.specs.Runs.{Tally};
 
     ghost Value = { Tally };
 
-    ghost view = { λ x. record { text = x.text.items; rows = x.rows; times = x.times.items } };
+    ghost view = { λ x. record { text = x.text.now; rows = x.ran.now.rows; times = x.ran.now.times; total = x.ran.now.total; errors = x.ran.now.errors } };
 }
 
-/// What is said of a statement: how often it ran, the rows of all its runs, and of the times that they took, in microseconds, the least, the median and the
-/// greatest.
+/// What a request adds: the rows of a run, the microseconds that it took if it is over, and errors.
+#[derive(Debug, Clone, Copy, PartialEq, Eq)]
+pub(crate) struct More {
+    pub(crate) rows: u64,
+    pub(crate) micros: Option<u64>,
+    pub(crate) errors: u64,
+}
+
+/// What is said of a statement: how often it ran, how many errors there were, the rows of all its runs, and of the times that they took, in microseconds, the sum, the least, the median
+/// and the greatest.
 #[derive(Debug, Clone, Copy, PartialEq, Eq)]
 pub struct Line {
     pub count: u64,
+    pub errors: u64,
     pub rows: u64,
+    pub total: u64,
     pub least: u64,
     pub median: u64,
     pub greatest: u64,
 }
 
-impl<A: Memory> Entry<A> {
+impl<'a, A: MapMemory> Entry<'a, A> {
     /// The statement.
-    pub fn text(&self) -> &[u8]
+    pub fn text(&self) -> &'a [u8]
         ensures { result.now ≡ self.now.text }
     {
-        self.text.as_slice()
+        self.text
     }
 
     /// What is said of it.
@@ -53,75 +79,91 @@ impl<A: Memory> Entry<A> {
         ensures line { IfOk result (λ line. line ≡ line_of self.now) }
         ensures lacks { OnErr result A.Lacks }
     {
+        self.ran.line()
+    }
+}
+
+impl<A: MapMemory> Ran<A> {
+    /// What is said of it.
+    fn line(&self) -> Result<Line, AllocError>
+        ensures line { IfOk result (λ line. line ≡ line_by self.now.errors self.now.rows self.now.total (ascending self.now.times)) }
+        ensures lacks { OnErr result A.Lacks }
+    {
         let times = sorted(*self.times.allocator(), self.times.as_slice())?;
         Ok(Line {
             count: times.len() as u64,
+            errors: self.errors,
             rows: self.rows,
+            total: self.total,
             least: at(times.as_slice(), 0),
             median: median(times.as_slice()),
             greatest: at(times.as_slice(), times.len().saturating_sub(1)),
         })
     }
 
-    /// Whether it is of this statement.
-    fn is_of(&self, text: &[u8]) -> bool
-        ensures { result ≡ bytes_eq self.now.text text.now }
-    {
-        self.text.as_slice() == text
-    }
-
-    /// One more run of it.
-    fn add(&mut self, rows: u64, micros: u64) -> Result<(), AllocError>
-        ensures added { OnOk result (self.new ≡ record { text = self.old.text; rows = capped (self.old.rows + rows); times = self.old.times ++ micros ∷ [] }) }
+    /// One more run, or an error.
+    fn with(mut self, more: More) -> Result<Ran<A>, AllocError>
+        ensures added { IfOk result (λ ran. ran ≡ more_of more.rows more.errors more.micros self) }
         ensures lacks { OnErr result A.Lacks }
     {
-        A::push(&mut self.times, micros)?;
-        self.rows = plus(self.rows, rows);
-        Ok(())
+        self.rows = plus(self.rows, more.rows);
+        self.total = plus(self.total, more.micros.unwrap_or(0));
+        self.errors = plus(self.errors, more.errors);
+        match more.micros {
+            Some(micros) => {
+                A::push(&mut self.times, micros)?;
+                Ok(self)
+            }
+            None => Ok(self),
+        }
     }
 }
 
-/// One more run of a statement.
-pub(crate) fn tally<A: Memory>(
+/// The statement at this place.
+pub(crate) fn entry_at<A: MapMemory>(
+    entries: &Names<Ran<A>, A>,
+    place: usize,
+) -> Option<Entry<'_, A>>
+    ensures { result ≡ slice_get (tallies_of entries.now) place }
+{
+    match entries.at(place) {
+        Some((text, ran)) => Some(Entry { text, ran }),
+        None => None,
+    }
+}
+
+/// One more run of a statement, or an error.
+pub(crate) fn tally<A: MapMemory>(
     alloc: A,
     text: &[u8],
-    rows: u64,
-    micros: u64,
-    entries: &mut Vec<Entry<A>, A>,
+    more: More,
+    entries: &mut Names<Ran<A>, A>,
 ) -> Result<(), AllocError>
-    ensures tallied { OnOk result (entries.new.items ≡ tallied (record { text = text.now; rows = rows; micros = micros }) entries.old.items) }
+    ensures tallied { OnOk result (tallies_of entries.new ≡ tallied (record { text = text.now; rows = more.rows; micros = more.micros; errors = more.errors }) (tallies_of entries.old)) }
     ensures lacks { OnErr result A.Lacks }
 {
-    match place(entries, text) {
-        Some(place) => entries[place].add(rows, micros),
-        None => {
-            let entry = first(alloc, text, rows, micros)?;
-            A::push(entries, entry)?;
-            Ok(())
+    match entries.swap(text, none(alloc)) {
+        Ok(ran) => {
+            let ran = ran.with(more)?;
+            entries.put(text, ran)
+        }
+        Err(none) => {
+            let first = none.with(more)?;
+            entries.put(text, first)
         }
     }
 }
 
-/// The first run of a statement.
-fn first<A: Memory>(alloc: A, text: &[u8], rows: u64, micros: u64) -> Result<Entry<A>, AllocError>
-    ensures first { IfOk result (λ entry. entry ≡ record { text = text.now; rows = rows; times = micros ∷ [] }) }
-    ensures lacks { OnErr result A.Lacks }
+/// No run.
+fn none<A: MapMemory>(alloc: A) -> Ran<A>
+    ensures { result ≡ no_run }
 {
-    let text = alloc.list_of(text)?;
-    let times = alloc.list_of(&[micros])?;
-    Ok(Entry { text, rows, times })
-}
-
-/// Where a statement stands.
-fn place<A: Memory>(entries: &[Entry<A>], text: &[u8]) -> Option<usize>
-    ensures { StandsIn text.now entries.now result }
-{
-    for (place, entry) in entries.iter().enumerate() {
-        if entry.is_of(text) {
-            return Some(place);
-        }
+    Ran {
+        rows: 0,
+        times: Vec::new(alloc),
+        total: 0,
+        errors: 0,
     }
-    None
 }
 
 /// The sum of two counts, at most `u64::MAX`.
@@ -132,7 +174,7 @@ pub(crate) fn plus(a: u64, b: u64) -> u64
 }
 
 /// These times in ascending order.
-fn sorted<A: Memory>(alloc: A, times: &[u64]) -> Result<Vec<u64, A>, AllocError>
+fn sorted<A: MapMemory>(alloc: A, times: &[u64]) -> Result<Vec<u64, A>, AllocError>
     ensures sorted { IfOk result (λ all. all.items ≡ ascending times.now) }
     ensures lacks { OnErr result A.Lacks }
 {

@@ -1,17 +1,17 @@
 //! Laws of summaries.
 
-ghost use Rattle.std.specs.Prelude.{◌≡◌, ◌<◌, ℕ, List};
-ghost use Rattle.pgp_summary.specs.Calls.{AreApart, AreCounted, Call, after, found, runs_in, said_of};
+ghost use Rattle.std.specs.Prelude.{◌≡◌, ℕ, List};
+ghost use Rattle.pgp_summary.specs.Calls.{AreApart, Call, after, found, runs_in, said_of};
 ghost use Rattle.pgp_summary.specs.Runs.{Run, tally};
 ghost use Rattle.pgp_summary.specs.Summary.{nothing};
 
-/// Whatever calls were made: the statements are those of the runs that they ended, and of no others.
+/// Whatever calls were made: the statements are those of the runs that they ended and of their errors, and no others.
 pub fn runs_are_tallied()
     ensures { (calls : List Call) → (after nothing calls).tallies ≡ tally (runs_in nothing calls) }
 {}
 
-/// Of these runs each statement has one line, with the times and the rows of all its runs, and of no others.
+/// Of these runs each statement has one line, with the times, the rows and the errors of all its runs, and of no others.
 pub fn each_statement_has_its_runs()
-    ensures found { (runs : List Run) (text : List ℕ) → AreCounted runs → found text (tally runs) ≡ said_of text runs }
+    ensures found { (runs : List Run) (text : List ℕ) → found text (tally runs) ≡ said_of text runs }
     ensures apart { (runs : List Run) → AreApart (tally runs) }
 {}

@@ -1,85 +1,52 @@
 //! The texts of statements and portals, by their names.
 
-ghost use Rattle.std.specs.Prelude.{◌≡◌, IfOk, OnErr, OnOk};
-ghost use Rattle.std.specs.Str.{bytes_eq};
+ghost use Rattle.std.specs.Prelude.{◌≡◌, OnErr, OnOk};
 ghost use Rattle.pgp_summary.specs.Summary.{named, text_under};
-ghost use Rattle.pgp_summary.specs.Places.{StandsUnder};
 
-use pgp_base::Memory;
+use pgp_names::{MapMemory, Names};
 use std::alloc::{AllocError, Allocator};
 use std::marker::Model;
 
-/// A statement or a portal, and its text.
+/// A text.
 #[derive(Drop)]
-pub(crate) struct Named<A: Allocator> {
-    name: Vec<u8, A>,
-    text: Vec<u8, A>,
+pub(crate) struct Text<A: Allocator> {
+    bytes: Vec<u8, A>,
 }
 
-impl<A: Allocator> Model for Named<A> {
-    ghost use Rattle.pgp_summary.specs.Summary.{Text};
+impl<A: Allocator> Model for Text<A> {
+    ghost use Rattle.std.specs.Prelude.{ℕ, List};
 
-    ghost Value = { Text };
+    ghost Value = { List ℕ };
 
-    ghost view = { λ x. record { name = x.name.items; text = x.text.items } };
+    ghost view = { λ x. x.bytes.items };
 }
 
-impl<A: Memory> Named<A> {
-    /// Whether it has this name.
-    fn is_of(&self, name: &[u8]) -> bool
-        ensures { result ≡ bytes_eq self.now.name name.now }
+impl<A: Allocator> Text<A> {
+    fn as_slice(&self) -> &[u8]
+        ensures { result.now ≡ self.now }
     {
-        self.name.as_slice() == name
-    }
-
-    fn text(&self) -> &[u8]
-        ensures { result.now ≡ self.now.text }
-    {
-        self.text.as_slice()
+        self.bytes.as_slice()
     }
 }
 
 /// Gives a name this text, in the place of what it had.
-pub(crate) fn put<A: Memory>(
+pub(crate) fn put<A: MapMemory>(
     name: Vec<u8, A>,
-    text: Vec<u8, A>,
-    list: &mut Vec<Named<A>, A>,
+    bytes: Vec<u8, A>,
+    list: &mut Names<Text<A>, A>,
 ) -> Result<(), AllocError>
-    ensures put { OnOk result (list.new.items ≡ named name.items text.items list.old.items) }
+    ensures put { OnOk result (list.new ≡ named name.items bytes.items list.old) }
     ensures lacks { OnErr result A.Lacks }
 {
-    let place = place(list, name.as_slice());
-    let item = Named { name, text };
-    match place {
-        Some(place) => {
-            list[place] = item;
-            Ok(())
-        }
-        None => {
-            A::push(list, item)?;
-            Ok(())
-        }
-    }
+    list.put(name.as_slice(), Text { bytes })
 }
 
 /// The text under a name, or `?`.
-pub(crate) fn text_under<'a, A: Memory>(name: &[u8], list: &'a [Named<A>]) -> &'a [u8]
+pub(crate) fn text_under<'a, A: MapMemory>(name: &[u8], list: &'a Names<Text<A>, A>) -> &'a [u8]
     ensures { result.now ≡ text_under name.now list.now }
 {
-    match place(list, name) {
-        Some(place) => list[place].text(),
+    match list.get(name) {
+        Some(text) => text.as_slice(),
         None => b"?",
     }
-}
-
-/// Where a name stands.
-fn place<A: Memory>(list: &[Named<A>], name: &[u8]) -> Option<usize>
-    ensures { StandsUnder name.now list.now result }
-{
-    for (place, item) in list.iter().enumerate() {
-        if item.is_of(name) {
-            return Some(place);
-        }
-    }
-    None
 }

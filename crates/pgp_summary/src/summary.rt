@@ -1,51 +1,59 @@
 //! What the requests of a connection ran.
 
-ghost use Rattle.std.specs.Prelude.{◌≡◌, IfErr, OnErr, OnOk};
-ghost use Rattle.pgp_summary.specs.Summary.{asked, did, ended, nothing, ran, row, rows_of, text_under, with_portal};
+ghost use Rattle.std.specs.Prelude.{◌≡◌, length, slice_get, Some, IfErr, OnErr, OnOk};
+ghost use Rattle.pgp_summary.specs.Summary.{asked, did, ended, failed, nothing, ran, row, rows_of, text_of, text_under, with_portal};
 
-use crate::entry::{Entry, plus, tally};
-use crate::named::{Named, put, text_under};
-use crate::waiting::{Asked, push, skip, take};
+use crate::entry::{Entry, More, Ran, entry_at, plus, tally};
+use crate::named::{Text, put, text_under};
+use crate::waiting::{Asked, first_of, push, skip, take};
 use crate::work::{Reply, Work};
 use pgp_base::Memory;
+use pgp_names::{MapMemory, Names};
 use std::alloc::{AllocError, Global};
 use std::collections::VecDeque;
 use std::marker::Model;
 
+const ERROR: More = More {
+    rows: 0,
+    micros: None,
+    errors: 1,
+};
+
 /// What the requests of a connection ran. It keeps the texts that prepared statements and portals have, those of the requests whose answers aren't complete,
 /// and of each statement that ran its text and 8 bytes a run.
 #[derive(Drop)]
-pub struct Summary<A: Memory = Global> {
+pub struct Summary<A: MapMemory = Global> {
     alloc: A,
-    statements: Vec<Named<A>, A>,
-    portals: Vec<Named<A>, A>,
+    statements: Names<Text<A>, A>,
+    portals: Names<Text<A>, A>,
     waiting: VecDeque<Asked<A>, A>,
     counted: u64,
     rows: u64,
-    entries: Vec<Entry<A>, A>,
+    entries: Names<Ran<A>, A>,
 }
 
-impl<A: Memory> Model for Summary<A> {
+impl<A: MapMemory> Model for Summary<A> {
+    ghost use Rattle.pgp_summary.specs.Places.{tallies_of};
     ghost use Rattle.pgp_summary.specs.Summary.{State};
 
     ghost Value = { State };
 
-    ghost view = { λ x. record { statements = x.statements.items; portals = x.portals.items; waiting = x.waiting.items; counted = x.counted; rows = x.rows; tallies = x.entries.items } };
+    ghost view = { λ x. record { statements = x.statements; portals = x.portals; waiting = x.waiting.items; counted = x.counted; rows = x.rows; tallies = tallies_of x.entries } };
 }
 
-impl<A: Memory> Summary<A> {
+impl<A: MapMemory> Summary<A> {
     /// Before the first request.
     pub fn new(alloc: A) -> Summary<A>
         ensures { result ≡ nothing }
     {
         Summary {
             alloc,
-            statements: Vec::new(alloc),
-            portals: Vec::new(alloc),
+            statements: Names::new(alloc),
+            portals: Names::new(alloc),
             waiting: VecDeque::new(alloc),
             counted: 0,
             rows: 0,
-            entries: Vec::new(alloc),
+            entries: Names::new(alloc),
         }
     }
 
@@ -127,9 +135,7 @@ impl<A: Memory> Summary<A> {
         ensures bound { OnOk result (self.new ≡ with_portal portal.items (text_under statement.now self.old.statements) self.old) }
         ensures lacks { OnErr result A.Lacks }
     {
-        let text = self
-            .alloc
-            .list_of(text_under(statement, self.statements.as_slice()))?;
+        let text = self.alloc.list_of(text_under(statement, &self.statements))?;
         put(portal, text, &mut self.portals)
     }
 
@@ -138,9 +144,9 @@ impl<A: Memory> Summary<A> {
         ensures ran { OnOk result (self.new ≡ ran (text_under portal.now self.old.portals) number micros self.old) }
         ensures lacks { OnErr result A.Lacks }
     {
-        let rows = self.rows_of(number);
-        let text = text_under(portal, self.portals.as_slice());
-        tally(self.alloc, text, rows, micros, &mut self.entries)
+        let more = self.run_of(number, micros);
+        let text = text_under(portal, &self.portals);
+        tally(self.alloc, text, more, &mut self.entries)
     }
 
     /// A run of this text.
@@ -148,14 +154,67 @@ impl<A: Memory> Summary<A> {
         ensures ran { OnOk result (self.new ≡ ran text.now number micros self.old) }
         ensures lacks { OnErr result A.Lacks }
     {
-        let rows = self.rows_of(number);
-        tally(self.alloc, text, rows, micros, &mut self.entries)
+        let more = self.run_of(number, micros);
+        tally(self.alloc, text, more, &mut self.entries)
     }
 
-    /// The statements that ran, in the order in which the first run of each ended.
-    pub fn entries(&self) -> &[Entry<A>]
-        ensures { result.now ≡ self.now.tallies }
+    /// A run by the request of this number.
+    fn run_of(&self, number: u64, micros: u64) -> More
+        ensures { result ≡ record { rows = rows_of number self.now; micros = Some micros; errors = 0 } }
     {
-        self.entries.as_slice()
+        More {
+            rows: self.rows_of(number),
+            micros: Some(micros),
+            errors: 0,
+        }
+    }
+
+    /// Takes note of an error that the server sent for the request of this number. It doesn't end the request, as `end` does.
+    ///
+    /// # Errors
+    ///
+    /// Returns `AllocError` if there is no memory for it; then the summary is no longer that of the requests.
+    pub fn fail(&mut self, number: u64) -> Result<(), AllocError>
+        ensures failed { OnOk result (self.new ≡ failed number self.old) }
+        ensures lacks { OnErr result A.Lacks }
+    {
+        skip(number, &mut self.waiting);
+        match first_of(number, &self.waiting) {
+            Some(asked) => {
+                let text = text_of(asked, &self.statements, &self.portals);
+                tally(self.alloc, text, ERROR, &mut self.entries)
+            }
+            None => Ok(()),
+        }
+    }
+
+    /// How many statements ran.
+    pub fn len(&self) -> usize
+        ensures { result ≡ length self.now.tallies }
+    {
+        self.entries.len()
+    }
+
+    /// The statement at this place, in the order in which the first run or error of each came.
+    pub fn entry(&self, place: usize) -> Option<Entry<'_, A>>
+        ensures { result ≡ slice_get self.now.tallies place }
+    {
+        entry_at(&self.entries, place)
+    }
+}
+
+/// The text of what a request runs, or is to run.
+fn text_of<'a, A: MapMemory>(
+    asked: &'a Asked<A>,
+    statements: &'a Names<Text<A>, A>,
+    portals: &'a Names<Text<A>, A>,
+) -> &'a [u8]
+    ensures { result.now ≡ text_of asked.now.work asked.now statements.now portals.now }
+{
+    match asked.work {
+        Work::Query => asked.first.as_slice(),
+        Work::Parse => asked.second.as_slice(),
+        Work::Bind => text_under(asked.second.as_slice(), statements),
+        Work::Execute => text_under(asked.first.as_slice(), portals),
     }
 }

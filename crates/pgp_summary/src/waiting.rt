@@ -1,10 +1,12 @@
 //! The requests whose answers aren't complete.
 
 ghost use Rattle.std.specs.Prelude.{◌≡◌, ◌++◌, ◌∷◌, [], nat_lt, OnErr, OnOk};
-ghost use Rattle.pgp_summary.specs.Summary.{is_ended, is_first_before, is_first_ended, skipped, taken};
+ghost use Rattle.std.specs.Option.{option_map};
+ghost use Rattle.pgp_summary.specs.Summary.{first_of, is_ended, is_first_before, is_first_ended, skipped, taken};
 
 use crate::work::{Reply, Work, ends};
 use pgp_base::Memory;
+use pgp_names::MapMemory;
 use std::alloc::{AllocError, Allocator};
 use std::collections::VecDeque;
 use std::marker::Model;
@@ -26,7 +28,7 @@ impl<A: Allocator> Model for Asked<A> {
     ghost view = { λ x. record { number = x.number; work = x.work; first = x.first.items; second = x.second.items } };
 }
 
-impl<A: Memory> Asked<A> {
+impl<A: MapMemory> Asked<A> {
     /// Whether it was sent before that of this number.
     fn is_before(&self, number: u64) -> bool
         ensures { result ≡ nat_lt self.now.number number }
@@ -43,7 +45,7 @@ impl<A: Memory> Asked<A> {
 }
 
 /// Adds a request.
-pub(crate) fn push<A: Memory>(
+pub(crate) fn push<A: MapMemory>(
     asked: Asked<A>,
     waiting: &mut VecDeque<Asked<A>, A>,
 ) -> Result<(), AllocError>
@@ -56,7 +58,7 @@ pub(crate) fn push<A: Memory>(
 }
 
 /// Lets those go that were sent before that of this number: the server has passed them over.
-pub(crate) fn skip<A: Memory>(number: u64, waiting: &mut VecDeque<Asked<A>, A>)
+pub(crate) fn skip<A: MapMemory>(number: u64, waiting: &mut VecDeque<Asked<A>, A>)
     ensures { waiting.new.items ≡ skipped number waiting.old.items }
 {
     'each: while is_first_before(number, waiting) {
@@ -65,7 +67,7 @@ pub(crate) fn skip<A: Memory>(number: u64, waiting: &mut VecDeque<Asked<A>, A>)
 }
 
 /// Whether the first was sent before that of this number.
-fn is_first_before<A: Memory>(number: u64, waiting: &VecDeque<Asked<A>, A>) -> bool
+fn is_first_before<A: MapMemory>(number: u64, waiting: &VecDeque<Asked<A>, A>) -> bool
     ensures { result ≡ is_first_before number waiting.now.items }
 {
     match waiting.front() {
@@ -74,8 +76,21 @@ fn is_first_before<A: Memory>(number: u64, waiting: &VecDeque<Asked<A>, A>) -> b
     }
 }
 
+/// The first, if it has this number.
+pub(crate) fn first_of<A: MapMemory>(
+    number: u64,
+    waiting: &VecDeque<Asked<A>, A>,
+) -> Option<&Asked<A>>
+    ensures { option_map (λ asked. asked.now) result ≡ first_of number waiting.now.items }
+{
+    match waiting.front() {
+        Some(asked) if asked.number == number => Some(asked),
+        _ => None,
+    }
+}
+
 /// Takes the first, if it has this number and this ends its answer.
-pub(crate) fn take<A: Memory>(
+pub(crate) fn take<A: MapMemory>(
     number: u64,
     reply: Reply,
     waiting: &mut VecDeque<Asked<A>, A>,
@@ -90,7 +105,7 @@ pub(crate) fn take<A: Memory>(
 }
 
 /// Whether the first has this number, and this ends its answer.
-fn is_first_ended<A: Memory>(number: u64, reply: Reply, waiting: &VecDeque<Asked<A>, A>) -> bool
+fn is_first_ended<A: MapMemory>(number: u64, reply: Reply, waiting: &VecDeque<Asked<A>, A>) -> bool
     ensures { result ≡ is_first_ended number reply waiting.now.items }
 {
     match waiting.front() {

@@ -22,33 +22,54 @@ const STATEMENTS: &[u8] = b"pgtrace recording 1\n\
     <\0\0\0\0\0\x0fU\xc7\0\0\0\x14T\0\0\0\x06\0\0C\0\0\0\x06x\0Z\0\0\0\x05I\
     >\0\0\0\0\0\x0fY\xb0\0\0\0\x07Q\0\0\0\x06a\0";
 
+/// A log-in; a Query `a` that fails (200 microseconds); a Parse of `d` as `s`, whose Bind fails; and one that is bound, and whose Execute fails behind a row (100).
+const FAILURES: &[u8] = b"pgtrace recording 1\n\
+    >\0\0\0\0\0\x0fB@\0\0\0\x10\0\0\0\x10\0\x03\0\0user\0a\0\0\
+    <\0\0\0\0\0\x0fB@\0\0\0\x0fR\0\0\0\x08\0\0\0\0Z\0\0\0\x05I\
+    >\0\0\0\0\0\x0fF(\0\0\0\x07Q\0\0\0\x06a\0\
+    <\0\0\0\0\0\x0fF\xf0\0\0\0\x0cE\0\0\0\x05\0Z\0\0\0\x05I\
+    >\0\0\0\0\0\x0fJ\x10\0\0\0(P\0\0\0\x0as\0d\0\0\0B\0\0\0\x0d\0s\0\0\0\0\0\0\0E\0\0\0\x09\0\0\0\0\0S\0\0\0\x04\
+    <\0\0\0\0\0\x0fL\x04\0\0\0\x111\0\0\0\x04E\0\0\0\x05\0Z\0\0\0\x05I\
+    >\0\0\0\0\0\x0fM\xf8\0\0\0\x1dB\0\0\0\x0d\0s\0\0\0\0\0\0\0E\0\0\0\x09\0\0\0\0\0S\0\0\0\x04\
+    <\0\0\0\0\0\x0fN\\\0\0\0\x182\0\0\0\x04D\0\0\0\x06\0\0E\0\0\0\x05\0Z\0\0\0\x05I";
+
 const TABLE: &str =
-    "   count       rows      least     median   greatest ms\n       2          2      0.000      0.150      0.300 \"a\"\n       1          1      0.500      0.500      0.500 \"b\"\n       2          3      0.100      0.400      0.700 \"c\"\n";
+    "   count   errors       rows      total      least     median   greatest ms\n       2        0          2      0.300      0.000      0.150      0.300 \"a\"\n       1        0          1      0.500      0.500      0.500      0.500 \"b\"\n       2        0          3      0.800      0.100      0.400      0.700 \"c\"\n       0        1          0      0.000      0.000      0.000      0.000 \"bad\"\n";
 
 const OBJECTS: &str =
-    "{\"count\":2,\"rows\":2,\"least\":0.000000,\"median\":0.000150,\"greatest\":0.000300,\"statement\":\"a\"}\n{\"count\":1,\"rows\":1,\"least\":0.000500,\"median\":0.000500,\"greatest\":0.000500,\"statement\":\"b\"}\n{\"count\":2,\"rows\":3,\"least\":0.000100,\"median\":0.000400,\"greatest\":0.000700,\"statement\":\"c\"}\n";
+    "{\"count\":2,\"errors\":0,\"rows\":2,\"total\":0.000300,\"least\":0.000000,\"median\":0.000150,\"greatest\":0.000300,\"statement\":\"a\"}\n{\"count\":1,\"errors\":0,\"rows\":1,\"total\":0.000500,\"least\":0.000500,\"median\":0.000500,\"greatest\":0.000500,\"statement\":\"b\"}\n{\"count\":2,\"errors\":0,\"rows\":3,\"total\":0.000800,\"least\":0.000100,\"median\":0.000400,\"greatest\":0.000700,\"statement\":\"c\"}\n{\"count\":0,\"errors\":1,\"rows\":0,\"total\":0.000000,\"least\":0.000000,\"median\":0.000000,\"greatest\":0.000000,\"statement\":\"bad\"}\n";
 
-/// Each statement has a line, with the runs that were answered; nothing else is written.
+const FAILED: &str =
+    "   count   errors       rows      total      least     median   greatest ms\n       1        1          0      0.200      0.200      0.200      0.200 \"a\"\n       1        2          1      0.100      0.100      0.100      0.100 \"d\"\n";
+
+/// Each statement has a line, with the runs that were answered and its errors; nothing else is written.
 #[test]
 fn statements_are_summed_up(rt: HostRuntime) {
-    let runs: [(&[&str], u8, &str, &str); 4] = [
-        (&["session", "--summary"], 0, TABLE, ""),
+    let runs: [(&[&str], &[u8], u8, &str, &str); 5] = [
+        (&["session", "--summary"], STATEMENTS, 0, TABLE, ""),
         (
             &["session", "--only", "DataRow", "--summary", "--requests"],
+            STATEMENTS,
             0,
             TABLE,
             "",
         ),
-        (&["session", "--summary", "--json"], 0, OBJECTS, ""),
-        (&["server", "--summary"], 2, "", USAGE),
+        (
+            &["session", "--summary", "--json"],
+            STATEMENTS,
+            0,
+            OBJECTS,
+            "",
+        ),
+        (&["session", "--summary"], FAILURES, 0, FAILED, ""),
+        (&["server", "--summary"], STATEMENTS, 2, "", USAGE),
     ];
-    for (words, status, written, reported) in runs {
+    for (words, mut input, status, written, reported) in runs {
         let wanted = Outcome {
             status,
             written,
             reported,
         };
-        let mut input = STATEMENTS;
         comes_to(&rt, rt.alloc(), words, &mut input, &wanted);
     }
 }

@@ -24,13 +24,13 @@ const TYPED: &[u8] = b"pgtrace recording 1\n\
     <\0\0\0\0\0\x0fB@\0\0\0;T\0\0\0\x1a\0\x01x\0\0\0\0\0\0\0\0\0\0\x15\0\x02\xff\xff\xff\xff\0\x01D\0\0\0\x0c\0\x01\0\0\0\x02\xff\xfeC\0\0\0\x0cFETCH 1\0Z\0\0\0\x05I";
 
 const ROWS: &str =
-    "    0.000000 <        114       27 D DataRow              values 2 \"258\" \"-1\"\n    0.000000 <        141       23 D DataRow              values 2 NULL \"-1\"\n    0.000000 <        164       20 D DataRow              values 2 \"258\" \"\\x01\"\n    0.000000 <        203       26 D DataRow              values 2 \"258\" \"-1\"\n    0.000000 <        248       20 D DataRow              values 2 \"258\" \"-1\"\n    0.000000 <        350       20 D DataRow              values 2 \"t\" \"7\"\n    0.000000 <        395       20 D DataRow              values 2 \"t\" \"7\"\n    0.000000 <        462       13 D DataRow              values 1 \"-2\"\n    0.000000 <        527       13 D DataRow              values 1 \\xfffe\n";
+    "    0.000000 <        114       27 D DataRow              values 2 \"258\" \"-1\"\n    0.000000 <        141       23 D DataRow              values 2 NULL \"-1\"\n    0.000000 <        164       20 D DataRow              values 2 \"258\" \\x01\n    0.000000 <        203       26 D DataRow              values 2 \"258\" \"-1\"\n    0.000000 <        248       20 D DataRow              values 2 \"258\" \"-1\"\n    0.000000 <        350       20 D DataRow              values 2 \"t\" \"7\"\n    0.000000 <        395       20 D DataRow              values 2 \"t\" \"7\"\n    0.000000 <        462       13 D DataRow              values 1 \"-2\"\n    0.000000 <        527       13 D DataRow              values 1 \\xfffe\n";
 
 const RAW_ROWS: &str =
     "    0.000000 <        114       27 D DataRow              values 2 \\x00000102 \\xffffffffffffffff\n    0.000000 <        141       23 D DataRow              values 2 NULL \\xffffffffffffffff\n    0.000000 <        164       20 D DataRow              values 2 \\x00000102 \"\\x01\"\n    0.000000 <        203       26 D DataRow              values 2 \"258\" \\xffffffffffffffff\n    0.000000 <        248       20 D DataRow              values 2 \"258\" \"-1\"\n    0.000000 <        350       20 D DataRow              values 2 \"\\x01\" \\x00000007\n    0.000000 <        395       20 D DataRow              values 2 \"\\x01\" \\x00000007\n    0.000000 <        462       13 D DataRow              values 1 \\xfffe\n    0.000000 <        527       13 D DataRow              values 1 \\xfffe\n";
 
 const ROW_OBJECTS: &str =
-    "{\"time\":0.000000,\"from\":\"server\",\"offset\":114,\"length\":27,\"tag\":\"D\",\"name\":\"DataRow\",\"values\":[\"258\",\"-1\"]}\n{\"time\":0.000000,\"from\":\"server\",\"offset\":141,\"length\":23,\"tag\":\"D\",\"name\":\"DataRow\",\"values\":[null,\"-1\"]}\n{\"time\":0.000000,\"from\":\"server\",\"offset\":164,\"length\":20,\"tag\":\"D\",\"name\":\"DataRow\",\"values\":[\"258\",\"\\u0001\"]}\n{\"time\":0.000000,\"from\":\"server\",\"offset\":203,\"length\":26,\"tag\":\"D\",\"name\":\"DataRow\",\"values\":[\"258\",\"-1\"]}\n{\"time\":0.000000,\"from\":\"server\",\"offset\":248,\"length\":20,\"tag\":\"D\",\"name\":\"DataRow\",\"values\":[\"258\",\"-1\"]}\n{\"time\":0.000000,\"from\":\"server\",\"offset\":350,\"length\":20,\"tag\":\"D\",\"name\":\"DataRow\",\"values\":[\"t\",\"7\"]}\n{\"time\":0.000000,\"from\":\"server\",\"offset\":395,\"length\":20,\"tag\":\"D\",\"name\":\"DataRow\",\"values\":[\"t\",\"7\"]}\n{\"time\":0.000000,\"from\":\"server\",\"offset\":462,\"length\":13,\"tag\":\"D\",\"name\":\"DataRow\",\"values\":[\"-2\"]}\n{\"time\":0.000000,\"from\":\"server\",\"offset\":527,\"length\":13,\"tag\":\"D\",\"name\":\"DataRow\",\"values\":[{\"hex\":\"fffe\"}]}\n";
+    "{\"time\":0.000000,\"from\":\"server\",\"offset\":114,\"length\":27,\"tag\":\"D\",\"name\":\"DataRow\",\"values\":[\"258\",\"-1\"]}\n{\"time\":0.000000,\"from\":\"server\",\"offset\":141,\"length\":23,\"tag\":\"D\",\"name\":\"DataRow\",\"values\":[null,\"-1\"]}\n{\"time\":0.000000,\"from\":\"server\",\"offset\":164,\"length\":20,\"tag\":\"D\",\"name\":\"DataRow\",\"values\":[\"258\",{\"hex\":\"01\"}]}\n{\"time\":0.000000,\"from\":\"server\",\"offset\":203,\"length\":26,\"tag\":\"D\",\"name\":\"DataRow\",\"values\":[\"258\",\"-1\"]}\n{\"time\":0.000000,\"from\":\"server\",\"offset\":248,\"length\":20,\"tag\":\"D\",\"name\":\"DataRow\",\"values\":[\"258\",\"-1\"]}\n{\"time\":0.000000,\"from\":\"server\",\"offset\":350,\"length\":20,\"tag\":\"D\",\"name\":\"DataRow\",\"values\":[\"t\",\"7\"]}\n{\"time\":0.000000,\"from\":\"server\",\"offset\":395,\"length\":20,\"tag\":\"D\",\"name\":\"DataRow\",\"values\":[\"t\",\"7\"]}\n{\"time\":0.000000,\"from\":\"server\",\"offset\":462,\"length\":13,\"tag\":\"D\",\"name\":\"DataRow\",\"values\":[\"-2\"]}\n{\"time\":0.000000,\"from\":\"server\",\"offset\":527,\"length\":13,\"tag\":\"D\",\"name\":\"DataRow\",\"values\":[{\"hex\":\"fffe\"}]}\n";
 
 #[test]
 fn rows_are_shown_by_their_types(rt: HostRuntime) {
@@ -106,13 +106,13 @@ const BOUND: &[u8] = b"pgtrace recording 1\n\
     <\0\0\0\0\0\x0fB@\0\0\0\x0b2\0\0\0\x04Z\0\0\0\x05I";
 
 const BINDS: &str =
-    "    0.000000 >         35       29 B Bind                 portal \"\" statement \"s\" formats 1 1 values 2 \"258\" \"\\x01\" results 0\n    0.000000 >         79       34 B Bind                 portal \"\" statement \"s\" formats 2 1 0 values 2 \"258\" \\x00000102 results 0\n    0.000000 >        113       25 B Bind                 portal \"\" statement \"s\" formats 1 1 values 2 NULL \"x\" results 0\n    0.000000 >        138       26 B Bind                 portal \"\" statement \"s\" formats 1 1 values 2 \"\\x01\" \"x\" results 0\n    0.000000 >        164       24 B Bind                 portal \"\" statement \"s\" formats 0 values 2 \"7\" \"x\" results 0\n    0.000000 >        206       36 B Bind                 portal \"\" statement \"s\" formats 1 1 values 2 \"258\" \"-1\" results 0\n    0.000000 >        267       36 B Bind                 portal \"\" statement \"s\" formats 1 1 values 2 \\x00000102 \\xffffffffffffffff results 0\n    0.000000 >        321       36 B Bind                 portal \"\" statement \"s\" formats 1 1 values 2 \"258\" \"-1\" results 0\n";
+    "    0.000000 >         35       29 B Bind                 portal \"\" statement \"s\" formats 1 1 values 2 \"258\" \\x01 results 0\n    0.000000 >         79       34 B Bind                 portal \"\" statement \"s\" formats 2 1 0 values 2 \"258\" \\x00000102 results 0\n    0.000000 >        113       25 B Bind                 portal \"\" statement \"s\" formats 1 1 values 2 NULL \\x78 results 0\n    0.000000 >        138       26 B Bind                 portal \"\" statement \"s\" formats 1 1 values 2 \\x01 \\x78 results 0\n    0.000000 >        164       24 B Bind                 portal \"\" statement \"s\" formats 0 values 2 \"7\" \"x\" results 0\n    0.000000 >        206       36 B Bind                 portal \"\" statement \"s\" formats 1 1 values 2 \"258\" \"-1\" results 0\n    0.000000 >        267       36 B Bind                 portal \"\" statement \"s\" formats 1 1 values 2 \\x00000102 \\xffffffffffffffff results 0\n    0.000000 >        321       36 B Bind                 portal \"\" statement \"s\" formats 1 1 values 2 \"258\" \"-1\" results 0\n";
 
 const RAW_BINDS: &str =
     "    0.000000 >         35       29 B Bind                 portal \"\" statement \"s\" formats 1 1 values 2 \\x00000102 \"\\x01\" results 0\n    0.000000 >         79       34 B Bind                 portal \"\" statement \"s\" formats 2 1 0 values 2 \\x00000102 \\x00000102 results 0\n    0.000000 >        113       25 B Bind                 portal \"\" statement \"s\" formats 1 1 values 2 NULL \"x\" results 0\n    0.000000 >        138       26 B Bind                 portal \"\" statement \"s\" formats 1 1 values 2 \"\\x01\" \"x\" results 0\n    0.000000 >        164       24 B Bind                 portal \"\" statement \"s\" formats 0 values 2 \"7\" \"x\" results 0\n    0.000000 >        206       36 B Bind                 portal \"\" statement \"s\" formats 1 1 values 2 \\x00000102 \\xffffffffffffffff results 0\n    0.000000 >        267       36 B Bind                 portal \"\" statement \"s\" formats 1 1 values 2 \\x00000102 \\xffffffffffffffff results 0\n    0.000000 >        321       36 B Bind                 portal \"\" statement \"s\" formats 1 1 values 2 \\x00000102 \\xffffffffffffffff results 0\n";
 
 const BIND_OBJECTS: &str =
-    "{\"time\":0.000000,\"from\":\"client\",\"offset\":35,\"length\":29,\"tag\":\"B\",\"name\":\"Bind\",\"portal\":\"\",\"statement\":\"s\",\"formats\":[1],\"values\":[\"258\",\"\\u0001\"],\"result_formats\":[]}\n{\"time\":0.000000,\"from\":\"client\",\"offset\":79,\"length\":34,\"tag\":\"B\",\"name\":\"Bind\",\"portal\":\"\",\"statement\":\"s\",\"formats\":[1,0],\"values\":[\"258\",{\"hex\":\"00000102\"}],\"result_formats\":[]}\n{\"time\":0.000000,\"from\":\"client\",\"offset\":113,\"length\":25,\"tag\":\"B\",\"name\":\"Bind\",\"portal\":\"\",\"statement\":\"s\",\"formats\":[1],\"values\":[null,\"x\"],\"result_formats\":[]}\n{\"time\":0.000000,\"from\":\"client\",\"offset\":138,\"length\":26,\"tag\":\"B\",\"name\":\"Bind\",\"portal\":\"\",\"statement\":\"s\",\"formats\":[1],\"values\":[\"\\u0001\",\"x\"],\"result_formats\":[]}\n{\"time\":0.000000,\"from\":\"client\",\"offset\":164,\"length\":24,\"tag\":\"B\",\"name\":\"Bind\",\"portal\":\"\",\"statement\":\"s\",\"formats\":[],\"values\":[\"7\",\"x\"],\"result_formats\":[]}\n{\"time\":0.000000,\"from\":\"client\",\"offset\":206,\"length\":36,\"tag\":\"B\",\"name\":\"Bind\",\"portal\":\"\",\"statement\":\"s\",\"formats\":[1],\"values\":[\"258\",\"-1\"],\"result_formats\":[]}\n{\"time\":0.000000,\"from\":\"client\",\"offset\":267,\"length\":36,\"tag\":\"B\",\"name\":\"Bind\",\"portal\":\"\",\"statement\":\"s\",\"formats\":[1],\"values\":[{\"hex\":\"00000102\"},{\"hex\":\"ffffffffffffffff\"}],\"result_formats\":[]}\n{\"time\":0.000000,\"from\":\"client\",\"offset\":321,\"length\":36,\"tag\":\"B\",\"name\":\"Bind\",\"portal\":\"\",\"statement\":\"s\",\"formats\":[1],\"values\":[\"258\",\"-1\"],\"result_formats\":[]}\n";
+    "{\"time\":0.000000,\"from\":\"client\",\"offset\":35,\"length\":29,\"tag\":\"B\",\"name\":\"Bind\",\"portal\":\"\",\"statement\":\"s\",\"formats\":[1],\"values\":[\"258\",{\"hex\":\"01\"}],\"result_formats\":[]}\n{\"time\":0.000000,\"from\":\"client\",\"offset\":79,\"length\":34,\"tag\":\"B\",\"name\":\"Bind\",\"portal\":\"\",\"statement\":\"s\",\"formats\":[1,0],\"values\":[\"258\",{\"hex\":\"00000102\"}],\"result_formats\":[]}\n{\"time\":0.000000,\"from\":\"client\",\"offset\":113,\"length\":25,\"tag\":\"B\",\"name\":\"Bind\",\"portal\":\"\",\"statement\":\"s\",\"formats\":[1],\"values\":[null,{\"hex\":\"78\"}],\"result_formats\":[]}\n{\"time\":0.000000,\"from\":\"client\",\"offset\":138,\"length\":26,\"tag\":\"B\",\"name\":\"Bind\",\"portal\":\"\",\"statement\":\"s\",\"formats\":[1],\"values\":[{\"hex\":\"01\"},{\"hex\":\"78\"}],\"result_formats\":[]}\n{\"time\":0.000000,\"from\":\"client\",\"offset\":164,\"length\":24,\"tag\":\"B\",\"name\":\"Bind\",\"portal\":\"\",\"statement\":\"s\",\"formats\":[],\"values\":[\"7\",\"x\"],\"result_formats\":[]}\n{\"time\":0.000000,\"from\":\"client\",\"offset\":206,\"length\":36,\"tag\":\"B\",\"name\":\"Bind\",\"portal\":\"\",\"statement\":\"s\",\"formats\":[1],\"values\":[\"258\",\"-1\"],\"result_formats\":[]}\n{\"time\":0.000000,\"from\":\"client\",\"offset\":267,\"length\":36,\"tag\":\"B\",\"name\":\"Bind\",\"portal\":\"\",\"statement\":\"s\",\"formats\":[1],\"values\":[{\"hex\":\"00000102\"},{\"hex\":\"ffffffffffffffff\"}],\"result_formats\":[]}\n{\"time\":0.000000,\"from\":\"client\",\"offset\":321,\"length\":36,\"tag\":\"B\",\"name\":\"Bind\",\"portal\":\"\",\"statement\":\"s\",\"formats\":[1],\"values\":[\"258\",\"-1\"],\"result_formats\":[]}\n";
 
 #[test]
 fn parameters_are_shown_by_their_types(rt: HostRuntime) {
@@ -128,6 +128,41 @@ fn parameters_are_shown_by_their_types(rt: HostRuntime) {
             reported: "",
         };
         let mut input = BOUND;
+        comes_to(&rt, rt.alloc(), words, &mut input, &wanted);
+    }
+}
+
+/// A Query whose row is a `float4` in binary format, of which the four bytes would be a text too.
+const FLOAT: &[u8] = b"pgtrace recording 1\n\
+    >\0\0\0\0\0\x0fB@\0\0\0\x10\0\0\0\x10\0\x03\0\0user\0a\0\0\
+    <\0\0\0\0\0\x0fB@\0\0\0\x0fR\0\0\0\x08\0\0\0\0Z\0\0\0\x05I\
+    >\0\0\0\0\0\x0fB@\0\0\0\x07Q\0\0\0\x06d\0\
+    <\0\0\0\0\0\x0fB@\0\0\0=T\0\0\0\x1a\0\x01x\0\0\0\0\0\0\0\0\0\x02\xbc\0\x04\xff\xff\xff\xff\0\x01D\0\0\0\x0e\0\x01\0\0\0\x04ABCDC\0\0\0\x0cFETCH 1\0Z\0\0\0\x05I";
+
+/// Bytes in binary format are shown as digits where they have no text here, so that they don't look like one.
+#[test]
+fn bytes_that_are_not_read_are_digits(rt: HostRuntime) {
+    let runs: [(&[&str], &str); 3] = [
+        (
+            &["session", "--only", "DataRow"],
+            "    0.000000 <         42       15 D DataRow              values 1 \\x41424344\n",
+        ),
+        (
+            &["session", "--raw", "--only", "DataRow"],
+            "    0.000000 <         42       15 D DataRow              values 1 \"ABCD\"\n",
+        ),
+        (
+            &["session", "--only", "DataRow", "--json"],
+            "{\"time\":0.000000,\"from\":\"server\",\"offset\":42,\"length\":15,\"tag\":\"D\",\"name\":\"DataRow\",\"values\":[{\"hex\":\"41424344\"}]}\n",
+        ),
+    ];
+    for (words, written) in runs {
+        let wanted = Outcome {
+            status: 0,
+            written,
+            reported: "",
+        };
+        let mut input = FLOAT;
         comes_to(&rt, rt.alloc(), words, &mut input, &wanted);
     }
 }

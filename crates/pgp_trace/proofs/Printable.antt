@@ -18,7 +18,7 @@ use Rattle.pgp_line.specs.declared.style.Form.TheVariants.{Columns, Json}
 use Rattle.pgp_line.specs.declared.style.Style.{Style}
 use Rattle.pgp_line.specs.Quoting.{IsPrinted, broken, digits, hex_digit, hex_byte, hex_escape, is_mark, is_printable, is_text, is_visible, escaped_byte, escaped_char, escaped, json_digits, json_hex, json_text, json_value, long, quoted, unit, units, unprinted, value, up_to}
 use Rattle.pgp_line.proofs.Escapes.{front_utf8}
-use Rattle.pgp_line.specs.Line.{Part, Length, Tag, Name, Refusal, Key, Member, Count, ListBegins, ListEnds, ObjectBegins, ObjectEnds, Word, Number, Lsn, Oid, Text, Value, Hidden, added, added_by, blanks, closing, closing_by, comma, extended, followed, is_opening, json, json_name, key as keyed, lsn, named, opening, opening_by, right, separator, shown, space, spelt, string, type_name}
+use Rattle.pgp_line.specs.Line.{Part, Length, Tag, Name, Refusal, Key, Member, Count, ListBegins, ListEnds, ObjectBegins, ObjectEnds, Word, Number, Lsn, Oid, Text, Value, Binary, Hidden, added, added_by, blanks, closing, closing_by, comma, extended, followed, is_opening, json, json_name, key as keyed, lsn, named, opening, opening_by, right, separator, shown, space, spelt, string, type_name}
 use Rattle.pgp_line.specs.Types.{type_of}
 use Rattle.pgp_trace.specs.Names.{state_of}
 use Rattle.pgp_message.specs.Items.{TextSpelled, TextRefused, FormatSpelled, FormatRefused, TypeSpelled, TypeRefused, RangeSpelled, RangeRefused, FieldSpelled, FieldRefused, ErrorFieldSpelled, ErrorFieldRefused}
@@ -311,6 +311,7 @@ part limit (Oid oid) = join (decimal oid) (type_name (type_of oid)) (number oid)
 part limit (Text bytes) = cut (quoted Columns) (quote Columns) limit bytes
 part limit (Value None) = plain (codes "NULL") refl
 part limit (Value (Some bytes)) = val limit bytes
+part limit (Binary bytes) = cut digits hexes limit bytes
 part limit (Hidden n) = around (codes "(") (decimal n) (codes " bytes)") refl refl (number n)
 part limit (Member name) = plain [] refl
 part limit ListBegins = plain [] refl
@@ -337,6 +338,7 @@ json_part limit (Oid oid) = join (codes "{\"oid\":" ++ decimal oid) (json_name (
 json_part limit (Text bytes) = json_val limit bytes
 json_part limit (Value None) = plain (codes "null") refl
 json_part limit (Value (Some bytes)) = json_val limit bytes
+json_part limit (Binary bytes) = json_digit limit bytes
 json_part limit (Hidden n) = around (codes "{\"bytes\":") (decimal n) (codes "}") refl refl (number n)
 
 blank_before : (p : Part) → IsPrinted (space p)
@@ -357,6 +359,7 @@ blank_before (Lsn n) = plain (32 ∷ []) refl
 blank_before (Oid oid) = plain (32 ∷ []) refl
 blank_before (Text bytes) = plain (32 ∷ []) refl
 blank_before (Value bytes) = plain (32 ∷ []) refl
+blank_before (Binary bytes) = plain (32 ∷ []) refl
 blank_before (Hidden n) = plain (32 ∷ []) refl
 
 one_comma : (line : List ℕ) → IsPrinted (comma line)
@@ -381,6 +384,7 @@ comma_before line (Lsn n) = one_comma line
 comma_before line (Oid oid) = one_comma line
 comma_before line (Text bytes) = one_comma line
 comma_before line (Value bytes) = one_comma line
+comma_before line (Binary bytes) = one_comma line
 comma_before line (Hidden n) = one_comma line
 
 one_part : (form : Form) (limit : ℕ) (line : List ℕ) (p : Part) → IsPrinted (added_by form limit line p)

@@ -24,7 +24,7 @@ returns-in-Ok-hear g c = λ s.
     inl (record {
       taken = taken_ok (taken old.talk (kind_of m)) c.in-Ok.event (talk_of (λ q. q.items) c.take_message.new.self) c.in-Ok.ensures;
       due = sym c.is_early.ensures ∙ c.if-is_early.false;
-      sound = sym c.has_status.ensures ∙ c.if-has_status.true;
+      sound = sym c.lacks_status.ensures ∙ c.if-lacks_status.false;
       kept = c.in-Ok-keep.ensures.0;
       goes_on = sym c.is_end.ensures ∙ c.if-is_end.false;
       logged = logs_on _ g.A.Memory.Lacks (seen c.args.self.now.login) (seen c.hear.new.self) c.args.self.now.out.items c.hear.new.out.items (asking m) c.in-Ok-hear.ensures.observed;
@@ -70,9 +70,9 @@ returns-then-is_early g c = λ s.
     let is = taken_ok (taken old.talk (kind_of (view c.args.message.now))) c.in-Ok.event talk c.in-Ok.ensures in
     inr (inl ((c.in-Ok.event, talk), is, inl (sym c.is_early.ensures ∙ c.if-is_early.true, refl), refl))
 
-pub returns-then-has_status : goal.returns-then-has_status
-returns-then-has_status g c = λ s.
+pub returns-then-lacks_status : goal.returns-then-lacks_status
+returns-then-lacks_status g c = λ s.
     let old = in_state c.args.self.now s in
     let talk = talk_of (λ q. q.items) c.take_message.new.self in
     let is = taken_ok (taken old.talk (kind_of (view c.args.message.now))) c.in-Ok.event talk c.in-Ok.ensures in
-    inr (inl ((c.in-Ok.event, talk), is, inr (sym c.is_early.ensures ∙ c.if-is_early.false, (sym c.has_status.ensures ∙ c.if-has_status.false, refl)), refl))
+    inr (inl ((c.in-Ok.event, talk), is, inr (sym c.is_early.ensures ∙ c.if-is_early.false, sym c.lacks_status.ensures ∙ c.if-lacks_status.true, refl), refl))

@@ -1,0 +1,9 @@
+use Rattle.std.proofs.Common.{◌∙◌, ◌++◌, ap}
+use Rattle.std.specs.Prelude.{slice_get, string_bytes}
+use Rattle.pgp_conversation.specs.Tables.{row_at}
+use Rattle.pgp_conversation.proofs.TableRows.{rows_next}
+use Rattle.pgp_conversation.proofs.table.put_rows.Goals as goal
+
+pub rows-preserved : goal.rows-preserved
+rows-preserved g c = c.in_ok-put_place.ensures.text ∙ ap (λ t. t ++ row_at c.args.style (slice_get c.args.summary.now.tallies c.rows.place)) c.rows.invariant
+    ∙ rows_next c.args.style c.args.summary.now.tallies c.rows.place (string_bytes c.args.text.now)
