@@ -7,9 +7,7 @@ import sys
 
 top, folder, prefix, python = sys.argv[1:]
 # Query is its tag, four bytes of length, the text and a 0 byte.
-ANSWER = '14 bytes to send\n%s\n%s\n'
-README = {'rust': ANSWER % ('CommandComplete SELECT 1', 'ReadyForQuery'), 'c': ANSWER % ('C "SELECT 1"', 'Z ""'),
-          'python': ANSWER % ("CommandComplete b'SELECT 1'", "ReadyForQuery b''")}
+README = dict.fromkeys(('rust', 'c', 'python'), '%d bytes to send, SELECT 1\n' % (1 + 4 + len('SELECT 1\0')))
 # Bind is its tag, four bytes of length, two names, two lists of one format, one value of 2 bytes.
 BOUND = '%d bytes sent, bound: %s\n'
 SENT = 1 + 4 + len('\0s\0') + 2 * (2 + 2) + 2 + 4 + 2
