@@ -249,6 +249,9 @@ static void names(void)
     is("status", T(pgp_status_name(PGP_E_NOT_UTF8)), T("PGP_E_NOT_UTF8")); is("status", T(pgp_status_name(PGP_E_OUT_OF_RANGE)), T("PGP_E_OUT_OF_RANGE"));
     is("status", T(pgp_status_name(PGP_E_WRONG_PHASE)), T("PGP_E_WRONG_PHASE")); is("status", T(pgp_status_name(PGP_E_UNCERTAIN)), T("PGP_E_UNCERTAIN"));
     is("status", T(pgp_status_name(PGP_FULL)), T("PGP_FULL")); is("none", T(pgp_status_name(26)), T("?")); is("status", T(pgp_status_name(PGP_E_UNKNOWN_PACKET)), T("PGP_E_UNKNOWN_PACKET")); is("status", T(pgp_status_name(PGP_E_FRACTION)), T("PGP_E_FRACTION")); is("none", T(pgp_status_name(42)), T("?"));
+    is("status", T(pgp_status_name(PGP_SCRAM_WRONG_STATE)), T("PGP_SCRAM_WRONG_STATE")); is("status", T(pgp_status_name(PGP_SCRAM_VERIFICATION)), T("PGP_SCRAM_VERIFICATION")); is("none", T(pgp_status_name(77)), T("?"));
+    is("status", T(pgp_status_name(PGP_BAD_NONCE)), T("PGP_BAD_NONCE")); is("status", T(pgp_status_name(PGP_SCRAM_INVALID_PROOF)), T("PGP_SCRAM_INVALID_PROOF")); is("status", T(pgp_status_name(PGP_LOGIN_OTHER_MECHANISM)), T("PGP_LOGIN_OTHER_MECHANISM"));
+    is("none", T(pgp_status_name(65)), T("?")); is("status", T(pgp_status_name(PGP_LOGIN_TOO_FEW_ROUNDS)), T("PGP_LOGIN_TOO_FEW_ROUNDS")); is("none", T(pgp_status_name(93)), T("?")); is("none", T(pgp_status_name(-1)), T("?"));
     is("kind", T(pgp_kind_name(PGP_DATA_ROW)), T("DataRow")); is("kind", T(pgp_kind_name(PGP_FUNCTION_CALL_RESPONSE)), T("FunctionCallResponse")); is("none", T(pgp_kind_name(35)), T("?"));
 }
 

@@ -19,7 +19,7 @@ static pgp_status hear(struct pgp_login *l, uint8_t ways, enum message m)
     case CLEARTEXT: return pgp_login_cleartext(l, ways);
     case MD5: return pgp_login_md5(l, ways, B("md5_user"), B("password"), B("\x2a\x3d\x8f\xe0"), out, sizeof out, &n);
     case SASL: return pgp_login_sasl(l, ways, SCRAM_256, NO_BINDING, B(nonce), out, sizeof out, &n);
-    case CONTINUE: return pgp_login_continue(l, B("foobar"), NO_BINDING, B(nonce), B(first), out, sizeof out, &n, &at);
+    case CONTINUE: return pgp_login_continue(l, 4096, B("foobar"), NO_BINDING, B(nonce), B(first), out, sizeof out, &n, &at);
     case FINAL: return pgp_login_final(l, B(final), &at);
     default: return pgp_login_ok(l, ways);
     }
@@ -99,7 +99,8 @@ static void refusals(void)
     same("bound", pgp_login_sasl(&l, 15, B("SCRAM-SHA-256-PLUS"), PGP_BINDING_TLS_SERVER_END_POINT, B("hash"), B("abc"), out, sizeof out, &n), PGP_OK);
     is("bound", out, n, T("p=tls-server-end-point,,n=,r=abc"));
     l = was = after(15, offer, 1); n = 77;
-    same("another exchange", pgp_login_continue(&l, B("foobar"), NO_BINDING, B(nonce), B("r=abc,s=,i=1"), out, sizeof out, &n, &at), PGP_SCRAM_INVALID_NONCE);
+    same("too few rounds", pgp_login_continue(&l, 4097, B("foobar"), NO_BINDING, B(nonce), B(first), out, sizeof out, &n, &at), PGP_LOGIN_TOO_FEW_ROUNDS); same("nothing", n, 0); same("its place", at, 0);
+    same("another exchange", pgp_login_continue(&l, 0, B("foobar"), NO_BINDING, B(nonce), B("r=abc,s=,i=1"), out, sizeof out, &n, &at), PGP_SCRAM_INVALID_NONCE);
     same("nothing", n, 0); same("at", at, 0); same("as it was", memcmp(&l, &was, sizeof l), 0);
 }
 
@@ -112,7 +113,7 @@ static void sent(void)
     WRITER("md5", "md562af4dd09bbb41884907a838a3233294", (l = after(15, NULL, 0), pgp_login_md5(&l, 15, B("md5_user"), B("password"), B("\x2a\x3d\x8f\xe0"), O)));
     WRITER("sasl", "n,,n=,r=9IZ2O01zb9IgiIZ1WJ/zgpJB", (l = after(15, NULL, 0), pgp_login_sasl(&l, 15, SCRAM_256, NO_BINDING, B(nonce), O)));
     WRITER("continue", "c=biws,r=9IZ2O01zb9IgiIZ1WJ/zgpJBjx/oIRLs02gGSHcw1KEty3eY,p=AmNKosjJzS31NTlQYNs5BTeQjdHdk7lOflDo5re2an8=",
-        (l = after(15, offer, 1), pgp_login_continue(&l, B("foobar"), NO_BINDING, B(nonce), B(first), O, &at)));
+        (l = after(15, offer, 1), pgp_login_continue(&l, 4096, B("foobar"), NO_BINDING, B(nonce), B(first), O, &at)));
 }
 
 void logins(void)

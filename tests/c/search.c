@@ -57,13 +57,13 @@ static void vectors(void)
 {
     static const uint16_t a[2] = {1 | PGP_WEIGHT_A, 2 | PGP_WEIGHT_B}, cat[1] = {3 | PGP_WEIGHT_D}, most[1] = {16383};
     static const uint16_t c2[1] = {2 | PGP_WEIGHT_C}, a1[1] = {1 | PGP_WEIGHT_A}, b3[1] = {3 | PGP_WEIGHT_B};
-    static const struct pgp_word words[3] = {{B("a"), a, 2}, {B("cat"), cat, 1}, {B("fat"), NULL, 0}}, umlaut[1] = {{B("\xc3\xa4"), most, 1}};
-    static const struct pgp_word weights[3] = {{B("a"), c2, 1}, {B("b"), a1, 1}, {B("c"), b3, 1}};
-    static const struct pgp_word no_text[2] = {{B("a"), NULL, 0}, {B("\xff"), NULL, 0}}, zero[1] = {{B("a\0b"), NULL, 0}}, both[1] = {{B("\0\xff"), NULL, 0}};
+    static const struct pgp_word words[3] = {{{B("a")}, a, 2}, {{B("cat")}, cat, 1}, {{B("fat")}, NULL, 0}}, umlaut[1] = {{{B("\xc3\xa4")}, most, 1}};
+    static const struct pgp_word weights[3] = {{{B("a")}, c2, 1}, {{B("b")}, a1, 1}, {{B("c")}, b3, 1}};
+    static const struct pgp_word no_text[2] = {{{B("a")}, NULL, 0}, {{B("\xff")}, NULL, 0}}, zero[1] = {{{B("a\0b")}, NULL, 0}}, both[1] = {{{B("\0\xff")}, NULL, 0}};
     static const size_t ends[4] = {12, 20, 26, 0};
     struct pgp_cursor c = {0, 0, 0};
     struct pgp_lexeme l;
-    struct pgp_word many = {B("a"), NULL, 65536};
+    struct pgp_word many = {{B("a")}, NULL, 65536};
     uint16_t *positions = (uint16_t *)calloc(65536, sizeof *positions), position = 7;
     uint8_t *out = (uint8_t *)malloc(131080);
     pgp_status last;
@@ -100,11 +100,11 @@ static void vectors(void)
 
 static void queries(void)
 {
-    static const struct pgp_query_node query[6] = { {NULL, 0, 0, PGP_TS_AND, 0, false}, {NULL, 0, 0, PGP_TS_NOT, 0, false}, {NULL, 0, 0, PGP_TS_OR, 0, false},
-        {B("c"), 0, PGP_TS_OPERAND, 0, false}, {B("b"), 0, PGP_TS_OPERAND, 0, false}, {B("a"), 0, PGP_TS_OPERAND, 0, true} };
-    static const struct pgp_query_node phrase[3] = { {B("\xff"), 16384, PGP_TS_PHRASE, 15, true}, {B("b"), 7, PGP_TS_OPERAND, 0, false}, {B("a"), 7, PGP_TS_OPERAND, 0, false} };
-    static const struct pgp_query_node weighted[1] = {{B("x y"), 0, PGP_TS_OPERAND, 12, true}}, zero[1] = {{B("a\0"), 0, PGP_TS_OPERAND, 0, false}};
-    static const struct pgp_query_node no_text[2] = { {NULL, 0, 0, PGP_TS_NOT, 0, false}, {B("\xff"), 0, PGP_TS_OPERAND, 0, false} }, none[2] = { {B("\xff"), 0, PGP_TS_OPERAND, 0, false}, {NULL, 0, 0, 5, 0, false} };
+    static const struct pgp_query_node query[6] = { {{NULL, 0}, 0, PGP_TS_AND, 0, false}, {{NULL, 0}, 0, PGP_TS_NOT, 0, false}, {{NULL, 0}, 0, PGP_TS_OR, 0, false},
+        {{B("c")}, 0, PGP_TS_OPERAND, 0, false}, {{B("b")}, 0, PGP_TS_OPERAND, 0, false}, {{B("a")}, 0, PGP_TS_OPERAND, 0, true} };
+    static const struct pgp_query_node phrase[3] = { {{B("\xff")}, 16384, PGP_TS_PHRASE, 15, true}, {{B("b")}, 7, PGP_TS_OPERAND, 0, false}, {{B("a")}, 7, PGP_TS_OPERAND, 0, false} };
+    static const struct pgp_query_node weighted[1] = {{{B("x y")}, 0, PGP_TS_OPERAND, 12, true}}, zero[1] = {{{B("a\0")}, 0, PGP_TS_OPERAND, 0, false}};
+    static const struct pgp_query_node no_text[2] = { {{NULL, 0}, 0, PGP_TS_NOT, 0, false}, {{B("\xff")}, 0, PGP_TS_OPERAND, 0, false} }, none[2] = { {{B("\xff")}, 0, PGP_TS_OPERAND, 0, false}, {{NULL, 0}, 0, 5, 0, false} };
     static const size_t ends[7] = {6, 8, 10, 15, 20, 25, 0};
     static const uint8_t kinds[6] = {PGP_TS_AND, PGP_TS_NOT, PGP_TS_OR, PGP_TS_OPERAND, PGP_TS_OPERAND, PGP_TS_OPERAND};
     struct pgp_cursor c = {0, 0, 0};

@@ -95,7 +95,7 @@ static void replies(void)
     static const uint8_t bare[][2] = { {PGP_AUTHENTICATION_OK, 0}, {PGP_AUTHENTICATION_KERBEROS_V5, 2}, {PGP_AUTHENTICATION_CLEARTEXT_PASSWORD, 3}, {PGP_AUTHENTICATION_SCM_CREDENTIAL, 6}, {PGP_AUTHENTICATION_GSS, 7}, {PGP_AUTHENTICATION_SSPI, 9} };
     static const char tags[] = "123cInst";
     static const uint8_t kinds[] = { PGP_PARSE_COMPLETE, PGP_BIND_COMPLETE, PGP_CLOSE_COMPLETE, PGP_COPY_DONE, PGP_EMPTY_QUERY_RESPONSE, PGP_NO_DATA, PGP_PORTAL_SUSPENDED };
-    struct pgp_name names[2], none[1];
+    struct pgp_bytes names[2], none[1];
     struct pgp_described columns[2];
     struct pgp_reported fields[3], bad[1];
     struct pgp_value values[3];
@@ -118,23 +118,23 @@ static void replies(void)
     WRITER("setting", "S\0\0\0\x0bTim\0eZ\0", pgp_reply_parameter_status(B("Tim"), B("eZ"), O));
     WRITER("notification", "A\0\0\0\x0c\0\0\0\1c\0p\0", pgp_reply_notification(1, B("c"), B("p"), O));
     WRITER("ready", "Z\0\0\0\5I", pgp_reply_ready_for_query('I', O));
-    names[0].name = (const uint8_t *)"SCRAM-SHA-256"; names[0].name_len = 13; names[1].name = (const uint8_t *)"X"; names[1].name_len = 1; none[0].name = (const uint8_t *)"a\0"; none[0].name_len = 2;
+    names[0] = pgp_bytes_of("SCRAM-SHA-256", 13); names[1] = pgp_bytes_of("X", 1); none[0] = pgp_bytes_of("a\0", 2);
     WRITER("sasl", "R\0\0\0\x19\0\0\0\x0aSCRAM-SHA-256\0X\0\0", pgp_reply_authentication_sasl(names, 2, O));
     WRITER("versions", "v\0\0\0\x0e\0\3\0\0\0\0\0\1X\0", pgp_reply_negotiate_protocol_version(196608, names + 1, 1, O));
     WRITER("versions, no option", "v\0\0\0\x0c\0\3\0\0\0\0\0\0", pgp_reply_negotiate_protocol_version(196608, NULL, 0, O));
     same("a 0 byte", pgp_reply_authentication_sasl(none, 1, out, sizeof out, &n), PGP_E_EMBEDDED_NULL); same("nothing", n, 0);
     memset(columns, 0, sizeof columns);
-    columns[0].name = (const uint8_t *)"a"; columns[0].name_len = 1; columns[0].type_oid = 23; columns[0].type_size = 4; columns[0].type_modifier = -1;
-    columns[1].name = (const uint8_t *)""; columns[1].table_oid = 0x4001; columns[1].column_id = 3; columns[1].type_oid = 1043; columns[1].type_size = -1; columns[1].type_modifier = 36; columns[1].format = 1;
+    columns[0].name = pgp_bytes_of("a", 1); columns[0].type_oid = 23; columns[0].type_size = 4; columns[0].type_modifier = -1;
+    columns[1].name = pgp_bytes_of("", 0); columns[1].table_oid = 0x4001; columns[1].column_id = 3; columns[1].type_oid = 1043; columns[1].type_size = -1; columns[1].type_modifier = 36; columns[1].format = 1;
     WRITER("columns", "T\0\0\0\x2d\0\2a\0\0\0\0\0\0\0\0\0\0\x17\0\4\xff\xff\xff\xff\0\0" "\0\0\0\x40\1\0\3\0\0\4\x13\xff\xff\0\0\0\x24\0\1", pgp_reply_row_description(columns, 2, O));
     WRITER("no columns", "T\0\0\0\6\0\0", pgp_reply_row_description(NULL, 0, O));
-    columns[1].name_len = 1; same("a 0 byte", pgp_reply_row_description(columns, 2, out, sizeof out, &n), PGP_E_EMBEDDED_NULL); same("nothing", n, 0);
-    values[0] = pgp_value("a", 1); values[1] = pgp_value(NULL, 0); values[2] = pgp_value("", 0);
+    columns[1].name.len = 1; same("a 0 byte", pgp_reply_row_description(columns, 2, out, sizeof out, &n), PGP_E_EMBEDDED_NULL); same("nothing", n, 0);
+    values[0] = pgp_value_of("a", 1); values[1] = pgp_value_of(NULL, 0); values[2] = pgp_value_of("", 0);
     WRITER("row", "D\0\0\0\x13\0\3\0\0\0\1a\xff\xff\xff\xff\0\0\0\0", pgp_reply_data_row(values, 3, O)); WRITER("no values", "D\0\0\0\6\0\0", pgp_reply_data_row(NULL, 0, O));
     WRITER("types", "t\0\0\0\x0e\0\2\0\0\0\x17\0\0\0\0", pgp_reply_parameter_description(types, 2, O));
     WRITER("in", "G\0\0\0\x0b\1\0\2\0\1\0\0", pgp_reply_copy_in(1, formats, 2, O)); WRITER("out", "H\0\0\0\7\0\0\0", pgp_reply_copy_out(0, NULL, 0, O));
-    fields[0].code = PGP_FIELD_SEVERITY; fields[0].value = (const uint8_t *)"ERROR"; fields[0].value_len = 5; fields[1].code = PGP_FIELD_SQLSTATE; fields[1].value = (const uint8_t *)"42703"; fields[1].value_len = 5;
-    fields[2].code = PGP_FIELD_MESSAGE; fields[2].value = (const uint8_t *)""; fields[2].value_len = 0; bad[0] = fields[0]; bad[0].code = 0;
+    fields[0].code = PGP_FIELD_SEVERITY; fields[0].value = pgp_bytes_of("ERROR", 5); fields[1].code = PGP_FIELD_SQLSTATE; fields[1].value = pgp_bytes_of("42703", 5);
+    fields[2].code = PGP_FIELD_MESSAGE; fields[2].value = pgp_bytes_of("", 0); bad[0] = fields[0]; bad[0].code = 0;
     WRITER("error", "E\0\0\0\x15SERROR\0C42703\0M\0\0", pgp_reply_error(fields, 3, O)); WRITER("notice", "N\0\0\0\x0cSERROR\0\0", pgp_reply_notice(fields, 1, O));
     same("no code", pgp_reply_error(bad, 1, out, sizeof out, &n), PGP_E_EMBEDDED_NULL); same("nothing", n, 0);
 }
@@ -148,7 +148,7 @@ static void large(void)
     uint8_t *out = (uint8_t *)malloc(size), *text = (uint8_t *)malloc(4096);
     struct pgp_message m;
     struct pgp_client_message q;
-    for (k = 0; k < count; k++) values[k] = pgp_value(NULL, 0);
+    for (k = 0; k < count; k++) values[k] = pgp_value_of(NULL, 0);
     same("too many", pgp_reply_data_row(values, count, out, size, &n), PGP_E_TOO_LARGE); same("nothing", n, 0); same("too many", pgp_reply_parameter_description(types, count, out, size, &n), PGP_E_TOO_LARGE);
     same("all", pgp_reply_data_row(values, count - 1, out, size, &n), PGP_OK); same("size", n, size); same("row", pgp_front(out, n, &m), PGP_OK); same("count", m.parts.count, 65535); same("short", pgp_reply_data_row(values, count - 1, out, size - 1, &n), PGP_NO_ROOM);
     memset(text, 'x', 4096);

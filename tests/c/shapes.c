@@ -17,7 +17,7 @@ static void requests(void)
     struct pgp_stream s;
     unsigned letter, given, which, results;
     size_t n;
-    two[0] = pgp_value("a", 1); two[1] = pgp_value(NULL, 0);
+    two[0] = pgp_value_of("a", 1); two[1] = pgp_value_of(NULL, 0);
     s.room = out; s.room_len = sizeof out; s.is_open = true;
     for (letter = 0; letter < 256; letter++) {
         pgp_status want = letter == 'S' || letter == 'P' ? PGP_OK : PGP_E_KIND;
@@ -205,17 +205,17 @@ static void lists(void)
 {
     static const char ranges[] = "\0\0\0\2\0\0\0\x11\2\0\0\0\4\0\0\0\1\0\0\0\4\0\0\0\5\0\0\0\x11\2\0\0\0\4\0\0\0\7\0\0\0\4\0\0\0\x09"; /* {[1,5),[7,9)} */
     struct pgp_typed fields[3];
-    struct pgp_item two[2];
-    fields[0].value = pgp_value("\0\0\0\1", 4); fields[0].of_type = 23;
-    fields[1].value = pgp_value("x", 1); fields[1].of_type = 705;
-    fields[2].value = pgp_value(NULL, 0); fields[2].of_type = 705;
-    two[0].bytes = (const uint8_t *)ranges + 8; two[0].bytes_len = 17; two[1].bytes = (const uint8_t *)ranges + 29; two[1].bytes_len = 17;
+    struct pgp_bytes two[2];
+    fields[0].value = pgp_value_of("\0\0\0\1", 4); fields[0].of_type = 23;
+    fields[1].value = pgp_value_of("x", 1); fields[1].of_type = 705;
+    fields[2].value = pgp_value_of(NULL, 0); fields[2].of_type = 705;
+    two[0] = pgp_bytes_of(ranges + 8, 17); two[1] = pgp_bytes_of(ranges + 29, 17);
     WRITER("record", "\0\0\0\3\0\0\0\x17\0\0\0\4\0\0\0\1\0\0\2\xc1\0\0\0\1x\0\0\2\xc1\xff\xff\xff\xff", pgp_put_record(fields, 3, O)); /* (1,x,) */
-    fields[1].value = pgp_value("", 0);
+    fields[1].value = pgp_value_of("", 0);
     WRITER("a field of nothing", "\0\0\0\1\0\0\2\xc1\0\0\0\0", pgp_put_record(fields + 1, 1, O));
     WRITER("no fields", "\0\0\0\0", pgp_put_record(NULL, 0, O));
     WRITER("multirange", "\0\0\0\2\0\0\0\x11\2\0\0\0\4\0\0\0\1\0\0\0\4\0\0\0\5\0\0\0\x11\2\0\0\0\4\0\0\0\7\0\0\0\4\0\0\0\x09", pgp_put_multirange(two, 2, O));
-    two[0].bytes = (const uint8_t *)"\x18"; two[0].bytes_len = 1;
+    two[0] = pgp_bytes_of("\x18", 1);
     WRITER("multirange of all", "\0\0\0\1\0\0\0\1\x18", pgp_put_multirange(two, 1, O)); /* {(,)} */
     WRITER("no ranges", "\0\0\0\0", pgp_put_multirange(NULL, 0, O));
     fields[0].value.bytes_len = 2147483648u; /* longer than a length may be, which comes before a byte of it is read */
@@ -229,11 +229,11 @@ static void arrays(void)
     struct pgp_value four[4];
     uint8_t out[64];
     size_t n = 77, count;
-    four[0] = pgp_value("\0\0\0\1", 4); four[1] = pgp_value("\0\0\0\2", 4); four[2] = pgp_value("\0\0\0\3", 4); four[3] = pgp_value("\0\0\0\4", 4);
+    four[0] = pgp_value_of("\0\0\0\1", 4); four[1] = pgp_value_of("\0\0\0\2", 4); four[2] = pgp_value_of("\0\0\0\3", 4); four[3] = pgp_value_of("\0\0\0\4", 4);
     /* {{1,2},{3,4}} of int4, [-1:0]={1,2}, and {}: as a server sends them */
     WRITER("2 by 2", "\0\0\0\2\0\0\0\0\0\0\0\x17\0\0\0\2\0\0\0\1\0\0\0\2\0\0\0\1\0\0\0\4\0\0\0\1\0\0\0\4\0\0\0\2\0\0\0\4\0\0\0\3\0\0\0\4\0\0\0\4", pgp_put_array_of(23, square, 2, four, 4, O));
     WRITER("from -1", "\0\0\0\1\0\0\0\0\0\0\0\x17\0\0\0\2\xff\xff\xff\xff\0\0\0\4\0\0\0\1\0\0\0\4\0\0\0\2", pgp_put_array_of(23, low, 1, four, 2, O));
-    four[1] = pgp_value(NULL, 0);
+    four[1] = pgp_value_of(NULL, 0);
     WRITER("a null", "\0\0\0\1\0\0\0\1\0\0\0\x17\0\0\0\2\xff\xff\xff\xff\0\0\0\4\0\0\0\1\xff\xff\xff\xff", pgp_put_array_of(23, low, 1, four, 2, O));
     WRITER("no dimensions", "\0\0\0\0\0\0\0\0\0\0\0\x17", pgp_put_array_of(23, NULL, 0, NULL, 0, O));
     WRITER("0 by 2", "\0\0\0\2\0\0\0\0\0\0\0\x17\0\0\0\0\0\0\0\1\0\0\0\2\0\0\0\1", pgp_put_array_of(23, flat, 2, NULL, 0, O));

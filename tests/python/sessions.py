@@ -111,6 +111,34 @@ def check_requests(same, raises):
     raises('a message past the limit', pg.ProtocolError, 'TooLarge', connection.next_event)
 
 
+def check_runs(same, raises):
+    """A Bind, an Execute and a Sync by one call: the bytes of the three writers, of any size and any number before an answer."""
+    connection, wanted, numbers = connected(), b'', []
+    for number in range(200):
+        values = [b'x' * (number * number), None, b'']
+        numbers.append(connection.run(b'p', b's', b'\1\0\0\0\1\0', values, b'\1\0', number, (4, 1), number % 2 == 1))
+        wanted += pg.bind(b'p', b's', [1, 0, 1], values, [1]) + pg.execute(b'p', number) + (pg.sync() if number % 2 else b'')
+    same('what is sent', connection.data_to_send() == wanted, True)
+    one, two = frame(b'2', b'') + ROW * 2 + frame(b's', b''), frame(b'2', b'') + frame(b'C', b'SELECT 0\0') + READY
+    connection.receive_data((one + two) * 100)
+    got = events_of(connection)
+    same('each answer to its own', [e.request for e in got if isinstance(e, (events.Rows, events.CommandCompleted))], numbers)
+    same('rows of each', [e.rows for e in got if isinstance(e, events.Rows)], [[(7, 'hello')] * 2] * 100)
+    same('idle at its end', (connection.is_idle, connection.needs_sync), (True, False))
+    for what, error, text, arguments in (
+            ('a 0 byte', pg.ProtocolError, 'EmbeddedNull', (b'a\0', b's', b'', [], b'', 0, (), True)), ('formats', pg.ProtocolError, 'InvalidFormats', (b'', b's', b'\7\0', [b''], b'', 0, (), True)),
+            ('a value that is no bytes', TypeError, 'expected bytes, str found', (b'', b's', b'', ['x'], b'', 0, (), True)),
+            ('no list', TypeError, 'ask() argument 6 must be list', (b'', b's', b'', (b'x',), b'', 0, (), True))):
+        raises(what, error, text, lambda: connection.run(*arguments))
+        same(what + ': nothing is sent, and nothing asked', (connection.data_to_send(), connection.is_idle), (b'', True))
+    raises('before the log-in', pg.ProtocolError, 'WrongPhase', lambda: Connection('alice').run(b'', b's', b'', [], b'', 0, (), True))
+    connection.run(b'', b's', b'', [], b'', 0, (4, 1), True)
+    connection.receive_data(frame(b'2', b'') + frame(b'2', b''))
+    same('what came before a fault', connection.next_event(), events.Completed(connection.last_number - 2, 'BindComplete'))
+    raises('and then the fault', pg.ProtocolError, 'Unexpected', connection.next_event)
+    raises('for good', pg.ProtocolError, 'Unexpected', connection.next_event)
+
+
 def check_mutations(same, raises):
     """Bytes of a session replaced at random, and in pieces of any size: a connection ends, and raises what its pages name."""
     draw, ended = random.Random(1), 0
@@ -194,5 +222,5 @@ def check_asyncio(same, raises):
 
 def check_sessions(same, raises):
     """All of them."""
-    for check in (check_log_in, check_encryption, check_requests, check_mutations, check_client, check_asyncio):
+    for check in (check_log_in, check_encryption, check_requests, check_runs, check_mutations, check_client, check_asyncio):
         check(same, raises)

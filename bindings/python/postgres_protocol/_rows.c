@@ -290,7 +290,7 @@ static struct pgp_value *values_of(PyObject *list, size_t count)
             PyMem_Free(values);
             return NULL;
         }
-        values[i] = pgp_value(bytes, (size_t)len);
+        values[i] = pgp_value_of(bytes, (size_t)len);
     }
     return values;
 }

@@ -40,14 +40,14 @@
 extern "C" {
 #endif
 
+/* The version of this library. */
 #define PGP_VERSION_MAJOR 0
 #define PGP_VERSION_MINOR 1
+#define PGP_VERSION_PATCH 0
 
 /* ---- what a call returns ---- */
 
-typedef uint32_t pgp_status;
-
-enum {
+typedef enum pgp_status {
     PGP_OK = 0,
     PGP_NO_ROOM = 1,                    /* the room is too small (the core's OutOfMemory)                */
     PGP_E_EMBEDDED_NULL = 2,            /* a text has a 0 byte                                           */
@@ -84,66 +84,86 @@ enum {
     PGP_E_FORMATS = 39,                 /* pgp_bind: a format is neither 0 nor 1, or their count is wrong */
     PGP_E_NOT_FINITE = 40,              /* a numeric is NaN or an infinity, and no integer               */
     PGP_E_FRACTION = 41,                /* a digit of a numeric after the point isn't 0                  */
+    /* of postgres_protocol_auth.h: the refusals of an exchange, 64 and the core's number of a ScramError, and those of a log-in */
+    PGP_SCRAM_WRONG_STATE = 66, PGP_SCRAM_NOT_UTF8 = 67, PGP_SCRAM_UNEXPECTED_END = 68, PGP_SCRAM_UNEXPECTED_CHARACTER = 69,
+    PGP_SCRAM_TRAILING = 70, PGP_SCRAM_INVALID_NUMBER = 71, PGP_SCRAM_INVALID_NONCE = 72, PGP_SCRAM_TOO_MANY_ITERATIONS = 73,
+    PGP_SCRAM_INVALID_BASE64 = 74,
+    PGP_SCRAM_SERVER = 75,              /* the server's final text is an error, behind its `e=` */
+    PGP_SCRAM_VERIFICATION = 76,        /* the server did not show the password's signature */
+    PGP_BAD_NONCE = 80,                 /* the caller's nonce is empty, or has a byte that is no printable ASCII or is a comma */
+    PGP_BAD_BINDING = 81,               /* the kind of the channel binding is none of pgp_binding, or of pgp_offer */
+    PGP_NOT_A_VERIFIER = 82,            /* the stored text is no verifier of SCRAM-SHA-256 */
+    PGP_WRONG_PASSWORD = 83,            /* what was shown isn't what is stored */
+    PGP_SCRAM_UNSUPPORTED_BINDING = 84, PGP_SCRAM_INVALID_FIRST = 85, PGP_SCRAM_OTHER_EXCHANGE = 86, PGP_SCRAM_INVALID_ENCODING = 87,
+    PGP_SCRAM_INVALID_PROOF = 88,       /* the proof is of another password */
+    PGP_LOGIN_UNDUE = 89,               /* the message has no place there in a log-in */
+    PGP_LOGIN_NOT_ADMITTED = 90,        /* the server asks for a way of logging in that isn't admitted */
+    PGP_LOGIN_OTHER_MECHANISM = 91,     /* the mechanism isn't that of the channel binding */
+    PGP_LOGIN_TOO_FEW_ROUNDS = 92,      /* the server asks for fewer rounds than are admitted */
     PGP_MORE = 100,                     /* bytes are missing: read more, and call again                  */
     PGP_DONE = 101,                     /* the iterator is at its end                                    */
     PGP_FULL = 102                      /* pgp_*_all: the array is full, and more items follow           */
-};
+} pgp_status;
+
+/* A text or some bytes. PGP_TEXT("user") is the pointer and the length of a literal, as two arguments of a call or in the braces of a struct pgp_bytes. */
+struct pgp_bytes { const void *bytes; size_t len; };
+#define PGP_TEXT(literal) (literal), sizeof(literal) - 1
+static inline struct pgp_bytes pgp_bytes_of(const void *bytes, size_t len) { struct pgp_bytes b; b.bytes = bytes; b.len = len; return b; }
+static inline struct pgp_bytes pgp_text(const char *text) { return pgp_bytes_of(text, strlen(text)); }   /* up to its 0 byte */
 
 /* 1 of the proved library; 0 of one that is built of the same sources without their proofs (`make quick`). */
 uint32_t pgp_is_proved(void);
 
 /* Whether the bytes are a text as a server in UTF-8 takes one: PGP_OK, PGP_E_NOT_UTF8, or PGP_E_EMBEDDED_NULL for UTF-8 with a 0 byte. */
-pgp_status pgp_is_text(const uint8_t *bytes, size_t len);
+pgp_status pgp_is_text(const void *bytes, size_t len);
 
 /* ---- writers: one message each ---- */
 
-#define PGP_OUT uint8_t *out, size_t room, size_t *written
-
 /* The packets that open a connection. */
-struct pgp_pair { const uint8_t *name; size_t name_len; const uint8_t *value; size_t value_len; };
+struct pgp_pair { struct pgp_bytes name, value; };
 /* Names and values, among them `user`. 3.2 is a profile of this project's own; nothing is claimed of a server's 3.2. */
-enum { PGP_VERSION_3_0 = 196608, PGP_VERSION_3_2 = 196610 };
-pgp_status pgp_startup(int32_t version, const struct pgp_pair *parameters, size_t count, PGP_OUT);
-pgp_status pgp_ssl_request(PGP_OUT);               /* the server answers with one byte, which is no message */
+enum { PGP_PROTOCOL_3_0 = 196608, PGP_PROTOCOL_3_2 = 196610 };
+pgp_status pgp_startup(int32_t version, const struct pgp_pair *parameters, size_t count, uint8_t *out, size_t room, size_t *written);
+pgp_status pgp_ssl_request(uint8_t *out, size_t room, size_t *written);               /* the server answers with one byte, which is no message */
 /* By the number and the key of a BACKEND_KEY_DATA: 4 bytes, or 4 to 256 in 3.2; else PGP_E_INVALID_SIZE. */
-pgp_status pgp_cancel_request(int32_t process_id, const uint8_t *secret_key, size_t key_len, PGP_OUT);
+pgp_status pgp_cancel_request(int32_t process_id, const void *secret_key, size_t key_len, uint8_t *out, size_t room, size_t *written);
 
 /* Authentication. */
-pgp_status pgp_password_message(const uint8_t *password, size_t len, PGP_OUT);
-pgp_status pgp_sasl_initial_response(const uint8_t *mechanism, size_t mechanism_len,
-                                     const uint8_t *response, size_t len, PGP_OUT);
-pgp_status pgp_sasl_response(const uint8_t *response, size_t len, PGP_OUT);
+pgp_status pgp_password_message(const void *password, size_t len, uint8_t *out, size_t room, size_t *written);
+pgp_status pgp_sasl_initial_response(const void *mechanism, size_t mechanism_len,
+                                     const void *response, size_t len, uint8_t *out, size_t room, size_t *written);
+pgp_status pgp_sasl_response(const void *response, size_t len, uint8_t *out, size_t room, size_t *written);
 
 /* Simple queries, and the end. */
-pgp_status pgp_query(const uint8_t *text, size_t len, PGP_OUT);
-pgp_status pgp_terminate(PGP_OUT);
+pgp_status pgp_query(const void *text, size_t len, uint8_t *out, size_t room, size_t *written);
+pgp_status pgp_terminate(uint8_t *out, size_t room, size_t *written);
 
 /* Extended queries. `variant` is 'S' for a statement and 'P' for a portal, and PGP_E_KIND is returned for any other. max_rows 0: no limit. */
-pgp_status pgp_parse(const uint8_t *name, size_t name_len, const uint8_t *query, size_t query_len,
-                     const uint32_t *types, size_t type_count, PGP_OUT);
-pgp_status pgp_describe(uint8_t variant, const uint8_t *name, size_t len, PGP_OUT);
-pgp_status pgp_execute(const uint8_t *portal, size_t len, int32_t max_rows, PGP_OUT);
-pgp_status pgp_close(uint8_t variant, const uint8_t *name, size_t len, PGP_OUT);
-pgp_status pgp_sync(PGP_OUT);
-pgp_status pgp_flush(PGP_OUT);
+pgp_status pgp_parse(const void *name, size_t name_len, const void *query, size_t query_len,
+                     const uint32_t *types, size_t type_count, uint8_t *out, size_t room, size_t *written);
+pgp_status pgp_describe(uint8_t variant, const void *name, size_t len, uint8_t *out, size_t room, size_t *written);
+pgp_status pgp_execute(const void *portal, size_t len, int32_t max_rows, uint8_t *out, size_t room, size_t *written);
+pgp_status pgp_close(uint8_t variant, const void *name, size_t len, uint8_t *out, size_t room, size_t *written);
+pgp_status pgp_sync(uint8_t *out, size_t room, size_t *written);
+pgp_status pgp_flush(uint8_t *out, size_t room, size_t *written);
 
 /* A value of a bind: its bytes in the format that its place asks for (0 text, 1 binary), or a null, whose bytes aren't read.
-   pgp_value makes one of a pointer and a length; a NULL pointer makes a null. */
-struct pgp_value { const uint8_t *bytes; size_t bytes_len; bool is_null; };
-static inline struct pgp_value pgp_value(const void *bytes, size_t len)
+   pgp_value_of makes one of a pointer and a length; a NULL pointer makes a null. */
+struct pgp_value { const void *bytes; size_t bytes_len; bool is_null; };
+static inline struct pgp_value pgp_value_of(const void *bytes, size_t len)
 {
     struct pgp_value v;
-    v.bytes = bytes ? (const uint8_t *)bytes : (const uint8_t *)"";
+    v.bytes = bytes ? bytes : "";
     v.bytes_len = bytes ? len : 0;
     v.is_null = !bytes;
     return v;
 }
 /* Formats: none (all text), one (for all), or one for each value; those of the results may be any number. PGP_E_FORMATS for another number, and for a
    format but 0 and 1. */
-pgp_status pgp_bind(const uint8_t *portal, size_t portal_len, const uint8_t *statement, size_t statement_len,
+pgp_status pgp_bind(const void *portal, size_t portal_len, const void *statement, size_t statement_len,
                     const int16_t *formats, size_t format_count,
                     const struct pgp_value *values, size_t value_count,
-                    const int16_t *result_formats, size_t result_format_count, PGP_OUT);
+                    const int16_t *result_formats, size_t result_format_count, uint8_t *out, size_t room, size_t *written);
 
 /* A bind whose values are put where they stand, with no second buffer. pgp_bind_begin announces how many values follow; each is written to
    out + pgp_item_at(..), which has pgp_item_room(..) bytes, and added by pgp_item with its length, or is a null by pgp_item_null; pgp_bind_end
@@ -161,17 +181,19 @@ static inline size_t pgp_item_at(size_t room, const struct pgp_items *items)
     return room < items->at || room - items->at < 4 ? room : items->at + 4;
 }
 static inline size_t pgp_item_room(size_t room, const struct pgp_items *items) { return room - pgp_item_at(room, items); }
-pgp_status pgp_bind_begin(const uint8_t *portal, size_t portal_len, const uint8_t *statement, size_t statement_len,
+pgp_status pgp_bind_begin(const void *portal, size_t portal_len, const void *statement, size_t statement_len,
                           const int16_t *formats, size_t format_count, size_t value_count, uint8_t *out, size_t room, struct pgp_items *items);
 pgp_status pgp_item(size_t len, uint8_t *out, size_t room, struct pgp_items *items);
 pgp_status pgp_item_null(uint8_t *out, size_t room, struct pgp_items *items);
-pgp_status pgp_bind_end(const int16_t *result_formats, size_t result_format_count, const struct pgp_items *items, PGP_OUT);
+pgp_status pgp_bind_end(const int16_t *result_formats, size_t result_format_count, const struct pgp_items *items,
+                        uint8_t *out, size_t room, size_t *written);
 
 /* Copies. The data go as they are: pgp_copy_data_head writes the 5 bytes before `len` bytes of data, which need not be copied. */
-pgp_status pgp_copy_data_head(size_t len, PGP_OUT);
-pgp_status pgp_copy_data(const uint8_t *bytes, size_t len, PGP_OUT);        /* the whole message, where a copy does no harm */
-pgp_status pgp_copy_done(PGP_OUT);
-pgp_status pgp_copy_fail(const uint8_t *reason, size_t len, PGP_OUT);
+pgp_status pgp_copy_data_head(size_t len, uint8_t *out, size_t room, size_t *written);
+pgp_status pgp_copy_data(const void *bytes, size_t len,
+                         uint8_t *out, size_t room, size_t *written);        /* the whole message, where a copy does no harm */
+pgp_status pgp_copy_done(uint8_t *out, size_t room, size_t *written);
+pgp_status pgp_copy_fail(const void *reason, size_t len, uint8_t *out, size_t room, size_t *written);
 
 /* How many bytes a message takes. The sums don't wrap while the parts are memory of one process. */
 static inline size_t pgp_query_size(size_t len) { return 6 + len; }
@@ -198,28 +220,28 @@ static inline size_t pgp_cancel_request_size(size_t key_len) { return 12 + key_l
    come before the startup packet, all other messages after it. Then a server that knows only the grammar reads the stream in one way. */
 struct pgp_stream { uint8_t *room; size_t room_len; size_t len; bool is_open; };
 pgp_status pgp_stream_ssl_request(struct pgp_stream *stream);
-pgp_status pgp_stream_cancel_request(struct pgp_stream *stream, int32_t process_id, const uint8_t *secret_key, size_t key_len);
+pgp_status pgp_stream_cancel_request(struct pgp_stream *stream, int32_t process_id, const void *secret_key, size_t key_len);
 pgp_status pgp_stream_startup(struct pgp_stream *stream, int32_t version, const struct pgp_pair *parameters, size_t count);
-pgp_status pgp_stream_password_message(struct pgp_stream *stream, const uint8_t *password, size_t len);
-pgp_status pgp_stream_sasl_initial_response(struct pgp_stream *stream, const uint8_t *mechanism, size_t mechanism_len,
-                                            const uint8_t *response, size_t len);
-pgp_status pgp_stream_sasl_response(struct pgp_stream *stream, const uint8_t *response, size_t len);
-pgp_status pgp_stream_query(struct pgp_stream *stream, const uint8_t *text, size_t len);
-pgp_status pgp_stream_parse(struct pgp_stream *stream, const uint8_t *name, size_t name_len, const uint8_t *query, size_t query_len,
+pgp_status pgp_stream_password_message(struct pgp_stream *stream, const void *password, size_t len);
+pgp_status pgp_stream_sasl_initial_response(struct pgp_stream *stream, const void *mechanism, size_t mechanism_len,
+                                            const void *response, size_t len);
+pgp_status pgp_stream_sasl_response(struct pgp_stream *stream, const void *response, size_t len);
+pgp_status pgp_stream_query(struct pgp_stream *stream, const void *text, size_t len);
+pgp_status pgp_stream_parse(struct pgp_stream *stream, const void *name, size_t name_len, const void *query, size_t query_len,
                             const uint32_t *types, size_t type_count);
-pgp_status pgp_stream_bind(struct pgp_stream *stream, const uint8_t *portal, size_t portal_len, const uint8_t *statement, size_t statement_len,
+pgp_status pgp_stream_bind(struct pgp_stream *stream, const void *portal, size_t portal_len, const void *statement, size_t statement_len,
                            const int16_t *formats, size_t format_count, const struct pgp_value *values, size_t value_count,
                            const int16_t *result_formats, size_t result_format_count);
-pgp_status pgp_stream_describe(struct pgp_stream *stream, uint8_t variant, const uint8_t *name, size_t len);
-pgp_status pgp_stream_execute(struct pgp_stream *stream, const uint8_t *portal, size_t len, int32_t max_rows);
-pgp_status pgp_stream_close(struct pgp_stream *stream, uint8_t variant, const uint8_t *name, size_t len);
+pgp_status pgp_stream_describe(struct pgp_stream *stream, uint8_t variant, const void *name, size_t len);
+pgp_status pgp_stream_execute(struct pgp_stream *stream, const void *portal, size_t len, int32_t max_rows);
+pgp_status pgp_stream_close(struct pgp_stream *stream, uint8_t variant, const void *name, size_t len);
 pgp_status pgp_stream_flush(struct pgp_stream *stream);
 pgp_status pgp_stream_sync(struct pgp_stream *stream);
 /* The head before `data_len` bytes of data, which need not be copied: send what is pending, then the data, and set len to 0. */
 pgp_status pgp_stream_copy_data_head(struct pgp_stream *stream, size_t data_len);
-pgp_status pgp_stream_copy_data(struct pgp_stream *stream, const uint8_t *bytes, size_t len);   /* the whole message, where a copy does no harm */
+pgp_status pgp_stream_copy_data(struct pgp_stream *stream, const void *bytes, size_t len);   /* the whole message, where a copy does no harm */
 pgp_status pgp_stream_copy_done(struct pgp_stream *stream);
-pgp_status pgp_stream_copy_fail(struct pgp_stream *stream, const uint8_t *reason, size_t len);
+pgp_status pgp_stream_copy_fail(struct pgp_stream *stream, const void *reason, size_t len);
 pgp_status pgp_stream_terminate(struct pgp_stream *stream);
 
 /* ---- the messages of a server ---- */
@@ -269,7 +291,7 @@ struct pgp_message {
      PGP_MORE                  no whole frame stands there: read more, and call again with these bytes first
      PGP_E_INVALID_LENGTH      the stream can't be read on
      5, 6, 7, 8                the frame is whole, and its body is malformed: it may be skipped (frame)                  */
-pgp_status pgp_front(const uint8_t *bytes, size_t len, struct pgp_message *message);
+pgp_status pgp_front(const void *bytes, size_t len, struct pgp_message *message);
 
 /* An iterator over the items of a list, in three numbers of the caller's. Begin with pgp_walk. */
 struct pgp_cursor { size_t at, end, left; };
@@ -286,16 +308,16 @@ static inline struct pgp_cursor pgp_walk(const struct pgp_message *message)
    (7: the value is cut short, 8: bytes stand after the last one) is returned again at each later call. Both leave the cursor and
    the column unchanged. */
 struct pgp_column { size_t start, end; bool is_null; };
-pgp_status pgp_row_next(const uint8_t *bytes, size_t len, struct pgp_cursor *cursor, struct pgp_column *column);
+pgp_status pgp_row_next(const void *bytes, size_t len, struct pgp_cursor *cursor, struct pgp_column *column);
 
 /* All values of a row in one call, into an array of the caller's: *count of them, at most `room`. PGP_OK at the row's end; PGP_FULL where
    more values follow, which the next call with the same cursor reads; 7 and 8 as pgp_row_next, after *count values. */
-pgp_status pgp_row_all(const uint8_t *bytes, size_t len, struct pgp_cursor *cursor, struct pgp_column *columns, size_t room, size_t *count);
+pgp_status pgp_row_all(const void *bytes, size_t len, struct pgp_cursor *cursor, struct pgp_column *columns, size_t room, size_t *count);
 
 /* The next type of a PARAMETER_DESCRIPTION, and the next format of a COPY_IN_RESPONSE or COPY_OUT_RESPONSE: they return what
    pgp_row_next does. */
-pgp_status pgp_type_next(const uint8_t *bytes, size_t len, struct pgp_cursor *cursor, uint32_t *type);
-pgp_status pgp_format_next(const uint8_t *bytes, size_t len, struct pgp_cursor *cursor, uint16_t *format);
+pgp_status pgp_type_next(const void *bytes, size_t len, struct pgp_cursor *cursor, uint32_t *type);
+pgp_status pgp_format_next(const void *bytes, size_t len, struct pgp_cursor *cursor, uint16_t *format);
 
 /* The next column of a ROW_DESCRIPTION. The name is some of the bytes that are handed over; a name that isn't UTF-8 is PGP_E_NOT_UTF8.
    Returns, here and below, what pgp_row_next does. */
@@ -308,18 +330,18 @@ struct pgp_field {
     int16_t type_size;        /* in bytes; negative where it varies  */
     int16_t format;           /* 0 text, 1 binary                    */
 };
-pgp_status pgp_field_next(const uint8_t *bytes, size_t len, struct pgp_cursor *cursor, struct pgp_field *field);
+pgp_status pgp_field_next(const void *bytes, size_t len, struct pgp_cursor *cursor, struct pgp_field *field);
 /* All columns in one call, as pgp_row_all. */
-pgp_status pgp_field_all(const uint8_t *bytes, size_t len, struct pgp_cursor *cursor, struct pgp_field *fields, size_t room, size_t *count);
+pgp_status pgp_field_all(const void *bytes, size_t len, struct pgp_cursor *cursor, struct pgp_field *fields, size_t room, size_t *count);
 
 /* The next field of an ERROR_RESPONSE or a NOTICE_RESPONSE: its code is a letter ('S' severity, 'C' SQLSTATE, 'M' message ..), its value any
    text. PGP_E_NOT_DRAINED where bytes stand after the 0 that ends the list. */
 struct pgp_error_field { struct pgp_part value; uint8_t code; };
-pgp_status pgp_error_field_next(const uint8_t *bytes, size_t len, struct pgp_cursor *cursor, struct pgp_error_field *field);
+pgp_status pgp_error_field_next(const void *bytes, size_t len, struct pgp_cursor *cursor, struct pgp_error_field *field);
 
 /* The next mechanism of an AUTHENTICATION_SASL, and the next option of a NEGOTIATE_PROTOCOL_VERSION, by name, in UTF-8. */
-pgp_status pgp_mechanism_next(const uint8_t *bytes, size_t len, struct pgp_cursor *cursor, struct pgp_part *name);
-pgp_status pgp_option_next(const uint8_t *bytes, size_t len, struct pgp_cursor *cursor, struct pgp_part *name);
+pgp_status pgp_mechanism_next(const void *bytes, size_t len, struct pgp_cursor *cursor, struct pgp_part *name);
+pgp_status pgp_option_next(const void *bytes, size_t len, struct pgp_cursor *cursor, struct pgp_part *name);
 
 /* ---- the messages of a client, as a server reads them ---- */
 
@@ -372,36 +394,38 @@ enum pgp_expected { PGP_EXPECT_PASSWORD = 0, PGP_EXPECT_SASL_INITIAL = 1, PGP_EX
      PGP_E_UNKNOWN_PACKET      an opening packet of another version than 3, or of no request: it isn't passed (frame is 0)
      5, 7, 8, 10, 13           the message is whole, and malformed: it may be skipped (frame), but for an opening packet
      PGP_E_KIND                `expected` is none of pgp_expected; nothing is reported                                                 */
-pgp_status pgp_client_front(const uint8_t *bytes, size_t len, bool is_open, uint8_t expected, struct pgp_client_message *message);
+pgp_status pgp_client_front(const void *bytes, size_t len, bool is_open, uint8_t expected, struct pgp_client_message *message);
 
 /* The next name and value of a STARTUP: they return what pgp_row_next does. */
 struct pgp_setting { struct pgp_part name, value; };
-pgp_status pgp_setting_next(const uint8_t *bytes, size_t len, struct pgp_cursor *cursor, struct pgp_setting *setting);
+pgp_status pgp_setting_next(const void *bytes, size_t len, struct pgp_cursor *cursor, struct pgp_setting *setting);
 
 /* ---- replies: writers of a server's messages, one message each ---- */
 
 /* A message without a body, by its kind: AUTHENTICATION_OK, _CLEARTEXT_PASSWORD, _GSS, _KERBEROS_V5, _SCM_CREDENTIAL, _SSPI, BIND_COMPLETE,
    CLOSE_COMPLETE, COPY_DONE, EMPTY_QUERY_RESPONSE, NO_DATA, PARSE_COMPLETE, PORTAL_SUSPENDED. PGP_E_KIND for another. */
-pgp_status pgp_reply(uint8_t kind, PGP_OUT);
+pgp_status pgp_reply(uint8_t kind, uint8_t *out, size_t room, size_t *written);
 /* A message of one text or some bytes: COMMAND_COMPLETE (its tag, as "SELECT 1"), COPY_DATA, AUTHENTICATION_SASL_CONTINUE, _SASL_FINAL,
    _GSS_CONTINUE. PGP_E_KIND for another. */
-pgp_status pgp_reply_text(uint8_t kind, const uint8_t *text, size_t len, PGP_OUT);
+pgp_status pgp_reply_text(uint8_t kind, const void *text, size_t len, uint8_t *out, size_t room, size_t *written);
 /* The salt has 4 bytes, else PGP_E_INVALID_SIZE. */
-pgp_status pgp_reply_md5_password(const uint8_t *salt, size_t len, PGP_OUT);
+pgp_status pgp_reply_md5_password(const void *salt, size_t len, uint8_t *out, size_t room, size_t *written);
 /* The names of mechanisms, the one that is liked best first; none is empty. */
-struct pgp_name { const uint8_t *name; size_t name_len; };
-pgp_status pgp_reply_authentication_sasl(const struct pgp_name *mechanisms, size_t count, PGP_OUT);
+pgp_status pgp_reply_authentication_sasl(const struct pgp_bytes *mechanisms, size_t count, uint8_t *out, size_t room, size_t *written);
 /* The key has 4 to 256 bytes, else PGP_E_INVALID_SIZE. */
-pgp_status pgp_reply_backend_key_data(int32_t process_id, const uint8_t *secret_key, size_t key_len, PGP_OUT);
+pgp_status pgp_reply_backend_key_data(int32_t process_id, const void *secret_key, size_t key_len, uint8_t *out, size_t room, size_t *written);
 /* The newest version that the server speaks, and the options that it doesn't know. */
-pgp_status pgp_reply_negotiate_protocol_version(int32_t version, const struct pgp_name *options, size_t count, PGP_OUT);
-pgp_status pgp_reply_parameter_status(const uint8_t *name, size_t name_len, const uint8_t *value, size_t value_len, PGP_OUT);
-pgp_status pgp_reply_notification(int32_t process_id, const uint8_t *channel, size_t channel_len, const uint8_t *payload, size_t payload_len, PGP_OUT);
+pgp_status pgp_reply_negotiate_protocol_version(int32_t version, const struct pgp_bytes *options, size_t count,
+                                                uint8_t *out, size_t room, size_t *written);
+pgp_status pgp_reply_parameter_status(const void *name, size_t name_len, const void *value, size_t value_len,
+                                      uint8_t *out, size_t room, size_t *written);
+pgp_status pgp_reply_notification(int32_t process_id, const void *channel, size_t channel_len, const void *payload, size_t payload_len,
+                                  uint8_t *out, size_t room, size_t *written);
 /* 'I' outside a transaction, 'T' in one, 'E' in a failed one. */
-pgp_status pgp_reply_ready_for_query(uint8_t status, PGP_OUT);
+pgp_status pgp_reply_ready_for_query(uint8_t status, uint8_t *out, size_t room, size_t *written);
 /* The columns of the rows that follow. PGP_E_TOO_LARGE for more than 65,535. */
 struct pgp_described {
-    const uint8_t *name; size_t name_len;
+    struct pgp_bytes name;
     uint32_t table_oid;       /* the column's table, or 0            */
     uint32_t type_oid;
     int32_t type_modifier;    /* or -1                               */
@@ -409,16 +433,16 @@ struct pgp_described {
     int16_t type_size;        /* in bytes; negative where it varies  */
     int16_t format;           /* 0 text, 1 binary                    */
 };
-pgp_status pgp_reply_row_description(const struct pgp_described *columns, size_t count, PGP_OUT);
-pgp_status pgp_reply_data_row(const struct pgp_value *values, size_t count, PGP_OUT);
-pgp_status pgp_reply_parameter_description(const uint32_t *types, size_t count, PGP_OUT);
+pgp_status pgp_reply_row_description(const struct pgp_described *columns, size_t count, uint8_t *out, size_t room, size_t *written);
+pgp_status pgp_reply_data_row(const struct pgp_value *values, size_t count, uint8_t *out, size_t room, size_t *written);
+pgp_status pgp_reply_parameter_description(const uint32_t *types, size_t count, uint8_t *out, size_t room, size_t *written);
 /* The fields of an error or a notice: a code of enum pgp_error_code, and a text. Clients expect severity ('S', 'V'), 'C' and 'M'. */
-struct pgp_reported { const uint8_t *value; size_t value_len; uint8_t code; };
-pgp_status pgp_reply_error(const struct pgp_reported *fields, size_t count, PGP_OUT);
-pgp_status pgp_reply_notice(const struct pgp_reported *fields, size_t count, PGP_OUT);
+struct pgp_reported { struct pgp_bytes value; uint8_t code; };
+pgp_status pgp_reply_error(const struct pgp_reported *fields, size_t count, uint8_t *out, size_t room, size_t *written);
+pgp_status pgp_reply_notice(const struct pgp_reported *fields, size_t count, uint8_t *out, size_t room, size_t *written);
 /* A copy's format, 0 text and 1 binary, as a whole and of each column. */
-pgp_status pgp_reply_copy_in(uint8_t format, const uint16_t *column_formats, size_t count, PGP_OUT);
-pgp_status pgp_reply_copy_out(uint8_t format, const uint16_t *column_formats, size_t count, PGP_OUT);
+pgp_status pgp_reply_copy_in(uint8_t format, const uint16_t *column_formats, size_t count, uint8_t *out, size_t room, size_t *written);
+pgp_status pgp_reply_copy_out(uint8_t format, const uint16_t *column_formats, size_t count, uint8_t *out, size_t room, size_t *written);
 
 /* ---- which message answers which request ---- */
 
@@ -459,34 +483,49 @@ pgp_status pgp_dialogue_is_idle(struct pgp_dialogue *dialogue, bool *idle);
 /* A text and a bytea are their bytes as they stand, and need no call. So are a uuid (16 bytes) and a macaddr (6): their calls check
    the number of bytes, and return PGP_E_INVALID_SIZE for another.
    Floating-point numbers cross as their bits; pgp_float4_bits and so on turn them. On error a get leaves *value unchanged. */
-pgp_status pgp_put_bool(bool value, PGP_OUT);          pgp_status pgp_get_bool(const uint8_t *bytes, size_t len, bool *value);
-pgp_status pgp_put_int2(int16_t value, PGP_OUT);       pgp_status pgp_get_int2(const uint8_t *bytes, size_t len, int16_t *value);
-pgp_status pgp_put_int4(int32_t value, PGP_OUT);       pgp_status pgp_get_int4(const uint8_t *bytes, size_t len, int32_t *value);
-pgp_status pgp_put_int8(int64_t value, PGP_OUT);       pgp_status pgp_get_int8(const uint8_t *bytes, size_t len, int64_t *value);
-pgp_status pgp_put_oid(uint32_t value, PGP_OUT);       pgp_status pgp_get_oid(const uint8_t *bytes, size_t len, uint32_t *value);
-pgp_status pgp_put_lsn(uint64_t value, PGP_OUT);       pgp_status pgp_get_lsn(const uint8_t *bytes, size_t len, uint64_t *value);
-pgp_status pgp_put_char(int8_t value, PGP_OUT);        pgp_status pgp_get_char(const uint8_t *bytes, size_t len, int8_t *value);   /* "char", one byte */
-pgp_status pgp_put_uuid(const uint8_t *id, size_t len, PGP_OUT);          pgp_status pgp_get_uuid(const uint8_t *bytes, size_t len);
-pgp_status pgp_put_macaddr(const uint8_t *address, size_t len, PGP_OUT);  pgp_status pgp_get_macaddr(const uint8_t *bytes, size_t len);
+pgp_status pgp_put_bool(bool value, uint8_t *out, size_t room, size_t *written);
+pgp_status pgp_get_bool(const void *bytes, size_t len, bool *value);
+pgp_status pgp_put_int2(int16_t value, uint8_t *out, size_t room, size_t *written);
+pgp_status pgp_get_int2(const void *bytes, size_t len, int16_t *value);
+pgp_status pgp_put_int4(int32_t value, uint8_t *out, size_t room, size_t *written);
+pgp_status pgp_get_int4(const void *bytes, size_t len, int32_t *value);
+pgp_status pgp_put_int8(int64_t value, uint8_t *out, size_t room, size_t *written);
+pgp_status pgp_get_int8(const void *bytes, size_t len, int64_t *value);
+pgp_status pgp_put_oid(uint32_t value, uint8_t *out, size_t room, size_t *written);
+pgp_status pgp_get_oid(const void *bytes, size_t len, uint32_t *value);
+pgp_status pgp_put_lsn(uint64_t value, uint8_t *out, size_t room, size_t *written);
+pgp_status pgp_get_lsn(const void *bytes, size_t len, uint64_t *value);
+pgp_status pgp_put_char(int8_t value, uint8_t *out, size_t room, size_t *written);
+pgp_status pgp_get_char(const void *bytes, size_t len, int8_t *value);   /* "char", one byte */
+pgp_status pgp_put_uuid(const void *id, size_t len, uint8_t *out, size_t room, size_t *written);
+pgp_status pgp_get_uuid(const void *bytes, size_t len);
+pgp_status pgp_put_macaddr(const void *address, size_t len, uint8_t *out, size_t room, size_t *written);
+pgp_status pgp_get_macaddr(const void *bytes, size_t len);
 /* A macaddr8 has 8 bytes: PGP_E_UNEXPECTED_EOF for fewer, PGP_E_NOT_DRAINED for more. */
-pgp_status pgp_put_macaddr8(const uint8_t *address, size_t len, PGP_OUT); pgp_status pgp_get_macaddr8(const uint8_t *bytes, size_t len);
+pgp_status pgp_put_macaddr8(const void *address, size_t len, uint8_t *out, size_t room, size_t *written);
+pgp_status pgp_get_macaddr8(const void *bytes, size_t len);
 /* microseconds, and days, since 2000-01-01 */
-pgp_status pgp_put_timestamp(int64_t value, PGP_OUT);  pgp_status pgp_get_timestamp(const uint8_t *bytes, size_t len, int64_t *value);
-pgp_status pgp_put_time(int64_t value, PGP_OUT);       pgp_status pgp_get_time(const uint8_t *bytes, size_t len, int64_t *value);   /* since midnight */
-pgp_status pgp_put_date(int32_t value, PGP_OUT);       pgp_status pgp_get_date(const uint8_t *bytes, size_t len, int32_t *value);
-pgp_status pgp_put_float4(uint32_t bits, PGP_OUT);     pgp_status pgp_get_float4(const uint8_t *bytes, size_t len, uint32_t *bits);
-pgp_status pgp_put_float8(uint64_t bits, PGP_OUT);     pgp_status pgp_get_float8(const uint8_t *bytes, size_t len, uint64_t *bits);
+pgp_status pgp_put_timestamp(int64_t value, uint8_t *out, size_t room, size_t *written);
+pgp_status pgp_get_timestamp(const void *bytes, size_t len, int64_t *value);
+pgp_status pgp_put_time(int64_t value, uint8_t *out, size_t room, size_t *written);
+pgp_status pgp_get_time(const void *bytes, size_t len, int64_t *value);   /* since midnight */
+pgp_status pgp_put_date(int32_t value, uint8_t *out, size_t room, size_t *written);
+pgp_status pgp_get_date(const void *bytes, size_t len, int32_t *value);
+pgp_status pgp_put_float4(uint32_t bits, uint8_t *out, size_t room, size_t *written);
+pgp_status pgp_get_float4(const void *bytes, size_t len, uint32_t *bits);
+pgp_status pgp_put_float8(uint64_t bits, uint8_t *out, size_t room, size_t *written);
+pgp_status pgp_get_float8(const void *bytes, size_t len, uint64_t *bits);
 
 /* A numeric by its decimal text. A put takes what the server takes: digits, a point, an exponent, a sign; NaN, Infinity; it keeps as many
    places as the text shows. A get writes what the server shows. Errors: PGP_E_INVALID_TEXT, PGP_E_OUT_OF_RANGE, PGP_E_NOT_UTF8; and for bytes 7, 8, 21 to 23. */
-pgp_status pgp_put_numeric_text(const uint8_t *text, size_t len, PGP_OUT);
-pgp_status pgp_get_numeric_text(const uint8_t *bytes, size_t len, PGP_OUT);
+pgp_status pgp_put_numeric_text(const void *text, size_t len, uint8_t *out, size_t room, size_t *written);
+pgp_status pgp_get_numeric_text(const void *bytes, size_t len, uint8_t *out, size_t room, size_t *written);
 /* A numeric that is an integer, whatever its scale; a put writes it with no places after the point. Of 128 bits the value is high * 2^64 + low. A get returns
    PGP_E_NOT_FINITE, PGP_E_FRACTION, or PGP_E_OUT_OF_RANGE where the type doesn't hold the integer; and for bytes 7, 8, 21 to 23. */
-pgp_status pgp_put_numeric_int64(int64_t value, PGP_OUT);
-pgp_status pgp_get_numeric_int64(const uint8_t *bytes, size_t len, int64_t *value);
-pgp_status pgp_put_numeric_int128(int64_t high, uint64_t low, PGP_OUT);
-pgp_status pgp_get_numeric_int128(const uint8_t *bytes, size_t len, int64_t *high, uint64_t *low);
+pgp_status pgp_put_numeric_int64(int64_t value, uint8_t *out, size_t room, size_t *written);
+pgp_status pgp_get_numeric_int64(const void *bytes, size_t len, int64_t *value);
+pgp_status pgp_put_numeric_int128(int64_t high, uint64_t low, uint8_t *out, size_t room, size_t *written);
+pgp_status pgp_get_numeric_int128(const void *bytes, size_t len, int64_t *high, uint64_t *low);
 /* A numeric by its parts, as numeric_send of the server (PostgreSQL 15) sends them, for a decimal type of the caller's. A number with an end (PGP_NUMERIC_FINITE) is `count`
    digits to the base 10,000, of which the first counts 10,000 to the power `weight`, and shows `scale` decimal places; the digit of index i is
    256 * bytes[digits + 2 * i] + bytes[digits + 2 * i + 1]. So 12345.678 is the digits 1, 2345 and 6780 with the weight 1 and the scale 3. What has no end has 0 for all
@@ -495,27 +534,28 @@ pgp_status pgp_get_numeric_int128(const uint8_t *bytes, size_t len, int64_t *hig
    PGP_E_INVALID_DIGIT for one above 9,999. pgp_put_numeric_text writes NaN and the infinities. */
 enum pgp_numeric_kind { PGP_NUMERIC_FINITE = 0, PGP_NUMERIC_NAN = 1, PGP_NUMERIC_POS_INFINITY = 2, PGP_NUMERIC_NEG_INFINITY = 3 };
 struct pgp_numeric { size_t digits; int16_t weight; uint16_t scale, count; uint8_t kind; bool negative; };
-pgp_status pgp_put_numeric(bool negative, int16_t weight, uint16_t scale, const uint16_t *digits, size_t count, PGP_OUT);
-pgp_status pgp_get_numeric(const uint8_t *bytes, size_t len, struct pgp_numeric *value);
+pgp_status pgp_put_numeric(bool negative, int16_t weight, uint16_t scale, const uint16_t *digits, size_t count,
+                           uint8_t *out, size_t room, size_t *written);
+pgp_status pgp_get_numeric(const void *bytes, size_t len, struct pgp_numeric *value);
 
 /* An interval: months, days and microseconds are apart. A timetz: microseconds since midnight, and seconds west of Greenwich. */
 struct pgp_interval { int64_t microseconds; int32_t days, months; };
 struct pgp_timetz { int64_t microseconds; int32_t zone; };
-pgp_status pgp_put_interval(const struct pgp_interval *value, PGP_OUT);
-pgp_status pgp_get_interval(const uint8_t *bytes, size_t len, struct pgp_interval *value);
-pgp_status pgp_put_timetz(const struct pgp_timetz *value, PGP_OUT);
-pgp_status pgp_get_timetz(const uint8_t *bytes, size_t len, struct pgp_timetz *value);
+pgp_status pgp_put_interval(const struct pgp_interval *value, uint8_t *out, size_t room, size_t *written);
+pgp_status pgp_get_interval(const void *bytes, size_t len, struct pgp_interval *value);
+pgp_status pgp_put_timetz(const struct pgp_timetz *value, uint8_t *out, size_t room, size_t *written);
+pgp_status pgp_get_timetz(const void *bytes, size_t len, struct pgp_timetz *value);
 
 /* A jsonb: its JSON, in UTF-8, which isn't parsed. (A json is its text; a jsonpath has the bytes of a jsonb.) */
-pgp_status pgp_put_jsonb(const uint8_t *json, size_t len, PGP_OUT);
-pgp_status pgp_get_jsonb(const uint8_t *bytes, size_t len, struct pgp_part *json);
+pgp_status pgp_put_jsonb(const void *json, size_t len, uint8_t *out, size_t room, size_t *written);
+pgp_status pgp_get_jsonb(const void *bytes, size_t len, struct pgp_part *json);
 /* The types of the module ltree, by their texts, in UTF-8. */
-pgp_status pgp_put_ltree(const uint8_t *text, size_t len, PGP_OUT);
-pgp_status pgp_get_ltree(const uint8_t *bytes, size_t len, struct pgp_part *text);
-pgp_status pgp_put_lquery(const uint8_t *text, size_t len, PGP_OUT);
-pgp_status pgp_get_lquery(const uint8_t *bytes, size_t len, struct pgp_part *text);
-pgp_status pgp_put_ltxtquery(const uint8_t *text, size_t len, PGP_OUT);
-pgp_status pgp_get_ltxtquery(const uint8_t *bytes, size_t len, struct pgp_part *text);
+pgp_status pgp_put_ltree(const void *text, size_t len, uint8_t *out, size_t room, size_t *written);
+pgp_status pgp_get_ltree(const void *bytes, size_t len, struct pgp_part *text);
+pgp_status pgp_put_lquery(const void *text, size_t len, uint8_t *out, size_t room, size_t *written);
+pgp_status pgp_get_lquery(const void *bytes, size_t len, struct pgp_part *text);
+pgp_status pgp_put_ltxtquery(const void *text, size_t len, uint8_t *out, size_t room, size_t *written);
+pgp_status pgp_get_ltxtquery(const void *bytes, size_t len, struct pgp_part *text);
 
 /* Geometry. A coordinate crosses as the bits of a float8 (pgp_float8_bits, pgp_float8_of). A line has the points with a * x + b * y + c = 0. */
 struct pgp_point { uint64_t x, y; };
@@ -523,125 +563,125 @@ struct pgp_box { struct pgp_point upper_right, lower_left; };
 struct pgp_line { uint64_t a, b, c; };
 struct pgp_lseg { struct pgp_point start, end; };
 struct pgp_circle { struct pgp_point center; uint64_t radius; };
-pgp_status pgp_put_point(const struct pgp_point *value, PGP_OUT);
-pgp_status pgp_get_point(const uint8_t *bytes, size_t len, struct pgp_point *value);
-pgp_status pgp_put_box(const struct pgp_box *value, PGP_OUT);
-pgp_status pgp_get_box(const uint8_t *bytes, size_t len, struct pgp_box *value);
-pgp_status pgp_put_line(const struct pgp_line *value, PGP_OUT);
-pgp_status pgp_get_line(const uint8_t *bytes, size_t len, struct pgp_line *value);
-pgp_status pgp_put_lseg(const struct pgp_lseg *value, PGP_OUT);
-pgp_status pgp_get_lseg(const uint8_t *bytes, size_t len, struct pgp_lseg *value);
-pgp_status pgp_put_circle(const struct pgp_circle *value, PGP_OUT);
-pgp_status pgp_get_circle(const uint8_t *bytes, size_t len, struct pgp_circle *value);
+pgp_status pgp_put_point(const struct pgp_point *value, uint8_t *out, size_t room, size_t *written);
+pgp_status pgp_get_point(const void *bytes, size_t len, struct pgp_point *value);
+pgp_status pgp_put_box(const struct pgp_box *value, uint8_t *out, size_t room, size_t *written);
+pgp_status pgp_get_box(const void *bytes, size_t len, struct pgp_box *value);
+pgp_status pgp_put_line(const struct pgp_line *value, uint8_t *out, size_t room, size_t *written);
+pgp_status pgp_get_line(const void *bytes, size_t len, struct pgp_line *value);
+pgp_status pgp_put_lseg(const struct pgp_lseg *value, uint8_t *out, size_t room, size_t *written);
+pgp_status pgp_get_lseg(const void *bytes, size_t len, struct pgp_lseg *value);
+pgp_status pgp_put_circle(const struct pgp_circle *value, uint8_t *out, size_t room, size_t *written);
+pgp_status pgp_get_circle(const void *bytes, size_t len, struct pgp_circle *value);
 /* A polygon, and a path, which may be closed: a cursor over its points; and written. */
-pgp_status pgp_put_polygon(const struct pgp_point *points, size_t count, PGP_OUT);
-pgp_status pgp_get_polygon(const uint8_t *bytes, size_t len, struct pgp_cursor *points);
-pgp_status pgp_put_path(bool is_closed, const struct pgp_point *points, size_t count, PGP_OUT);
-pgp_status pgp_get_path(const uint8_t *bytes, size_t len, bool *is_closed, struct pgp_cursor *points);
-pgp_status pgp_point_next(const uint8_t *bytes, size_t len, struct pgp_cursor *cursor, struct pgp_point *point);
+pgp_status pgp_put_polygon(const struct pgp_point *points, size_t count, uint8_t *out, size_t room, size_t *written);
+pgp_status pgp_get_polygon(const void *bytes, size_t len, struct pgp_cursor *points);
+pgp_status pgp_put_path(bool is_closed, const struct pgp_point *points, size_t count, uint8_t *out, size_t room, size_t *written);
+pgp_status pgp_get_path(const void *bytes, size_t len, bool *is_closed, struct pgp_cursor *points);
+pgp_status pgp_point_next(const void *bytes, size_t len, struct pgp_cursor *cursor, struct pgp_point *point);
 
 /* A tid: the number of a block, and of a row in it. */
 struct pgp_tid { uint32_t block; uint16_t offset; };
-pgp_status pgp_put_tid(const struct pgp_tid *value, PGP_OUT);
-pgp_status pgp_get_tid(const uint8_t *bytes, size_t len, struct pgp_tid *value);
+pgp_status pgp_put_tid(const struct pgp_tid *value, uint8_t *out, size_t room, size_t *written);
+pgp_status pgp_get_tid(const void *bytes, size_t len, struct pgp_tid *value);
 
 /* A pg_snapshot: every transaction below xmin is over, none from xmax on had begun, and of those between the ones at the cursor were running. */
 struct pgp_snapshot { struct pgp_cursor running; uint64_t xmin, xmax; };
-pgp_status pgp_get_snapshot(const uint8_t *bytes, size_t len, struct pgp_snapshot *value);
-pgp_status pgp_xid_next(const uint8_t *bytes, size_t len, struct pgp_cursor *cursor, uint64_t *xid);
+pgp_status pgp_get_snapshot(const void *bytes, size_t len, struct pgp_snapshot *value);
+pgp_status pgp_xid_next(const void *bytes, size_t len, struct pgp_cursor *cursor, uint64_t *xid);
 /* To write one: a server wants the transactions in order, and between the bounds. */
-pgp_status pgp_put_snapshot(uint64_t xmin, uint64_t xmax, const uint64_t *running, size_t count, PGP_OUT);
+pgp_status pgp_put_snapshot(uint64_t xmin, uint64_t xmax, const uint64_t *running, size_t count, uint8_t *out, size_t room, size_t *written);
 
 /* A tsvector: a cursor over its lexemes, each the place of a text in UTF-8, and a cursor over its positions. A position's number, from 1 on, stands in the lowest
    14 bits (position & PGP_POSITION), its weight in the highest 2 (position >> 14: 0 for D, 1 for C, 2 for B, 3 for A). */
 enum { PGP_POSITION = 0x3fff, PGP_WEIGHT_D = 0, PGP_WEIGHT_C = 0x4000, PGP_WEIGHT_B = 0x8000, PGP_WEIGHT_A = 0xc000 };
 struct pgp_lexeme { struct pgp_part text; struct pgp_cursor positions; };
-pgp_status pgp_get_tsvector(const uint8_t *bytes, size_t len, struct pgp_cursor *lexemes);
-pgp_status pgp_lexeme_next(const uint8_t *bytes, size_t len, struct pgp_cursor *cursor, struct pgp_lexeme *lexeme);
-pgp_status pgp_position_next(const uint8_t *bytes, size_t len, struct pgp_cursor *cursor, uint16_t *position);
+pgp_status pgp_get_tsvector(const void *bytes, size_t len, struct pgp_cursor *lexemes);
+pgp_status pgp_lexeme_next(const void *bytes, size_t len, struct pgp_cursor *cursor, struct pgp_lexeme *lexeme);
+pgp_status pgp_position_next(const void *bytes, size_t len, struct pgp_cursor *cursor, uint16_t *position);
 /* To write one: the lexemes as they come, each position as 5 | PGP_WEIGHT_A. A server wants both in order and each once, and bounds their number. PGP_E_NOT_UTF8
    and PGP_E_EMBEDDED_NULL for a text, PGP_E_TOO_LARGE for more than 65,535 positions of one. */
-struct pgp_word { const uint8_t *text; size_t text_len; const uint16_t *positions; size_t positions_len; };
-pgp_status pgp_put_tsvector(const struct pgp_word *lexemes, size_t count, PGP_OUT);
+struct pgp_word { struct pgp_bytes text; const uint16_t *positions; size_t positions_len; };
+pgp_status pgp_put_tsvector(const struct pgp_word *lexemes, size_t count, uint8_t *out, size_t room, size_t *written);
 
 /* A tsquery: a cursor over its items, each an operand (its text in UTF-8; `weights` that a lexeme may have, 1 for D, 2 for C, 4 for B, 8 for A, 0 for any; whether a
    lexeme need only begin so), or an operator, which stands before its operands, the right one first; of a phrase `distance` is how many positions its operands are
    apart. What an item has no use for is 0. Bytes that are no item of these kinds are PGP_E_UNKNOWN_TAG. */
 enum { PGP_TS_OPERAND = 0, PGP_TS_NOT = 1, PGP_TS_AND = 2, PGP_TS_OR = 3, PGP_TS_PHRASE = 4 };
 struct pgp_query_item { struct pgp_part text; uint16_t distance; uint8_t kind, weights; bool is_prefix; };
-pgp_status pgp_get_tsquery(const uint8_t *bytes, size_t len, struct pgp_cursor *items);
-pgp_status pgp_query_item_next(const uint8_t *bytes, size_t len, struct pgp_cursor *cursor, struct pgp_query_item *item);
+pgp_status pgp_get_tsquery(const void *bytes, size_t len, struct pgp_cursor *items);
+pgp_status pgp_query_item_next(const void *bytes, size_t len, struct pgp_cursor *cursor, struct pgp_query_item *item);
 /* To write one: the items as they come; whether each operator has its operands is the server's to say. PGP_E_KIND for a kind of none, PGP_E_NOT_UTF8 and
    PGP_E_EMBEDDED_NULL for the text of an operand; what an item has no use for isn't read. */
-struct pgp_query_node { const uint8_t *text; size_t text_len; uint16_t distance; uint8_t kind, weights; bool is_prefix; };
-pgp_status pgp_put_tsquery(const struct pgp_query_node *items, size_t count, PGP_OUT);
+struct pgp_query_node { struct pgp_bytes text; uint16_t distance; uint8_t kind, weights; bool is_prefix; };
+pgp_status pgp_put_tsquery(const struct pgp_query_node *items, size_t count, uint8_t *out, size_t room, size_t *written);
 
 /* An inet or a cidr: an address of 4 or 16 bytes, and how many of its first bits name the network. PGP_E_INVALID_ADDRESS_LENGTH for another
    number of bytes, PGP_E_INVALID_NETMASK for more bits than there are. (bytes[2] of a value is 1 for a cidr.) pgp_put_inet_any takes any netmask. A
    server takes a cidr only where the bits after those of the network are 0, which isn't checked. */
 enum { PGP_FAMILY_IPV4 = 2, PGP_FAMILY_IPV6 = 3 };
 struct pgp_inet { struct pgp_part address; uint8_t family; uint8_t netmask; };
-pgp_status pgp_put_inet(const uint8_t *address, size_t len, uint8_t netmask, PGP_OUT);
-pgp_status pgp_put_inet_any(const uint8_t *address, size_t len, uint8_t netmask, PGP_OUT);
-pgp_status pgp_put_cidr(const uint8_t *address, size_t len, uint8_t netmask, PGP_OUT);
-pgp_status pgp_get_inet(const uint8_t *bytes, size_t len, struct pgp_inet *value);
+pgp_status pgp_put_inet(const void *address, size_t len, uint8_t netmask, uint8_t *out, size_t room, size_t *written);
+pgp_status pgp_put_inet_any(const void *address, size_t len, uint8_t netmask, uint8_t *out, size_t room, size_t *written);
+pgp_status pgp_put_cidr(const void *address, size_t len, uint8_t netmask, uint8_t *out, size_t room, size_t *written);
+pgp_status pgp_get_inet(const void *bytes, size_t len, struct pgp_inet *value);
 
 /* A bit or a varbit: how many bits, in (bits + 7) / 8 bytes, the first bit highest; else PGP_E_INVALID_SIZE. What pads the last byte is any.
    A value's bits stand after its first 4 bytes. */
-pgp_status pgp_put_varbit(size_t bits, const uint8_t *bytes, size_t len, PGP_OUT);
-pgp_status pgp_get_varbit(const uint8_t *bytes, size_t len, size_t *bits);
+pgp_status pgp_put_varbit(size_t bits, const void *bytes, size_t len, uint8_t *out, size_t room, size_t *written);
+pgp_status pgp_get_varbit(const void *bytes, size_t len, size_t *bits);
 
 /* A range of any type, by the places of its bounds' values: bytes[start .. end), in the format of the type. */
 enum { PGP_UNBOUNDED = 0, PGP_INCLUSIVE = 1, PGP_EXCLUSIVE = 2 };
 struct pgp_bound { struct pgp_column value; uint8_t kind; };
 struct pgp_range { struct pgp_bound lower, upper; bool is_empty; };
-pgp_status pgp_get_range(const uint8_t *bytes, size_t len, struct pgp_range *value);
+pgp_status pgp_get_range(const void *bytes, size_t len, struct pgp_range *value);
 /* To write one: each side's kind, and the value of its bound in the format of the type, which isn't read where there is no bound. A kind of
    none of the three is PGP_E_KIND. */
 struct pgp_side { struct pgp_value value; uint8_t kind; };
-pgp_status pgp_put_range(const struct pgp_side *lower, const struct pgp_side *upper, PGP_OUT);
-pgp_status pgp_put_empty_range(PGP_OUT);
+pgp_status pgp_put_range(const struct pgp_side *lower, const struct pgp_side *upper, uint8_t *out, size_t room, size_t *written);
+pgp_status pgp_put_empty_range(uint8_t *out, size_t room, size_t *written);
 
 /* An array: its head, and cursors over its dimensions and its elements (row by row, the last dimension the fastest).
    has_nulls is the flag of the head; the elements say it themselves. */
 struct pgp_array { struct pgp_cursor dimensions, elements; uint32_t element_type; bool has_nulls; };
 struct pgp_dimension { int32_t len, lower_bound; };
-pgp_status pgp_get_array(const uint8_t *bytes, size_t len, struct pgp_array *value);
+pgp_status pgp_get_array(const void *bytes, size_t len, struct pgp_array *value);
 /* To write one: an array of one dimension, whose index begins at 1; each element in the format of its type, or a null. */
-pgp_status pgp_put_array(uint32_t element_type, const struct pgp_value *elements, size_t count, PGP_OUT);
+pgp_status pgp_put_array(uint32_t element_type, const struct pgp_value *elements, size_t count, uint8_t *out, size_t room, size_t *written);
 /* The same of any dimensions; the elements come row by row, the last dimension the fastest. PGP_E_INVALID_DIMENSION for a negative length, PGP_E_TOO_MANY_ELEMENTS
    for a product past 2,147,483,647, PGP_E_INVALID_SIZE where it isn't the number of elements. No dimensions are an array of nothing. */
 pgp_status pgp_put_array_of(uint32_t element_type, const struct pgp_dimension *dimensions, size_t dimension_count,
-                            const struct pgp_value *elements, size_t count, PGP_OUT);
+                            const struct pgp_value *elements, size_t count, uint8_t *out, size_t room, size_t *written);
 /* The same, with elements that are put where they stand, as the values of pgp_bind_begin are: begin, pgp_item or pgp_item_null for each, end. As a value of a
    bind its memory is that of the bind's item, and it has a struct pgp_items of its own. */
-pgp_status pgp_array_begin(uint32_t element_type, const struct pgp_dimension *dimensions, size_t dimension_count, uint8_t *out, size_t room, struct pgp_items *items);
-pgp_status pgp_array_end(const struct pgp_items *items, PGP_OUT);
-pgp_status pgp_dimension_next(const uint8_t *bytes, size_t len, struct pgp_cursor *cursor, struct pgp_dimension *dimension);
-pgp_status pgp_element_next(const uint8_t *bytes, size_t len, struct pgp_cursor *cursor, struct pgp_column *element);
+pgp_status pgp_array_begin(uint32_t element_type, const struct pgp_dimension *dimensions, size_t dimension_count,
+                           uint8_t *out, size_t room, struct pgp_items *items);
+pgp_status pgp_array_end(const struct pgp_items *items, uint8_t *out, size_t room, size_t *written);
+pgp_status pgp_dimension_next(const void *bytes, size_t len, struct pgp_cursor *cursor, struct pgp_dimension *dimension);
+pgp_status pgp_element_next(const void *bytes, size_t len, struct pgp_cursor *cursor, struct pgp_column *element);
 /* All elements in one call, as pgp_row_all. */
-pgp_status pgp_element_all(const uint8_t *bytes, size_t len, struct pgp_cursor *cursor, struct pgp_column *items, size_t room, size_t *count);
+pgp_status pgp_element_all(const void *bytes, size_t len, struct pgp_cursor *cursor, struct pgp_column *items, size_t room, size_t *count);
 
 /* An hstore: a cursor over its entries, each a key and a value or a null, in UTF-8. */
 struct pgp_entry { struct pgp_part key; struct pgp_column value; };
-pgp_status pgp_get_hstore(const uint8_t *bytes, size_t len, struct pgp_cursor *entries);
-pgp_status pgp_entry_next(const uint8_t *bytes, size_t len, struct pgp_cursor *cursor, struct pgp_entry *entry);
+pgp_status pgp_get_hstore(const void *bytes, size_t len, struct pgp_cursor *entries);
+pgp_status pgp_entry_next(const void *bytes, size_t len, struct pgp_cursor *cursor, struct pgp_entry *entry);
 /* To write one: keys and values as they come (of equal keys a server keeps one). Key and value have to be UTF-8, else PGP_E_NOT_UTF8. */
-struct pgp_key_value { const uint8_t *key; size_t key_len; struct pgp_value value; };
-pgp_status pgp_put_hstore(const struct pgp_key_value *pairs, size_t count, PGP_OUT);
+struct pgp_key_value { struct pgp_bytes key; struct pgp_value value; };
+pgp_status pgp_put_hstore(const struct pgp_key_value *pairs, size_t count, uint8_t *out, size_t room, size_t *written);
 
 /* A row or a composite value: a cursor over its fields, each a type and a value or a null. A multirange: a cursor over its ranges, each the place of what
    pgp_get_range reads. */
 struct pgp_member { struct pgp_column value; uint32_t of_type; };
-pgp_status pgp_get_record(const uint8_t *bytes, size_t len, struct pgp_cursor *fields);
-pgp_status pgp_member_next(const uint8_t *bytes, size_t len, struct pgp_cursor *cursor, struct pgp_member *member);
-pgp_status pgp_get_multirange(const uint8_t *bytes, size_t len, struct pgp_cursor *ranges);
-pgp_status pgp_multirange_next(const uint8_t *bytes, size_t len, struct pgp_cursor *cursor, struct pgp_part *range);
+pgp_status pgp_get_record(const void *bytes, size_t len, struct pgp_cursor *fields);
+pgp_status pgp_member_next(const void *bytes, size_t len, struct pgp_cursor *cursor, struct pgp_member *member);
+pgp_status pgp_get_multirange(const void *bytes, size_t len, struct pgp_cursor *ranges);
+pgp_status pgp_multirange_next(const void *bytes, size_t len, struct pgp_cursor *cursor, struct pgp_part *range);
 /* To write them: each field's value, in the format of its type, or a null, and its type; the bytes of each range, as pgp_put_range wrote them. */
 struct pgp_typed { struct pgp_value value; uint32_t of_type; };
-pgp_status pgp_put_record(const struct pgp_typed *fields, size_t count, PGP_OUT);
-struct pgp_item { const uint8_t *bytes; size_t bytes_len; };
-pgp_status pgp_put_multirange(const struct pgp_item *ranges, size_t count, PGP_OUT);
+pgp_status pgp_put_record(const struct pgp_typed *fields, size_t count, uint8_t *out, size_t room, size_t *written);
+pgp_status pgp_put_multirange(const struct pgp_bytes *ranges, size_t count, uint8_t *out, size_t room, size_t *written);
 
 /* The server's fixed types, by number: those of its values, and of arrays of them. */
 enum pgp_oid {
@@ -675,7 +715,7 @@ enum pgp_error_code {
 #define PGP_DATE_MINUS_INFINITY INT32_MIN
 
 /* The name of a status, and of a kind of messages; "?" for a number that is none. */
-static inline const char *pgp_status_name(pgp_status status)
+static inline const char *pgp_status_name(int status)
 {
     static const char *const names[] = {
         "PGP_OK", "PGP_NO_ROOM", "PGP_E_EMBEDDED_NULL", "PGP_E_TOO_LARGE", "PGP_E_INVALID_LENGTH", "PGP_E_UNKNOWN_TAG",
@@ -686,8 +726,16 @@ static inline const char *pgp_status_name(pgp_status status)
     };
     static const char *const more[] = { "PGP_E_WRONG_PHASE", "PGP_E_EMPTY_NAME", "PGP_E_VERSION", "PGP_E_KIND", "PGP_E_UNEXPECTED", "PGP_E_UNCERTAIN",
                                         "PGP_E_UNKNOWN_PACKET", "PGP_E_FORMATS", "PGP_E_NOT_FINITE", "PGP_E_FRACTION" };
-    if (status < sizeof names / sizeof *names) return names[status];
-    if (status >= 32 && status < 32 + sizeof more / sizeof *more) return more[status - 32];
+    static const char *const login[] = {
+        "PGP_SCRAM_WRONG_STATE", "PGP_SCRAM_NOT_UTF8", "PGP_SCRAM_UNEXPECTED_END", "PGP_SCRAM_UNEXPECTED_CHARACTER", "PGP_SCRAM_TRAILING",
+        "PGP_SCRAM_INVALID_NUMBER", "PGP_SCRAM_INVALID_NONCE", "PGP_SCRAM_TOO_MANY_ITERATIONS", "PGP_SCRAM_INVALID_BASE64",
+        "PGP_SCRAM_SERVER", "PGP_SCRAM_VERIFICATION", "?", "?", "?", "PGP_BAD_NONCE", "PGP_BAD_BINDING", "PGP_NOT_A_VERIFIER",
+        "PGP_WRONG_PASSWORD", "PGP_SCRAM_UNSUPPORTED_BINDING", "PGP_SCRAM_INVALID_FIRST", "PGP_SCRAM_OTHER_EXCHANGE",
+        "PGP_SCRAM_INVALID_ENCODING", "PGP_SCRAM_INVALID_PROOF", "PGP_LOGIN_UNDUE", "PGP_LOGIN_NOT_ADMITTED", "PGP_LOGIN_OTHER_MECHANISM", "PGP_LOGIN_TOO_FEW_ROUNDS"
+    };
+    if (status >= 0 && status < (int)(sizeof names / sizeof *names)) return names[status];
+    if (status >= 32 && status < 32 + (int)(sizeof more / sizeof *more)) return more[status - 32];
+    if (status >= 66 && status < 66 + (int)(sizeof login / sizeof *login)) return login[status - 66];
     return status == PGP_MORE ? "PGP_MORE" : status == PGP_DONE ? "PGP_DONE" : status == PGP_FULL ? "PGP_FULL" : "?";
 }
 static inline const char *pgp_kind_name(uint8_t kind)

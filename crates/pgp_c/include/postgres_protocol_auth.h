@@ -13,22 +13,6 @@
 extern "C" {
 #endif
 
-/* The refusals of an exchange: 64 and the core's number of a ScramError. */
-enum {
-    PGP_SCRAM_WRONG_STATE = 66, PGP_SCRAM_NOT_UTF8 = 67, PGP_SCRAM_UNEXPECTED_END = 68, PGP_SCRAM_UNEXPECTED_CHARACTER = 69,
-    PGP_SCRAM_TRAILING = 70, PGP_SCRAM_INVALID_NUMBER = 71, PGP_SCRAM_INVALID_NONCE = 72, PGP_SCRAM_TOO_MANY_ITERATIONS = 73,
-    PGP_SCRAM_INVALID_BASE64 = 74, PGP_SCRAM_SERVER = 75, PGP_SCRAM_VERIFICATION = 76,
-    PGP_BAD_NONCE = 80,             /* the caller's nonce is empty, or has a byte that is no printable ASCII or is a comma */
-    PGP_BAD_BINDING = 81,           /* the kind of the channel binding is none of pgp_binding, or of pgp_offer             */
-    PGP_NOT_A_VERIFIER = 82,        /* the stored text is no verifier of SCRAM-SHA-256                                     */
-    PGP_WRONG_PASSWORD = 83,        /* what was shown isn't what is stored                                                 */
-    PGP_SCRAM_UNSUPPORTED_BINDING = 84, PGP_SCRAM_INVALID_FIRST = 85, PGP_SCRAM_OTHER_EXCHANGE = 86, PGP_SCRAM_INVALID_ENCODING = 87,
-    PGP_SCRAM_INVALID_PROOF = 88,   /* the proof is of another password                                                    */
-    PGP_LOGIN_UNDUE = 89,           /* the message has no place there in a log-in                                          */
-    PGP_LOGIN_NOT_ADMITTED = 90,    /* the server asks for a way of logging in that isn't admitted                         */
-    PGP_LOGIN_OTHER_MECHANISM = 91  /* the mechanism isn't that of the channel binding                                     */
-};
-
 /* The channel binding of an exchange: none; none, but the client could (a server that offers it should refuse that); or
    tls-server-end-point, with the hash of the server's certificate (RFC 5929). The certificate's bytes are read for that one alone. */
 enum pgp_binding { PGP_BINDING_UNSUPPORTED = 0, PGP_BINDING_UNREQUESTED = 1, PGP_BINDING_TLS_SERVER_END_POINT = 2 };
@@ -50,19 +34,20 @@ enum pgp_binding { PGP_BINDING_UNSUPPORTED = 0, PGP_BINDING_UNREQUESTED = 1, PGP
  */
 #define PGP_SCRAM_FIRST_ROOM(nonce_len) ((nonce_len) + 32)
 #define PGP_SCRAM_FINAL_ROOM(certificate_len, server_first_len) (2 * (certificate_len) + (server_first_len) + 128)
-pgp_status pgp_scram_first(uint8_t kind, const uint8_t *certificate, size_t certificate_len, const uint8_t *nonce, size_t nonce_len, PGP_OUT);
-pgp_status pgp_scram_final(const uint8_t *password, size_t password_len,
-                           uint8_t kind, const uint8_t *certificate, size_t certificate_len, const uint8_t *nonce, size_t nonce_len,
-                           const uint8_t *server_first, size_t server_first_len, PGP_OUT, size_t *at);
-pgp_status pgp_scram_verify(const uint8_t *password, size_t password_len,
-                            uint8_t kind, const uint8_t *certificate, size_t certificate_len, const uint8_t *nonce, size_t nonce_len,
-                            const uint8_t *server_first, size_t server_first_len,
-                            const uint8_t *server_final, size_t server_final_len, size_t *at);
+pgp_status pgp_scram_first(uint8_t kind, const void *certificate, size_t certificate_len, const void *nonce, size_t nonce_len,
+                           uint8_t *out, size_t room, size_t *written);
+pgp_status pgp_scram_final(const void *password, size_t password_len,
+                           uint8_t kind, const void *certificate, size_t certificate_len, const void *nonce, size_t nonce_len,
+                           const void *server_first, size_t server_first_len, uint8_t *out, size_t room, size_t *written, size_t *at);
+pgp_status pgp_scram_verify(const void *password, size_t password_len,
+                            uint8_t kind, const void *certificate, size_t certificate_len, const void *nonce, size_t nonce_len,
+                            const void *server_first, size_t server_first_len,
+                            const void *server_final, size_t server_final_len, size_t *at);
 struct pgp_scram { uint8_t signature[32]; };
-pgp_status pgp_scram_update(const uint8_t *password, size_t password_len,
-                            uint8_t kind, const uint8_t *certificate, size_t certificate_len, const uint8_t *nonce, size_t nonce_len,
-                            const uint8_t *server_first, size_t server_first_len, PGP_OUT, size_t *at, struct pgp_scram *kept);
-pgp_status pgp_scram_finish(const struct pgp_scram *kept, const uint8_t *server_final, size_t server_final_len, size_t *at);
+pgp_status pgp_scram_update(const void *password, size_t password_len,
+                            uint8_t kind, const void *certificate, size_t certificate_len, const void *nonce, size_t nonce_len,
+                            const void *server_first, size_t server_first_len, uint8_t *out, size_t room, size_t *written, size_t *at, struct pgp_scram *kept);
+pgp_status pgp_scram_finish(const struct pgp_scram *kept, const void *server_final, size_t server_final_len, size_t *at);
 static inline void pgp_nonce(const uint8_t random[18], uint8_t nonce[24])
 {
     static const char letters[] = "ABCDEFGHIJKLMNOPQRSTUVWXYZabcdefghijklmnopqrstuvwxyz0123456789+/";
@@ -85,12 +70,13 @@ static inline void pgp_nonce(const uint8_t random[18], uint8_t nonce[24])
  *   pgp_login_sasl       PGP_AUTHENTICATION_SASL, once for each mechanism that pgp_mechanism_next gives, until the answer isn't
  *                        PGP_LOGIN_OTHER_MECHANISM: what to send in pgp_sasl_initial_response, with this mechanism. SCRAM-SHA-256-PLUS is
  *                        the mechanism of PGP_BINDING_TLS_SERVER_END_POINT, SCRAM-SHA-256 that of the others
- *   pgp_login_continue   PGP_AUTHENTICATION_SASL_CONTINUE: what to send by pgp_sasl_response
+ *   pgp_login_continue   PGP_AUTHENTICATION_SASL_CONTINUE: what to send by pgp_sasl_response. PGP_LOGIN_TOO_FEW_ROUNDS where the server asks for fewer rounds
+ *                        than `least_rounds` (0 is taken for 1; servers have 4096 unless they are told otherwise)
  *   pgp_login_final      PGP_AUTHENTICATION_SASL_FINAL: PGP_OK only if it shows the server's signature
  *   pgp_login_ok         PGP_AUTHENTICATION_OK: PGP_OK where the log-in is done. After an exchange has begun that is so only after
  *                        pgp_login_final returned PGP_OK, and with no request before it only where PGP_WAY_NONE is admitted
  * An answer other than PGP_OK leaves the struct, `out` and 0 in `written`; but for PGP_NO_ROOM the connection is best closed then. Other
- * requests (GSSAPI, SSPI, Kerberos) are answered by no way here. What the statuses 64 to 81 mean stands above.
+ * requests (GSSAPI, SSPI, Kerberos) are answered by no way here. What the statuses mean stands in postgres_protocol.h.
  */
 enum { PGP_WAY_NONE = 1, PGP_WAY_PASSWORD = 2, PGP_WAY_MD5 = 4, PGP_WAY_SCRAM = 8 };
 enum { PGP_LOGIN_DONE = 4 };
@@ -99,14 +85,14 @@ struct pgp_login {
     uint8_t signature[32];
 };
 pgp_status pgp_login_cleartext(struct pgp_login *login, uint8_t ways);
-pgp_status pgp_login_md5(struct pgp_login *login, uint8_t ways, const uint8_t *user, size_t user_len,
-                         const uint8_t *password, size_t password_len, const uint8_t *salt, size_t salt_len, PGP_OUT);
-pgp_status pgp_login_sasl(struct pgp_login *login, uint8_t ways, const uint8_t *mechanism, size_t mechanism_len,
-                          uint8_t kind, const uint8_t *certificate, size_t certificate_len, const uint8_t *nonce, size_t nonce_len, PGP_OUT);
-pgp_status pgp_login_continue(struct pgp_login *login, const uint8_t *password, size_t password_len,
-                              uint8_t kind, const uint8_t *certificate, size_t certificate_len, const uint8_t *nonce, size_t nonce_len,
-                              const uint8_t *server_first, size_t server_first_len, PGP_OUT, size_t *at);
-pgp_status pgp_login_final(struct pgp_login *login, const uint8_t *server_final, size_t server_final_len, size_t *at);
+pgp_status pgp_login_md5(struct pgp_login *login, uint8_t ways, const void *user, size_t user_len,
+                         const void *password, size_t password_len, const void *salt, size_t salt_len, uint8_t *out, size_t room, size_t *written);
+pgp_status pgp_login_sasl(struct pgp_login *login, uint8_t ways, const void *mechanism, size_t mechanism_len,
+                          uint8_t kind, const void *certificate, size_t certificate_len, const void *nonce, size_t nonce_len, uint8_t *out, size_t room, size_t *written);
+pgp_status pgp_login_continue(struct pgp_login *login, uint32_t least_rounds, const void *password, size_t password_len,
+                              uint8_t kind, const void *certificate, size_t certificate_len, const void *nonce, size_t nonce_len,
+                              const void *server_first, size_t server_first_len, uint8_t *out, size_t room, size_t *written, size_t *at);
+pgp_status pgp_login_final(struct pgp_login *login, const void *server_final, size_t server_final_len, size_t *at);
 pgp_status pgp_login_ok(struct pgp_login *login, uint8_t ways);
 
 /*
@@ -123,37 +109,38 @@ enum pgp_offer {
     PGP_OFFER_DECLINED = 1,         /* SCRAM-SHA-256-PLUS was offered too, and the client chose SCRAM-SHA-256 */
     PGP_OFFER_CHOSEN = 2            /* the client chose SCRAM-SHA-256-PLUS                                    */
 };
-pgp_status pgp_scram_server_first(const uint8_t *stored, size_t stored_len, uint8_t kind, const uint8_t *certificate, size_t certificate_len,
-                                  const uint8_t *nonce, size_t nonce_len, const uint8_t *client_first, size_t client_first_len, PGP_OUT);
-pgp_status pgp_scram_server_final(const uint8_t *stored, size_t stored_len, uint8_t kind, const uint8_t *certificate, size_t certificate_len,
-                                  const uint8_t *nonce, size_t nonce_len, const uint8_t *client_first, size_t client_first_len,
-                                  const uint8_t *client_final, size_t client_final_len, PGP_OUT);
+pgp_status pgp_scram_server_first(const void *stored, size_t stored_len, uint8_t kind, const void *certificate, size_t certificate_len,
+                                  const void *nonce, size_t nonce_len, const void *client_first, size_t client_first_len, uint8_t *out, size_t room, size_t *written);
+pgp_status pgp_scram_server_final(const void *stored, size_t stored_len, uint8_t kind, const void *certificate, size_t certificate_len,
+                                  const void *nonce, size_t nonce_len, const void *client_first, size_t client_first_len,
+                                  const void *client_final, size_t client_final_len, uint8_t *out, size_t room, size_t *written);
 
 /* What a server stores of a password: 133 characters. The salt has 16 bytes. */
 enum { PGP_VERIFIER_ROOM = 133, PGP_MD5_ROOM = 35 };
-pgp_status pgp_scram_verifier(const uint8_t *password, size_t password_len, const uint8_t *salt, size_t salt_len, PGP_OUT);
+pgp_status pgp_scram_verifier(const void *password, size_t password_len, const void *salt, size_t salt_len,
+                              uint8_t *out, size_t room, size_t *written);
 
 /* The same with MD5, for servers that have nothing else: `md5` and 32 digits. The user's name has to be UTF-8, else PGP_E_NOT_UTF8. */
-pgp_status pgp_md5_verifier(const uint8_t *user, size_t user_len, const uint8_t *password, size_t password_len, PGP_OUT);
+pgp_status pgp_md5_verifier(const void *user, size_t user_len, const void *password, size_t password_len, uint8_t *out, size_t room, size_t *written);
 
 /* PGP_OK where the password is that of the stored verifier of SCRAM-SHA-256 (after AuthenticationCleartextPassword), and where the answer to
    AuthenticationMD5Password with this salt is right for the stored MD5 text; else PGP_WRONG_PASSWORD. */
-pgp_status pgp_scram_check(const uint8_t *stored, size_t stored_len, const uint8_t *password, size_t password_len);
-pgp_status pgp_md5_check(const uint8_t *stored, size_t stored_len, const uint8_t *salt, size_t salt_len, const uint8_t *answer, size_t answer_len);
+pgp_status pgp_scram_check(const void *stored, size_t stored_len, const void *password, size_t password_len);
+pgp_status pgp_md5_check(const void *stored, size_t stored_len, const void *salt, size_t salt_len, const void *answer, size_t answer_len);
 
 /* The answer to AuthenticationMD5Password: 35 characters. The salt has 4 bytes. */
-pgp_status pgp_md5_answer(const uint8_t *user, size_t user_len, const uint8_t *password, size_t password_len,
-                          const uint8_t *salt, size_t salt_len, PGP_OUT);
+pgp_status pgp_md5_answer(const void *user, size_t user_len, const void *password, size_t password_len,
+                          const void *salt, size_t salt_len, uint8_t *out, size_t room, size_t *written);
 
 /* The password as a server uses it: prepared by SASLprep (RFC 4013); as it is where it is no UTF-8, or SASLprep rejects it. Hand the
    result to pgp_scram_update and pgp_scram_verifier. At most three times as long: one character may become eighteen of three bytes each. */
-pgp_status pgp_saslprep(const uint8_t *password, size_t password_len, PGP_OUT);
+pgp_status pgp_saslprep(const void *password, size_t password_len, uint8_t *out, size_t room, size_t *written);
 
 /* The text as a string constant, or as a quoted identifier, of an SQL command; no character of it can end the constant. */
 #define PGP_LITERAL_ROOM(len) (2 * (len) + 4)
 #define PGP_IDENTIFIER_ROOM(len) (2 * (len) + 2)
-pgp_status pgp_escape_literal(const uint8_t *text, size_t len, PGP_OUT);
-pgp_status pgp_escape_identifier(const uint8_t *text, size_t len, PGP_OUT);
+pgp_status pgp_escape_literal(const void *text, size_t len, uint8_t *out, size_t room, size_t *written);
+pgp_status pgp_escape_identifier(const void *text, size_t len, uint8_t *out, size_t room, size_t *written);
 
 #ifdef __cplusplus
 }
