@@ -1,6 +1,6 @@
 """faults.py WORKSPACE: plants faults in a copy of what quick.py wrote, one at a time, each in another part of it: the modules, the shim for C, the
 stand-ins for the kit. The tests, the tables, the stored runs of the programs or the tests in C must see each."""
-import os, shutil, subprocess, sys, tempfile
+import codes_of_unicode as codes, os, shutil, subprocess, sys, tempfile
 
 workspace = os.path.abspath(sys.argv[1])
 top = os.path.dirname(os.path.dirname(os.path.dirname(os.path.abspath(__file__))))
@@ -68,7 +68,12 @@ def tables():
 
 def programs():
     build('programs')
-    return all(map(as_stored, ('pgwire', 'pgtrace', 'pgserve')))
+    version = open(os.path.join(top, 'VERSION')).read().strip() + '+unproved'
+    return all(map(as_stored, ('pgwire', 'pgtrace', 'pgserve'))) and run(sys.executable, os.path.join(top, 'tests/pages/words.py'), made, version).returncode == 0
+
+
+def table_of_codes():
+    return codes.wrong(os.path.join(copy, 'erased/src/kit/unassigned.rs')) is None
 
 
 def in_c():
@@ -80,7 +85,7 @@ def in_c():
         return run(program).returncode == 0
 
 
-CHECKS = [(tests, 'the tests'), (tables, 'the tables'), (programs, 'the stored runs'), (in_c, 'the tests in C')]
+CHECKS = [(tests, 'the tests'), (tables, 'the tables'), (programs, 'the stored runs and words'), (table_of_codes, "Python's table of codes"), (in_c, 'the tests in C')]
 
 
 def place(root, file):
