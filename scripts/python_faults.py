@@ -1,6 +1,7 @@
 """What a client may never do: lose rows, commit what is to be rolled back, or wait for ever. Each check has a limit of time; run by scripts/live_python."""
 import asyncio
 import contextlib
+import random
 import signal
 import socket
 import threading
@@ -64,7 +65,7 @@ class Faults:
 
     def run(self):
         for name in ('copies_roll_back', 'begin_leaks', 'copies_by_other_calls', 'silent_servers', 'limits', 'stale_statements', 'unprepared', 'gone_servers',
-                     'copies_that_raise', 'two_threads', 'floats', 'failed_commits', 'broken_off', 'asyncio_faults'):
+                     'copies_that_raise', 'two_threads', 'floats', 'failed_commits', 'broken_off', 'asyncio_faults', 'interrupted', 'asyncio_cancelled'):
             self.anew()
             self.check(name, getattr(self, name), 40)
 
@@ -267,4 +268,66 @@ class Faults:
                 self.same('asyncio, gone', await c.execute('SELECT 1'), 'an error')
             except client.OperationalError:
                 self.same('asyncio, closed', c.closed, True)
+        asyncio.run(run())
+
+    def calls(self, c, n):
+        """Calls of every kind, and what each comes to."""
+        return ((lambda: c.execute('SELECT $1::int', (n,)).fetchone(), (n,)), (lambda: c.execute('SELECT $1::int, pg_sleep(0.01)', (n,)).fetchone()[0], n),
+                (lambda: len(c.execute('SELECT i FROM generate_series(1, $1::int) i', (5000 + n % 7,)).fetchall()), 5000 + n % 7),
+                (lambda: c.cursor().executemany('SELECT $1::int', [(n + i,) for i in range(50)]).fetchall(), [(n + i,) for i in range(50)]),
+                (lambda: [r.rows for r in c.script('SELECT %d; SELECT %d' % (n, n + 1))], [[(str(n),)], [(str(n + 1),)]]),
+                (lambda: c.cursor().copy_in('COPY w FROM STDIN', (b'%d\n' % i for i in range(2000))).rowcount, 2000),
+                (lambda: len(c.cursor().copy_out('COPY (SELECT generate_series(1, 3000)) TO STDOUT')), 3000),
+                (lambda: len(c.execute('SELECT repeat($1, 3000000)', ('x',)).fetchone()[0]), 3000000))
+
+    def interrupted(self):
+        """Exceptions at any time, in any place: a call's answer is its own, or the connection is closed."""
+        draw, c, end, counts = random.Random(1), self.connect(autocommit=True), time.monotonic() + 6, [0, 0]
+        c.script('CREATE TABLE IF NOT EXISTS w (id int)')
+
+        def stop(*_):
+            raise Hang('now')
+        signal.signal(signal.SIGALRM, stop)
+        for n in range(1000000):
+            if time.monotonic() > end:
+                break
+            c = self.connect(autocommit=True) if c.closed else c
+            call, wanted = draw.choice(self.calls(c, n))
+            counts[0] += 1
+            try:
+                try:
+                    signal.setitimer(signal.ITIMER_REAL, draw.choice((0, 0.0005, 0.002, 0.01, 0.03)) * draw.random())
+                    came = call()
+                finally:
+                    signal.setitimer(signal.ITIMER_REAL, 0)
+            except Hang:
+                counts[1] += 1
+                continue
+            except client.Broken:
+                continue
+            if came != wanted:
+                self.same('interrupted', came, wanted)
+        c.close()
+        self.same('interrupted', counts[0] > 50 and counts[1] > 20, True)
+
+    def asyncio_cancelled(self):
+        """The same of cancelled tasks."""
+        async def run():
+            draw, c, counts, end = random.Random(2), await aio.connect(**self.where), [0, 0], time.monotonic() + 4
+            for n in range(1000000):
+                if time.monotonic() > end:
+                    break
+                c = await aio.connect(**self.where) if c.closed else c
+                call, wanted = draw.choice(((lambda: c.execute('SELECT $1::int, pg_sleep(0.005)', (n,)), n), (lambda: c.execute('SELECT $1::int FROM generate_series(1, 5000)', (n,)), n),
+                                            (lambda: c.execute('SELECT $1::int', (n,)), n)))
+                counts[0] += 1
+                try:
+                    came = await asyncio.wait_for(call(), draw.choice((1, 0.0005, 0.002, 0.01)) * draw.random() + 1e-4)
+                except asyncio.TimeoutError:
+                    counts[1] += 1
+                    continue
+                if came.rows[0][0] != wanted:
+                    self.same('cancelled', came.rows[0], wanted)
+            await c.close()
+            self.same('cancelled', counts[0] > 50 and counts[1] > 20, True)
         asyncio.run(run())

@@ -4,6 +4,7 @@ import asyncio
 import os
 import pathlib
 import socket
+import ssl
 import tempfile
 import threading
 from unittest import mock
@@ -156,9 +157,9 @@ def check_settings(same):
         same(text, settings.parse(text), wanted)
     for text in ('host', 'host=a user', "host='a", 'postgresql://h:x/', 'postgresql://h/?x'):
         same(text, type(_error(lambda: settings.parse(text))), client.InterfaceError)
-    with tempfile.TemporaryDirectory() as folder, mock.patch.dict(os.environ, clear=True):
+    with tempfile.TemporaryDirectory() as folder, mock.patch.dict(os.environ, clear=True), mock.patch('pwd.getpwuid', lambda _: mock.Mock(pw_name='me')):
         home = pathlib.Path(folder)
-        os.environ.update({'HOME': folder, 'USER': 'me'})
+        os.environ['HOME'] = folder
         check_files(same, home)
 
 
@@ -184,25 +185,28 @@ def check_files(same, home):
     del os.environ['PGPASSWORD']
     (home / '.pgpass').chmod(0o644)
     same('a password file that others read', of()[3], None)
-    for given in ({'service': 'none'}, {'sslmode': 'sure'}, {'port': '0'}, {'host': 'a,b', 'port': '1,2,3'}, {'target_session_attrs': 'primary'}, {'channel_binding': 'require'},
+    for given in ({'service': 'none'}, {'sslmode': 'sure'}, {'port': '0'}, {'host': 'a,b', 'port': '1,2,3'}, {'target_session_attrs': 'primary'}, {'channel_binding': 'yes'},
                   {'connect_timeout': 'x'}, {'require_auth': 'gss'}):
         same(str(given), type(_error(lambda: of(**given))), client.InterfaceError)
 
 
 def check_tries(same):
     """Which server is tried next, and how."""
-    def tried(mode, host, errors):
-        kept = settings.Options({'host': host, 'sslmode': mode})
+    def tried(mode, host, errors, ssl=None):
+        kept = settings.Options({'host': host, 'sslmode': mode}, ssl)
         tries = client.attempts(kept)
         found = [next(tries)]
         for error in errors:
             try:
+                kept.context()
                 found.append(tries.send(error))
             except client.OperationalError as raised:
                 found.append(raised)
         return [(one[0].host, one[1]) if isinstance(one, tuple) else one for one in found]
     lost, hba, wrong = pg.errors.Broken('x'), client.OperationalError('x', {'C': '28000'}), client.OperationalError('x', {'C': '28P01'})
     same('the next host', tried('prefer', 'a,b', [lost, lost]), [('a', True), ('b', True), lost])
+    same('a context', tried('disable', '/x', [lost], ssl.create_default_context()), [('/x', True), lost])
+    same('the next host, without encryption', tried('prefer', 'a,b', [lost, hba]), [('a', True), ('b', True), ('b', False)])
     same('without encryption', tried('prefer', 'a', [hba, wrong]), [('a', True), ('a', False), wrong])
     same('with encryption', tried('allow', 'a', [hba, hba]), [('a', False), ('a', True), hba])
     same('a wrong password', tried('prefer', 'a,b', [wrong]), [('a', True), wrong])

@@ -45,6 +45,9 @@ def check_log_in(same, raises):
             ('clear text is not admitted', 'the server asks for password', frame(b'R', b'\0\0\0\3'), {'require_auth': ['scram-sha-256'], 'password': 'x'}),
             ('md5 is not admitted', 'the server asks for md5', frame(b'R', b'\0\0\0\5abcd'), {'require_auth': ['scram-sha-256', 'none'], 'password': 'x'}),
             ('no signature', 'the server did not show', SASL + AUTHENTICATED, {'password': 'x'}),
+            ('no channel binding', 'the server offers no channel binding', SASL, {'password': 'x', 'must_bind': True}),
+            ('clear text in its place', 'the server asks for password', frame(b'R', b'\0\0\0\3'), {'password': 'x', 'must_bind': True}),
+            ('no password in its place', 'the server asks for no password', AUTHENTICATED, {'must_bind': True}),
             ('no password given', 'the server asks for a password', SASL, {}),
             ('another mechanism', 'the server offers X, ', frame(b'R', b'\0\0\0\x0aX\0\0'), {'password': 'x'}),
             ('Kerberos', 'the server asks for AuthenticationKerberosV5', frame(b'R', b'\0\0\0\2'), {})):

@@ -20,7 +20,7 @@ from .binding import certificate_hash
 from .connection import DecodeError
 from .cursor import Cursor
 from .dbtypes import (BINARY, DATETIME, NUMBER, ROWID, STRING, Binary, Date, DateFromTicks, Time, TimeFromTicks, Timestamp, TimestampFromTicks)
-from .errors import (DatabaseError, DataError, Error, IntegrityError, InterfaceError, InternalError, NotSupportedError, OperationalError, ProgrammingError,
+from .errors import (Broken, DatabaseError, DataError, Error, IntegrityError, InterfaceError, InternalError, NotSupportedError, OperationalError, ProgrammingError,
                      Timeout, Warning)
 from .settings import Options, Place
 from .registry import Registry
@@ -28,7 +28,7 @@ from .session import SEND, Flow, Result
 from .shared import END, GRACE, Behaviour, RowFactory, Shared, as_chunk, attempts, dict_row, is_over, namedtuple_row, translated
 from .wire import Wire, cancel
 
-__all__ = ['BINARY', 'Binary', 'Connection', 'Cursor', 'DATETIME', 'DataError', 'DatabaseError', 'Date', 'DateFromTicks', 'Error', 'IntegrityError',
+__all__ = ['BINARY', 'Binary', 'Broken', 'Connection', 'Cursor', 'DATETIME', 'DataError', 'DatabaseError', 'Date', 'DateFromTicks', 'Error', 'IntegrityError',
            'InterfaceError', 'InternalError', 'NUMBER', 'NotSupportedError', 'OperationalError', 'ProgrammingError', 'ROWID', 'Result', 'STRING', 'Time',
            'TimeFromTicks', 'Timeout', 'Timestamp', 'TimestampFromTicks', 'Warning', 'apilevel', 'connect', 'dict_row', 'namedtuple_row', 'paramstyle',
            'threadsafety']
@@ -46,7 +46,8 @@ class Connection(Shared):
 
     def __init__(self, options: Options, place: Place, encrypts: bool, behaviour: Behaviour) -> None:
         super().__init__(options.core(place, encrypts), behaviour)
-        self._options, self._lock, self._is_outside = options, threading.Lock(), False
+        self._options, self._lock = options, threading.Lock()
+        self._is_busy = self._is_outside = False
         self._wire = Wire(place, self._core, options.connect_timeout)
         try:
             if encrypts:
@@ -104,42 +105,50 @@ class Connection(Shared):
         except StopIteration as done:
             return done.value
 
-    def _claim(self, timeout: Optional[float]) -> None:
+    def _claimed(self) -> threading.Lock:
+        """What a call holds while it runs."""
         self._check_open()
-        if not self._lock.acquire(False):
+        if self._lock.locked():
             raise InterfaceError('another call is under way on this connection')
+        return self._lock
+
+    def _enter(self, timeout: Optional[float]) -> None:
+        """Begins a call. Where the one before was broken off twice, in its clearing up too, nothing is known of the connection."""
+        if self._is_busy:
+            self._end()
+            raise Broken('the call before was broken off: the connection is closed')
         self._wire.set_limit(self.timeout if timeout is None else timeout)
-        self._is_outside = False
+        self._is_busy, self._is_outside = True, False
 
     def _run(self, flow: Flow, timeout: Optional[float] = None, chunks: Iterable[bytes] = ()) -> Any:
         """Runs a call, which is cancelled at the server where it is broken off or takes longer than its limit."""
-        self._claim(timeout)
-        try:
-            return self._drive(flow, chunks)
-        except BaseException as error:
-            self._clear_up(flow, error)
-            raise self._last_words(error) from error.__cause__
-        finally:
-            self._lock.release()
+        with self._claimed():
+            self._enter(timeout)
+            try:
+                result = self._drive(flow, chunks)
+            except BaseException as error:
+                self._clear_up(flow, error)
+                raise self._last_words(error) from error.__cause__
+            self._is_busy = False
+            return result
 
     def _iterate(self, flow: Flow) -> Iterator[bytes]:
         """The same of a call that gives data as they come."""
-        self._claim(None)
-        try:
-            wanted = next(flow)
-            while True:
-                if isinstance(wanted, bytes):
-                    self._is_outside = True
-                    yield wanted
-                    self._is_outside = False
-                wanted = flow.send(self._event() if wanted is None else None)
-        except StopIteration:
-            pass
-        except BaseException as error:
-            self._clear_up(flow, error, isinstance(error, GeneratorExit))
-            raise self._last_words(error) from error.__cause__
-        finally:
-            self._lock.release()
+        with self._claimed():
+            self._enter(None)
+            try:
+                wanted = next(flow)
+                while True:
+                    if isinstance(wanted, bytes):
+                        self._is_outside = True
+                        yield wanted
+                        self._is_outside = False
+                    wanted = flow.send(self._event() if wanted is None else None)
+            except StopIteration:
+                self._is_busy = False
+            except BaseException as error:
+                self._clear_up(flow, error, isinstance(error, GeneratorExit))
+                raise self._last_words(error) from error.__cause__
 
     def _clear_up(self, flow: Flow, error: BaseException, cancels: bool = False) -> None:
         """Brings the connection to where the next call may begin, or closes it: where it is gone, or was broken off while bytes were under way."""
@@ -159,6 +168,7 @@ class Connection(Shared):
                 self._end()
                 if not isinstance(other, (Error, ProtocolError)):
                     raise
+        self._is_busy = False
 
     def _end(self) -> None:
         self._is_closed = True
@@ -201,21 +211,22 @@ class Connection(Shared):
 
     def wait(self, timeout: Optional[float] = None) -> List[events.Notification]:
         """Waits for notifications, and returns those that came."""
-        self._claim(None)
-        self._wire.set_limit(None)
-        try:
-            while not self.notifications:
-                event = self._answer()
-                if isinstance(event, events.Failed):
-                    raise errors.of_fields(event.fields)
-                if event is None and not self.notifications and not self._wire.read(timeout):
-                    break
-        except BaseException as error:
-            if not self._wire.is_waiting:
-                self._end()
-            raise translated(error) from error
-        finally:
-            self._lock.release()
+        with self._claimed():
+            self._enter(None)
+            self._wire.set_limit(None)
+            try:
+                while not self.notifications:
+                    event = self._answer()
+                    if isinstance(event, events.Failed):
+                        raise errors.of_fields(event.fields)
+                    if event is None and not self.notifications and not self._wire.read(timeout):
+                        break
+            except BaseException as error:
+                if not self._wire.is_waiting:
+                    self._end()
+                self._is_busy = False
+                raise self._last_words(error) from error.__cause__
+            self._is_busy = False
         found, self.notifications = self.notifications, []
         return found
 

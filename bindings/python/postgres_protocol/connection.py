@@ -17,6 +17,8 @@ from .reading import Message, error_fields, fields, formats, mechanisms, types
 from .stream import Stream
 from .registry import DECODERS, Decoder
 
+__all__ = ['Connection', 'DecodeError', 'LogInError', 'METHODS']
+
 #: The requests that a Sync has to follow.
 _SERIES = frozenset(('Parse', 'Bind', 'Execute', 'DescribeStatement', 'DescribePortal', 'Close'))
 _ASIDE = ('NoticeResponse', 'NotificationResponse', 'ParameterStatus')
@@ -40,14 +42,15 @@ def _words(message: Message) -> Dict[str, str]:
 class Connection:
     """A client's end of a connection. `require_auth` names the ways of logging in that are admitted (`METHODS`), so that a server can't ask for
     the password in clear text where SCRAM is expected. `certificate` is the hash of the server's certificate (RFC 5929), with which SCRAM is
-    bound to the TLS channel; `tls` says that the channel is encrypted."""
+    bound to the TLS channel; with `must_bind` there is no log-in without that."""
 
     def __init__(self, user: str, password: Optional[str] = None, database: Optional[str] = None, parameters: Optional[Mapping[str, str]] = None,
-                 require_auth: Sequence[str] = METHODS, max_message: int = 2 ** 30, encrypt: bool = False) -> None:
+                 require_auth: Sequence[str] = METHODS, max_message: int = 2 ** 30, encrypt: bool = False,
+                 must_bind: bool = False) -> None:
         for method in require_auth:
             if method not in METHODS:
                 raise ValueError('require_auth: one of %s is expected, not %r' % (', '.join(METHODS), method))
-        self._user, self._password, self._require = user, password, tuple(require_auth)
+        self._user, self._password, self._require, self._must_bind = user, password, ('scram-sha-256',) if must_bind else tuple(require_auth), must_bind
         self._startup = [(b'user', user.encode()), (b'database', (database or user).encode())]
         self._startup += [(name.encode(), value.encode()) for name, value in {'client_encoding': 'UTF8', **(parameters or {})}.items()]
         self._stream, self._dialogue, self._max = Stream(), Dialogue(), max_message
@@ -187,6 +190,8 @@ class Connection:
 
     def data_to_send(self) -> bytes:
         """The bytes that are to be sent now."""
+        if not self._out:
+            return self._stream.drain()
         data = b''.join([*self._out, self._stream.drain()])
         self._out = []
         return data
@@ -232,6 +237,8 @@ class Connection:
 
     def _take_more(self) -> bool:
         """Takes the messages that are there; False where there is none."""
+        if not self._more and self._at == len(self._data) and self._fault == OK:
+            return False
         self._gather()
         if self._encrypting:
             return bool(self._data)
@@ -344,6 +351,8 @@ class Connection:
         plus = 'SCRAM-SHA-256-PLUS' in offered and self._certificate is not None
         if not plus and 'SCRAM-SHA-256' not in offered:
             raise LogInError('the server offers %s, of which none is supported' % ', '.join(offered))
+        if self._must_bind and not plus:
+            raise LogInError('the server offers no channel binding')
         could_bind = self._certificate is not None and not plus
         self._scram = Scram(password, self._certificate if plus else None, tls=could_bind)
         self._stream.sasl_initial_response(b'SCRAM-SHA-256-PLUS' if plus else b'SCRAM-SHA-256', self._scram.first())

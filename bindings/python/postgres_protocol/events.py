@@ -4,6 +4,9 @@ from typing import Any, Dict, List, Optional, Tuple
 
 from .reading import Field
 
+__all__ = ['Columns', 'CommandCompleted', 'Completed', 'CopyBytes', 'CopyStarted', 'Encryption', 'Event', 'Failed', 'LoggedIn', 'Notice', 'Notification',
+           'Parameters', 'Ready', 'Rows', 'Setting']
+
 
 @dataclass(frozen=True)
 class Event:

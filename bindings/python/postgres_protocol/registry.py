@@ -20,6 +20,9 @@ from .shapes import (get_box, get_circle, get_label, get_line, get_lseg, get_mac
 from .values import (Array, Interval, Range, get, get_array, get_inet, get_interval, get_jsonb, get_macaddr, get_numeric, get_range, get_timetz, get_varbit, put,
                      put_array, put_inet, put_interval, put_jsonb, put_macaddr, put_numeric, put_range, put_timetz, put_uuid, put_varbit)
 
+__all__ = ['DECODERS', 'Decoder', 'INFINITY', 'NEGATIVE_INFINITY', 'Registry', 'Type', 'apply', 'array_decoder', 'array_encoder', 'composite_type',
+           'label_type', 'range_decoder', 'range_encoder']
+
 #: What makes a value of a column's bytes: the number of a decoder in C (`DECODERS`), or a function.
 Decoder = Union[int, Callable[[bytes], Any]]
 

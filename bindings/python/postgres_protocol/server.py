@@ -7,6 +7,8 @@ from ._library import (INT16, INT32, MORE, OK, OUT, TEXT, UINT32, Bytes, Column,
                        column_of, declare, items, part_of, step, text, writer, written)
 from .reading import KINDS, Field
 
+__all__ = ['CLIENT_KINDS', 'ClientMessage', 'EXPECTED', 'ScramServer', 'ServerConnection']
+
 #: The kinds of a client's messages, by their numbers.
 CLIENT_KINDS = ('', *'''Bind Close CopyData CopyDone CopyFail Describe Execute Flush FunctionCall Parse PasswordMessage Query
 SaslInitialResponse SaslResponse Sync Terminate Startup CancelRequest SslRequest GssEncRequest'''.split())

@@ -324,7 +324,7 @@ def _gathered(results: Dict[Optional[int], Result], found: List[events.Event]) -
         if isinstance(event, events.Rows):
             kept.rows.extend(event.rows)
         elif isinstance(event, events.CommandCompleted):
-            results[event.request] = kept._replace(tag=event.tag)
+            results[event.request] = Result(kept.fields, kept.rows, event.tag)
         elif isinstance(event, events.Completed) and event.kind == 'PortalSuspended':
             results[event.request] = kept._replace(has_more=True)
     return list(results.values())

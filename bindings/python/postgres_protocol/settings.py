@@ -1,5 +1,6 @@
 """Where to connect to, and how: what a caller says, a connection string or URL, a service file, the environment and a password file, as libpq has them."""
 import os
+import pwd
 import re
 import ssl as tls
 import stat
@@ -19,7 +20,7 @@ _ENVIRONMENT = {
 _IGNORED = frozenset(('keepalives', 'keepalives_idle', 'keepalives_interval', 'keepalives_count', 'tcp_user_timeout', 'gssencmode', 'krbsrvname', 'gsslib',
                       'sslcompression', 'sslsni', 'gssdelegation', 'fallback_application_name'))
 #: What would make a connection stricter than it can be here, with the one value that is taken.
-_FIXED = {'target_session_attrs': ('any',), 'channel_binding': ('prefer', 'disable'), 'sslcrl': ('',), 'sslcrldir': ('',), 'load_balance_hosts': ('disable',)}
+_FIXED = {'target_session_attrs': ('any',), 'sslcrl': ('',), 'sslcrldir': ('',), 'load_balance_hosts': ('disable',)}
 SSL_MODES = ('disable', 'allow', 'prefer', 'require', 'verify-ca', 'verify-full')
 _FOLDERS = ('/var/run/postgresql', '/tmp')
 _PAIR = re.compile(r"\s*(\w+)\s*=\s*(?:'((?:[^'\\]|\\.)*)'|((?:[^\s'\\]|\\.)(?:[^\s\\]|\\.)*|))(?=\s|$)", re.DOTALL)
@@ -54,33 +55,37 @@ class Options:
             if kept.pop(name, values[0]) not in values:
                 raise InterfaceError('%s: no other value than %s is supported' % (name, ' or '.join(map(repr, values))))
         self.places = _places(kept)
-        self.user: str = kept.pop('user', None) or os.environ.get('USER') or os.environ.get('LOGNAME') or 'postgres'
+        self.user: str = kept.pop('user', None) or _account()
         self.dbname: str = kept.pop('dbname', None) or self.user
         self.password: Optional[str] = kept.pop('password', None)
         self._passfile: str = kept.pop('passfile', None) or os.path.expanduser('~/.pgpass')
         self.connect_timeout = _seconds(kept.pop('connect_timeout', None))
         methods = kept.pop('require_auth', None) or METHODS
         self.require_auth = tuple(methods.split(',')) if isinstance(methods, str) else tuple(methods)
+        binding = kept.pop('channel_binding', None) or 'prefer'
+        if binding not in ('disable', 'prefer', 'require'):
+            raise InterfaceError("channel_binding: 'disable', 'prefer' or 'require' is expected, not %r" % binding)
+        self._must_bind = binding == 'require'
         self.sslmode: str = kept.pop('sslmode', None) or 'prefer'
         if self.sslmode not in SSL_MODES:
             raise InterfaceError('sslmode: one of %s is expected, not %r' % (', '.join(SSL_MODES), self.sslmode))
         self._files = {name: kept.pop(name, None) for name in ('sslrootcert', 'sslcert', 'sslkey')}
-        self._context = ssl
+        self._context, self._is_given = ssl, ssl is not None
         #: Settings of the session.
         self.parameters: Dict[str, str] = {name: str(value) for name, value in kept.items() if name not in _IGNORED}
 
     def ways(self, place: Place) -> Sequence[bool]:
         """Whether encryption is asked for there; the second way follows where the server rejects the log-in of the first."""
-        if place.is_local or (self._context is None and self.sslmode == 'disable'):
-            return (False,)
-        if self.must_encrypt:
+        if self._is_given or (self.must_encrypt and not place.is_local):
             return (True,)
+        if place.is_local or self.sslmode == 'disable':
+            return (False,)
         return (False, True) if self.sslmode == 'allow' else (True, False)
 
     @property
     def must_encrypt(self) -> bool:
         """Whether there is no session without encryption."""
-        return self._context is not None or self.sslmode in ('require', 'verify-ca', 'verify-full')
+        return self._is_given or self.sslmode in ('require', 'verify-ca', 'verify-full')
 
     def context(self) -> tls.SSLContext:
         """The context of TLS: which certificates count."""
@@ -94,7 +99,7 @@ class Options:
         if password is None:
             password = _password_of(self._passfile, place, self.dbname, self.user)
         try:
-            return Core(self.user, password, self.dbname, self.parameters, self.require_auth, encrypt=encrypts)
+            return Core(self.user, password, self.dbname, self.parameters, self.require_auth, encrypt=encrypts, must_bind=self._must_bind)
         except ValueError as error:
             raise InterfaceError(str(error)) from error
 
@@ -189,6 +194,14 @@ def _places(kept: Dict[str, Any]) -> List[Place]:
         number = int(port or 5432)
         places.append(Place(host, address or host or _default(number), number))
     return places
+
+
+def _account() -> str:
+    """The name of who runs this."""
+    try:
+        return pwd.getpwuid(os.geteuid()).pw_name
+    except KeyError:
+        raise InterfaceError('user: the system has no name for who runs this') from None
 
 
 def _default(port: int) -> str:

@@ -64,6 +64,8 @@ class Shared:
                 event = self._core.next_event()
             except (ProtocolError, UnicodeDecodeError) as error:
                 raise errors.Broken('the server sent what it may not: %s' % error) from error
+            if event is None or event.request is not None:
+                return event
             if isinstance(event, events.Notification):
                 self.notifications.append(event)
             elif isinstance(event, events.Notice):
