@@ -79,19 +79,33 @@ def lawful(used):
         yield f'{OF_CALLS}/{name.replace("laws", "lawful")[:-3]}.rs', text
 
 
+TEST = re.compile(r'#\[test\]\n(?:pub )?fn (\w+)\((rt: HostRuntime)?\)')
+
+
 def plain(text, crate):
-    """The tests as functions that are handed nothing, over those that are handed a host."""
-    over = r'#[test]\nfn \1() {\n    crate::kit::calls::Ended::ended(try_\1(HostRuntime))\n}\n\nfn try_\1('
-    return re.sub(r'#\[test\]\nfn (\w+)\((?=rt: HostRuntime\))', over, answering(text, crate))
+    """The tests as functions that a program of another module calls."""
+    text = TEST.sub(lambda m: f'pub fn {m[1]}({m[2]})', answering(text, crate))
+    return re.sub(r'^mod ', 'pub mod ', text, flags=re.M)
 
 
 def crate_of(crates, out, what, used):
-    """Writes a crate of these; how many tests it has, and how many are left out."""
+    """Writes a crate of these; which tests it has, by their paths, and how many are left out."""
     read = {(crate, name): without_laws(crate, name) for crate in crates for name in generate.sources(crate)}
     texts, lacks = apart(read)
+    tests = []
     for (crate, name), text in texts.items():
         path = 'mod.rs' if name in ('lib.rt', 'main.rt') else name[:-3] + '.rs'
+        found = [f'{crate}::{name[:-3].replace("/", "::")}::{m[1]}' for m in TEST.finditer(text)]
+        if len(found) != text.count('#[test]'):
+            raise Unknown(f'crates/{crate}/src/{name}: a test of another form')
+        tests += found
         generate.write(os.path.join(out, 'src/proved', crate, path), generate.checked(plain(text, crate), crate, name, used))
-    by_hand = ''.join(f'#[cfg(test)]\nmod {name[:-3]};\n' for name in sorted(os.listdir(os.path.join(out, 'src'))) if name.endswith('.rs'))
-    generate.write(os.path.join(out, 'src/lib.rs'), LIB % (what, ''.join(f'    pub mod {crate};\n' for crate in crates)) + by_hand)
-    return sum(text.count('#[test]') for text in texts.values()), lacks
+    generate.write(os.path.join(out, 'src/lib.rs'), LIB % (what, ''.join(f'    pub mod {crate};\n' for crate in crates)))
+    return tests, lacks
+
+
+def program_of(tests, out):
+    """Writes the program that runs these tests."""
+    calls = ''.join(f'    ("{name}", || Ended::ended(tests::proved::{name}(HostRuntime))),\n' for name in tests)
+    with open(os.path.join(out, 'src/main.rs'), 'a') as program:
+        program.write(f'\nconst TESTS: [(&str, fn()); {len(tests)}] = [\n{calls}];\n')

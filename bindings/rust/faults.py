@@ -1,14 +1,16 @@
-"""faults.py OUT: plants faults in copies of the generated modules, one at a time: the package's tests or the rows must see each. OUT has the
-package and the program of the rows."""
-import os, shutil, subprocess, sys
+"""faults.py WORKSPACE: plants faults in a copy of what quick.py wrote, one at a time, each in another part of it: the modules, the shim for C, the
+stand-ins for the kit. The tests, the tables, the stored runs of the programs or the tests in C must see each."""
+import codes_of_unicode as codes, os, shutil, subprocess, sys, tempfile
 
-out = sys.argv[1]
+workspace = os.path.abspath(sys.argv[1])
 top = os.path.dirname(os.path.dirname(os.path.dirname(os.path.abspath(__file__))))
-data = os.path.join(top, 'crates/pgp_rows/data')
-stored = ''.join(line for line in open(os.path.join(top, 'crates/pgp_rows/stdout')) if not line.startswith(('calendar.rows', 'value_text.rows')))
-target = os.environ['CARGO_TARGET_DIR']
+copy = os.path.join(workspace, 'faults')
+target = os.path.join(workspace, 'target/faults')
+made = os.path.join(target, 'checked')
+PARTS = ['Cargo.toml', '.cargo', 'c', 'erased', 'parts', 'programs', 'tables', 'tests']
+C_TESTS = [os.path.join(top, 'tests/c', name + '.c') for name in ('test', 'further', 'server', 'shapes', 'items', 'search', 'login')]
 
-# A module of src/proved, a text of it, and the fault.
+# A file, below erased/src/proved where it begins with a crate's name; a text of it, and the fault.
 FAULTS = [
     ('pgp_frontend/values.rs', 'if count == u16::MAX {', 'if count == u16::MAX - 1 {'),
     ('pgp_base/counted.rs', '                self.failed = Some(e);\n', ''),
@@ -18,38 +20,108 @@ FAULTS = [
     ('pgp_auth/escape.rs', "memchr(b'\\\\', input.as_bytes())", "memchr(b'/', input.as_bytes())"),
     ('pgp_base/writing.rs', 'Ok(size as u32)', 'Ok(size as u16 as u32)'),
     ('pgp_values/numeric.rs', 'const BASE: u16 = 10_000', 'const BASE: u16 = 10_001'),
+    ('pgp_conversation/table.rs', 'width.saturating_sub(part.len())', 'width.saturating_sub(part.len() + 1)'),
+    ('pgp_conversation/table.rs', "    Global::push_char(text, ' ')\n", '    Ok(())\n'),
+    ('pgp_c/inet.rs', 'if netmask as usize > 8 * address.len() {', 'if netmask as usize > 128 {'),
+    ('pgp_c/cursor.rs', '        items[at].write(item);\n', ''),
+    ('pgp_c/proved.rs', '    0\n', '    1\n'),
+    ('pgp_trace/run.rs', '+unproved', ''),
+    ('c/src/lib.rs', '    if answer == 0 {\n        value.write(value_made);\n    }\n', '    value.write(value_made);\n'),
+    ('c/src/lib.rs', 'if answer != 35 {', 'if answer == 0 {'),
+    ('c/src/lib.rs', '    written.write(written_made);\n', ''),
+    ('parts/src/lib.rs', '            (self.at, self.len) = (items.as_mut_ptr(), items.len());\n', ''),
+    ('erased/src/kit/jiff_core.rs', 'day / 36_524', 'day / 36_525'),
+    ('erased/src/kit/unassigned.rs', '0x378, 0x37a,', '0x378, 0x37b,'),
+    ('erased/src/kit/ryu.rs', '"e+"', '"e"'),
+    ('erased/src/kit/clap.rs', 'Usage: ', 'Usage '),
 ]
 
 
-def passes(folder, *words):
-    done = subprocess.run(['cargo', *words], cwd=os.path.join(out, folder), capture_output=True, text=True)
-    if 'error[E' in done.stderr or 'error: expected' in done.stderr:
-        sys.exit(f'faults: this fault does not compile:\n{done.stderr[-3000:]}')
-    return done.returncode == 0
+def run(*words, **more):
+    return subprocess.run(words, cwd=copy, env={**os.environ, 'CARGO_TARGET_DIR': target}, capture_output=True, **more)
+
+
+def build(package):
+    done = run('cargo', 'build', '--profile', 'checked', '-p', package)
+    if done.returncode:
+        sys.exit(f'faults: this fault does not compile:\n{done.stderr.decode()[-3000:]}')
+
+
+def as_stored(name):
+    """Whether a program comes to what is stored, beside its data."""
+    crate = os.path.join(top, 'crates', name)
+    has = lambda part: os.path.exists(os.path.join(crate, part))
+    words = open(os.path.join(crate, 'args')).read().splitlines() if has('args') else []
+    with open(os.path.join(crate, 'stdin') if has('stdin') else os.devnull) as stdin:
+        ran = subprocess.run([os.path.join(made, name), *words], cwd=os.path.join(crate, 'data') if has('data') else crate, stdin=stdin, capture_output=True)
+    return ran.stdout == open(os.path.join(crate, 'stdout'), 'rb').read()
+
+
+def tests():
+    build('tests')
+    return run(os.path.join(made, 'tests')).returncode == 0
+
+
+def tables():
+    build('tables')
+    return as_stored('pgp_rows') and as_stored('pgp_hostile')
+
+
+def programs():
+    build('programs')
+    version = open(os.path.join(top, 'VERSION')).read().strip() + '+unproved'
+    return all(map(as_stored, ('pgwire', 'pgtrace', 'pgserve'))) and run(sys.executable, os.path.join(top, 'tests/pages/words.py'), made, version).returncode == 0
+
+
+def table_of_codes():
+    return codes.wrong(os.path.join(copy, 'erased/src/kit/unassigned.rs')) is None
+
+
+def in_c():
+    build('postgres_protocol')
+    with tempfile.TemporaryDirectory() as folder:
+        program = os.path.join(folder, 'test')
+        subprocess.run(['gcc', '-std=c99', '-DPROVED=0', '-I' + os.path.join(top, 'crates/pgp_c/include'), *C_TESTS, os.path.join(made, 'libpostgres_protocol.a'),
+                        '-lgcc_s', '-lpthread', '-lm', '-ldl', '-o', program], check=True)
+        return run(program).returncode == 0
+
+
+CHECKS = [(tests, 'the tests'), (tables, 'the tables'), (programs, 'the stored runs and words'), (table_of_codes, "Python's table of codes"), (in_c, 'the tests in C')]
+
+
+def place(root, file):
+    return os.path.join(root, file if file.split('/')[0] in PARTS else 'erased/src/proved/' + file)
 
 
 def seen(file, old, new):
-    for name in ('postgres-protocol', 'rows'):
-        shutil.rmtree(os.path.join(out, 'faults', name), ignore_errors=True)
-        shutil.copytree(os.path.join(out, name), os.path.join(out, 'faults', name))
-        path = os.path.join(out, 'faults', name, 'src/proved', file)
-        text = open(path).read()
-        if text.count(old) < 1:
-            sys.exit(f'faults: {file} has no {old!r}')
-        with open(path, 'w') as module:
-            module.write(text.replace(old, new))
-    if not passes('faults/postgres-protocol', 'test', '--features', 'extensions'):
-        return 'its tests'
-    if not passes('faults/rows', 'build'):
-        return ''
-    ran = subprocess.run([os.path.join(target, 'debug/rows')], cwd=data, capture_output=True, text=True)
-    return 'the rows' if ran.stdout != stored else ''
+    """What sees this fault: what most likely does first."""
+    path = place(copy, file)
+    text = open(path).read()
+    with open(path, 'w') as module:
+        module.write(text.replace(old, new))
+    checks = sorted(CHECKS, key=lambda check: (check[0] is in_c) != file.startswith(('c/', 'parts/', 'pgp_c/')))
+    by = next((name for check, name in checks if not check()), '')
+    with open(path, 'w') as module:
+        module.write(text)
+    return by
 
 
+if lacking := [fault for fault in FAULTS if fault[1] not in open(place(workspace, fault[0])).read()]:
+    sys.exit('\n'.join(f'faults: {file} has no {old!r}' for file, old, _ in lacking))
+shutil.rmtree(copy, ignore_errors=True)
+os.makedirs(copy)
+for part in PARTS:
+    source = os.path.join(workspace, part)
+    if os.path.isdir(source):
+        shutil.copytree(source, os.path.join(copy, part))
+    elif os.path.exists(source):
+        shutil.copy(source, os.path.join(copy, part))
 missed = 0
 for fault in FAULTS:
     by = seen(*fault)
     missed += not by
-    print(f'{fault[0]}: {fault[2].strip().splitlines()[0] if fault[2] else "left out: " + fault[1].strip()}: {"seen by " + by if by else "NOT SEEN"}', flush=True)
-shutil.rmtree(os.path.join(out, 'faults'))
+    shown = fault[2].strip().splitlines()[0] if fault[2] else 'left out: ' + fault[1].strip()
+    print(f'{fault[0]}: {shown}: {"seen by " + by if by else "NOT SEEN"}', flush=True)
+shutil.rmtree(copy)
+print(f'{len(FAULTS)} faults, {missed} not seen')
 sys.exit(missed > 0)

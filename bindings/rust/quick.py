@@ -38,12 +38,13 @@ def workspace(out):
     generate.write(os.path.join(out, 'c/src/lib.rs'), shim)
     for name in PROGRAMS:
         generate.write(os.path.join(out, f'programs/src/bin/{name}.rs'), MAIN % ('erased', name))
-    tests = cases.crate_of(cases.CRATES, os.path.join(out, 'tests'), 'Tests', used)
+    tests, lacks = cases.crate_of(cases.CRATES, os.path.join(out, 'tests'), 'Tests', used)
+    cases.program_of(tests, os.path.join(out, 'tests'))
     cases.crate_of(cases.TABLES, os.path.join(out, 'tables'), 'Tables', used)
     for name in cases.TABLES:
         generate.write(os.path.join(out, f'tables/src/bin/{name}.rs'), MAIN % ('tables', name))
     generate.all_used(used, crates + cases.CRATES + cases.TABLES)
-    return len(texts), sum(text.count('\n') for text in texts.values()), count, *tests
+    return len(texts), sum(text.count('\n') for text in texts.values()), count, len(tests), lacks
 
 
 def files(top):

@@ -51,7 +51,7 @@ NAMES = [
 ]
 
 # Crates of the kit whose names stand for modules of the shim.
-SHIMS = re.compile(r'(?<![\w:])(arrayvec|clap|indexmap|jiff|jiff_core|jiff_fmt|rand_core|regex|ryu|ucd_category|uuid)::')
+SHIMS = re.compile(r'(?<![\w:])(clap|indexmap|jiff|jiff_core|jiff_fmt|rand_core|regex|ryu|ucd_category)::')
 
 # Single places: file, how often, text, its substitute.
 PLACES = [
@@ -199,7 +199,7 @@ def single_places(text, name, used):
 LEFT = re.compile(r'\b(ghost|requires|ensures|decreases|Model|tactic|Allocator|allocator|rattlefmt|laws|unsafe|DeriveError|simdutf8|final fn)\b'
                   r'|[:+] Memory\b|\buse .*\bMemory\b|\+ Drop\b|: Drop\b|\bA::|\bA>|<A\b|: A\b|(?<!\} )\belse(?= \{)')
 FOREIGN = re.compile(r'^(?:pub )?use ([a-z]\w*)::')
-CRATES = {'std', 'crate', 'self', 'super', 'bytes', 'memchr', 'byteorder', 'itoa'}
+CRATES = {'std', 'crate', 'self', 'super', 'bytes', 'memchr', 'byteorder', 'arrayvec', 'itoa', 'uuid'}
 
 
 def leftovers(text, modules):

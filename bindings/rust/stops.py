@@ -11,7 +11,7 @@ CASES = [
     ('pgp_base/src/walk.rt', '    final fn collect', '    fn collect', 'crates/pgp_base/src/walk.rt'),
     ('pgp_message/src/header.rt', '\nuse ', '\nuse simdutf8::is_utf8;\nuse ', 'crates/pgp_message/src/header.rt:'),
     ('pgp_types/src/time.rt', '\n{\n', '\n{\n    unsafe { core() };\n', 'crates/pgp_types/src/time.rt:'),
-    ('pgp_session/src/client.rt', '\nuse ', '\nuse std::alloc::Layout as Allocator;\n// left\ntype Other = Allocator;\nuse ', 'crates/pgp_session/src/client.rt:'),
+    ('pgp_session/src/proxy.rt', '\nuse ', '\nuse std::alloc::Layout as Allocator;\n// left\ntype Other = Allocator;\nuse ', 'crates/pgp_session/src/proxy.rt:'),
     ('pgp_message/src/parser.rt', 'let Some(front) =', 'let Some(Front { tag, total }) =', 'crates/pgp_message/src/parser.rt'),
     ('pgp_types/src/range.rt', '\nuse ', '\nghost lemma {\nuse ', 'crates/pgp_types/src/range.rt:'),
     ('pgp_c/src/inet.rt', 'bytes.len()', 'bytes.len() + 0', ''),

@@ -1,6 +1,6 @@
 //! Escaping; the sums are the bytes of the escaped texts.
 
-use pgp_auth::escape::{escape_identifier, escape_literal};
+use pgp_auth::escape::escape_literal;
 use pgp_base::Error;
 use std::alloc::Global;
 
@@ -14,20 +14,6 @@ pub(crate) fn literals(alloc: Global, text: &str, count: u32) -> Result<u64, Err
     let mut sum = 0u64;
     for _round in 0..count {
         sum = sum.wrapping_add(escape_literal(alloc, text)?.as_str().len() as u64);
-    }
-    Ok(sum)
-}
-
-/// How many bytes so many copies of the text take as quoted identifiers.
-///
-/// # Errors
-///
-/// Returns `OutOfMemory` if memory for one of them can't be allocated.
-#[inline(never)]
-pub(crate) fn identifiers(alloc: Global, text: &str, count: u32) -> Result<u64, Error> {
-    let mut sum = 0u64;
-    for _round in 0..count {
-        sum = sum.wrapping_add(escape_identifier(alloc, text)?.as_str().len() as u64);
     }
     Ok(sum)
 }

@@ -16,25 +16,6 @@ const KEPT: &[u8] = b"C\0\0\0\x0dSELECT 1\0";
 const ROW: &[u8] =
     b"D\0\0\0\x66\0\x08\0\0\0\x0801234567\0\0\0\x0801234567\0\0\0\x0801234567\0\0\0\x0801234567\0\0\0\x0801234567\0\0\0\x0801234567\0\0\0\x0801234567\0\0\0\x0801234567";
 
-const FIELDS: &[u8] = b"E\0\0\0\x25SERROR\0C42P01\0Mno such relation\0\0";
-
-// A Bind of five int4 in binary, 59 bytes, and a row of as many: four values of 4 bytes, one of 16.
-const CLIENT_BIND: &[u8] =
-    b"B\0\0\0\x3a\0s1\0\0\x01\0\x01\0\x05\0\0\0\x04\0\0\0\0\0\0\0\x04\0\0\0\x01\0\0\0\x04\0\0\0\x02\0\0\0\x04\0\0\0\x03\0\0\0\x04\0\0\0\x04\0\x01\0\x01";
-
-const ROW_59: &[u8] =
-    b"D\0\0\0\x3a\0\x05\0\0\0\x040123\0\0\0\x040123\0\0\0\x040123\0\0\0\x040123\0\0\0\x100123456789abcdef";
-
-// A Query of 32 bytes, 38 as a message, and a CommandComplete of as many.
-const CLIENT_QUERY: &[u8] = b"Q\0\0\0\x25SELECT id FROM t WHERE id = 1234\0";
-
-const COMPLETE_38: &[u8] = b"C\0\0\0\x25SELECT 1234567890123456789012345\0";
-
-const CLIENT_SYNC: &[u8] = b"S\0\0\0\x04";
-
-// A numeric of 12 digits, 1234567890.12, as a server sends it.
-const NUMERIC: &[u8] = b"\0\x04\0\x02\0\0\0\x02\0\x0c\x0d\x80\x1e\xd2\x04\xb0";
-
 #[derive(Drop)]
 pub(crate) struct Input {
     /// As many frames, or triples of frames, as there are units.
@@ -43,8 +24,6 @@ pub(crate) struct Input {
     pub(crate) buf: BytesMut,
     pub(crate) name: String,
     pub(crate) short: String,
-    /// 32 bytes, one of them a quote.
-    pub(crate) quote: String,
     pub(crate) plain: String,
     pub(crate) quotes: String,
 }
@@ -52,25 +31,10 @@ pub(crate) struct Input {
 // The messages of a unit.
 fn unit(work: Work) -> &'static [u8] {
     match work {
-        Work::Bare | Work::BareInPlace => BARE,
-        Work::Tiny | Work::TinyInPlace | Work::TinyCopied | Work::FeedTiny => TINY,
+        Work::Bare => BARE,
+        Work::Tiny => TINY,
         Work::Kept => KEPT,
-        Work::Row
-        | Work::RowInPlace
-        | Work::RowIndexed
-        | Work::RowPlaced
-        | Work::RowColumn
-        | Work::RowCopied
-        | Work::RowTaken
-        | Work::RowConnected
-        | Work::FeedRow => ROW,
-        Work::Fields => FIELDS,
-        Work::ClientBind => CLIENT_BIND,
-        Work::ClientQuery => CLIENT_QUERY,
-        Work::ClientSync => CLIENT_SYNC,
-        Work::Row59InPlace => ROW_59,
-        Work::Complete38InPlace => COMPLETE_38,
-        Work::Numeric => NUMERIC,
+        Work::Row | Work::RowCopied | Work::FeedRow => ROW,
         _ => b"",
     }
 }
@@ -108,7 +72,6 @@ impl Input {
             buf: BytesMut::new(alloc),
             name: String::from_str(alloc, "s1")?,
             short: String::from_str(alloc, "0123456789abcdef")?,
-            quote: String::from_str(alloc, "0123456789'bcdef0123456789abcdef")?,
             plain,
             quotes,
         })

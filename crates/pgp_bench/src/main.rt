@@ -5,9 +5,6 @@
 //! a server's stream out of a slice, which stdin holds.
 #![tactic(auto)]
 
-mod clients;
-mod columns;
-mod dialogues;
 mod escapes;
 mod input;
 mod keys;

@@ -2,7 +2,7 @@
 
 use bytes::BytesMut;
 use pgp_base::{Error, FallibleIterator};
-use pgp_message::{DataRowRanges, ErrorFields, Message, Messages};
+use pgp_message::{DataRowRanges, Message};
 use std::alloc::Global;
 use std::ops::Range;
 
@@ -26,7 +26,6 @@ pub(crate) fn weight(message: &Message) -> u64 {
     match message {
         Message::DataRow(body) => lengths(&mut body.ranges()),
         Message::CommandComplete(body) => length_of(body.tag()),
-        Message::ErrorResponse(body) => fields(&mut body.fields()),
         _ => 1,
     }
 }
@@ -56,15 +55,6 @@ fn size_of(value: Option<Range<usize>>) -> u64 {
     }
 }
 
-// The bytes of the fields that are left.
-fn fields(walk: &mut ErrorFields<'_>) -> u64 {
-    let mut sum = 0u64;
-    'fields: while let Ok(Some(field)) = walk.next() {
-        sum = sum.wrapping_add(field.value_bytes().len() as u64);
-    }
-    sum
-}
-
 /// The same of messages that stand in a slice, which is copied into a buffer first.
 ///
 /// # Errors
@@ -74,53 +64,4 @@ fn fields(walk: &mut ErrorFields<'_>) -> u64 {
 pub(crate) fn read_copied(alloc: Global, bytes: &[u8]) -> Result<u64, Error> {
     let mut buf = BytesMut::copy_from_slice(alloc, bytes)?;
     read(&mut buf)
-}
-
-/// The same of messages that are read in place.
-///
-/// # Errors
-///
-/// Those of `read`, but never `OutOfMemory`.
-#[inline(never)]
-pub(crate) fn read_in_place(bytes: &[u8]) -> Result<u64, Error> {
-    let mut messages = Messages::new(bytes);
-    let mut sum = 0u64;
-    'messages: while let Some(message) = messages.next()? {
-        sum = sum.wrapping_add(weight_in_place(&message));
-    }
-    Ok(sum)
-}
-
-#[inline(always)]
-pub(crate) fn weight_in_place(message: &Message<&[u8]>) -> u64 {
-    match message {
-        Message::DataRow(body) => lengths(&mut body.ranges()),
-        Message::CommandComplete(body) => length_of(body.tag()),
-        Message::ErrorResponse(body) => fields(&mut body.fields()),
-        _ => 1,
-    }
-}
-
-/// The same of messages that are reported in place, where none of them is a row or an error: another kind
-/// weighs 1.
-///
-/// # Errors
-///
-/// Those of `read`, but never `OutOfMemory`.
-#[inline(never)]
-pub(crate) fn read_answers_in_place(bytes: &[u8]) -> Result<u64, Error> {
-    let mut messages = Messages::new(bytes);
-    let mut sum = 0u64;
-    'messages: while let Some(message) = messages.next()? {
-        sum = sum.wrapping_add(answer_in_place(&message));
-    }
-    Ok(sum)
-}
-
-#[inline(always)]
-fn answer_in_place(message: &Message<&[u8]>) -> u64 {
-    match message {
-        Message::CommandComplete(body) => length_of(body.tag()),
-        _ => 1,
-    }
 }

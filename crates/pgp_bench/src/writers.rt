@@ -5,7 +5,7 @@ use crate::work::Work;
 use bytes::BytesMut;
 use pgp_base::{BindError, Error, IsNull};
 use pgp_frontend::{
-    CopyData, bind, cancel_request, close, describe, execute, parse, query, startup_message, sync,
+    bind, cancel_request, close, describe, execute, parse, query, startup_message, sync,
 };
 use pgp_types::int4_to_sql;
 
@@ -28,8 +28,7 @@ pub(crate) fn write(work: Work, input: &mut Input, count: u32) -> Result<u64, Er
         Work::Describe => again::<Describe>(input, count),
         Work::Close => again::<Close>(input, count),
         Work::Cancel => again::<Cancel>(input, count),
-        Work::Sync => again::<Sync>(input, count),
-        _ => again::<Copied>(input, count),
+        _ => again::<Sync>(input, count),
     }
 }
 
@@ -43,7 +42,6 @@ trait Writer {
 struct Texts<'a> {
     name: &'a str,
     short: &'a str,
-    long: &'a str,
 }
 
 #[inline(never)]
@@ -52,13 +50,11 @@ fn again<W: Writer>(input: &mut Input, count: u32) -> Result<u64, Error> {
         buf,
         name,
         short,
-        plain,
         ..
     } = input;
     let texts = Texts {
         name: name.as_str(),
         short: short.as_str(),
-        long: plain.as_str(),
     };
     let mut sum = 0u64;
     for n in 0..count {
@@ -160,14 +156,5 @@ struct Sync;
 impl Writer for Sync {
     fn write(_texts: &Texts<'_>, _n: u32, buf: &mut BytesMut) -> Result<(), Error> {
         sync(buf)
-    }
-}
-
-struct Copied;
-
-impl Writer for Copied {
-    fn write(texts: &Texts<'_>, _n: u32, buf: &mut BytesMut) -> Result<(), Error> {
-        let piece = CopyData::new(texts.long.as_bytes())?;
-        piece.write(buf).map_err(|_| Error::OutOfMemory)
     }
 }

@@ -2,7 +2,7 @@
 
 ghost use Rattle.std.specs.Prelude.{◌≡◌};
 
-/// 1: each function is proved. A build of these sources without their proofs has another body here, which answers 0.
+/// 1: each function is proved. A build of these sources without their proofs has another body here: 0.
 #[unsafe(no_mangle)]
 pub extern "C" fn pgp_is_proved() -> u32
     ensures { result ≡ 1 }

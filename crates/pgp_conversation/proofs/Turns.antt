@@ -2,6 +2,7 @@
 use Rattle.std.proofs.Common.{◌≡◌, ◌≢◌, ℕ, Bool, true, false, List, [], ◌∷◌, ◌++◌, ◌+◌, length, Option, Some, None, Result, Ok, Err, refl, sym, ap, subst, ◌∙◌, append_assoc}
 use Rattle.std.proofs.lemmas.List.{append-nil}
 use Rattle.pgp_client.proofs.Exact.{turns_are_sent}
+use Rattle.pgp_client.proofs.Timely.{sent_in_turns, true_in_turns}
 use Rattle.pgp_client.specs.Taking.{asked, taken, taken_as, observed, observed_at, moved, event_of, is_aside, ready}
 use Rattle.pgp_client.specs.Talk.{Talk}
 use Rattle.pgp_client.specs.Telling.{Turn, Asks, Hears, Follows, start}
@@ -187,4 +188,5 @@ turns_are_true view marking chunks lines talk numbers dialogue l n d some =
     let turns = turns_in view (begins marking) chunks lines talk l in
     let come : Come (Some numbers) turns = subst (λ x. Come x turns) n (chunks_come view marking chunks lines talk l) in
     let reached : Reached (Some dialogue) turns = subst (λ x. Reached x turns) d come in
-    turns_are_sent turns (goes_on start dialogue turns some reached)
+    let follows = goes_on start dialogue turns some reached in
+    record { answers = turns_are_sent turns follows; belong = sent_in_turns turns follows; alone = λ truth. true_in_turns turns truth follows }

@@ -1,6 +1,7 @@
 -- A listing whose requests are numbered, as a client's dialogue: what was asked, what was heard, and what the marks say of it, in turn.
-use Rattle.std.specs.Prelude.{◌+◌, ℕ, List, [], ◌∷◌, ◌++◌, length, Option, Some, None}
+use Rattle.std.specs.Prelude.{◌≡◌, ◌+◌, ℕ, List, [], ◌∷◌, ◌++◌, length, Option, Some, None}
 use Rattle.pgp_client.specs.Flow.{Belong}
+use Rattle.pgp_client.specs.InTurns.{BelongInTurns}
 use Rattle.pgp_client.specs.Telling.{Turn, Asks, Hears, asked_in, observed_in, reported_in}
 use Rattle.pgp_client.specs.declared.event.Event.{Event}
 use Rattle.pgp_client.specs.declared.kind.Kind.{Kind}
@@ -43,6 +44,8 @@ turns_in view from _ _ to (OneChunkListed {chunks = chunks} {lines = lines} {her
     turns_in view from chunks lines here before
     ++ turns_of view (mark view.style.form chunk.sender (since (first_time here.start chunk.micros) chunk.micros)) chunk.sender (half_in chunk.sender here).passed (now_at chunk.micros here.known) one.front text to.known one.each
 
--- A server may send what was heard to what was asked, and each message belongs where it is said to.
-abbrev pub AreTrue : List Turn → Type 0
-AreTrue turns = Belong (asked_in turns) (observed_in turns) (reported_in turns)
+-- A server may send what was heard to what was asked, in these turns, and each message belongs where it is said to, and nowhere else.
+pub record AreTrue (turns : List Turn) : Type 0 where
+  pub answers : Belong (asked_in turns) (observed_in turns) (reported_in turns)
+  pub belong : BelongInTurns turns (reported_in turns)
+  pub alone : (truth : List Event) → BelongInTurns turns truth → truth ≡ reported_in turns

@@ -46,7 +46,8 @@ pub fn each_side_is_listed()
 {}
 
 /// Where requests are numbered, and no message was found without a place, and no error ended the session: a server may send what was heard to the requests
-/// under their numbers, in the order in which all of it was listed, and each message belongs to the request whose number its mark tells.
+/// under their numbers, in the order in which all of it was listed, and each message belongs to the request whose number its mark tells, and to no other. So it
+/// is of the first chunks of a recording too, whatever comes after them: their listing and its turns stand at the front of the whole's.
 pub fn numbers_say_where_messages_belong()
     ensures { (view : View) (marking : Marking) (chunks : List Chunk) (lines : List ℕ) (talk : Talk) (numbers : Numbers) (dialogue : Dialogue) (listed : ListsChunks view (begins marking) chunks lines talk)
         → talk.known.numbers ≡ Some numbers → numbers.dialogue ≡ Some dialogue → dialogue.stage ≢ Over → AreTrue (turns_in view (begins marking) chunks lines talk listed) }

@@ -1,4 +1,3 @@
-pub mod Client
 pub mod ScramLogin
 pub mod Serving
 pub mod Proxy

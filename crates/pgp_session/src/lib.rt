@@ -2,7 +2,6 @@
 //! the cores of a server, of a proxy and of a pooler.
 #![tactic(auto)]
 
-pub mod client;
 mod connection;
 mod connection_error;
 mod connection_parts;

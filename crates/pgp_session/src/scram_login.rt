@@ -11,7 +11,6 @@ ghost use Rattle.pgp_message.specs.Views.{view};
 ghost use Rattle.pgp_stream.specs.ClientStream.{IsAdded, RefusesMessage};
 ghost use Rattle.pgp_session.specs.ScramLogin.{HearsFinal, HearsFirst, HearsOffer, Knows, Offers, Steps, is_due, mechanism, mechanism_of, observed, says, seen};
 
-use crate::client::{Client, Phase};
 use bytes::Bytes;
 use pgp_auth::authentication::sasl::{SCRAM_SHA_256, SCRAM_SHA_256_PLUS, ScramError, ScramSha256};
 use pgp_base::{Buffer, Error, FallibleIterator, Memory};
@@ -198,20 +197,6 @@ impl<A: Memory, B: Buffer + Drop> ScramLogin<A, B> {
                 self.phase = LoginPhase::Done;
                 Ok(LoginEvent::Admitted)
             }
-        }
-    }
-
-    /// The client's core after the log-in, which asks this query.
-    pub fn client<'a>(self, query: &'a str) -> Client<'a, B>
-        requires { self.phase ≡ LoginPhase.Done }
-        ensures phase { result.phase ≡ Phase.Starting }
-        ensures out { result.out ≡ self.out }
-        ensures query { result.query.now ≡ query.now }
-    {
-        Client {
-            phase: Phase::Starting,
-            out: self.out,
-            query,
         }
     }
 

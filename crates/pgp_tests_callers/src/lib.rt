@@ -7,7 +7,6 @@ mod checks;
 #[cfg(test)]
 mod client_rows;
 #[cfg(test)]
-mod clients;
 #[cfg(test)]
 mod failing;
 #[cfg(test)]

@@ -1,10 +1,8 @@
 //! A log-in by SCRAM-SHA-256, on bytes of the message formats of the PostgreSQL manual.
 
 use crate::checks::{holds, same, same_at};
-use crate::clients::ERROR;
 use bytes::BytesMut;
 use pgp_saslprep::SaslPrepRfc4013;
-use pgp_session::client::Event;
 use pgp_session::scram_login::{LoginEvent, LoginFault, LoginPhase, SaslStorage, ScramLogin};
 use pgp_test_alloc::counting::Counting;
 use pgp_uses::login::begin_prepared;
@@ -45,6 +43,8 @@ fn opened(rt: &HostRuntime) -> Result<ScramLogin<Global, BytesMut>, Fail> {
     let stream = ClientStream::<BytesMut>::new(rt.alloc());
     Ok(ScramLogin::open("alice", exchange(rt)?, stream)?)
 }
+
+const ERROR: &[u8] = b"E\x00\x00\x00\x05\x00";
 
 /// What a log-in reports a message, without the text that an error holds.
 #[derive(Debug, Clone, Copy, PartialEq, Eq)]

@@ -254,7 +254,7 @@ mod text {
 
 pub mod fmt {
     pub mod temporal {
-        use super::super::super::arrayvec::ArrayString;
+        use arrayvec::ArrayString;
         use super::super::civil::Time;
 
         pub struct DateTimePrinter;

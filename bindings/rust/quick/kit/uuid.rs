@@ -1,1 +1,0 @@
-pub use ::uuid::Uuid;
