@@ -145,6 +145,12 @@ class Faults:
         """Kept statements that the server dropped, or whose columns changed."""
         with contextlib.closing(self.connect(autocommit=True)) as c:
             c.execute('INSERT INTO f VALUES (1)')
+            c.execute('INSERT INTO f VALUES ($1, $2)', (7, 'x'))
+            c.execute('DELETE FROM f WHERE id = 7')
+            c.execute('ALTER TABLE f ALTER name TYPE int USING NULL')
+            self.fails('parameters of other types', client.ProgrammingError, lambda: c.execute('INSERT INTO f VALUES ($1, $2)', (7, 5)))
+            self.same('but once', c.execute('INSERT INTO f VALUES ($1, $2)', (7, 5)).rowcount, 1)
+            c.execute('DELETE FROM f WHERE id = 7')
             self.same('first', c.execute('SELECT * FROM f').fetchall(), [(1, None)])
             c.execute('DISCARD ALL')
             self.same('after DISCARD ALL', c.execute('SELECT * FROM f').fetchall(), [(1, None)])

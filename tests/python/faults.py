@@ -64,6 +64,7 @@ def check_copies(same):
     same('rows in binary', b''.join(copying.binary_rows([(5, None), (-1, 'x')], types)), wanted)
     for size in (1, 2, 7, 100):
         reader = copying.BinaryReader((DECODERS['int4'], DECODERS['text']))
+        same('a date past Python', type(_error(lambda: list(copying.BinaryReader((DECODERS['date'],)).take(wanted[:19] + b'\0\1\0\0\0\4\x7f\0\0\0')))), client.DataError)
         same('read in pieces of %d' % size, [row for at in range(0, len(wanted), size) for row in reader.take(wanted[at:at + size])], [(5, None), (-1, 'x')])
 
 
@@ -119,6 +120,25 @@ def _two(connection):
     second = _error(lambda: connection.execute(SELECT, (6,)))
     thread.join(10)
     return [second] + found
+
+
+def check_transports(same):
+    """A log-in that fails leaves no open channel, blocking or with asyncio: the server reads its end."""
+    for call in (lambda port: client.connect('127.0.0.1', port, 'alice', sslmode='disable'), lambda port: asyncio.run(aio.connect('127.0.0.1', port, 'alice', sslmode='disable'))):
+        listening, ended = socket.create_server(('127.0.0.1', 0)), []
+
+        def serve():
+            peer = listening.accept()[0]
+            peer.settimeout(5)
+            peer.recv(1000)
+            peer.sendall(error_of(b'28P01', b'wrong', b'FATAL'))
+            ended.append(peer.recv(1000))
+        thread = threading.Thread(target=serve, daemon=True)
+        thread.start()
+        error = _error(lambda: call(listening.getsockname()[1]))
+        thread.join(10)
+        listening.close()
+        same('a failed log-in', (getattr(error, 'sqlstate', error), ended), ('28P01', [b'']))
 
 
 def check_log_in(same):
@@ -224,5 +244,5 @@ def _error(call):
 
 def check_faults(same):
     """All of them."""
-    for check in (check_copies, check_calls, check_limits, check_log_in, check_settings, check_tries):
+    for check in (check_copies, check_calls, check_limits, check_transports, check_log_in, check_settings, check_tries):
         check(same)
