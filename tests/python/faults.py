@@ -1,6 +1,7 @@
 """What a client may never do, with a server that plays bytes: lose the BEGIN of a copy, wait for ever, or take another's exception for its own. And the
 settings of a connection, as libpq reads them."""
 import asyncio
+import datetime
 import os
 import pathlib
 import socket
@@ -235,6 +236,33 @@ def check_tries(same):
     same('a folder', tried('require', '/x', [hba]), [('/x', False), hba])
 
 
+def check_interface(same):
+    """What PEP 249 asks of the module, its exceptions, a connection and a cursor."""
+    same('the module', (client.apilevel, client.threadsafety, callable(client.connect), isinstance(client.paramstyle, str)), ('2.0', 1, True, True))
+    above = {'Warning': 'Exception', 'Error': 'Exception', 'InterfaceError': 'Error', 'DatabaseError': 'Error', 'DataError': 'DatabaseError', 'OperationalError': 'DatabaseError',
+             'IntegrityError': 'DatabaseError', 'InternalError': 'DatabaseError', 'ProgrammingError': 'DatabaseError', 'NotSupportedError': 'DatabaseError'}
+    same('exceptions', {name: getattr(client, name).__base__.__name__ for name in above}, above)
+    same('exceptions of a connection', [getattr(client.Connection, name) for name in above], [getattr(client, name) for name in above])
+    day = datetime.date(2002, 12, 25)
+    same('constructors', (client.Date(2002, 12, 25), client.Time(13, 45, 30), client.Timestamp(2002, 12, 25, 13, 45, 30), client.Binary(b'x')),
+         (day, datetime.time(13, 45, 30), datetime.datetime(2002, 12, 25, 13, 45, 30), b'x'))
+    noon = datetime.datetime(2002, 12, 25, 12).timestamp()
+    same('of seconds', (client.DateFromTicks(noon), client.TimeFromTicks(noon), client.TimestampFromTicks(noon)), (day, datetime.time(12), datetime.datetime(2002, 12, 25, 12)))
+    same('types', (client.NUMBER == 23, client.STRING == 25, client.BINARY == 17, client.DATETIME == 1114, client.ROWID == 26, client.NUMBER == 25), (True, True, True, True, True, False))
+
+    def use(c):
+        cursor = c.cursor()
+        before = (cursor.arraysize, cursor.rowcount, cursor.description, cursor.setinputsizes([1]), cursor.setoutputsize(1))
+        cursor.execute(SELECT, (5,))
+        found = (cursor.rowcount, len(cursor.description), [len(column) for column in cursor.description], cursor.fetchmany(), cursor.fetchmany(5), cursor.fetchmany(), cursor.fetchall(), cursor.fetchone())
+        cursor.close()
+        return before, found, type(_error(cursor.fetchone)), type(_error(lambda: cursor.execute(SELECT, (5,))))
+    three = frame(b'2', b'') + ROW * 3 + frame(b'C', b'SELECT 3\0') + READY
+    row = (7, 'hello')
+    same('a cursor', play([PREPARED, three, b''], use, autocommit=True)[0],
+         ((1, -1, None, None, None), (3, 2, [7, 7], [row], [row, row], [], [], None), client.InterfaceError, client.InterfaceError))
+
+
 def _error(call):
     try:
         return call()
@@ -244,5 +272,5 @@ def _error(call):
 
 def check_faults(same):
     """All of them."""
-    for check in (check_copies, check_calls, check_limits, check_transports, check_log_in, check_settings, check_tries):
+    for check in (check_copies, check_calls, check_limits, check_transports, check_log_in, check_settings, check_tries, check_interface):
         check(same)
