@@ -91,7 +91,7 @@ class Connection(Shared):
         self._core.receive_data(data)
 
     async def _drive(self, flow: Flow, chunks: Chunks = ()) -> Any:
-        source = _each(chunks)
+        source: Any = None
         try:
             wanted = next(flow)
             while True:
@@ -106,6 +106,7 @@ class Connection(Shared):
                     wanted = next(flow)
                 else:
                     self._is_outside = True
+                    source = _each(chunks) if source is None else source
                     chunk = as_chunk(await _next(source))
                     self._is_outside = False
                     wanted = flow.send(chunk)
@@ -120,7 +121,8 @@ class Connection(Shared):
             self._check_open()
             self._is_outside = False
             try:
-                return await asyncio.wait_for(self._drive(flow, chunks), limit)
+                call = self._drive(flow, chunks)
+                return await (call if limit is None else asyncio.wait_for(call, limit))
             except BaseException as error:
                 raise await self._broken_off(flow, error, limit) from error.__cause__
 
