@@ -65,7 +65,7 @@ class Faults:
 
     def run(self):
         for name in ('copies_roll_back', 'begin_leaks', 'copies_by_other_calls', 'silent_servers', 'limits', 'stale_statements', 'unprepared', 'gone_servers',
-                     'copies_that_raise', 'two_threads', 'floats', 'failed_commits', 'broken_off', 'asyncio_faults', 'interrupted', 'asyncio_cancelled'):
+                     'copies_that_raise', 'copies_that_fail', 'two_threads', 'floats', 'failed_commits', 'broken_off', 'asyncio_faults', 'interrupted', 'asyncio_cancelled'):
             self.anew()
             self.check(name, getattr(self, name), 40)
 
@@ -212,6 +212,29 @@ class Faults:
             self.fails('its own exception', KeyError, lambda: c.cursor().copy_in('COPY f FROM STDIN', chunks()))
             self.same('it goes on', c.execute('SELECT count(*) FROM f').fetchone(), (0,))
 
+    def copies_that_fail(self):
+        """Data that the server rejects, before the rest of them is sent, or is given up."""
+        def chunks(ends):
+            yield b'x\ty\n' * 10000
+            time.sleep(0.3)
+            yield b'1\ta\n' * 10000
+            if not ends:
+                raise KeyError('mine')
+        for ends, error in ((True, client.DataError), (False, KeyError)):
+            with contextlib.closing(self.connect()) as c:
+                self.fails('data that are rejected', error, lambda: c.cursor().copy_in('COPY f FROM STDIN', chunks(ends)))
+                self.check('it is over', c.rollback)
+                self.check('it goes on', lambda: self.same('it goes on', c.execute('SELECT 1').fetchone(), (1,)))
+
+            async def run():
+                async with await aio.connect(**self.where) as c:
+                    try:
+                        self.same('asyncio, data that are rejected', await asyncio.wait_for(c.copy_in('COPY f FROM STDIN', chunks(ends)), 5), error)
+                    except Exception as raised:
+                        self.same('asyncio, data that are rejected', type(raised), error)
+                    self.same('asyncio, it goes on', (await asyncio.wait_for(c.execute('SELECT 1'), 5)).rows, [(1,)])
+            self.check('asyncio', lambda: asyncio.run(run()))
+
     def two_threads(self):
         """A second thread on a connection gets an error."""
         c, found = self.connect(autocommit=True), []
@@ -265,6 +288,13 @@ class Faults:
             except asyncio.TimeoutError:
                 self.same('asyncio, it goes on', (await c.execute('SELECT 1')).rows, [(1,)])
             self.same('asyncio, at the server too', (await c.execute("SELECT count(*) FROM pg_stat_activity WHERE state = 'active' AND query LIKE '%pg_sleep(20)%' AND pid <> pg_backend_pid()")).rows, [(0,)])
+            async def slow():
+                yield b'1\n'
+                await asyncio.sleep(5)
+            try:
+                self.same('asyncio, slow chunks', await c.copy_in('COPY f (id) FROM STDIN', slow(), timeout=0.3), 'a limit')
+            except client.Timeout:
+                self.same('asyncio, no row', (await c.execute('SELECT count(*) FROM f')).rows, [(0,)])
             c.timeout = 0.3
             try:
                 self.same('asyncio, a limit of a copy', await c.copy_out('COPY (SELECT pg_sleep(20)) TO STDOUT'), 'a limit')

@@ -116,15 +116,16 @@ class Connection(Shared):
     async def _run(self, flow: Flow, timeout: Optional[float] = None, chunks: Chunks = ()) -> Any:
         """Runs a call, which is cancelled at the server where it is cancelled here or takes longer than its limit."""
         self._check_open()
-        limit = self.timeout if timeout is None else timeout
+        limit, loop = self.timeout if timeout is None else timeout, asyncio.get_running_loop()
         async with self._lock:
             self._check_open()
-            self._is_outside = False
+            self._is_outside, begin = False, loop.time()
             try:
                 call = self._drive(flow, chunks)
                 return await (call if limit is None else asyncio.wait_for(call, limit))
             except BaseException as error:
-                raise await self._broken_off(flow, error, limit) from error.__cause__
+                is_late = isinstance(error, asyncio.TimeoutError) and limit is not None and loop.time() - begin >= limit
+                raise await self._broken_off(flow, error, is_late, limit) from error.__cause__
 
     async def _iterate(self, flow: Flow) -> AsyncIterator[bytes]:
         """The same of a call that gives data as they come; the limit is that of each piece."""
@@ -143,11 +144,11 @@ class Connection(Shared):
             except StopIteration:
                 pass
             except BaseException as error:
-                raise await self._broken_off(flow, error, self.timeout) from error.__cause__
+                is_late = isinstance(error, asyncio.TimeoutError) and not self._is_outside
+                raise await self._broken_off(flow, error, is_late, self.timeout) from error.__cause__
 
-    async def _broken_off(self, flow: Flow, error: BaseException, limit: Optional[float]) -> BaseException:
+    async def _broken_off(self, flow: Flow, error: BaseException, is_late: bool, limit: Optional[float]) -> BaseException:
         """Clears up behind an error, and returns what is raised for it."""
-        is_late = isinstance(error, asyncio.TimeoutError) and not self._is_outside
         await self._clear_up(flow, error, is_late or isinstance(error, GeneratorExit) or (isinstance(error, asyncio.CancelledError) and not self._is_outside))
         return Timeout('no answer within %s s' % limit) if is_late else self._last_words(error)
 
@@ -162,7 +163,8 @@ class Connection(Shared):
             try:
                 if cancels:
                     await self.cancel()
-                await asyncio.wait_for(self._drive(self._session.settle()), GRACE if cancels else self.timeout)
+                limit = GRACE if cancels or isinstance(error, asyncio.CancelledError) else self.timeout
+                await asyncio.wait_for(self._drive(self._session.settle()), limit)
             except BaseException as other:
                 self._end()
                 if not isinstance(other, (Error, ProtocolError, asyncio.TimeoutError)):

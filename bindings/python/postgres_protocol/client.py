@@ -55,7 +55,7 @@ class Connection(Shared):
             self._drive(self._session.log_in())
         except BaseException as error:
             self._end()
-            raise translated(error) from error
+            raise translated(error) from error.__cause__
 
     def __enter__(self) -> 'Connection':
         return self

@@ -87,7 +87,7 @@ class Session:
         self._is_copying = False
         self.connection.copy_fail(why)
 
-    def _until_ready(self, last: int, copies: bool = False) -> Found:
+    def _until_ready(self, last: int) -> Found:
         """The events up to the Ready of a request; a server's error is raised then. A copy that isn't expected ends there."""
         found: List[events.Event] = []
         failed: Optional[Exception] = None
@@ -101,7 +101,7 @@ class Session:
                 if failed is not None:
                     raise failed
                 return found
-            elif isinstance(event, events.CopyStarted) and not copies:
+            elif isinstance(event, events.CopyStarted):
                 failed = errors.ProgrammingError(_OTHER_CALL)
                 if event.kind == 'CopyInResponse':
                     self._give_up(_OTHER_CALL)
@@ -239,15 +239,15 @@ class Session:
         self.connection.close('P', portal)
         yield from self._until_ready(self.connection.sync())
 
-    def _query(self, sql: str, copies: bool = False) -> Found:
-        """The events of a simple query, in a transaction where one is due."""
+    def _begin_query(self) -> Flow:
+        """Opens a transaction before a simple query, where one is due."""
         if self._begins:
             yield from self._until_ready(self.connection.query('BEGIN'))
-        return (yield from self._until_ready(self.connection.query(sql), copies))
 
     def script(self, sql: str) -> Flow:
         """Runs any number of statements as one simple query; their values are texts."""
-        return _results((yield from self._query(sql)))
+        yield from self._begin_query()
+        return _results((yield from self._until_ready(self.connection.query(sql))))
 
     def plain(self, sql: str) -> Flow:
         """A statement that opens no transaction but its own."""
@@ -264,8 +264,7 @@ class Session:
         """Begins a copy in this direction; the number of its request."""
         if first_word(sql) != 'COPY':
             raise errors.ProgrammingError('the statement is no COPY')
-        if self._begins:
-            yield from self._until_ready(self.connection.query('BEGIN'))
+        yield from self._begin_query()
         number = self.connection.query(sql)
         event = yield None
         if isinstance(event, events.Failed):
