@@ -274,45 +274,38 @@ class Faults:
                 self.check(what + ' is over', lambda: self.same('its own answer', c.execute('SELECT 3').fetchall(), [(3,)]))
             self.same('no row', self.rows(), [])
 
+    async def late(self, what, c, error, call):
+        """The call raises this error in time, and the connection goes on."""
+        try:
+            self.same('asyncio, ' + what, await asyncio.wait_for(call, 5), error)
+        except Exception as raised:
+            self.same('asyncio, %s (%r)' % (what, raised), isinstance(raised, error), True)
+        self.same('asyncio, %s: it goes on' % what, (await asyncio.wait_for(c.execute('SELECT count(*) FROM f'), 5)).rows, [(0,)])
+
     def asyncio_faults(self):
         """The same of asyncio."""
+        async def slow():
+            yield b'1\n'
+            await asyncio.sleep(5)
+
         async def run():
             c = await aio.connect(**self.where)
-            for call in (lambda: c.execute('COPY f FROM STDIN'), lambda: c.script('COPY f FROM STDIN'), lambda: c.copy_out('SELECT 1')):
-                try:
-                    self.same('asyncio, a copy', await asyncio.wait_for(call(), 5), 'an error')
-                except (client.Error, asyncio.TimeoutError) as error:
-                    self.same('asyncio, a copy', type(error), client.ProgrammingError)
-            try:
-                self.same('asyncio, cancelled', await asyncio.wait_for(c.execute('SELECT pg_sleep(20)'), 0.3), 'a limit')
-            except asyncio.TimeoutError:
-                self.same('asyncio, it goes on', (await c.execute('SELECT 1')).rows, [(1,)])
-            self.same('asyncio, at the server too', (await c.execute("SELECT count(*) FROM pg_stat_activity WHERE state = 'active' AND query LIKE '%pg_sleep(20)%' AND pid <> pg_backend_pid()")).rows, [(0,)])
-            async def slow():
-                yield b'1\n'
-                await asyncio.sleep(5)
-            try:
-                self.same('asyncio, slow chunks', await c.copy_in('COPY f (id) FROM STDIN', slow(), timeout=0.3), 'a limit')
-            except client.Timeout:
-                self.same('asyncio, no row', (await c.execute('SELECT count(*) FROM f')).rows, [(0,)])
+            for call in (c.execute('COPY f FROM STDIN'), c.script('COPY f FROM STDIN'), c.copy_out('SELECT 1')):
+                await self.late('a copy', c, client.ProgrammingError, call)
+            await self.late('cancelled', c, asyncio.TimeoutError, asyncio.wait_for(c.execute('SELECT pg_sleep(20)'), 0.3))
+            await self.late('a limit', c, client.Timeout, c.execute('SELECT pg_sleep(20)', timeout=0.3))
+            await self.late('slow chunks', c, client.Timeout, c.copy_in('COPY f (id) FROM STDIN', slow(), timeout=0.3))
             c.timeout = 0.3
-            try:
-                self.same('asyncio, a limit of a copy', await c.copy_out('COPY (SELECT pg_sleep(20)) TO STDOUT'), 'a limit')
-            except client.Timeout:
-                self.same('asyncio, it goes on', (await c.execute('SELECT 1')).rows, [(1,)])
+            await self.late('a limit of a copy', c, client.Timeout, c.copy_out('COPY (SELECT pg_sleep(20)) TO STDOUT'))
             c.timeout = None
-            try:
-                self.same('asyncio, a limit', await c.execute('SELECT pg_sleep(20)', timeout=0.3), 'a limit')
-            except client.Timeout:
-                self.same('asyncio, and goes on', (await c.execute('SELECT 1')).rows, [(1,)])
             pid = (await c.execute('SELECT pg_backend_pid()')).rows[0][0]
             with contextlib.closing(self.connect(autocommit=True)) as other:
                 other.execute('SELECT pg_terminate_backend($1)', (pid,))
                 await asyncio.sleep(0.2)
             try:
                 self.same('asyncio, gone', await c.execute('SELECT 1'), 'an error')
-            except client.OperationalError:
-                self.same('asyncio, closed', c.closed, True)
+            except client.OperationalError as error:
+                self.same('asyncio, closed', (error.sqlstate, c.closed), ('57P01', True))
         asyncio.run(run())
 
     def calls(self, c, n):
