@@ -82,11 +82,7 @@ live:
 	cd crates/pgp_rows && rt run >/dev/null 2>&1 || [ -x out/pgp_rows ]
 	cd crates/pgserve && rt run -- --version >/dev/null 2>&1 || [ -x out/pgserve ]
 	cd crates/pgtrace && rt run -- --version >/dev/null 2>&1 || [ -x out/pgtrace ]
-	@for name in saslprep types rows numerics calendar value_text sessions serve trace relay pcap tshark; do scripts/live_$$name || exit 1; done
 	@[ -e out/c/libpostgres_protocol.so ] || scripts/library build
 	@scripts/wheel
 	@rm -rf out/venv && python3 -m venv --system-site-packages out/venv && out/venv/bin/pip install -q --no-index out/wheel/*.whl
-	@out/venv/bin/python scripts/live_values
-	@scripts/live_programs
-	@scripts/live_rust
-	@for name in recordings python dialogue; do out/venv/bin/python scripts/live_$$name || exit 1; done
+	@scripts/live $(NAMES)

@@ -292,8 +292,10 @@ def certificates(same, where, root, other):
         async def run():
             async with await aio.connect(**kept) as c:
                 return (await c.execute('SELECT ssl FROM pg_stat_ssl WHERE pid = pg_backend_pid()')).rows == [(True,)]
-        for what, call in (('blocking', lambda: client.connect(**kept).execute('SELECT ssl FROM pg_stat_ssl WHERE pid = pg_backend_pid()').fetchone() == (True,)),
-                           ('asyncio', lambda: asyncio.run(run()))):
+        def blocking():
+            with contextlib.closing(client.connect(**kept)) as c:
+                return c.execute('SELECT ssl FROM pg_stat_ssl WHERE pid = pg_backend_pid()').fetchone() == (True,)
+        for what, call in (('blocking', blocking), ('asyncio', lambda: asyncio.run(run()))):
             try:
                 came = call()
             except client.InterfaceError:

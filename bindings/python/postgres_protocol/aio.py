@@ -51,7 +51,7 @@ class Connection(Shared):
         answer = await self._event()
         if isinstance(answer, events.Encryption) and answer.accepted:
             try:
-                await self._writer.start_tls(self._options.context(), server_hostname=self._place.host or self._place.address)
+                await self._start_tls(self._place.host or self._place.address)
             except OSError as error:
                 raise OperationalError('no encryption: %s' % error) from error
             if getattr(self._reader, '_buffer', b''):
@@ -62,6 +62,16 @@ class Connection(Shared):
             raise OperationalError('the server does not encrypt')
         else:
             self._core.not_encrypted()
+
+    async def _start_tls(self, host: str) -> None:
+        start_tls = getattr(self._writer, 'start_tls', None)
+        if start_tls is not None:
+            await start_tls(self._options.context(), server_hostname=host)
+            return
+        # (before Python 3.11)
+        loop, protocol = asyncio.get_running_loop(), self._writer.transport.get_protocol()
+        transport = await loop.start_tls(self._writer.transport, protocol, self._options.context(), server_hostname=host)
+        self._writer = asyncio.StreamWriter(transport, protocol, self._reader, loop)
 
     async def _event(self) -> events.Event:
         while True:
@@ -273,6 +283,14 @@ class Connection(Shared):
             self._core.terminate()
             self._writer.write(self._core.data_to_send())
             self._end()
+            await _closed(self._writer)
+
+
+async def _closed(writer: asyncio.StreamWriter) -> None:
+    """Waits until the transport is closed, but not for ever."""
+    writer.close()
+    with contextlib.suppress(OSError, asyncio.TimeoutError):
+        await asyncio.wait_for(writer.wait_closed(), 1)
 
 
 def _each(chunks: Chunks) -> Any:
@@ -303,7 +321,7 @@ async def _opened(options: Options, place: Place, encrypts: bool, behaviour: Beh
         await connection._open(encrypts)
         return connection
     except BaseException as error:
-        writer.close()
+        await _closed(writer)
         raise translated(error) from error.__cause__
 
 
@@ -311,7 +329,7 @@ async def connect(host: Optional[str] = None, port: Union[int, str, None] = None
                   autocommit: bool = True, ssl: Optional[tls.SSLContext] = None, sslmode: Optional[str] = None, require_auth: Union[str, Sequence[str], None] = None,
                   connect_timeout: Optional[float] = None, timeout: Optional[float] = None, prepare: int = 256, row_factory: Optional[RowFactory] = None,
                   registry: Optional[Registry] = None, **parameters: str) -> Connection:
-    """Opens a connection, as `postgres_protocol.client.connect` does (encryption needs Python 3.11)."""
+    """Opens a connection, as `postgres_protocol.client.connect` does; `autocommit` is True here by default."""
     given = {'host': host, 'port': port, 'user': user, 'password': password, 'dbname': dbname, 'sslmode': sslmode, 'require_auth': require_auth,
              'connect_timeout': connect_timeout, **parameters}
     options, behaviour = Options(given, ssl), Behaviour(autocommit, timeout, prepare, row_factory, registry)

@@ -64,7 +64,8 @@ fn statements_are_summed_up(rt: HostRuntime) {
         (&["session", "--summary"], FAILURES, 0, FAILED, ""),
         (&["server", "--summary"], STATEMENTS, 2, "", USAGE),
     ];
-    for (words, mut input, status, written, reported) in runs {
+    for (words, recording, status, written, reported) in runs {
+        let mut input = recording;
         let wanted = Outcome {
             status,
             written,

@@ -26,6 +26,8 @@ mod frontend;
 #[cfg(test)]
 mod growth;
 #[cfg(test)]
+mod large_message;
+#[cfg(test)]
 mod message;
 #[cfg(test)]
 mod pieces;
