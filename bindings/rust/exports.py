@@ -20,10 +20,11 @@ LEFT = {('pgp_client_front', 'message'): ('{ password_kind_at expected ≡ None 
 
 
 def sources():
-    """The texts of these crates' modules, by their paths."""
+    """The texts of these crates' modules, with their files."""
     for crate in CRATES:
         for file in generate.sources(crate):
-            yield f'{crate}::{file[:-3].replace("/", "::")}', open(os.path.join(generate.top, 'crates', crate, 'src', file)).read()
+            path = os.path.join('crates', crate, 'src', file)
+            yield path, open(os.path.join(generate.top, path)).read()
 
 
 @functools.lru_cache(None)
@@ -104,12 +105,20 @@ def shim(name, path, wanted, answer, contract):
 
 def shims():
     """The shim's text, and how many functions it has."""
-    structs, found = {'Slot': 'pgp_client::Slot'}, []
-    for path, text in sources():
+    structs, functions, count = {'Slot': 'pgp_client::Slot'}, '', 0
+    used = set()
+    for file, text in sources():
+        path = file[len('crates/'):-3].replace('/src/', '/').replace('/', '::')
         structs.update((name, f'{path}::{name}') for name in re.findall(r'^pub struct (\w+)', text, re.M))
-        found += [(m[1], path, parameters(m[2]), m[3], m[4]) for m in EXPORT.finditer(text)]
-        if text.count('#[unsafe(no_mangle)]') != len(EXPORT.findall(text)):
-            raise Unknown(f'{path}: a function for C of another form')
-    words = {word for _, _, wanted, _, _ in found for _, kind in wanted for word in re.findall(r'\b[A-Z]\w+', kind)} - {'Global'}
-    uses = ''.join(f'use erased::proved::{structs[word]};\n' for word in sorted(words))
-    return HEAD + uses + ''.join(shim(*one) for one in found), len(found)
+        found = list(EXPORT.finditer(text))
+        if text.count('#[unsafe(no_mangle)]') != len(found):
+            raise Unknown(f'{file}: a function for C of another form')
+        for m in found:
+            try:
+                functions += shim(m[1], path, parameters(m[2]), m[3], m[4])
+            except Unknown as e:
+                raise Unknown(f'{file}{generate.place(text, "fn " + m[1] + "(")}: {e}')
+            used |= set(re.findall(r'\b[A-Z]\w+', m[2]))
+        count += len(found)
+    uses = ''.join(f'use erased::proved::{structs[word]};\n' for word in sorted(used - {'Global'}))
+    return HEAD + uses + functions, count

@@ -15,7 +15,7 @@ CASES = [
     ('pgp_message/src/parser.rt', 'let Some(front) =', 'let Some(Front { tag, total }) =', 'crates/pgp_message/src/parser.rt'),
     ('pgp_types/src/range.rt', '\nuse ', '\nghost lemma {\nuse ', 'crates/pgp_types/src/range.rt:'),
     ('pgp_c/src/inet.rt', 'bytes.len()', 'bytes.len() + 0', ''),
-    ('pgp_c/src/system.rt', 'left { result ≢ 0 →', 'left { result ≡ 35 →', 'pgp_get_tid: value is changed'),
+    ('pgp_c/src/system.rt', 'left { result ≢ 0 →', 'left { result ≡ 35 →', 'crates/pgp_c/src/system.rt:'),
     ('pgp_c/src/dialogue.rt', 'dialogue.room = room;', 'dialogue.room = { room };', 'crates/pgp_c/src/dialogue.rt'),
     ('pgp_c/src/numeric.rt', 'pub extern "C" fn pgp_get_numeric(', 'pub unsafe extern "C" fn pgp_get_numeric(', 'crates/pgp_c/src/numeric.rt:'),
     ('pgp_hostile/src/walks.rt', '!is_modest(', '!is_meek(', 'crates/pgp_hostile/src/walks.rt'),

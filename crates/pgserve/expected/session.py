@@ -153,7 +153,7 @@ STEPS = [
     (query(b" ;"), frame(b"I") + IDLE),
     (query(b"SELECT 2"), not_scripted(b"SELECT 2") + IDLE),
     # several statements in one query, up to the first error
-    (query(b"BEGIN; ; SELECT broken -- ;\n; ROLLBACK"), tag(b"BEGIN") + not_scripted(b"SELECT broken -- ;") + FAILED),
+    (query(b"BEGIN; ; SELECT broken -- ;\n; ROLLBACK"), tag(b"BEGIN") + BROKEN + FAILED),
     (query(b"ROLLBACK; SHOW datestyle"), tag(b"ROLLBACK") + frame(b"T", int16(1) + column(b"DateStyle", 25, -1, 0)) + row(b"ISO, MDY") + tag(b"SHOW") + IDLE),
     # transactions without a script
     (query(b"\n BEGIN "), tag(b"BEGIN") + INSIDE),
@@ -171,6 +171,18 @@ STEPS = [
     (query(b"START TRANSACTION ISOLATION LEVEL SERIALIZABLE"), tag(b"START TRANSACTION") + INSIDE),
     (query(b"END AND CHAIN"), tag(b"COMMIT") + INSIDE),
     (query(b"ABORT"), tag(b"ROLLBACK") + IDLE),
+    # comments are blanks, and a query of nothing else is empty
+    (query(b"/* ping */ -- ;"), frame(b"I") + IDLE),
+    (query(b"/* app */ BEGIN; -- x"), tag(b"BEGIN") + INSIDE),
+    # names in quotes are as they stand, and words that have no place are a fault
+    (query(b'SAVEPOINT "A b"'), tag(b"SAVEPOINT") + INSIDE),
+    (query(b'ROLLBACK TO "A b"'), tag(b"ROLLBACK") + INSIDE),
+    (query(b"DISCARD ALL"), error(b"25001", b"this command can't be run in a transaction block: DISCARD ALL") + FAILED),
+    (query(b"ROLLBACK TRANSACTION AND NO CHAIN"), tag(b"ROLLBACK") + IDLE),
+    (query(b"ROLLBACK x"), not_scripted(b"ROLLBACK x") + IDLE),
+    (query(b"SET a"), not_scripted(b"SET a") + IDLE),
+    (query(b'DEALLOCATE "all"'), no_statement(b"all") + IDLE),
+    (query(b"DEALLOCATE 'a'"), not_scripted(b"DEALLOCATE 'a'") + IDLE),
     # a script's own word on the status
     (query(b"LOCK city"), tag(b"LOCK TABLE") + INSIDE),
     (query(b"UNLOCK city"), tag(b"UNLOCK TABLE") + IDLE),

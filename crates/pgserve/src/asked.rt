@@ -40,6 +40,8 @@ pub(crate) enum Refusal<'a> {
     BadFormat,
     /// `25P02`: the transaction failed.
     Aborted,
+    /// `25001`: this command stands in a transaction.
+    InTransaction(&'a [u8]),
     /// `25P01`: this command stands in no transaction.
     NoTransaction(&'a [u8]),
     /// `3B001`: there is no savepoint of this name.
@@ -66,6 +68,7 @@ impl<'a> Refusal<'a> {
             Refusal::NoType => b"42P18",
             Refusal::BadFormat => b"22023",
             Refusal::Aborted => b"25P02",
+            Refusal::InTransaction(_) => b"25001",
             Refusal::NoTransaction(_) => b"25P01",
             Refusal::NoSavepoint(_) => b"3B001",
             Refusal::NoSetting(_) => b"42704",
@@ -84,6 +87,7 @@ impl<'a> Refusal<'a> {
             | Refusal::NoPortal(name)
             | Refusal::PortalThere(name)
             | Refusal::WasRun(name)
+            | Refusal::InTransaction(name)
             | Refusal::NoTransaction(name)
             | Refusal::NoSavepoint(name)
             | Refusal::NoSetting(name)
@@ -114,6 +118,7 @@ impl<'a> Refusal<'a> {
             Refusal::Aborted => {
                 b"current transaction is aborted, commands ignored until end of transaction block"
             }
+            Refusal::InTransaction(_) => b"this command can't be run in a transaction block",
             Refusal::NoTransaction(_) => b"this command has its place in a transaction block",
             Refusal::NoSavepoint(_) => b"there is no savepoint of this name",
             Refusal::NoSetting(_) => b"there is no setting of this name",

@@ -10,13 +10,14 @@ use crate::text::trimmed;
 use crate::transaction::Taken;
 use crate::types::PLAIN_TEXT;
 use pgp_message_write as reply;
+use pgp_monitor::Status;
 
 /// The tag of a command that is none of transactions.
 fn tag_of(command: Command<'_>) -> &'static [u8] {
     match command {
         Command::Set => b"SET",
         Command::Reset(_) => b"RESET",
-        Command::Deallocate("all") => b"DEALLOCATE ALL",
+        Command::DeallocateAll => b"DEALLOCATE ALL",
         Command::Deallocate(_) => b"DEALLOCATE",
         Command::DiscardAll => b"DISCARD ALL",
         _ => b"",
@@ -36,22 +37,15 @@ impl<'h> Session<'h> {
         }
     }
 
-    /// Forgets a prepared statement, or all.
-    fn deallocate(&mut self, name: &str) {
-        match name {
-            "all" => self.prepared.clear(),
-            _ => self.prepared.remove(name.trim_matches('"').as_bytes()),
-        }
-    }
-
     /// Carries out a command that is none of transactions.
     fn arrange(&mut self, command: Command<'_>, statement: &[u8], out: &mut Outbox) {
         match command {
             Command::Set => self.set(statement, out),
             Command::Reset(name) => self.settings.reset(name.as_bytes(), out),
-            Command::Deallocate(name) => self.deallocate(name),
+            Command::Deallocate(name) => self.prepared.remove(name.as_bytes()),
+            Command::DeallocateAll => self.prepared.keep_unnamed(),
             Command::DiscardAll => {
-                self.prepared.clear();
+                self.prepared.keep_unnamed();
                 self.settings.reset(b"all", out);
             }
             _ => {}
@@ -104,10 +98,27 @@ impl<'h> Session<'h> {
         Went::Well
     }
 
+    /// Why a command that is none of transactions can't be carried out, if it can't.
+    fn rejects_command<'c>(&self, command: Command<'c>) -> Option<Refusal<'c>> {
+        match command {
+            Command::Deallocate(name) if self.prepared.find(name.as_bytes()).is_none() => {
+                Some(Refusal::NoStatement(name.as_bytes()))
+            }
+            Command::DiscardAll if self.transaction.status != Status::Idle => {
+                Some(Refusal::InTransaction(b"DISCARD ALL"))
+            }
+            _ => None,
+        }
+    }
+
     /// Carries out this command, and appends its answer.
     fn carry_out(&mut self, command: Command<'_>, statement: &[u8], out: &mut Outbox) -> Went {
         if let Command::Show(name) = command {
             return self.show(name, out);
+        }
+        if let Some(refusal) = self.rejects_command(command) {
+            refuse(refusal, out);
+            return Went::Wrong;
         }
         let taken = self.transaction.take(command, out);
         let went = self.put_taken(taken, command, statement, out);

@@ -3,7 +3,10 @@
 //! PostgreSQL manual, "BEGIN", "COMMIT", "ROLLBACK", "SAVEPOINT", "RELEASE SAVEPOINT", "ROLLBACK TO SAVEPOINT", "SET", "RESET", "SHOW",
 //! "DEALLOCATE", "DISCARD".
 
-/// A command, whose names are in small letters.
+/// What stands between two words.
+pub(crate) const SEPARATOR: char = '\0';
+
+/// A command, whose names are in small letters, or as they stand in quotes.
 #[derive(Clone, Copy)]
 pub(crate) enum Command<'w> {
     /// `BEGIN` or `START TRANSACTION`, by its tag.
@@ -16,10 +19,12 @@ pub(crate) enum Command<'w> {
     SetTransaction,
     /// `SET`, whose value stands in the text.
     Set,
+    /// `RESET`; of all by the name `all`, which no setting has.
     Reset(&'w str),
     Show(&'w str),
-    /// `DEALLOCATE` of a statement, or of all.
+    /// `DEALLOCATE` of a statement.
     Deallocate(&'w str),
+    DeallocateAll,
     DiscardAll,
 }
 
@@ -67,102 +72,153 @@ static VERBS: [(&str, Verb); 13] = [
 
 /// The first of these words, and those after it.
 fn split(words: &str) -> (&str, &str) {
-    words.split_once(' ').unwrap_or((words, ""))
+    words.split_once(SEPARATOR).unwrap_or((words, ""))
 }
 
-/// Whether a command of these words has the next transaction begin at once.
-fn chains(words: &str) -> bool {
-    words.ends_with(" and chain")
+/// The words after this one, if it is the first.
+fn after<'w>(words: &'w str, word: &str) -> Option<&'w str> {
+    let (first, rest) = split(words);
+    if first == word { Some(rest) } else { None }
+}
+
+/// The words of a transaction's command without the `WORK` or `TRANSACTION` that says nothing.
+fn after_work(words: &str) -> &str {
+    after(words, "work")
+        .or(after(words, "transaction"))
+        .unwrap_or(words)
+}
+
+/// Whether the next transaction begins at once, by the words after `COMMIT` or `ROLLBACK`; `None` where others stand there.
+fn chains(words: &str) -> Option<bool> {
+    match after_work(words) {
+        "" | "and\0no\0chain" => Some(false),
+        "and\0chain" => Some(true),
+        _ => None,
+    }
+}
+
+/// The words of a transaction's modes.
+static MODES: [&str; 11] = [
+    "isolation",
+    "level",
+    "serializable",
+    "repeatable",
+    "read",
+    "committed",
+    "uncommitted",
+    "write",
+    "only",
+    "not",
+    "deferrable",
+];
+
+fn is_mode(word: &str) -> bool {
+    let word = word.trim_end_matches(',');
+    for mode in &MODES {
+        if *mode == word {
+            return true;
+        }
+    }
+    word.is_empty()
+}
+
+/// Whether these words are modes of a transaction. In which order they stand isn't looked at.
+fn are_modes(words: &str) -> bool {
+    for word in words.split(SEPARATOR) {
+        if !is_mode(word) {
+            return false;
+        }
+    }
+    true
+}
+
+/// The name that this word is: that in quotes, or an identifier.
+fn identifier(word: &str) -> Option<&str> {
+    match word.strip_prefix('"') {
+        Some("") => None,
+        Some(name) => Some(name),
+        None => match word.chars().next() {
+            Some('a'..='z' | '_' | '\u{80}'..) => Some(word),
+            _ => None,
+        },
+    }
 }
 
 /// The one name that these words are, which may stand after this word.
 fn name_of<'w>(words: &'w str, word: &str) -> Option<&'w str> {
-    match split(words) {
-        ("", _) => None,
-        (name, "") => Some(name),
-        (first, name) if first == word && !name.contains(' ') => Some(name),
-        _ => None,
-    }
-}
-
-/// The words after the `TO` of a `ROLLBACK`, which may stand after a word such as `WORK`.
-fn after_to(words: &str) -> Option<&str> {
     let (first, rest) = split(words);
     match split(rest) {
-        ("to", names) => Some(names),
-        _ if first == "to" => Some(rest),
+        ("", _) => identifier(first),
+        (name, "") if first == word => identifier(name),
         _ => None,
     }
 }
 
-/// The command that a `ROLLBACK` of these words is, the first among them, by those after it.
-fn rollback<'w>(words: &str, rest: &'w str) -> Command<'w> {
-    match after_to(rest) {
-        Some(names) => match name_of(names, "savepoint") {
-            Some(name) => Command::RollbackTo(name),
-            None => Command::Rollback { chains: false },
-        },
-        None => Command::Rollback {
-            chains: chains(words),
-        },
+/// The command that a `ROLLBACK` with these words after it is.
+fn rollback(rest: &str) -> Option<Command<'_>> {
+    match after(after_work(rest), "to") {
+        Some(names) => Some(Command::RollbackTo(name_of(names, "savepoint")?)),
+        None => Some(Command::Rollback {
+            chains: chains(rest)?,
+        }),
     }
 }
 
-/// The setting that these words of a `SHOW` name.
-fn shown(words: &str) -> Option<&str> {
+/// The setting that these words of a `SHOW` or a `RESET` name.
+fn setting(words: &str) -> Option<&str> {
     match words {
-        "time zone" => Some("timezone"),
-        "transaction isolation level" => Some("transaction_isolation"),
+        "time\0zone" => Some("timezone"),
+        "transaction\0isolation\0level" => Some("transaction_isolation"),
         _ => name_of(words, ""),
     }
 }
 
-/// The command of this first word and this name.
-fn named(verb: Verb, name: &str) -> Option<Command<'_>> {
+/// The `SET` of these words after it: one of a transaction's modes, or of a setting, of which a name and a value stand there.
+fn set(rest: &str) -> Option<Command<'_>> {
+    let (first, behind) = split(rest);
+    match first {
+        "transaction" if are_modes(behind) => Some(Command::SetTransaction),
+        _ if behind.is_empty() && !first.contains('=') => None,
+        _ => Some(Command::Set),
+    }
+}
+
+/// `DEALLOCATE` of the statement that these words name, or of all.
+fn deallocate(rest: &str) -> Option<Command<'_>> {
+    match after(rest, "prepare").unwrap_or(rest) {
+        "all" => Some(Command::DeallocateAll),
+        name => Some(Command::Deallocate(name_of(name, "")?)),
+    }
+}
+
+/// The command of this first word, with these words after it.
+fn command_by(verb: Verb, rest: &str) -> Option<Command<'_>> {
     match verb {
-        Verb::Savepoint => Some(Command::Savepoint(name)),
-        Verb::Release => Some(Command::Release(name)),
-        Verb::Reset => Some(Command::Reset(name)),
-        Verb::Show => Some(Command::Show(name)),
-        Verb::Deallocate => Some(Command::Deallocate(name)),
-        Verb::Discard if name == "all" => Some(Command::DiscardAll),
+        Verb::Begin if are_modes(after_work(rest)) => Some(Command::Begin("BEGIN")),
+        Verb::Start if are_modes(after(rest, "transaction")?) => {
+            Some(Command::Begin("START TRANSACTION"))
+        }
+        Verb::Commit => Some(Command::Commit {
+            chains: chains(rest)?,
+        }),
+        Verb::Rollback => rollback(rest),
+        Verb::Savepoint => Some(Command::Savepoint(name_of(rest, "")?)),
+        Verb::Release => Some(Command::Release(name_of(rest, "savepoint")?)),
+        Verb::Set => set(rest),
+        Verb::Reset => Some(Command::Reset(setting(rest)?)),
+        Verb::Show => Some(Command::Show(setting(rest)?)),
+        Verb::Deallocate => deallocate(rest),
+        Verb::Discard if rest == "all" => Some(Command::DiscardAll),
         _ => None,
     }
 }
 
-/// The name that stands after this first word of a command.
-fn name_after(verb: Verb, rest: &str) -> Option<&str> {
-    match verb {
-        Verb::Release => name_of(rest, "savepoint"),
-        Verb::Deallocate => name_of(rest, "prepare"),
-        Verb::Show => shown(rest),
-        _ => name_of(rest, ""),
-    }
-}
-
-/// The command of this first word, with these words after it, or among all of these.
-fn command_by<'w>(verb: Verb, rest: &'w str, words: &str) -> Option<Command<'w>> {
-    let (second, _) = split(rest);
-    match (verb, second) {
-        (Verb::Begin, _) => Some(Command::Begin("BEGIN")),
-        (Verb::Start, "transaction") => Some(Command::Begin("START TRANSACTION")),
-        (Verb::Commit | Verb::Rollback, "prepared") | (Verb::Set, "") => None,
-        (Verb::Commit, _) => Some(Command::Commit {
-            chains: chains(words),
-        }),
-        (Verb::Rollback, _) => Some(rollback(words, rest)),
-        (Verb::Set, "transaction") => Some(Command::SetTransaction),
-        (Verb::Set, _) => Some(Command::Set),
-        _ => named(verb, name_after(verb, rest)?),
-    }
-}
-
-/// The command that these words are, if they are one: in small letters, with a blank between two.
+/// The command that these words are, if they are one.
 pub(crate) fn command_of(words: &str) -> Option<Command<'_>> {
     let (first, rest) = split(words);
     for (word, verb) in &VERBS {
         if *word == first {
-            return command_by(*verb, rest, words);
+            return command_by(*verb, rest);
         }
     }
     None

@@ -78,7 +78,7 @@ impl<'h> Session<'h> {
     fn only<'q>(&self, query: &'q [u8], out: &mut Outbox) -> Option<&'q [u8]> {
         match self.script.find(out.alloc, query) {
             Ok(Some(_)) => Some(trimmed(query)),
-            Ok(None) => only_of(query),
+            Ok(None) => only_of(query, out),
             Err(_) => {
                 out.lack();
                 None

@@ -87,6 +87,11 @@ impl<T: Drop> Names<T> {
     pub(crate) fn clear(&mut self) {
         self.entries.clear();
     }
+
+    /// Forgets all but what stands under the empty name.
+    pub(crate) fn keep_unnamed(&mut self) {
+        self.entries.retain(|entry| entry.name.is_empty());
+    }
 }
 
 impl Names<Portal> {

@@ -18,11 +18,12 @@ use crate::pause::Pause;
 use crate::portals::{Names, Plan, Portal};
 use crate::script::{Pair, Script, Statement};
 use crate::settings::Settings;
-use crate::text::{first_of, trimmed};
+use crate::text::{first_of, is_blank};
 use crate::transaction::Transaction;
 use crate::wording::{Wording, words_of};
 use pgp_frontend_read::ClientMessage;
 use pgp_message_write as reply;
+use std::alloc::{AllocError, Global};
 
 /// What a statement asks for.
 #[derive(Clone, Copy)]
@@ -96,10 +97,10 @@ impl<'h> Session<'h> {
 
     /// What the statement asks for.
     pub(crate) fn asks<'w>(&self, statement: &'w Wording, out: &mut Outbox) -> Asks<'h, 'w> {
-        if trimmed(&statement.text).is_empty() {
+        if statement.is_blank() {
             return Asks::Nothing;
         }
-        match self.script.find(out.alloc, &statement.text) {
+        match self.scripted(statement, out.alloc) {
             Ok(Some(scripted)) => Asks::Scripted(scripted),
             Ok(None) => match statement.command() {
                 Some(command) => Asks::Command(command),
@@ -109,6 +110,18 @@ impl<'h> Session<'h> {
                 out.lack();
                 Asks::Nothing
             }
+        }
+    }
+
+    /// The script's statement of this text, or of the text without its comments.
+    fn scripted(
+        &self,
+        statement: &Wording,
+        alloc: Global,
+    ) -> Result<Option<&'h Statement>, AllocError> {
+        match self.script.find(alloc, &statement.text) {
+            Ok(None) => self.script.find(alloc, &statement.bare),
+            found => found,
         }
     }
 
@@ -234,7 +247,7 @@ impl<'h> Session<'h> {
         for _ in 0..=query.len() {
             let (first, behind) = first_of(rest);
             rest = behind;
-            if first.is_empty() {
+            if first.is_empty() || is_blank(first, out) {
                 continue;
             }
             is_some = true;

@@ -1,5 +1,6 @@
 //! Texts of a script, and of statements.
 
+use crate::outbox::Outbox;
 use std::alloc::AllocError;
 
 /// What a letter after a backslash stands for.
@@ -53,6 +54,10 @@ enum Inside {
 }
 
 impl Inside {
+    fn is_comment(self) -> bool {
+        matches!(self, Inside::LineComment | Inside::BlockComment)
+    }
+
     /// In what the next byte stands, after this byte and the one before it.
     fn after(self, before: u8, byte: u8) -> Inside {
         match self {
@@ -98,14 +103,39 @@ pub(crate) fn first_of(query: &[u8]) -> (&[u8], &[u8]) {
 }
 
 /// The statement of a query that has one at most; `None` where it has more.
-pub(crate) fn only_of(query: &[u8]) -> Option<&[u8]> {
+pub(crate) fn only_of<'q>(query: &'q [u8], out: &mut Outbox) -> Option<&'q [u8]> {
     let (first, mut rest) = first_of(query);
     for _ in 0..query.len() {
         let (next, behind) = first_of(rest);
-        if !next.is_empty() {
+        if !next.is_empty() && !is_blank(next, out) {
             return None;
         }
         rest = behind;
     }
     Some(first)
+}
+
+/// A text in which a blank stands for each comment. The first byte of a comment's mark was copied before the second showed what it is.
+pub(crate) fn uncommented(text: &[u8], out: &mut Outbox) -> Vec<u8> {
+    let mut bare = Vec::new(out.alloc);
+    let (mut inside, mut before) = (Inside::Statement, 0u8);
+    for byte in text {
+        let next = inside.after(before, *byte);
+        match (inside.is_comment(), next.is_comment()) {
+            (false, true) => {
+                let _ = bare.pop();
+                out.add(&mut bare, b' ');
+            }
+            (false, false) => out.add(&mut bare, *byte),
+            (true, _) => {}
+        }
+        before = if inside == next { *byte } else { 0 };
+        inside = next;
+    }
+    bare
+}
+
+/// Whether nothing stands in the text but blanks and comments.
+pub(crate) fn is_blank(text: &[u8], out: &mut Outbox) -> bool {
+    uncommented(text, out).trim_ascii().is_empty()
 }

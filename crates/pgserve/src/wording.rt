@@ -1,23 +1,31 @@
 //! Statements by their words.
 
-use crate::command::{Command, command_of};
+use crate::command::{Command, SEPARATOR, command_of};
 use crate::outbox::Outbox;
-use crate::text::trimmed;
-use std::alloc::AllocError;
+use crate::text::{trimmed, uncommented};
 
-/// A statement: its text, and its words in small letters, with a blank between two.
+/// A statement: its text, the same without comments, and its words.
 #[derive(Drop)]
 pub(crate) struct Wording {
     pub(crate) text: Vec<u8>,
+    pub(crate) bare: Vec<u8>,
     words: String,
 }
 
 impl Wording {
     pub(crate) fn new(text: &[u8], out: &mut Outbox) -> Wording {
+        let whole = uncommented(text, out);
+        let bare = out.copy(trimmed(&whole));
         Wording {
             text: out.copy(text),
-            words: words_of(trimmed(text), out),
+            words: words_of(&bare, out),
+            bare,
         }
+    }
+
+    /// Whether it has nothing but blanks and comments.
+    pub(crate) fn is_blank(&self) -> bool {
+        self.bare.is_empty()
     }
 
     /// The command that it is, if it is one.
@@ -26,20 +34,55 @@ impl Wording {
     }
 }
 
-/// The words of a text in small letters, with a blank between two; none where it isn't UTF-8.
+/// The words of a text: in small letters, but what stands in quotes, which is a word of its own and begins with the mark, as `"Name`. Each is
+/// behind a separator, which stands in no text. None where the text isn't UTF-8.
 pub(crate) fn words_of(text: &[u8], out: &mut Outbox) -> String {
     let mut words = String::new(out.alloc);
-    out.keep(add_words(str::from_utf8(text).unwrap_or(""), &mut words));
-    words.make_ascii_lowercase();
+    let mut place = Place::Between;
+    for letter in str::from_utf8(text).unwrap_or("").chars() {
+        place = place.after(letter, &mut words, out);
+    }
     words
 }
 
-fn add_words(text: &str, words: &mut String) -> Result<(), AllocError> {
-    for word in text.split_ascii_whitespace() {
-        if !words.is_empty() {
-            words.push(' ')?;
+/// Where a letter of a text stands.
+#[derive(Clone, Copy, PartialEq, Eq)]
+enum Place {
+    Between,
+    Word,
+    Quotes(char),
+}
+
+impl Place {
+    /// Adds a letter that stands here, and returns where the next one stands.
+    fn after(self, letter: char, words: &mut String, out: &mut Outbox) -> Place {
+        match self {
+            Place::Quotes(mark) if letter == mark => Place::Between,
+            Place::Quotes(_) => {
+                out.keep(words.push(letter));
+                self
+            }
+            _ if letter.is_ascii_whitespace() => Place::Between,
+            _ if letter == '"' || letter == '\'' => {
+                begin(letter, words, out);
+                Place::Quotes(letter)
+            }
+            Place::Between => {
+                begin(letter.to_ascii_lowercase(), words, out);
+                Place::Word
+            }
+            Place::Word => {
+                out.keep(words.push(letter.to_ascii_lowercase()));
+                self
+            }
         }
-        words.push_str(word)?;
     }
-    Ok(())
+}
+
+/// Adds the first letter of a word.
+fn begin(letter: char, words: &mut String, out: &mut Outbox) {
+    if !words.is_empty() {
+        out.keep(words.push(SEPARATOR));
+    }
+    out.keep(words.push(letter));
 }
