@@ -60,6 +60,9 @@ class Calls:
             self.error('no transaction', client.ProgrammingError, lambda: c.cursor('part').execute(BIG))
             with c.transaction():
                 self.same('in one', len(c.cursor('part').execute(BIG).fetchall()), 10000)
+                self.same('a stream', sum(a for a, _ in c.stream(BIG)), sum(range(1, 10001)))
+                stream = c.stream(BIG)
+                self.same('closed early', (next(stream), stream.close(), c.execute("SELECT count(*) FROM pg_cursors WHERE name LIKE 'stream%'").fetchone()), ((1, 2), None, (0,)))
 
     def blocks(self):
         for autocommit in (True, False):
@@ -237,12 +240,9 @@ class Calls:
             os.environ.clear()
             os.environ.update(kept)
 
-    def pooler(self):
-        """pgbouncer, a session at the server for each transaction: with no statement kept it works."""
-        program = shutil.which('pgbouncer', path=os.environ['PATH'] + ':/usr/sbin')
-        if program is None:
-            print('pgbouncer is not installed here')
-            return
+    @contextlib.contextmanager
+    def pgbouncer(self, program):
+        """It runs, in its transaction mode."""
         folder = self.server.folder
         (folder / 'pgbouncer.ini').write_text(
             '[databases]\nshop = host=%s dbname=shop\n[pgbouncer]\nunix_socket_dir = %s\nlisten_port = 6432\nlisten_addr =\nauth_type = plain\nauth_file = %s/users\n'
@@ -257,12 +257,22 @@ class Calls:
                 break
             time.sleep(0.05)
         try:
+            yield
+        finally:
+            subprocess.run(['kill', (folder / 'pgbouncer.pid').read_text().strip()], check=True)
+
+    def pooler(self):
+        """pgbouncer, a session at the server for each transaction: with no statement kept it works."""
+        program = shutil.which('pgbouncer', path=os.environ['PATH'] + ':/usr/sbin')
+        if program is None:
+            print('pgbouncer is not installed here')
+            return
+        with self.pgbouncer(program):
             where = {**self.where, 'port': 6432, 'prepare': 0, 'require_auth': None}
             connections = [client.connect(**where) for _ in range(6)]
-            for round in range(3):
-                for number, c in enumerate(connections):
-                    with c:
-                        self.same('pgbouncer', c.execute('SELECT $1::int, $2::text', (number, 'x')).fetchall(), [(number, 'x')])
+            for number, c in [*enumerate(connections)] * 3:
+                with c:
+                    self.same('pgbouncer', c.execute('SELECT $1::int, $2::text', (number, 'x')).fetchall(), [(number, 'x')])
             for number, c in enumerate(connections):
                 with c, c.cursor() as cursor:
                     cursor.executemany('INSERT INTO g (id) VALUES ($1)', [(40000 + 10 * number + i,) for i in range(10)])
@@ -270,16 +280,14 @@ class Calls:
                 c.close()
             with contextlib.closing(self.connect(autocommit=True)) as c:
                 self.same('pgbouncer, committed', c.execute('SELECT count(*) FROM g WHERE id >= 40000').fetchone(), (66,))
+            asyncio.run(self.asyncio_pooler(where))
 
-            async def run():
-                connections = [await aio.connect(**where) for _ in range(6)]
-                results = await asyncio.gather(*(c.execute('SELECT $1::int', (number,)) for _ in range(5) for number, c in enumerate(connections)))
-                self.same('pgbouncer, asyncio', [r.rows[0][0] for r in results], list(range(6)) * 5)
-                for c in connections:
-                    await c.close()
-            asyncio.run(run())
-        finally:
-            subprocess.run(['kill', (folder / 'pgbouncer.pid').read_text().strip()], check=True)
+    async def asyncio_pooler(self, where):
+        connections = [await aio.connect(**where) for _ in range(6)]
+        results = await asyncio.gather(*(c.execute('SELECT $1::int', (number,)) for _ in range(5) for number, c in enumerate(connections)))
+        self.same('pgbouncer, asyncio', [r.rows[0][0] for r in results], list(range(6)) * 5)
+        for c in connections:
+            await c.close()
 
 
 def certificates(same, where, root, other):

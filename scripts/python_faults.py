@@ -135,6 +135,9 @@ class Faults:
             self.same('cancelled', other.execute("SELECT count(*) FROM pg_stat_activity WHERE state = 'active' AND query LIKE '%pg_sleep(20)%' AND pid <> pg_backend_pid()").fetchone(), (0,))
             self.same('it goes on', (c.execute('SELECT 1').fetchone(), c.closed), ((1,), False))
             self.same('another limit', c.execute('SELECT 2, pg_sleep(1)', timeout=5).fetchone()[0], 2)
+            self.fails('a copy', client.Timeout, lambda: c.cursor().copy_out('COPY (SELECT pg_sleep(20)) TO STDOUT'))
+            slow = c.cursor().copy_stream('COPY (SELECT generate_series(1, 3)) TO STDOUT')
+            self.same('a slow reader', [time.sleep(0.3) or piece for piece in slow], [b'1\n', b'2\n', b'3\n'])
             self.fails('a script', client.Timeout, lambda: c.script('SELECT pg_sleep(20)'))
             self.same('it goes on again', c.execute('SELECT 1').fetchone(), (1,))
 
@@ -142,6 +145,12 @@ class Faults:
         """Kept statements that the server dropped, or whose columns changed."""
         with contextlib.closing(self.connect(autocommit=True)) as c:
             c.execute('INSERT INTO f VALUES (1)')
+            c.execute('INSERT INTO f VALUES ($1, $2)', (7, 'x'))
+            c.execute('DELETE FROM f WHERE id = 7')
+            c.execute('ALTER TABLE f ALTER name TYPE int USING NULL')
+            self.fails('parameters of other types', client.ProgrammingError, lambda: c.execute('INSERT INTO f VALUES ($1, $2)', (7, 5)))
+            self.same('but once', c.execute('INSERT INTO f VALUES ($1, $2)', (7, 5)).rowcount, 1)
+            c.execute('DELETE FROM f WHERE id = 7')
             self.same('first', c.execute('SELECT * FROM f').fetchall(), [(1, None)])
             c.execute('DISCARD ALL')
             self.same('after DISCARD ALL', c.execute('SELECT * FROM f').fetchall(), [(1, None)])
@@ -256,6 +265,12 @@ class Faults:
             except asyncio.TimeoutError:
                 self.same('asyncio, it goes on', (await c.execute('SELECT 1')).rows, [(1,)])
             self.same('asyncio, at the server too', (await c.execute("SELECT count(*) FROM pg_stat_activity WHERE state = 'active' AND query LIKE '%pg_sleep(20)%' AND pid <> pg_backend_pid()")).rows, [(0,)])
+            c.timeout = 0.3
+            try:
+                self.same('asyncio, a limit of a copy', await c.copy_out('COPY (SELECT pg_sleep(20)) TO STDOUT'), 'a limit')
+            except client.Timeout:
+                self.same('asyncio, it goes on', (await c.execute('SELECT 1')).rows, [(1,)])
+            c.timeout = None
             try:
                 self.same('asyncio, a limit', await c.execute('SELECT pg_sleep(20)', timeout=0.3), 'a limit')
             except client.Timeout:

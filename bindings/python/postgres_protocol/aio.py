@@ -122,17 +122,14 @@ class Connection(Shared):
             try:
                 return await asyncio.wait_for(self._drive(flow, chunks), limit)
             except BaseException as error:
-                cancels = isinstance(error, (asyncio.CancelledError, asyncio.TimeoutError)) and not self._is_outside
-                await self._clear_up(flow, error, cancels)
-                if cancels and isinstance(error, asyncio.TimeoutError):
-                    raise Timeout('no answer within %s s' % limit) from error
-                raise self._last_words(error) from error.__cause__
+                raise await self._broken_off(flow, error, limit) from error.__cause__
 
     async def _iterate(self, flow: Flow) -> AsyncIterator[bytes]:
-        """The same of a call that gives data as they come."""
+        """The same of a call that gives data as they come; the limit is that of each piece."""
         self._check_open()
         async with self._lock:
             self._check_open()
+            self._is_outside = False
             try:
                 wanted = next(flow)
                 while True:
@@ -140,12 +137,17 @@ class Connection(Shared):
                         self._is_outside = True
                         yield wanted
                         self._is_outside = False
-                    wanted = flow.send(await self._event() if wanted is None else None)
+                    wanted = flow.send(await asyncio.wait_for(self._event(), self.timeout) if wanted is None else None)
             except StopIteration:
                 pass
             except BaseException as error:
-                await self._clear_up(flow, error, isinstance(error, (GeneratorExit, asyncio.CancelledError)))
-                raise self._last_words(error) from error.__cause__
+                raise await self._broken_off(flow, error, self.timeout) from error.__cause__
+
+    async def _broken_off(self, flow: Flow, error: BaseException, limit: Optional[float]) -> BaseException:
+        """Clears up behind an error, and returns what is raised for it."""
+        is_late = isinstance(error, asyncio.TimeoutError) and not self._is_outside
+        await self._clear_up(flow, error, is_late or isinstance(error, GeneratorExit) or (isinstance(error, asyncio.CancelledError) and not self._is_outside))
+        return Timeout('no answer within %s s' % limit) if is_late else self._last_words(error)
 
     async def _clear_up(self, flow: Flow, error: BaseException, cancels: bool) -> None:
         """Brings the connection to where the next call may begin, or closes it."""

@@ -133,7 +133,7 @@ class Connection(Shared):
             return result
 
     def _iterate(self, flow: Flow) -> Iterator[bytes]:
-        """The same of a call that gives data as they come."""
+        """The same of a call that gives data as they come; the limit is that of each piece."""
         with self._claimed():
             self._enter(None)
             try:
@@ -143,6 +143,7 @@ class Connection(Shared):
                         self._is_outside = True
                         yield wanted
                         self._is_outside = False
+                        self._wire.set_limit(self.timeout)
                     wanted = flow.send(self._event() if wanted is None else None)
             except StopIteration:
                 self._is_busy = False
@@ -182,6 +183,12 @@ class Connection(Shared):
     def execute(self, sql: str, parameters: Sequence[Any] = (), timeout: Optional[float] = None) -> Cursor:
         """Runs a statement on a new cursor."""
         return self.cursor().execute(sql, parameters, timeout)
+
+    def stream(self, sql: str, parameters: Sequence[Any] = (), itersize: int = 1000) -> Iterator[Any]:
+        """The rows of a statement as they come, so many at a time, within a transaction."""
+        self._portals += 1
+        with self.cursor('stream_%d' % self._portals, itersize) as cursor:
+            yield from cursor.execute(sql, parameters)
 
     def script(self, sql: str, timeout: Optional[float] = None) -> List[Result]:
         """Runs any number of statements as one simple query; their values are texts."""

@@ -1,6 +1,7 @@
 """Rows of a COPY: as lines of text, and in the binary format."""
 from typing import Any, Iterable, Iterator, Sequence, Tuple
 
+from .errors import DataError
 from .registry import Decoder, Type, apply
 
 _SIGNATURE = b'PGCOPY\n\xff\r\n\0'
@@ -56,10 +57,13 @@ class BinaryReader:
             if len(self._data) < 19:
                 return
             if self._data[:11] != _SIGNATURE:
-                raise ValueError('the data of the copy are not in the binary format')
+                raise DataError('the data of the copy are not in the binary format')
             at, self._is_begun = 19 + int.from_bytes(self._data[15:19], 'big'), True
         while True:
-            found = self._row(at)
+            try:
+                found = self._row(at)
+            except (ValueError, OverflowError) as error:
+                raise DataError('a value in the rows of the copy: %s' % error) from error
             if found is None:
                 break
             at = found[0]
@@ -72,7 +76,7 @@ class BinaryReader:
         if len(data) < at + 2 or data[at:at + 2] == b'\xff\xff':
             return None
         if int.from_bytes(data[at:at + 2], 'big') != len(self._decoders):
-            raise ValueError('a row has another number of values than columns')
+            raise DataError('a row has another number of values than columns')
         row, at = [], at + 2
         for decoder in self._decoders:
             size, at = int.from_bytes(data[at:at + 4], 'big', signed=True), at + 4

@@ -199,10 +199,10 @@ class Session:
             try:
                 return kept, (yield from self._execute(kept, rows, portal, size))
             except errors.DatabaseError as error:
-                if not errors.is_stale(error):
-                    raise
-                self._dropped.append(self._statements.pop(sql).name)
-                if not began:
+                # (of class 42 is an error too of a statement whose parameters have other types now)
+                if errors.is_stale(error) or (error.sqlstate or '')[:2] == '42':
+                    self._dropped.append(self._statements.pop(sql).name)
+                if not (began and errors.is_stale(error)):
                     raise
             if self.connection.status == 'E':
                 yield from self._until_ready(self.connection.query('ROLLBACK'))

@@ -23,7 +23,7 @@ _IGNORED = frozenset(('keepalives', 'keepalives_idle', 'keepalives_interval', 'k
 _FIXED = {'target_session_attrs': ('any',), 'sslcrl': ('',), 'sslcrldir': ('',), 'load_balance_hosts': ('disable',)}
 SSL_MODES = ('disable', 'allow', 'prefer', 'require', 'verify-ca', 'verify-full')
 _FOLDERS = ('/var/run/postgresql', '/tmp')
-_PAIR = re.compile(r"\s*(\w+)\s*=\s*(?:'((?:[^'\\]|\\.)*)'|((?:[^\s'\\]|\\.)(?:[^\s\\]|\\.)*|))(?=\s|$)", re.DOTALL)
+_PAIR = re.compile(r"\s*(\w+)\s*=\s*(?:'((?:[^'\\]|\\.)*)'|((?:[^\s'\\]|\\.)(?:[^\s\\]|\\.)*|)(?=\s|$))", re.DOTALL)
 
 
 class Place(NamedTuple):

@@ -21,12 +21,12 @@ use Rattle.pgp_client.specs.declared.event.Refusal.{Refusal}
 use Rattle.pgp_client.specs.declared.request.Request.TheVariants.{Startup}
 use Rattle.pgp_client.specs.declared.stage.Stage.TheVariants.{Authenticating, Starting}
 use Rattle.pgp_frontend.specs.ClientMessage.{ClientMessage}
-use Rattle.pgp_message.specs.BackendMessage.{Message, Authentication, Request}
+use Rattle.pgp_message.specs.BackendMessage.{Message}
 use Rattle.pgp_message.specs.Items.{TextSpelled, TextRefused}
 use Rattle.pgp_message.specs.Stream.{Frames, TakesFrame}
 use Rattle.pgp_message_write.specs.Reply.{IsMechanism, IsReply, bytes_of, names_of}
 use Rattle.pgp_uses.specs.BothEnds.{ConnectionLogsIn, Facing, HasStarted, IsConnectionsWant}
-use Rattle.pgp_session.specs.Connection.{Hears, IsUnfit, Shown, is_end, is_logged_in, logged_in_at}
+use Rattle.pgp_session.specs.Connection.{Hears, IsUnfit, Shown, is_early, is_end, is_logged_in, lacks_status, logged_in_at}
 use Rattle.pgp_session.specs.Login.{Added, AddsReply, Asking, Sasl, First, Final, Welcome, LoggedOn, Login, LogsOn, ScramBegins, ScramGoesOn, ScramEnds, Welcomed, Trusted, asking, goes_on, in_phase, Unsent}
 use Rattle.pgp_session.specs.Login as login
 use Rattle.pgp_session.specs.ScramLogin.{Offers, initial, mechanism_of}
@@ -95,9 +95,9 @@ module _ {E : Type 0} (lacks : Type 0) where
 
 -- a message of a log-in comes in time
 module _ {E : Type 0} (lacks : Type 0) where
-  in_time : (p : LoginPhase) (r : Request) (e : ConnectionError E) → IsUnfit lacks p (Authentication r) e → ⊥
-  in_time p r e (inl h) = let f = h.0 in cc
-  in_time p r e (inr h) = let f = h.1 in cc
+  in_time : (p : LoginPhase) (m : Message) → is_early p m ≡ false → lacks_status m ≡ false → (e : ConnectionError E) → IsUnfit lacks p m e → ⊥
+  in_time p m late status e (inl h) = let f = h.0 in cc
+  in_time p m late status e (inr h) = let f = h.1 in cc
 
 -- ---- the log-in's steps
 
@@ -222,7 +222,7 @@ module _ {E : Type 0} (lacks : Type 0) (name : ℕ) where
       → Is name AwaitsOffer x (asked unasked (record { request = Startup; name = name })) old → Hears lacks scram_offer old new result
       → ((result ≡ Ok (Some (Part name, scram_offer))) × Begun name x (text_of meeting.begun) old new) ⊎ IsConnectionsWant lacks first_message result
   takes_offer there x meeting unbound old new result offers here h =
-      by (heard lacks scram_offer name (under_way name) old new result (ap (λ (t : Talk). taken t (kind_of scram_offer)) here.talk) (λ cause unkept. unkept) (λ cause unfit. in_time lacks old.login.phase _ cause unfit) h)
+      by (heard lacks scram_offer name (under_way name) old new result (ap (λ (t : Talk). taken t (kind_of scram_offer)) here.talk) (λ cause unkept. unkept) (λ cause unfit. in_time lacks old.login.phase scram_offer refl refl cause unfit) h)
     where
       by : ((result ≡ Ok (Some (Part name, scram_offer))) × (new.phase ≡ old.phase) × (new.talk ≡ under_way name) × LoggedOn (asking scram_offer) old.login new.login old.out new.out)
           ⊎ ((e : ConnectionError E) × (result ≡ Err e) × (after : Login) × (grown : List ℕ) × login.Hears lacks (asking scram_offer) old.login after old.out grown (Err e))
@@ -237,7 +237,7 @@ module _ {E : Type 0} (lacks : Type 0) (name : ℕ) where
       → Is name AwaitsFirst start (under_way name) old → Hears lacks (challenge text) old new result
       → ((result ≡ Ok (Some (Part name, challenge text))) × Replied name start text old new) ⊎ IsConnectionsWant lacks final_message result
   takes_text server mid start meeting first text is ch old new enough result here h =
-      by (heard lacks (challenge text) name (under_way name) old new result (ap (λ (t : Talk). taken t (kind_of (challenge text))) here.talk) (λ cause unkept. unkept) (λ cause unfit. in_time lacks old.login.phase _ cause unfit) h)
+      by (heard lacks (challenge text) name (under_way name) old new result (ap (λ (t : Talk). taken t (kind_of (challenge text))) here.talk) (λ cause unkept. unkept) (λ cause unfit. in_time lacks old.login.phase (challenge text) refl refl cause unfit) h)
     where
       by : ((result ≡ Ok (Some (Part name, challenge text))) × (new.phase ≡ old.phase) × (new.talk ≡ under_way name) × LoggedOn (First text) old.login new.login old.out new.out)
           ⊎ ((e : ConnectionError E) × (result ≡ Err e) × (after : Login) × (grown : List ℕ) × login.Hears lacks (First text) old.login after old.out grown (Err e))
@@ -253,7 +253,7 @@ module _ {E : Type 0} (lacks : Type 0) (name : ℕ) where
       → Admits mid final done signed → (old new : Shown) (result : Result (Option (Event × Message)) (ConnectionError E)) → Is name AwaitsFinal x (under_way name) old → Hears lacks (signature signed) old new result
       → (result ≡ Ok (Some (Part name, signature signed))) × (y : Client) × Is name AwaitsOk y (under_way name) new
   takes_signature server mid done start x meeting first text final signed is ch answers admits old new result here h =
-      by (heard lacks (signature signed) name (under_way name) old new result (ap (λ (t : Talk). taken t (kind_of (signature signed))) here.talk) (λ cause unkept. unkept) (λ cause unfit. in_time lacks old.login.phase _ cause unfit) h)
+      by (heard lacks (signature signed) name (under_way name) old new result (ap (λ (t : Talk). taken t (kind_of (signature signed))) here.talk) (λ cause unkept. unkept) (λ cause unfit. in_time lacks old.login.phase (signature signed) refl refl cause unfit) h)
     where
       by : ((result ≡ Ok (Some (Part name, signature signed))) × (new.phase ≡ old.phase) × (new.talk ≡ under_way name) × LoggedOn (Final signed) old.login new.login old.out new.out)
           ⊎ ((e : ConnectionError E) × (result ≡ Err e) × (after : Login) × (grown : List ℕ) × login.Hears lacks (Final signed) old.login after old.out grown (Err e))
@@ -269,7 +269,7 @@ module _ {E : Type 0} (lacks : Type 0) (name : ℕ) where
   pub takes_welcome : (x : Client) (old new : Shown) (result : Result (Option (Event × Message)) (ConnectionError E)) → Is name AwaitsOk x (under_way name) old → Hears lacks admission old new result
       → (result ≡ Ok (Some (Part name, admission))) × (is_logged_in new ≡ true)
   takes_welcome x old new result here h =
-      by (heard lacks admission name (record { stage = Starting; name = name; pending = [] }) old new result (ap (λ (t : Talk). taken t (kind_of admission)) here.talk) (λ cause unkept. unkept) (λ cause unfit. in_time lacks old.login.phase _ cause unfit) h)
+      by (heard lacks admission name (record { stage = Starting; name = name; pending = [] }) old new result (ap (λ (t : Talk). taken t (kind_of admission)) here.talk) (λ cause unkept. unkept) (λ cause unfit. in_time lacks old.login.phase admission refl refl cause unfit) h)
     where
       by : ((result ≡ Ok (Some (Part name, admission))) × (new.phase ≡ old.phase) × (new.talk ≡ record { stage = Starting; name = name; pending = [] }) × LoggedOn Welcome old.login new.login old.out new.out)
           ⊎ ((e : ConnectionError E) × (result ≡ Err e) × (after : Login) × (grown : List ℕ) × login.Hears lacks Welcome old.login after old.out grown (Err e))
