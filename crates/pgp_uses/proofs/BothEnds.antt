@@ -69,6 +69,7 @@ meeting_of x s f = record {
 }
 
 pub count_met : {A : Type 0} (x : Client) (s : Serving A) (f : Facing x s) → (meeting_of x s f).count ≡ f.count
+unfolding meeting_of
 count_met x s f = refl
 
 -- the first message of an exchange that isn't bound to the channel
