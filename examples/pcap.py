@@ -2,7 +2,7 @@
 """Takes what each side of a connection sent out of a capture of tcpdump, as pgtrace lists it.
 
     pcap.py CAPTURE                                          prints the connections, with their numbers
-    pcap.py CAPTURE --connection N --recording FILE          writes a recording of one (docs/RECORDING.md), which `pgtrace session` lists
+    pcap.py CAPTURE --connection N --recording FILE          writes a recording of one (docs/PGTRACE.md), which `pgtrace session` lists
     pcap.py CAPTURE --connection N CLIENT-FILE SERVER-FILE   writes the bytes of each of its sides
 
 Reads pcap and pcapng, IPv4 and IPv6. Segments that come out of order or again are put in their place; where one is missing, its side ends there, and

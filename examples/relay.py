@@ -6,7 +6,7 @@
     relay.py [--tls] PORT HOST SERVER-PORT FOLDER                    takes connections, many at a time, until it is interrupted (SIGINT or SIGTERM): that
                                                                      which came Nth stands in FOLDER/N.recording
 
-A recording has both sides (docs/RECORDING.md); `pgtrace session` lists it, also while it is written. With --tls the server is reached by TLS, whoever it is,
+A recording has both sides (docs/PGTRACE.md); `pgtrace session` lists it, also while it is written. With --tls the server is reached by TLS, whoever it is,
 and the client, which connects without, sees a server that declines encryption and offers no log-in that is bound to it: this is what is written down.
 """
 import pathlib

@@ -23,9 +23,9 @@
  * TEXTS    are a pointer and a length, with no 0 byte at the end, in the session's encoding: any bytes will do. A text with a 0 byte is
  *          rejected (PGP_E_EMBEDDED_NULL): no name, query or value can change how a server cuts the stream.
  *
- * POINTERS and lengths are memory that may be read, or written, as far as that, aligned for its type. What a call writes doesn't overlap
- *          anything else that it is given. Where a length is 0 the pointer is not read. The proof speaks of pointers that are not NULL;
- *          NULL with the length 0 is tested and works.
+ * POINTERS A pointer and a length are memory of that length, aligned for its type. What a call writes doesn't overlap anything else that it
+ *          is given. Where a length is 0 the pointer is not read. The proof speaks of pointers that are not NULL; NULL with the length 0
+ *          is tested and works.
  *
  * C99 or later, C++98 or later with <stdint.h>. `make check-c` compares each declaration and struct with what the library exports.
  */

@@ -73,7 +73,7 @@ static inline void pgp_nonce(const uint8_t random[18], uint8_t nonce[24])
  *                        PGP_LOGIN_OTHER_MECHANISM: what to send in pgp_sasl_initial_response, with this mechanism. SCRAM-SHA-256-PLUS is
  *                        the mechanism of PGP_BINDING_TLS_SERVER_END_POINT, SCRAM-SHA-256 that of the others
  *   pgp_login_continue   PGP_AUTHENTICATION_SASL_CONTINUE: what to send by pgp_sasl_response. PGP_LOGIN_TOO_FEW_ROUNDS where the server asks for fewer rounds
- *                        than `least_rounds` (0 is taken for 1; a server's default is 4096)
+ *                        than `least_rounds` (0 is taken for 1; servers have 4096 unless configured otherwise)
  *   pgp_login_final      PGP_AUTHENTICATION_SASL_FINAL: PGP_OK only if it shows the server's signature
  *   pgp_login_ok         PGP_AUTHENTICATION_OK: PGP_OK where the log-in is done. After an exchange has begun that is so only after
  *                        pgp_login_final returned PGP_OK, and with no request before it only where PGP_WAY_NONE is admitted

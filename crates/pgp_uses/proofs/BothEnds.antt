@@ -68,6 +68,9 @@ meeting_of x s f = record {
   few = f.few;
 }
 
+pub count_met : {A : Type 0} (x : Client) (s : Serving A) (f : Facing x s) → (meeting_of x s f).count ≡ f.count
+count_met x s f = refl
+
 -- the first message of an exchange that isn't bound to the channel
 pub unbound_first : (x : Client) (text : List ℕ) → message_of x.state ≡ Some text → mechanism_of x ≡ scram → initial text ≡ first_message text
 unbound_first x text said unbound = ap (λ (name : List ℕ). SaslInitialResponse name (Some text)) (sym (ap mechanism_by said) ∙ unbound)

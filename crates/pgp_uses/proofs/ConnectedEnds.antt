@@ -40,7 +40,7 @@ use Rattle.pgp_session.specs.declared.scram_login.LoginPhase.{LoginPhase}
 use Rattle.pgp_session.specs.declared.scram_login.LoginPhase.TheVariants.{AwaitsOffer, AwaitsFirst, AwaitsFinal, AwaitsOk, Done}
 use Rattle.pgp_session.specs.declared.serving.Serving.{Serving}
 use Rattle.pgp_session.specs.declared.serving.ServingPhase.{ServingPhase}
-use Rattle.pgp_uses.proofs.BothEnds.{admission_spelled, meeting_of, offer_spelled, offers_scram, on_left, one_read, server_of, takes_final, takes_first, two_read, unbound_first}
+use Rattle.pgp_uses.proofs.BothEnds.{admission_spelled, count_met, meeting_of, offer_spelled, offers_scram, on_left, one_read, server_of, takes_final, takes_first, two_read, unbound_first}
 
 -- ---- where a connection is
 
@@ -293,6 +293,7 @@ module _ (one : (m : Message) (rest : List ℕ) → IsReply m → TakesFrame (by
   connects name exchange client there started facing enough =
       let mate = server_of facing in
       let meeting = meeting_of exchange there facing in
+      let met : max client.login.ways.least 1 ≤ meeting.count = subst (λ (n : ℕ). max client.login.ways.least 1 ≤ n) (sym (count_met exchange there facing)) enough in
       let here : Is name AwaitsOffer exchange (asked unasked (record { request = Startup; name = name })) client = record { phase = started.phase; talk = started.talk; login = started.awaits; exchange = started.admits } in (
         one_read one none next scram_offer (tt, offer_spelled),
         λ begun r1 h1. on_left (λ x. (
@@ -331,7 +332,7 @@ module _ (one : (m : Message) (rest : List ℕ) → IsReply m → TakesFrame (by
                         )) (takes_final memory_there lacks_there exchange z.1.exchange mate y.1.mid meeting x.1.first y.1.text z.1.final x.1.is y.1.challenges z.1.answers z.1.is challenged through earlier later r4 y.1.phase y.1.method h4),
                       ),
                     ),
-                  )) (takes_text {E = E} lacks name mate y.1.mid exchange meeting x.1.first y.1.text x.1.is y.1.challenges begun replied (subst (λ (n : ℕ). max n 1 ≤ facing.count) (sym x.1.least) enough) r3 x.1.at h3),
+                  )) (takes_text {E = E} lacks name mate y.1.mid exchange meeting x.1.first y.1.text x.1.is y.1.challenges begun replied (subst (λ (n : ℕ). max n 1 ≤ meeting.count) (sym x.1.least) met) r3 x.1.at h3),
                 ),
               )) (takes_first memory_there lacks_there exchange mate meeting x.1.first x.1.is there challenged before behind r2 facing.awaits facing.holds h2),
             ),

@@ -20,7 +20,7 @@ def hidden(n):
 
 
 def message(name, **parts):
-    """The members of an object after its tag, after the page docs/PGTRACE_JSON.md and the manual's message formats."""
+    """The members of an object after its tag, after the page docs/PGTRACE.md and the manual's message formats."""
     return {"name": name, **parts}
 
 
