@@ -1,5 +1,5 @@
-"""run_programs.py FOLDER: runs the four programs of docs/C.md: three against bytes of this file's own, worked by hand after the manual, and the
-server against the one that logs in."""
+"""run_programs.py FOLDER: runs the four programs of examples/c: three against bytes of this file's own, worked by hand after the manual, and the
+server against the two that log in."""
 import os
 import socket
 import subprocess
@@ -21,8 +21,9 @@ def same(what, got, want):
         print('FAIL %s: %r, not %r' % (what, got, want))
 
 
-def program(name, *arguments, data=b''):
-    run = subprocess.run([os.path.join(folder, name + '_program'), *arguments], input=data, capture_output=True, timeout=60)
+def program(name, *arguments, data=b'', password=''):
+    run = subprocess.run([os.path.join(folder, name + '_program'), *arguments], input=data, capture_output=True, timeout=60,
+                         env={**os.environ, 'PGPASSWORD': password})
     return run.returncode, run.stdout, run.stderr
 
 
@@ -71,20 +72,22 @@ thread.join(10)
 same('the server refused', seen[0], False)
 
 
-def against_server(password):
-    """The login program with this password against the server program, which has another socket by and by: it is tried until it listens."""
+def against_server(name, *arguments, password=''):
+    """A program that logs in, against the server program, which has another socket by and by: it is tried until it listens."""
     with socket.create_server(('127.0.0.1', 0)) as free:
         port = str(free.getsockname()[1])
     server = subprocess.Popen([os.path.join(folder, 'server_program'), port, 'secret'])
     for _ in range(100):
-        run = program('login', port, 'alice', password)
-        if not run[2].startswith(b'login: no connection'):
+        run = program(name, port, 'alice', *arguments, password=password)
+        if b': no connection' not in run[2]:
             break
         time.sleep(0.1)
     return run[:2], server.wait(60)
 
 
-same('login, server', against_server('secret'), ((0, b'logged in\n'), 1))
-same('login, server, another password', against_server('guessed'), ((1, b''), 1))
+same('login, server', against_server('login', 'secret'), ((0, b'logged in\n'), 1))
+same('login, server, another password', against_server('login', 'guessed'), ((1, b''), 1))
+same('client, server', against_server('client', 'select 1', password='secret'), ((0, b'select 1\n'), 0))
+same('client, server, another password', against_server('client', 'select 1', password='guessed'), ((1, b''), 1))
 print('programs: %d failed' % failed)
 sys.exit(failed != 0)

@@ -17,14 +17,15 @@
  *              len += n    and    send(fd, buf, len)
  *          are right after any status, but that a message is missing. To write several messages, pass buf + len and size - len.
  *
- *          HOW MUCH ROOM? Where the room is too small a writer returns PGP_NO_ROOM: enlarge it (doubling serves) and call again. The
- *          pgp_*_size functions give the number of bytes beforehand, with no call into the library.
+ *          HOW MUCH ROOM? Where the room is too small, and nothing else is wrong, a writer returns PGP_NO_ROOM: enlarge it (doubling
+ *          serves) and call again. The pgp_*_size functions give the number of bytes beforehand, with no call into the library.
  *
  * TEXTS    are a pointer and a length, with no 0 byte at the end, in the session's encoding: any bytes will do. A text with a 0 byte is
  *          rejected (PGP_E_EMBEDDED_NULL): no name, query or value can change how a server cuts the stream.
  *
- * POINTERS Where a length is 0 the pointer is not read. The proof speaks of pointers that are not NULL; NULL with the length 0 is
- *          tested and works.
+ * POINTERS A pointer and a length are memory of that length, aligned for its type. What a call writes doesn't overlap anything else that it
+ *          is given. Where a length is 0 the pointer is not read. The proof speaks of pointers that are not NULL; NULL with the length 0
+ *          is tested and works.
  *
  * C99 or later, C++98 or later with <stdint.h>. `make check-c` compares each declaration and struct with what the library exports.
  */
@@ -293,7 +294,8 @@ struct pgp_message {
      5, 6, 7, 8                the frame is whole, and its body is malformed: it may be skipped (frame)                  */
 pgp_status pgp_front(const void *bytes, size_t len, struct pgp_message *message);
 
-/* An iterator over the items of a list, in three numbers of the caller's. Begin with pgp_walk. */
+/* An iterator over the items of a list, in three numbers of the caller's. Begin with pgp_walk, or with what a pgp_get_ call made. Any
+   numbers are safe: what comes is an item of the bytes, or an error. */
 struct pgp_cursor { size_t at, end, left; };
 static inline struct pgp_cursor pgp_walk(const struct pgp_message *message)
 {
@@ -482,7 +484,9 @@ pgp_status pgp_dialogue_is_idle(struct pgp_dialogue *dialogue, bool *idle);
 
 /* A text and a bytea are their bytes as they stand, and need no call. So are a uuid (16 bytes) and a macaddr (6): their calls check
    the number of bytes, and return PGP_E_INVALID_SIZE for another.
-   Floating-point numbers cross as their bits; pgp_float4_bits and so on turn them. On error a get leaves *value unchanged. */
+   Floating-point numbers cross as their bits; pgp_float4_bits and so on turn them. On error a get leaves *value unchanged.
+   Some types have the bytes of another: a money of an int8 (in the currency's smallest unit), an xid8 of an lsn, an xid, a cid and a regclass
+   of an oid, an int2vector and an oidvector of an array. */
 pgp_status pgp_put_bool(bool value, uint8_t *out, size_t room, size_t *written);
 pgp_status pgp_get_bool(const void *bytes, size_t len, bool *value);
 pgp_status pgp_put_int2(int16_t value, uint8_t *out, size_t room, size_t *written);

@@ -2,7 +2,8 @@
  * postgres_protocol_auth.h: passwords and escapes. Link libpgp_c_auth.a and the toolchain's KIT/c/liblibc_c.a (malloc, realloc, free).
  *
  * The calls keep nothing: memory that they take from malloc is given back before they return. What they take is not wiped.
- * Statuses, rooms and texts are those of postgres_protocol.h. `written` is 0 and `out` as it was on any answer but PGP_OK.
+ * Statuses, rooms and texts are those of postgres_protocol.h. `written` is 0 and `out` as it was on any status but PGP_OK. PGP_NO_ROOM comes
+ * also where an allocation fails.
  */
 #ifndef POSTGRES_PROTOCOL_AUTH_H
 #define POSTGRES_PROTOCOL_AUTH_H
@@ -25,11 +26,12 @@ enum pgp_binding { PGP_BINDING_UNSUPPORTED = 0, PGP_BINDING_UNREQUESTED = 1, PGP
  *   pgp_scram_final   the answer to the server's first text, for pgp_sasl_response: a server with the password's verifier accepts it
  *   pgp_scram_verify  PGP_OK only if the server's final text shows the signature of that verifier
  * pgp_scram_final and pgp_scram_verify make the salted key anew (some milliseconds at 4096 rounds). Who has a place for 32 bytes makes it once:
- *   pgp_scram_update  as pgp_scram_final, and keeps in a struct of the caller's what the server has to show (as it was on any answer but PGP_OK)
+ *   pgp_scram_update  as pgp_scram_final, and keeps in a struct of the caller's what the server has to show (as it was on any status but PGP_OK)
  *   pgp_scram_finish  PGP_OK only if the server's final text shows that: no password, no key
- * The struct holds no secret of the password; there is nothing to free. The password is used as it is;
+ * The struct holds no secret of the password, and there is nothing to free; but who reads it before the server's final text can respond in
+ * the server's place. The password is used as it is;
  * a server prepares one with characters above 127 by SASLprep (RFC 4013), which is the caller's to do.
- * `at` is the place in the text that PGP_SCRAM_UNEXPECTED_CHARACTER and PGP_SCRAM_TRAILING tell of; else 0. A server's own error
+ * `at` is the place in the text that PGP_SCRAM_UNEXPECTED_CHARACTER and PGP_SCRAM_TRAILING mean; else 0. A server's own error
  * (PGP_SCRAM_SERVER) stands behind the `e=` of its final text.
  */
 #define PGP_SCRAM_FIRST_ROOM(nonce_len) ((nonce_len) + 32)
@@ -75,7 +77,7 @@ static inline void pgp_nonce(const uint8_t random[18], uint8_t nonce[24])
  *   pgp_login_final      PGP_AUTHENTICATION_SASL_FINAL: PGP_OK only if it shows the server's signature
  *   pgp_login_ok         PGP_AUTHENTICATION_OK: PGP_OK where the log-in is done. After an exchange has begun that is so only after
  *                        pgp_login_final returned PGP_OK, and with no request before it only where PGP_WAY_NONE is admitted
- * An answer other than PGP_OK leaves the struct, `out` and 0 in `written`; but for PGP_NO_ROOM the connection is best closed then. Other
+ * A status other than PGP_OK leaves the struct, `out` and 0 in `written`; but for PGP_NO_ROOM the connection is best closed then. Other
  * requests (GSSAPI, SSPI, Kerberos) are answered by no way here. What the statuses mean stands in postgres_protocol.h.
  */
 enum { PGP_WAY_NONE = 1, PGP_WAY_PASSWORD = 2, PGP_WAY_MD5 = 4, PGP_WAY_SCRAM = 8 };
