@@ -50,12 +50,13 @@ enum Inside {
     /// A text or a name, up to this mark.
     Quotes(u8),
     LineComment,
-    BlockComment,
+    /// A comment in so many others.
+    BlockComment(usize),
 }
 
 impl Inside {
     fn is_comment(self) -> bool {
-        matches!(self, Inside::LineComment | Inside::BlockComment)
+        matches!(self, Inside::LineComment | Inside::BlockComment(_))
     }
 
     /// In what the next byte stands, after this byte and the one before it.
@@ -63,7 +64,7 @@ impl Inside {
         match self {
             Inside::Quotes(mark) if byte == mark => Inside::Statement,
             Inside::LineComment if byte == b'\n' => Inside::Statement,
-            Inside::BlockComment if before == b'*' && byte == b'/' => Inside::Statement,
+            Inside::BlockComment(depth) => commented(depth, before, byte),
             Inside::Statement => opened(before, byte),
             same => same,
         }
@@ -75,8 +76,18 @@ fn opened(before: u8, byte: u8) -> Inside {
     match byte {
         b'\'' | b'"' => Inside::Quotes(byte),
         b'-' if before == b'-' => Inside::LineComment,
-        b'*' if before == b'/' => Inside::BlockComment,
+        b'*' if before == b'/' => Inside::BlockComment(0),
         _ => Inside::Statement,
+    }
+}
+
+/// In what the next byte stands, after these two of a comment in so many others.
+fn commented(depth: usize, before: u8, byte: u8) -> Inside {
+    match (before, byte) {
+        (b'*', b'/') if depth == 0 => Inside::Statement,
+        (b'*', b'/') => Inside::BlockComment(depth.saturating_sub(1)),
+        (b'/', b'*') => Inside::BlockComment(depth.saturating_add(1)),
+        _ => Inside::BlockComment(depth),
     }
 }
 
@@ -87,8 +98,9 @@ fn end_of_first(query: &[u8]) -> usize {
         if inside == Inside::Statement && *byte == b';' {
             return place;
         }
-        inside = inside.after(before, *byte);
-        before = *byte;
+        let next = inside.after(before, *byte);
+        before = if inside == next { *byte } else { 0 };
+        inside = next;
     }
     query.len()
 }

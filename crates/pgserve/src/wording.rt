@@ -51,13 +51,19 @@ enum Place {
     Between,
     Word,
     Quotes(char),
+    /// Behind quotes, which go on where the mark stands twice.
+    Behind(char),
 }
 
 impl Place {
     /// Adds a letter that stands here, and returns where the next one stands.
     fn after(self, letter: char, words: &mut String, out: &mut Outbox) -> Place {
         match self {
-            Place::Quotes(mark) if letter == mark => Place::Between,
+            Place::Quotes(mark) if letter == mark => Place::Behind(mark),
+            Place::Behind(mark) if letter == mark => {
+                out.keep(words.push(letter));
+                Place::Quotes(mark)
+            }
             Place::Quotes(_) => {
                 out.keep(words.push(letter));
                 self
@@ -67,7 +73,7 @@ impl Place {
                 begin(letter, words, out);
                 Place::Quotes(letter)
             }
-            Place::Between => {
+            Place::Between | Place::Behind(_) => {
                 begin(letter.to_ascii_lowercase(), words, out);
                 Place::Word
             }
