@@ -57,7 +57,7 @@ SHIMS = re.compile(r'(?<![\w:])(clap|indexmap|jiff|jiff_core|jiff_fmt|rand_core|
 PLACES = [
     ('pgp_base/texts', 1, 'use pgp_text::is_text;\n', ''),
     ('pgp_base/texts', 1, '    if is_text(bytes) {\n        Ok(unsafe { str::from_utf8_unchecked(bytes) })\n    } else {\n        Err(Error::NotUtf8)\n    }\n',
-     '    match str::from_utf8(bytes) {\n        Ok(text) => Ok(text),\n        Err(_) => Err(Error::NotUtf8),\n    }\n'),
+     '    match str::from_utf8(bytes) {\n        Ok(text) if text.len() == bytes.len() => Ok(text),\n        _ => Err(Error::NotUtf8),\n    }\n'),
     ('pgp_base/buffer', 1, '        let all = self.as_mut_slice();\n        all[place..place + over.len()].copy_from_slice(over);\n',
      '        self[place..][..over.len()].copy_from_slice(over);\n'),
     ('pgp_base/buffer', 1, 'self.as_mut_slice()', '&mut self[..]'),
