@@ -1,7 +1,7 @@
 //! Numbers, texts and bytes.
 
 use crate::proved::pgp_types as proved;
-use crate::status::{Boxed, ample, boxed};
+use crate::status::{Boxed, ample, boxed, boxed_of_texts};
 use crate::{Lsn, Oid};
 use bytes::BytesMut;
 use std::str;
@@ -48,7 +48,8 @@ macro_rules! texts {
         #[doc = concat!("Reads ", $what, ".")]
         #[inline]
         pub fn $from(buf: &[u8]) -> Result<&str, Boxed> {
-            proved::$from(buf).map_err(boxed)
+            // The text stands after the version.
+            proved::$from(buf).map_err(|e| boxed_of_texts(e, buf.get(1..)))
         }
     )*};
 }
