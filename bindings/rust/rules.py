@@ -173,6 +173,22 @@ def inlined(text):
     return re.sub(r'^ *#\[inline\]\n(?= *fn \w+(?:<[^;{]*>)?\([^;{]*;)', '', text, flags=re.M)
 
 
+LABEL = re.compile(r"'(\w+): (?=(?:loop|while|for)\b)")
+
+
+def without_idle_labels(text):
+    """The text without the labels of loops that no `break` or `continue` names: contracts named them."""
+    for label in reversed(list(LABEL.finditer(text))):
+        loop = text[label.end():after_brace(text, text.index('{\n', label.end()))]
+        if not re.search(r"\b(?:break|continue) '%s\b" % label[1], loop):
+            text = text[:label.start()] + text[label.end():]
+    return text
+
+
+# What of the prelude a module may name.
+OF_PRELUDE = re.compile(r'\b(?:AllocError|AllocFailed|Global)\b|\.(?:push_reserved|divided_up|first_block|whole_block|plus_unsigned|minus_unsigned)\b|\.(?:bits|number)\(\)')
+
+
 def in_one_crate(text, crate):
     text = re.sub(r'^ *(?:pgp_\w+::)?laws::\w+(?:::<[^>]*>)?\([^;]*\);\n', '', text, flags=re.M)
     if not re.search(r'\blaws::', text):
@@ -220,8 +236,8 @@ def fit(text, crate, name, used):
     text = SHIMS.sub(r'crate::kit::\1::', text)
     text = re.sub(r'(?<!&)\bBytes::as_slice\(self\)', '&self[..]', text)
     text = single_places(text, name, used)
-    text = in_one_crate(inlined(shown_errors(without_let_else(text))), crate)
+    text = in_one_crate(inlined(shown_errors(without_let_else(without_idle_labels(text)))), crate)
     top = re.match(r'(?:(?://[^\n]*)?\n)*', text).end()
     sliced = '.as_slice()' in text and (name in SLICED or not OF_A_TRAIT.search(text))
-    uses = 'use crate::kit::prelude::*;\n' + 'use crate::kit::AsSlice as _;\n' * sliced
+    uses = 'use crate::kit::prelude::*;\n' * bool(OF_PRELUDE.search(text)) + 'use crate::kit::AsSlice as _;\n' * sliced
     return text[:top] + uses + text[top:]
