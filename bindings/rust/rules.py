@@ -185,8 +185,13 @@ def without_idle_labels(text):
     return text
 
 
-# What of the prelude a module may name.
+PRELUDE = 'use crate::kit::prelude::*;\n'
+# What of it a module of the package may name.
 OF_PRELUDE = re.compile(r'\b(?:AllocError|AllocFailed|Global)\b|\.(?:push_reserved|divided_up|first_block|whole_block|plus_unsigned|minus_unsigned)\b|\.(?:bits|number)\(\)')
+
+
+def without_idle_prelude(text):
+    return text if OF_PRELUDE.search(text) else text.replace(PRELUDE, '', 1)
 
 
 def in_one_crate(text, crate):
@@ -239,5 +244,5 @@ def fit(text, crate, name, used):
     text = in_one_crate(inlined(shown_errors(without_let_else(without_idle_labels(text)))), crate)
     top = re.match(r'(?:(?://[^\n]*)?\n)*', text).end()
     sliced = '.as_slice()' in text and (name in SLICED or not OF_A_TRAIT.search(text))
-    uses = 'use crate::kit::prelude::*;\n' * bool(OF_PRELUDE.search(text)) + 'use crate::kit::AsSlice as _;\n' * sliced
+    uses = PRELUDE + 'use crate::kit::AsSlice as _;\n' * sliced
     return text[:top] + uses + text[top:]
