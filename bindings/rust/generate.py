@@ -2,7 +2,7 @@
 over kit/ and under adapter/. A construct that no rule knows stops it with the place."""
 import os, re, shutil, sys
 from erase import Unknown, erase, is_part
-from rules import PLACES, fit, leftovers
+from rules import PLACES, fit, leftovers, without_idle_prelude
 
 here = os.path.dirname(os.path.abspath(__file__))
 top = os.path.dirname(os.path.dirname(here))
@@ -59,7 +59,7 @@ def checked(erased, crate, name, used, without=LEFT_OUT):
     text = fit(erased, crate, f'{crate}/{name[:-3]}', used)
     for line, why in leftovers(text, {os.path.basename(n)[:-3] for n in sources(crate, without)}):
         raise Unknown(f'{path}{place(source, line)}: no rule for `{why}`: {line}')
-    return text
+    return without_idle_prelude(text) if crate in CORE + MORE else text
 
 
 def write(path, text):

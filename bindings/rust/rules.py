@@ -57,7 +57,7 @@ SHIMS = re.compile(r'(?<![\w:])(clap|indexmap|jiff|jiff_core|jiff_fmt|rand_core|
 PLACES = [
     ('pgp_base/texts', 1, 'use pgp_text::is_text;\n', ''),
     ('pgp_base/texts', 1, '    if is_text(bytes) {\n        Ok(unsafe { str::from_utf8_unchecked(bytes) })\n    } else {\n        Err(Error::NotUtf8)\n    }\n',
-     '    match str::from_utf8(bytes) {\n        Ok(text) => Ok(text),\n        Err(_) => Err(Error::NotUtf8),\n    }\n'),
+     '    match str::from_utf8(bytes) {\n        Ok(text) if text.len() == bytes.len() => Ok(text),\n        _ => Err(Error::NotUtf8),\n    }\n'),
     ('pgp_base/buffer', 1, '        let all = self.as_mut_slice();\n        all[place..place + over.len()].copy_from_slice(over);\n',
      '        self[place..][..over.len()].copy_from_slice(over);\n'),
     ('pgp_base/buffer', 1, 'self.as_mut_slice()', '&mut self[..]'),
@@ -173,6 +173,27 @@ def inlined(text):
     return re.sub(r'^ *#\[inline\]\n(?= *fn \w+(?:<[^;{]*>)?\([^;{]*;)', '', text, flags=re.M)
 
 
+LABEL = re.compile(r"'(\w+): (?=(?:loop|while|for)\b)")
+
+
+def without_idle_labels(text):
+    """The text without the labels of loops that no `break` or `continue` names: contracts named them."""
+    for label in reversed(list(LABEL.finditer(text))):
+        loop = text[label.end():after_brace(text, text.index('{\n', label.end()))]
+        if not re.search(r"\b(?:break|continue) '%s\b" % label[1], loop):
+            text = text[:label.start()] + text[label.end():]
+    return text
+
+
+PRELUDE = 'use crate::kit::prelude::*;\n'
+# What of it a module of the package may name.
+OF_PRELUDE = re.compile(r'\b(?:AllocError|AllocFailed|Global)\b|\.(?:push_reserved|divided_up|first_block|whole_block|plus_unsigned|minus_unsigned)\b|\.(?:bits|number)\(\)')
+
+
+def without_idle_prelude(text):
+    return text if OF_PRELUDE.search(text) else text.replace(PRELUDE, '', 1)
+
+
 def in_one_crate(text, crate):
     text = re.sub(r'^ *(?:pgp_\w+::)?laws::\w+(?:::<[^>]*>)?\([^;]*\);\n', '', text, flags=re.M)
     if not re.search(r'\blaws::', text):
@@ -220,8 +241,8 @@ def fit(text, crate, name, used):
     text = SHIMS.sub(r'crate::kit::\1::', text)
     text = re.sub(r'(?<!&)\bBytes::as_slice\(self\)', '&self[..]', text)
     text = single_places(text, name, used)
-    text = in_one_crate(inlined(shown_errors(without_let_else(text))), crate)
+    text = in_one_crate(inlined(shown_errors(without_let_else(without_idle_labels(text)))), crate)
     top = re.match(r'(?:(?://[^\n]*)?\n)*', text).end()
     sliced = '.as_slice()' in text and (name in SLICED or not OF_A_TRAIT.search(text))
-    uses = 'use crate::kit::prelude::*;\n' + 'use crate::kit::AsSlice as _;\n' * sliced
+    uses = PRELUDE + 'use crate::kit::AsSlice as _;\n' * sliced
     return text[:top] + uses + text[top:]

@@ -2,6 +2,7 @@
 
 use crate::proved::pgp_base::{self, BindError};
 use std::error::Error;
+use std::str::{self, Utf8Error};
 use std::{fmt, io};
 
 pub(crate) type Boxed = Box<dyn Error + Sync + Send>;
@@ -68,6 +69,29 @@ pub(crate) fn either(e: BindError<Boxed>) -> Boxed {
     match e {
         BindError::Conversion(e) => e,
         BindError::Serialization(e) => boxed(e),
+    }
+}
+
+/// The first of these texts that isn't UTF-8, as `std` says it.
+fn not_utf8<'a>(texts: impl IntoIterator<Item = &'a [u8]>) -> Option<Utf8Error> {
+    texts.into_iter().find_map(|text| str::from_utf8(text).err())
+}
+
+/// The error of a message with these texts. Where one of them isn't UTF-8, it is the one of `std`.
+#[cold]
+pub(crate) fn io_of_texts<'a>(e: pgp_base::Error, texts: impl IntoIterator<Item = &'a [u8]>) -> io::Error {
+    match (e, not_utf8(texts)) {
+        (pgp_base::Error::NotUtf8, Some(e)) => io::Error::new(io::ErrorKind::InvalidInput, e),
+        _ => io(e),
+    }
+}
+
+/// The error of a value with these texts, likewise.
+#[cold]
+pub(crate) fn boxed_of_texts<'a>(e: pgp_base::Error, texts: impl IntoIterator<Item = &'a [u8]>) -> Boxed {
+    match (e, not_utf8(texts)) {
+        (pgp_base::Error::NotUtf8, Some(e)) => Box::new(e),
+        _ => boxed(e),
     }
 }
 

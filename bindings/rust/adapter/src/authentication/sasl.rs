@@ -5,7 +5,8 @@ use crate::kit::Global;
 use crate::proved::pgp_auth::authentication::sasl::{self, ScramError};
 use crate::proved::pgp_saslprep::SaslPrepRfc4013;
 use crate::status::no_memory;
-use std::{fmt, io};
+use std::num::ParseIntError;
+use std::{fmt, io, str};
 
 /// The mechanism's name.
 pub const SCRAM_SHA_256: &str = "SCRAM-SHA-256";
@@ -64,12 +65,12 @@ impl ScramSha256 {
 
     /// Takes the server's first text.
     pub fn update(&mut self, message: &[u8]) -> io::Result<()> {
-        self.0.update(message).map_err(rejected)
+        self.0.update(message).map_err(|e| rejected(e, message))
     }
 
     /// Looks at the server's final text. Only `Ok` says that this server knows the password's verifier.
     pub fn finish(&mut self, message: &[u8]) -> io::Result<()> {
-        self.0.finish(message).map_err(rejected)
+        self.0.finish(message).map_err(|e| rejected(e, message))
     }
 }
 
@@ -97,14 +98,31 @@ impl fmt::Display for Rejected {
 
 impl std::error::Error for Rejected {}
 
+/// The error of a server's text. Of what isn't UTF-8, and of a count that is no number, it is the one of `std`.
 #[cold]
-fn rejected(e: ScramError) -> io::Error {
+fn rejected(e: ScramError, message: &[u8]) -> io::Error {
+    match (&e, str::from_utf8(message)) {
+        (ScramError::NotUtf8, Err(e)) => return io::Error::new(io::ErrorKind::InvalidInput, e),
+        (ScramError::InvalidNumber, Ok(text)) => {
+            if let Some(e) = not_a_count(text) {
+                return io::Error::new(io::ErrorKind::InvalidInput, e);
+            }
+        }
+        _ => {}
+    }
     let kind = match e {
         ScramError::WrongState | ScramError::Server(_) => io::ErrorKind::Other,
         ScramError::UnexpectedEnd => io::ErrorKind::UnexpectedEof,
         _ => io::ErrorKind::InvalidInput,
     };
     io::Error::new(kind, Rejected(e))
+}
+
+/// Why the digits of `r=..,s=..,i=` are no number of 32 bits. Neither part before them has a comma.
+fn not_a_count(text: &str) -> Option<ParseIntError> {
+    let count = text.splitn(3, ',').nth(2)?.strip_prefix("i=")?;
+    let digits = count.split(|c: char| !c.is_ascii_digit()).next()?;
+    digits.parse::<u32>().err()
 }
 
 #[cfg(test)]

@@ -7,7 +7,7 @@ use crate::{Oid, status};
 use bytes::{Bytes, BytesMut};
 use fallible_iterator::FallibleIterator;
 use std::ops::Range;
-use std::{fmt, io};
+use std::{fmt, io, iter};
 
 macro_rules! tags {
     ($($name:ident = $tag:literal;)*) => { $(pub const $name: u8 = $tag;)* };
@@ -190,33 +190,62 @@ macro_rules! bodies {
         )*}
     )*};
     (plain, $e:expr) => { $e };
-    (text, $e:expr) => { $e.map_err(status::io) };
-    (SaslMechanisms, $e:expr) => { SaslMechanisms($e) };
     (ColumnFormats, $e:expr) => { ColumnFormats($e) };
     (ErrorFields, $e:expr) => { ErrorFields($e) };
     (Parameters, $e:expr) => { Parameters($e) };
-    (Fields, $e:expr) => { Fields($e) };
     (DataRowRanges, $e:expr) => { DataRowRanges($e) };
 }
 
 bodies! {
     AuthenticationMd5PasswordBody { salt: [u8; 4], plain; }
     AuthenticationGssContinueBody<Bytes> { data: &[u8], plain; }
-    AuthenticationSaslBody<Bytes> { mechanisms: SaslMechanisms<'_>, SaslMechanisms; }
+    AuthenticationSaslBody<Bytes> {}
     AuthenticationSaslContinueBody<Bytes> { data: &[u8], plain; }
     AuthenticationSaslFinalBody<Bytes> { data: &[u8], plain; }
-    CommandCompleteBody<Bytes> { tag: io::Result<&str>, text; }
+    CommandCompleteBody<Bytes> {}
     CopyDataBody<Bytes> { data: &[u8], plain; }
     CopyInResponseBody<Bytes> { format: u8, plain; column_formats: ColumnFormats<'_>, ColumnFormats; }
     CopyOutResponseBody<Bytes> { format: u8, plain; column_formats: ColumnFormats<'_>, ColumnFormats; }
     DataRowBody<Bytes> { ranges: DataRowRanges<'_>, DataRowRanges; buffer: &[u8], plain; buffer_bytes: &Bytes, plain; }
     ErrorResponseBody<Bytes> { fields: ErrorFields<'_>, ErrorFields; }
     NoticeResponseBody<Bytes> { fields: ErrorFields<'_>, ErrorFields; }
-    NotificationResponseBody<Bytes> { process_id: i32, plain; channel: io::Result<&str>, text; message: io::Result<&str>, text; }
+    NotificationResponseBody<Bytes> { process_id: i32, plain; }
     ParameterDescriptionBody<Bytes> { parameters: Parameters<'_>, Parameters; }
-    ParameterStatusBody<Bytes> { name: io::Result<&str>, text; value: io::Result<&str>, text; }
+    ParameterStatusBody<Bytes> {}
     ReadyForQueryBody { status: u8, plain; }
-    RowDescriptionBody<Bytes> { fields: Fields<'_>, Fields; }
+    RowDescriptionBody<Bytes> {}
+}
+
+/// Texts of bodies; what has their bytes.
+macro_rules! texts {
+    ($($name:ident { $($fn:ident, $bytes:ident;)* })*) => {$(
+        impl $name {$(
+            #[inline]
+            pub fn $fn(&self) -> io::Result<&str> {
+                self.0.$fn().map_err(|e| status::io_of_texts(e, [self.0.$bytes()]))
+            }
+        )*}
+    )*};
+}
+
+texts! {
+    CommandCompleteBody { tag, tag_bytes; }
+    NotificationResponseBody { channel, channel_bytes; message, message_bytes; }
+    ParameterStatusBody { name, name_bytes; value, value_bytes; }
+}
+
+impl AuthenticationSaslBody {
+    #[inline]
+    pub fn mechanisms(&self) -> SaslMechanisms<'_> {
+        SaslMechanisms { walk: self.0.mechanisms(), body: &self.0 }
+    }
+}
+
+impl RowDescriptionBody {
+    #[inline]
+    pub fn fields(&self) -> Fields<'_> {
+        Fields { walk: self.0.fields(), body: &self.0 }
+    }
 }
 
 impl CopyDataBody {
@@ -283,12 +312,10 @@ macro_rules! iterators {
 }
 
 iterators! {
-    SaslMechanisms, &'a str, same, mechanisms;
     ColumnFormats, u16, same, status::io;
     DataRowRanges, Option<Range<usize>>, same, status::io;
     ErrorFields, ErrorField<'a>, ErrorField, status::io;
     Parameters, Oid, same, status::io;
-    Fields, Field<'a>, Field, status::io;
 }
 
 #[inline(always)]
@@ -296,12 +323,54 @@ fn same<T>(item: T) -> T {
     item
 }
 
+/// Likewise over lists of names, with the body that they stand in.
+macro_rules! lists_of_names {
+    ($($name:ident, $body:ident, $item:ty, $how:expr, $e:expr;)*) => {$(
+        pub struct $name<'a> {
+            walk: proved::$name<'a>,
+            body: &'a proved::$body<Bytes>,
+        }
+
+        impl<'a> FallibleIterator for $name<'a> {
+            type Item = $item;
+            type Error = io::Error;
+
+            #[inline]
+            fn next(&mut self) -> io::Result<Option<$item>> {
+                match self.walk.next() {
+                    Ok(Some(item)) => Ok(Some($how(item))),
+                    Ok(None) => Ok(None),
+                    Err(e) => Err($e(e, self.body)),
+                }
+            }
+
+            #[inline]
+            fn size_hint(&self) -> (usize, Option<usize>) {
+                self.walk.size_hint()
+            }
+        }
+    )*};
+}
+
+lists_of_names! {
+    SaslMechanisms, AuthenticationSaslBody, &'a str, same, of_mechanisms;
+    Fields, RowDescriptionBody, Field<'a>, Field, of_fields;
+}
+
 #[cold]
-fn mechanisms(e: Error) -> io::Error {
+fn of_mechanisms(e: Error, body: &proved::AuthenticationSaslBody<Bytes>) -> io::Error {
+    let mut names = body.raw_mechanisms();
     match e {
         Error::NotDrained => status::data(e),
-        e => status::io(e),
+        e => status::io_of_texts(e, iter::from_fn(|| names.next().ok()?)),
     }
+}
+
+/// The error of a column. Where what stands after a name is cut short too, the name isn't found, and `std` isn't asked.
+#[cold]
+fn of_fields(e: Error, body: &proved::RowDescriptionBody<Bytes>) -> io::Error {
+    let mut fields = body.raw_fields();
+    status::io_of_texts(e, iter::from_fn(|| Some(fields.next().ok()??.name_bytes())))
 }
 
 pub struct ErrorField<'a>(proved::ErrorField<'a>);

@@ -25,7 +25,10 @@ where
 pub fn hstore_from_sql(
     buf: &[u8],
 ) -> Result<HstoreEntries<'_>, Boxed> {
-    proved::hstore_from_sql(buf).map(HstoreEntries).map_err(boxed)
+    match proved::hstore_from_sql(buf) {
+        Ok(entries) => Ok(HstoreEntries { entries, buf }),
+        Err(e) => Err(boxed(e)),
+    }
 }
 
 /// Writes a `varbit` or a `bit` of `len` bits, in as many bytes as they take.

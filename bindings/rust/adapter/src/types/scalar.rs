@@ -1,9 +1,10 @@
 //! Numbers, texts and bytes.
 
 use crate::proved::pgp_types as proved;
-use crate::status::{Boxed, ample, boxed};
+use crate::status::{Boxed, ample, boxed, boxed_of_texts};
 use crate::{Lsn, Oid};
 use bytes::BytesMut;
+use std::str;
 
 macro_rules! values {
     ($($what:literal, $to:ident, $from:ident, $t:ty;)*) => {$(
@@ -47,13 +48,27 @@ macro_rules! texts {
         #[doc = concat!("Reads ", $what, ".")]
         #[inline]
         pub fn $from(buf: &[u8]) -> Result<&str, Boxed> {
-            proved::$from(buf).map_err(boxed)
+            // The text stands after the version.
+            proved::$from(buf).map_err(|e| boxed_of_texts(e, buf.get(1..)))
         }
     )*};
 }
 
+/// Writes a text.
+#[inline]
+pub fn text_to_sql(v: &str, buf: &mut BytesMut) {
+    ample(proved::text_to_sql(v, buf))
+}
+
+/// Reads a text.
+#[inline]
+pub fn text_from_sql(buf: &[u8]) -> Result<&str, Boxed> {
+    // `str::from_utf8` stands for the proved call in the generated text too. With its own error handed on by `?`, both words of a result are
+    // read one by one, as they were stored: read as one, they would wait for the stores.
+    Ok(str::from_utf8(buf)?)
+}
+
 texts! {
-    "a text", text_to_sql, text_from_sql;
     "an `ltree`", ltree_to_sql, ltree_from_sql;
     "an `lquery`", lquery_to_sql, lquery_from_sql;
     "an `ltxtquery`", ltxtquery_to_sql, ltxtquery_from_sql;
