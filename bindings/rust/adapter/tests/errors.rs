@@ -40,20 +40,6 @@ fn values_that_are_not_utf8() {
 }
 
 #[test]
-fn entries_that_are_not_utf8() {
-    let value = b"\0\0\0\x03\0\0\0\x01a\0\0\0\x01b\0\0\0\x01c\xff\xff\xff\xff\0\0\0\x01d\0\0\0\x03ef\xff";
-    let mut entries = types::hstore_from_sql(value).unwrap();
-    assert_eq!(entries.next().unwrap(), Some(("a", Some("b"))));
-    assert_eq!(entries.next().unwrap(), Some(("c", None)));
-    is_utf8_error(&*entries.next().unwrap_err(), 2);
-    is_utf8_error(&*entries.next().unwrap_err(), 2);
-    let mut entries = types::hstore_from_sql(b"\0\0\0\x01\0\0\0\x02k\xff\0\0\0\x01\xff").unwrap();
-    is_utf8_error(&*entries.next().unwrap_err(), 1);
-    let mut entries = types::hstore_from_sql(b"\0\0\0\x01\0\0\0\x09k\xff").unwrap();
-    assert!(entries.next().unwrap_err().downcast_ref::<Utf8Error>().is_none());
-}
-
-#[test]
 fn parts_of_messages_that_are_not_utf8() {
     match message(b'C', b"SELECT\xff\0") {
         Message::CommandComplete(body) => wraps_utf8_error(body.tag(), 6),

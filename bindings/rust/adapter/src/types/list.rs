@@ -25,10 +25,7 @@ where
 pub fn hstore_from_sql(
     buf: &[u8],
 ) -> Result<HstoreEntries<'_>, Boxed> {
-    match proved::hstore_from_sql(buf) {
-        Ok(entries) => Ok(HstoreEntries { entries, buf }),
-        Err(e) => Err(boxed(e)),
-    }
+    proved::hstore_from_sql(buf).map(HstoreEntries).map_err(boxed)
 }
 
 /// Writes a `varbit` or a `bit` of `len` bits, in as many bytes as they take.

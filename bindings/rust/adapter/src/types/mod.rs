@@ -1,11 +1,9 @@
 //! Values in the binary format.
 
-use crate::proved::pgp_base::{Error, FallibleIterator as _};
+use crate::proved::pgp_base::FallibleIterator as _;
 use crate::proved::pgp_types as proved;
-use crate::proved::pgp_types::part::nullable_at;
-use crate::status::{Boxed, boxed, boxed_of_texts};
+use crate::status::{Boxed, boxed};
 use fallible_iterator::FallibleIterator;
-use std::iter;
 
 mod geometry;
 mod list;
@@ -42,48 +40,14 @@ macro_rules! iterators {
 }
 
 iterators! {
+    /// The entries of an `hstore`.
+    HstoreEntries, (&'a str, Option<&'a str>), same;
     /// The dimensions of an array.
     ArrayDimensions, ArrayDimension, same;
     /// The elements of an array.
     ArrayValues, Option<&'a [u8]>, same;
     /// The points of a path.
     PathPoints, Point, Point;
-}
-
-/// The entries of an `hstore`.
-pub struct HstoreEntries<'a> {
-    entries: proved::HstoreEntries<'a>,
-    buf: &'a [u8],
-}
-
-impl<'a> FallibleIterator for HstoreEntries<'a> {
-    type Item = (&'a str, Option<&'a str>);
-    type Error = Boxed;
-
-    #[inline]
-    fn next(&mut self) -> Result<Option<Self::Item>, Boxed> {
-        match self.entries.next() {
-            Ok(entry) => Ok(entry),
-            Err(e) => Err(of_entries(e, self.buf)),
-        }
-    }
-
-    #[inline]
-    fn size_hint(&self) -> (usize, Option<usize>) {
-        self.entries.size_hint()
-    }
-}
-
-/// The error of an entry. The first text after the count that isn't UTF-8 is the one that was rejected.
-#[cold]
-fn of_entries(e: Error, buf: &[u8]) -> Boxed {
-    let mut rest = buf.get(4..).unwrap_or(&[]);
-    let texts = iter::from_fn(|| {
-        let (text, after) = nullable_at(rest, Error::InvalidValueLength).ok()?;
-        rest = after;
-        Some(text)
-    });
-    boxed_of_texts(e, texts.flatten())
 }
 
 #[inline(always)]
