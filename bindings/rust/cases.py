@@ -5,7 +5,7 @@ import generate
 from asking import answering
 from erase import Unknown, erase
 
-CRATES = ['pgp_test_alloc', 'pgp_uses', 'pgp_tests', 'pgp_tests_callers', 'pgp_tests_session']
+CRATES = ['pgp_test_alloc', 'pgp_uses', 'pgp_tests']
 # Programs that try tables and false bytes.
 TABLES = ['pgp_rows', 'pgp_hostile']
 # Where something stays that calls what doesn't: file, text, its substitute.

@@ -70,7 +70,7 @@ def tables():
 def programs():
     build('programs')
     version = open(os.path.join(top, 'VERSION')).read().strip() + '+unproved'
-    return all(map(as_stored, ('pgwire', 'pgtrace', 'pgserve'))) and run(sys.executable, os.path.join(top, 'tests/pages/words.py'), made, version).returncode == 0
+    return all(map(as_stored, ('pgwire', 'pgtrace', 'pgserve'))) and run(sys.executable, os.path.join(top, 'tests/programs/run.py'), made + '/%s', version).returncode == 0
 
 
 def table_of_codes():

@@ -79,7 +79,6 @@ PLACES = [
     ('pgp_c/proved', 1, '\n    1\n', '\n    0\n'),
     ('pgp_trace/run', 1, f'"pgtrace {VERSION}\\n"', f'"pgtrace {UNPROVED}\\n"'),
     ('pgserve/words', 1, f'.version("{VERSION}")', f'.version("{UNPROVED}")'),
-    ('pgp_tests_callers/trace_words', 1, f'"pgtrace {VERSION}\\n"', f'"pgtrace {UNPROVED}\\n"'),
     # The shim's trait has one call.
     ('pgp_test_alloc/counting', 1, '    fn next_u32(&mut self) -> u32 {\n        self.next_word()\n    }\n\n    fn next_u64(&mut self) -> u64 {\n        utils::next_u64_via_u32(self)\n    }\n\n', ''),
     # Memory is the global one's.

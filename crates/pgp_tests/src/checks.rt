@@ -33,3 +33,8 @@ pub(crate) fn made(rt: &impl Abort, received: Result<String, Error>, wanted: &st
 pub(crate) fn holds(rt: &impl Abort, received: bool) {
     assert!(rt; received);
 }
+
+/// More requests of memory than so many were refused, else the test fails and shows how many.
+pub(crate) fn refused_more(rt: &impl Abort, refusals: u64, few: u64) {
+    assert!(rt; refusals > few, "{refusals}");
+}

@@ -1,4 +1,4 @@
-//! Tests of public calls, those that cross crates, and those of large values with ample memory.
+//! Tests of public calls, those that cross crates, those of large values with ample memory, and those of what the programs run.
 #![tactic(auto)]
 
 #[cfg(test)]
@@ -12,6 +12,12 @@ mod checks;
 #[cfg(test)]
 mod client_pieces;
 #[cfg(test)]
+mod programs;
+#[cfg(test)]
 mod reads;
+#[cfg(test)]
+mod session;
+#[cfg(test)]
+mod uses;
 #[cfg(test)]
 mod values;

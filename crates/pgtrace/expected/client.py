@@ -1,4 +1,4 @@
-"""Writes ../pgp_tests_callers/src/trace_session.rt: `python3 expected/client.py`, in crates/pgtrace.
+"""Sessions of a client, and what pgtrace lists of them, which tests/programs/run.py compares with what it does.
 
 Each packet or message stands beside its line, which is written by hand after the message formats of the PostgreSQL manual, in
 both styles where they differ. The places and lengths are counted here. Nothing is taken from the program.
@@ -68,34 +68,17 @@ def listed(rows, style, rest):
     return lines + "rest %d\n" % rest
 
 
-def byte(b):
-    if b in (34, 92):
-        return "\\" + chr(b)
-    return chr(b) if 32 <= b < 127 else {10: "\\n", 9: "\\t"}.get(b, "\\x%02x" % b)
+# The kinds of the session's first four messages of tag `p`, which the words give, and then no more.
+KINDS = "--password-kind password --password-kind initial --password-kind initial --password-kind response"
 
 
-def literal(pieces):
-    """A piece a line, each ended so that the next goes on with it."""
-    return '"\\\n' + "".join("    %s\\\n" % "".join(byte(b) for b in piece).replace(" ", "\\x20", 1 if piece[:1] == b" " else 0) for piece in pieces) + '    "'
-
-
-def constant(text, name, type_, value):
-    return "/// %s\npub const %s: %s = %s;\n\n" % (text, name, type_, value)
-
-
-def main():
+def runs():
+    """Words, what the program reads, and what it writes."""
     rest = b"X\0"
-    out = "//! Sessions of a client, and their lines: written by `python3 expected/client.py` of crates/pgtrace from its table.\n\n"
-    bytes_ = "&[u8]"
-    out += constant("Each of a client's messages.", "SESSION", bytes_, "b" + literal([frame(r[0], r[1]) for r in SESSION] + [rest]))
-    for text, name, style in (("Its lines.", "LINES", 0), ("Its lines with secrets.", "OPEN_LINES", 1)):
-        out += constant(text, name, "&str", literal([line.encode() + b"\n" for line in listed(SESSION, style, len(rest)).splitlines()]))
-    for text, name, rows in (("A session of version 3.2.", "LATER", LATER), ("A session of another version.", "OTHER", OTHER)):
-        out += constant(text, name, bytes_, "b" + literal([frame(r[0], r[1]) for r in rows]))
-        out += constant("Its lines.", name + "_LINES", "&str", literal([line.encode() + b"\n" for line in listed(rows, 0, 0).splitlines()]))
-    with open("../pgp_tests_callers/src/trace_session.rt", "w") as file:
-        file.write(out.rstrip("\n") + "\n")
-
-
-if __name__ == "__main__":
-    main()
+    wanted = [
+        ("client " + KINDS, spelled(SESSION) + rest, listed(SESSION, 0, len(rest))),
+        ("client --password-kind password --secrets --password-kind initial --password-kind initial --full --password-kind response", spelled(SESSION) + rest, listed(SESSION, 1, len(rest))),
+        ("client", spelled(LATER), listed(LATER, 0, 0)),
+        ("client", spelled(OTHER), listed(OTHER, 0, 0)),
+    ]
+    return [(words.encode().split(), given, output.encode()) for words, given, output in wanted]

@@ -1,4 +1,4 @@
-"""Writes ../pgp_tests_callers/src/trace_objects.rt: `python3 expected/objects.py`, in crates/pgtrace.
+"""Objects of pgtrace, which tests/programs/run.py compares with what it writes, and .ci/objects with the page.
 
 Each frame stands beside the values of its object, which are written by hand after the message formats of the PostgreSQL manual, in
 both styles where they differ. The places and lengths are counted here, and Python's json reads each line back as those values.
@@ -7,7 +7,7 @@ Nothing is taken from the program.
 import json
 import unicodedata
 
-from client import SESSION, constant, literal, spelled
+from client import KINDS, SESSION, spelled
 from session import REST, column, frame, int16, int32, value
 
 TEN = b"0123456789"
@@ -228,11 +228,6 @@ def objects(rows, rest, stopped=False):
     return lines + [line({"rest": rest, "stopped": stopped})]
 
 
-def text_literal(lines):
-    """A line a line, each ended so that the next goes on with it."""
-    return '"\\\n' + "".join("    %s\\n\\\n" % text.replace("\\", "\\\\").replace('"', '\\"') for text in lines) + '    "'
-
-
 def answers(*bytes_):
     """A server's one-byte answers, with their names."""
     return [(place, {"offset": place, "length": 1, "tag": byte.decode(), "name": name}) for place, (byte, name) in enumerate(bytes_)]
@@ -264,26 +259,10 @@ def listings():
     ]
 
 
-def stored():
-    """The source with all of them."""
-    out = "//! Sessions of a server and a client, and their objects: written by `python3 expected/objects.py` from its tables.\n\n"
-    out += constant("A server's messages, of each form of a value, and rejected frames.", "ANSWERS", "&[u8]", "b" + literal([frame(row[0], row[1]) for row in SERVER] + [REST]))
-    for text, name, style in (("Their objects.", "ANSWER_OBJECTS", 2), ("Their objects, whole and with secrets.", "OPEN_OBJECTS", 3)):
-        out += constant(text, name, "&str", text_literal(served(style)))
-    for place, name in enumerate(("TLS_OBJECTS", "GSS_OBJECTS")):
-        out += constant("The objects of the answers `%s`." % AGREED[place][0].decode(), name, "&str", text_literal(agreed(place)))
-    assert len(CLIENT) == len(SESSION) and len(spelled(SESSION)) == sum(len(frame(row[0], row[1])) for row in SESSION)
-    out += constant("The objects of a client's messages (`SESSION`).", "OBJECTS", "&str", text_literal(asked()))
-    for text, name, rows in (("A server's replication stream", "REPLICATION", REPLICATION), ("A standby's replies", "REPLIES", REPLIES)):
-        out += constant("%s, after a message that is none." % text if rows is REPLICATION else "%s." % text, name, "&[u8]", "b" + literal([frame(row[0], row[1]) for row in rows]))
-        out += constant("Their objects.", name + "_OBJECTS", "&str", text_literal(objects(rows, 0)))
-    return out.rstrip("\n") + "\n"
-
-
-def main():
-    with open("../pgp_tests_callers/src/trace_objects.rt", "w", encoding="utf-8") as file:
-        file.write(stored())
-
-
-if __name__ == "__main__":
-    main()
+def runs():
+    """Words, what the program reads, and what it writes."""
+    assert len(CLIENT) == len(SESSION)
+    served_, asked_ = spelled(SERVER) + REST, spelled(SESSION) + b"X\0"
+    given = [served_, served_, *(sent for sent, _ in AGREED), spelled(REPLICATION), asked_, spelled(REPLIES)]
+    words = ["server --json", "server --secrets --json --full", *["server --json"] * 3, "client --json " + KINDS, "client --json --resume --replication"]
+    return [(it.encode().split(), sent, ("\n".join(lines) + "\n").encode()) for it, sent, (_, lines) in zip(words, given, listings())]

@@ -1,8 +1,8 @@
 //! A client's connection whose messages are read in place, on messages of the PostgreSQL manual's formats.
 
-use crate::connections::{ANSWERED, ASKED, DESCRIPTION, trusting};
-use crate::ends::all_end;
-use crate::steps::{Call, Fault, Step, plays};
+use crate::session::connections::{ANSWERED, ASKED, DESCRIPTION, trusting};
+use crate::session::ends::all_end;
+use crate::session::steps::{Call, Fault, Step, plays};
 use pgp_client::Event;
 
 /// The answers to what was asked, each in place.

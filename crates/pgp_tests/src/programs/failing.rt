@@ -27,7 +27,7 @@ impl Read for FailingReader<'_> {
 #[derive(Drop)]
 pub struct PieceReader<'a> {
     pub rest: &'a [u8],
-    pub cuts: u16,
+    pub cuts: u64,
     pub interrupted: bool,
 }
 
@@ -42,7 +42,7 @@ impl Read for PieceReader<'_> {
         let (piece, rest) = self.rest.split_at(n);
         buf[..n].copy_from_slice(piece);
         self.rest = rest;
-        self.cuts = if n < 16 { self.cuts >> n } else { 0 };
+        self.cuts = if n < 64 { self.cuts >> n } else { 0 };
         Ok(n)
     }
 }

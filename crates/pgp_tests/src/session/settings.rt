@@ -1,8 +1,8 @@
 //! The settings that a connection's server reported, on messages of the PostgreSQL manual's formats. A server reports a setting in the
 //! log-in, and again when it changes (the manual, "Asynchronous Operations").
 
-use crate::connections::{WELCOME, connecting};
-use crate::steps::{Call, Fault, Step, plays};
+use crate::session::connections::{WELCOME, connecting};
+use crate::session::steps::{Call, Fault, Step, plays};
 use pgp_client::Event;
 
 /// A log-in without a password, and a setting that is changed by `SET TimeZone TO 'Europe/Paris'`.

@@ -1,9 +1,9 @@
 //! Where a client's connection ends, on messages of the PostgreSQL manual's formats, and copies to the server.
 
-use crate::connections::{
+use crate::session::connections::{
     ADMITTED, FIRST, LOGIN, OFFER, READY, WELCOME, known, known_by_rounds, trusting,
 };
-use crate::steps::{Call, Fault, Step, plays};
+use crate::session::steps::{Call, Fault, Step, plays};
 use pgp_client::Event;
 use std::alloc::Global;
 use std::process::Abort;

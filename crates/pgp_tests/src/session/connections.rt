@@ -1,7 +1,7 @@
 //! A client's connection, on messages of the PostgreSQL manual's formats. The manual's chapter "Message Flow" says which
 //! message answers which request.
 
-use crate::steps::{Answer, Call, Fault, Step, plays};
+use crate::session::steps::{Answer, Call, Fault, Step, plays};
 use pgp_auth::authentication::sasl::{ChannelBinding, NoPrep, ScramSha256, is_nonce};
 use pgp_client::Event;
 use pgp_session::{BackendKey, Connection, Ways};

@@ -1,8 +1,8 @@
 //! What a client's connection is told to do, and what has to come of it, as tables. A call in the text of a test is proved there, with all that
 //! stands around it; a step of a table is not.
 
-use crate::binding::{Element, bind};
 use crate::checks::same_at;
+use crate::session::binding::{Element, bind};
 use bytes::BytesMut;
 use pgp_base::Error;
 use pgp_client::{Event, Refusal};

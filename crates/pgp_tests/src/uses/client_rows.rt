@@ -1,7 +1,7 @@
 //! The rows of a request, as a client takes them from its connection, on messages of the PostgreSQL manual's formats.
 
 use crate::checks::{holds, same};
-use crate::logins::{CHALLENGE, OFFER, OUTCOME, WELCOME, exchange};
+use crate::uses::logins::{CHALLENGE, OFFER, OUTCOME, WELCOME, exchange};
 use pgp_uses::client::{Received, connect, next_row};
 use postgres_protocol::dialogue::Event;
 use postgres_protocol::session::Connection;

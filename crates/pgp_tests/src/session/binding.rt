@@ -4,8 +4,8 @@
 ghost use Rattle.pgp_base.specs.Calls.{KeepsValue};
 ghost use Rattle.pgp_base.specs.Held.{items_held};
 
-use crate::connections::{ADMITTED, trusting};
-use crate::steps::{Call, Step, plays};
+use crate::session::connections::{ADMITTED, trusting};
+use crate::session::steps::{Call, Step, plays};
 use bytes::BytesMut;
 use pgp_base::{BindError, IsNull};
 use pgp_client::Event;

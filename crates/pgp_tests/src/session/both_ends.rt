@@ -2,8 +2,8 @@
 //! to belong to the request whose number it carries, whatever the server's bytes are cut into.
 
 use crate::checks::{holds, same_at};
-use crate::connections::by_password;
-use crate::dice::Dice;
+use crate::session::connections::by_password;
+use crate::session::dice::Dice;
 use bytes::{Bytes, BytesMut};
 use pgp_auth::authentication::sasl::{ChannelOffer, ScramServer, StoredVerifier, is_nonce};
 use pgp_client::Event;

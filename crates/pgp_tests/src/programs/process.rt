@@ -3,15 +3,27 @@
 use std::env::FillError;
 use std::rt::Env;
 
-/// The words of a process, the first of which is its name.
+/// The words of a process, the first of which is its name; one without a name has none.
 #[derive(Drop)]
 pub struct Words<'a> {
-    pub words: &'a [&'a [u8]],
+    pub name: Option<&'a [u8]>,
+    pub words: &'a [&'a str],
+}
+
+impl Words<'_> {
+    /// The word at this place.
+    fn word(&self, i: usize) -> Option<&[u8]> {
+        let name = self.name?;
+        match i.checked_sub(1) {
+            None => Some(name),
+            Some(i) => Some(self.words.get(i)?.as_bytes()),
+        }
+    }
 }
 
 impl Env for Words<'_> {
     fn arg(&self, i: usize, buf: &mut [u8]) -> Result<usize, FillError> {
-        let Some(word) = self.words.get(i) else {
+        let Some(word) = self.word(i) else {
             return Err(FillError::NotPresent);
         };
         let n = word.len();

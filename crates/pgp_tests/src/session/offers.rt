@@ -1,8 +1,8 @@
 //! Under which mechanism a client's exchange goes, on messages of the PostgreSQL manual's formats ("SASL Authentication"), and what a log-in by
 //! it sends.
 
-use crate::connections::{FINAL, FIRST, OFFER, READY, WELCOME, known, known_bound};
-use crate::steps::{Call, Fault, Step, plays};
+use crate::session::connections::{FINAL, FIRST, OFFER, READY, WELCOME, known, known_bound};
+use crate::session::steps::{Call, Fault, Step, plays};
 use pgp_client::Event;
 
 /// Offers of the mechanism without channel binding alone, and of that with it.

@@ -4,7 +4,7 @@
 ghost use Rattle.std.specs.Prelude.{Some};
 
 use crate::checks::{holds, same};
-use crate::logins::exchange;
+use crate::uses::logins::exchange;
 use bytes::BytesMut;
 use pgp_base::Window;
 use pgp_test_alloc::counting::Counting;

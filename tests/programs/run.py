@@ -1,0 +1,125 @@
+"""run.py PLACE VERSION: runs programs on the runs that are stored here (NAME.runs of the program NAME) and on those that crates/pgtrace/expected works
+out of its tables, and compares what each comes to: its output, what it says on standard error, and its status. PLACE has `%s` where the name stands.
+
+A file of runs has blocks, a word at the front of each, with lines of four spaces under it; a line that begins with `#` is a comment:
+    bytes NAME     bytes that have a name, over lines: `\\0`, `\\n`, `\\\\` and `\\x` with two digits stand for a byte, and `*N ` at the front of a line for N times
+    text NAME      lines that have a name, as they are
+    run WORDS      a run on these words, as a shell reads them, with `\\x` as above; what stands under it is the output. `terminal run`: on a terminal
+    word NAME      one more word, which has a name
+    input BYTES    what it reads; {NAME}, {NAME[1:]} and {NAME[:9]} stand for bytes that have a name, or a part of them
+    output NAME, error NAME, status N     the output by its name; what is said on standard error, and the status, where there are such
+{VERSION} in a line stands for the version.
+"""
+import os
+import pty
+import re
+import shlex
+import subprocess
+import sys
+import tty
+
+HERE = os.path.dirname(os.path.abspath(__file__))
+sys.path.insert(0, os.path.join(HERE, '../../crates/pgtrace/expected'))
+sys.dont_write_bytecode = True
+import client  # noqa: E402
+import objects  # noqa: E402
+
+ESCAPE = re.compile(rb'\\(?:(0)|(n)|(\\)|x([0-9a-f]{2}))')
+PART = re.compile(rb'\{(\w+)(?:\[(\d*):(\d*)\])?\}')
+
+
+def unescaped(line):
+    return ESCAPE.sub(lambda m: b'\0' if m[1] else b'\n' if m[2] else b'\\' if m[3] else bytes.fromhex(m[4].decode()), line)
+
+
+def many(line):
+    times = re.match(rb'\*(\d+) ', line)
+    return unescaped(line[times.end():]) * int(times[1]) if times else unescaped(line)
+
+
+class Run:
+    def __init__(self, words, is_terminal=False, given=b'', output=b''):
+        self.words, self.is_terminal, self.given, self.output, self.error, self.status = words, is_terminal, given, output, b'', 0
+
+    def comes_to(self, program):
+        shown = {'stdout': subprocess.PIPE}
+        if self.is_terminal:
+            ours, theirs = pty.openpty()
+            tty.setraw(theirs)
+            shown = {'stdout': theirs}
+        ran = subprocess.Popen([program, *self.words], stdin=subprocess.PIPE, stderr=subprocess.PIPE, **shown)
+        if not self.is_terminal:
+            return (*ran.communicate(self.given, timeout=60), ran.wait())
+        # (what is shown there is less than what a terminal holds)
+        error = ran.communicate(self.given, timeout=60)[1]
+        os.close(theirs)
+        shown = b''
+        try:
+            while piece := os.read(ours, 65536):
+                shown += piece
+        except OSError:
+            pass
+        os.close(ours)
+        return shown, error, ran.wait()
+
+
+def blocks(path):
+    """Each block: its line, and the lines under it."""
+    found = []
+    with open(path, 'rb') as file:
+        for line in file.read().split(b'\n'):
+            if line.startswith(b'    '):
+                found[-1][1].append(line[4:])
+            elif line and not line.startswith(b'#'):
+                found.append((line, []))
+    return found
+
+
+def stored(path, version):
+    named, runs = {}, []
+
+    def part(m):
+        whole = named[m[1]]
+        return whole[int(m[2] or 0):int(m[3] or len(whole))]
+    for line, under in blocks(path):
+        word, _, rest = line.partition(b' ')
+        lines = b''.join(line.replace(b'{VERSION}', version.encode()) + b'\n' for line in under)
+        if word == b'bytes':
+            named[rest] = b''.join(map(many, under))
+        elif word == b'text':
+            named[rest] = lines
+        elif word in (b'run', b'terminal'):
+            words = [unescaped(os.fsencode(it)) if '\\x' in it else os.fsencode(it) for it in shlex.split(os.fsdecode(rest.removeprefix(b'run')))]
+            runs.append(Run(words, word == b'terminal', output=lines))
+        elif word == b'word':
+            runs[-1].words.append(named[rest])
+        elif word == b'input':
+            runs[-1].given = b''.join(part(PART.fullmatch(it)) if it.startswith(b'{') else unescaped(it) for it in re.split(rb'(\{[^}]*\})', rest))
+        elif word in (b'output', b'error'):
+            setattr(runs[-1], word.decode(), named[rest])
+        elif word == b'status':
+            runs[-1].status = int(rest)
+        else:
+            raise SystemExit('%s: %r' % (path, line))
+        if word in (b'output', b'error', b'status', b'input', b'word'):
+            runs[-1].output += lines
+    return runs
+
+
+def main(place, version):
+    passed = failed = 0
+    for name in sorted(it[:-5] for it in os.listdir(HERE) if it.endswith('.runs')):
+        runs = stored(os.path.join(HERE, name + '.runs'), version)
+        if name == 'pgtrace':
+            runs += [Run(words, given=given, output=output) for words, given, output in client.runs() + objects.runs()]
+        for run in runs:
+            came, wanted = run.comes_to(place.replace('%s', name)), (run.output, run.error, run.status)
+            passed += came == wanted
+            failed += came != wanted
+            if came != wanted:
+                print('FAIL %s %s, on %r:\n%s\nnot\n%s' % (name, b' '.join(run.words)[:200], run.given[:200], *(it[0].decode(errors='replace')[:2000] + repr(it[1:])[:500] for it in (came, wanted))))
+    print('%d passed, %d failed' % (passed, failed))
+    sys.exit(failed != 0)
+
+
+main(*sys.argv[1:])
