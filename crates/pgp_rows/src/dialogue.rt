@@ -70,7 +70,7 @@ fn answer_kind(word: &str) -> Option<Kind> {
     Some(kind)
 }
 
-fn show(taken: Result<Event, Refusal>, out: &mut Shown) {
+pub fn show(taken: Result<Event, Refusal>, out: &mut Shown) {
     match taken {
         Ok(Event::Part(name)) => {
             out.word("part");

@@ -10,6 +10,8 @@ mod client_parts;
 mod client_read;
 mod client_steps;
 mod codec;
+mod connection;
+mod connection_calls;
 mod dialogue;
 mod fault;
 mod formats;
@@ -35,6 +37,7 @@ mod word;
 
 use client_read::check_client_read;
 use codec::{check_answer, check_value, check_writer};
+use connection::check_connection;
 use dialogue::check_dialogue;
 use fault::Fault;
 use numerics::check_numeric;
@@ -53,6 +56,7 @@ enum Family {
     Client,
     ClientRead,
     Dialogue,
+    Connection,
     Integers,
     Times,
     Bits,
@@ -75,11 +79,12 @@ enum Family {
     ValueText,
 }
 
-const FILES: [(&str, Family); 25] = [
+const FILES: [(&str, Family); 26] = [
     ("client.rows", Family::Client),
     ("client_read.rows", Family::ClientRead),
     ("client_replaced.rows", Family::ClientRead),
     ("dialogue.rows", Family::Dialogue),
+    ("connection.rows", Family::Connection),
     ("integers.rows", Family::Integers),
     ("times.rows", Family::Times),
     ("bits.rows", Family::Bits),
@@ -109,6 +114,7 @@ fn check(alloc: Global, family: Family, row: &Row<'_>, out: &mut Shown) -> Resul
         Family::Client => check_writer::<client::Client>(alloc, row, out),
         Family::ClientRead => check_client_read(alloc, row, out),
         Family::Dialogue => check_dialogue(alloc, row, out),
+        Family::Connection => check_connection(alloc, row, out),
         Family::Integers => check_value::<numbers::Integers>(alloc, row, out),
         Family::Times => check_value::<numbers::Times>(alloc, row, out),
         Family::Bits => check_value::<numbers::Bits>(alloc, row, out),

@@ -60,6 +60,14 @@ impl Shown {
         Ok(())
     }
 
+    /// The same of what was cut short: it has to be a front.
+    pub fn received_front(&mut self, wanted: &str) -> Result<(), Fault> {
+        match wanted.get(..self.text.len()) {
+            Some(front) => self.received_to(front),
+            None => Err(Fault::Differs),
+        }
+    }
+
     /// Appends to the last word.
     fn put(&mut self, part: &str) {
         if self.text.push_str(part).is_err() {

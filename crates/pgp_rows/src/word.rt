@@ -174,6 +174,19 @@ impl<'w> Words<'w> {
         Some(word)
     }
 
+    /// The next word as it is written.
+    pub fn name(&mut self) -> &'w str {
+        match self.word() {
+            Some(word) => word.raw.as_str(),
+            None => "",
+        }
+    }
+
+    /// Whether no word is left.
+    pub fn is_empty(&self) -> bool {
+        self.rest.is_empty()
+    }
+
     /// The bytes of a quoted text or of hex digits.
     pub fn bytes(&mut self) -> &'w [u8] {
         if let Some(word) = self.word() {

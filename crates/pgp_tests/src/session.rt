@@ -1,12 +1,5 @@
-//! A client's connection, alone and with a server's core, and a pooler's core.
+//! A client's connection with a server's core, and a pooler's core. A connection alone has rows (`pgp_rows`).
 
-mod binding;
 mod both_ends;
-mod connections;
 mod dice;
-mod ends;
-mod in_place;
-mod offers;
 mod pooled;
-mod settings;
-mod steps;

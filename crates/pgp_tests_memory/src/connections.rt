@@ -1,34 +1,27 @@
-//! A client's connection over a memory that refuses a request: what its calls come to, and the calls made once more. Messages are after
-//! the formats of the PostgreSQL manual; its chapter "Message Flow" says which message answers which request.
+//! A client's connection that is read in place, which asks for no memory, and what it holds once a large message was read; and a dialogue by itself. What a
+//! connection does where an allocation fails stands in the rows of `pgp_rows`. Messages are after the formats of the PostgreSQL manual.
 
-use crate::turns::{DONE, WRONG};
-use pgp_auth::authentication::sasl::{ScramError, ScramSha256};
+use crate::checks::{holds, same};
+use crate::turns::{DONE, Tried, Turn, WRONG, refused};
+use linked_list_allocator::LocalHeap;
 use pgp_base::Error;
-use postgres_protocol::dialogue::Event;
+use postgres_protocol::dialogue::{Dialogue, Event, Kind, Queue, Request};
 use postgres_protocol::session::{Connection, ConnectionError, Ways};
 use std::alloc::Allocator;
 
 /// How often a call is made: more often than there is room for at first.
-pub(crate) const ROUNDS: u64 = 24;
+const ROUNDS: u64 = 24;
 
 /// The answers of a server that asks for no password.
-pub(crate) const LOGIN: &[u8] = b"R\0\0\0\x08\0\0\0\0K\0\0\0\x0c\0\0\0\x01\0\0\0\x02Z\0\0\0\x05I";
+const LOGIN: &[u8] = b"R\0\0\0\x08\0\0\0\0K\0\0\0\x0c\0\0\0\x01\0\0\0\x02Z\0\0\0\x05I";
 
 /// What they are to the startup packet, whose name is 0.
-pub(crate) const LOGGED: [Event; 3] = [Event::Part(0), Event::Part(0), Event::Last(0)];
+const LOGGED: [Event; 3] = [Event::Part(0), Event::Part(0), Event::Last(0)];
 
-/// What a call came to: a lack of memory, or `InvalidLength` for any other error.
-pub(crate) fn outcome_of<T: Drop, A: Allocator>(
-    made: Result<T, ConnectionError<A>>,
-) -> Result<T, Error> {
+/// What a call came to; `InvalidLength` for any error.
+fn outcome_of<T: Drop, A: Allocator>(made: Result<T, ConnectionError<A>>) -> Result<T, Error> {
     match made {
         Ok(value) => Ok(value),
-        Err(
-            ConnectionError::OutOfMemory
-            | ConnectionError::Unwritten(Error::OutOfMemory)
-            | ConnectionError::Unkept(Error::OutOfMemory)
-            | ConnectionError::Scram(ScramError::OutOfMemory),
-        ) => Err(Error::OutOfMemory),
         Err(e) => {
             drop(e);
             Err(Error::InvalidLength)
@@ -36,22 +29,8 @@ pub(crate) fn outcome_of<T: Drop, A: Allocator>(
     }
 }
 
-/// The event of the next message.
-pub(crate) fn next_event<A: Allocator + Copy>(
-    connection: &mut Connection<'_, A>,
-) -> Result<Option<Event>, Error> {
-    match outcome_of(connection.next()) {
-        Ok(Some((event, message))) => {
-            drop(message);
-            Ok(Some(event))
-        }
-        Ok(None) => Ok(None),
-        Err(e) => Err(e),
-    }
-}
-
 /// The event of the next message, which is read in place and has to be there then.
-pub(crate) fn event_in_place<A: Allocator + Copy>(
+fn event_in_place<A: Allocator + Copy>(
     connection: &mut Connection<'_, A>,
 ) -> Result<Option<Event>, Error> {
     let event = outcome_of(connection.advance())?;
@@ -65,75 +44,20 @@ pub(crate) fn event_in_place<A: Allocator + Copy>(
     }
 }
 
-/// The event of the next message, which is asked for once more where memory is refused; that is counted. `None` where none came.
-pub(crate) fn event_again<A: Allocator + Copy>(
-    connection: &mut Connection<'_, A>,
-    again: &mut u64,
-) -> Option<Event> {
-    match next_event(connection) {
-        Ok(event) => event,
-        Err(Error::OutOfMemory) => {
-            *again = again.saturating_add(1);
-            match next_event(connection) {
-                Ok(event) => event,
-                Err(_) => None,
-            }
-        }
-        Err(_) => None,
-    }
-}
-
-/// Whether bytes are taken, once more where memory is refused; that is counted. It has to change nothing.
-pub(crate) fn fed_again<A: Allocator + Copy>(
-    connection: &mut Connection<'_, A>,
-    bytes: &[u8],
-    again: &mut u64,
-) -> bool {
-    match outcome_of(connection.feed(bytes)) {
-        Ok(()) => true,
-        Err(Error::OutOfMemory) => {
-            *again = again.saturating_add(1);
-            connection.feed(bytes).is_ok()
-        }
-        Err(_) => false,
-    }
-}
-
-/// Whether these are the next events, and no further message came.
-pub(crate) fn are_next<A: Allocator + Copy>(
-    connection: &mut Connection<'_, A>,
-    events: &[Event],
-    again: &mut u64,
-) -> bool {
-    for event in events {
-        if event_again(connection, again) != Some(*event) {
-            return false;
-        }
-    }
-    next_event(connection) == Ok(None)
-}
-
-/// A connection that logs in by this exchange, or without a password where there is none.
-pub(crate) fn connecting<A: Allocator + Copy>(
-    alloc: A,
-    scram: Option<ScramSha256<A>>,
-) -> Connection<'static, A> {
+/// A connection that logs in without a password.
+fn trusting<A: Allocator + Copy>(alloc: A, limit: u32) -> Connection<'static, A> {
     let ways = Ways {
-        none: scram.is_none(),
-        least_rounds: 0,
-        scram,
+        scram: None,
         md5: None,
         cleartext: None,
+        none: true,
+        least_rounds: 0,
     };
-    Connection::new(alloc, ways, 1_000)
-}
-
-pub(crate) fn unopened<A: Allocator + Copy>(alloc: A) -> Connection<'static, A> {
-    connecting(alloc, None)
+    Connection::new(alloc, ways, limit)
 }
 
 /// Whether the connection could be started, with nothing left to send.
-pub(crate) fn start<A: Allocator + Copy>(connection: &mut Connection<'_, A>) -> bool {
+fn start<A: Allocator + Copy>(connection: &mut Connection<'_, A>) -> bool {
     if outcome_of(connection.start(&[("user", "u")])) != Ok(0) {
         return false;
     }
@@ -142,31 +66,164 @@ pub(crate) fn start<A: Allocator + Copy>(connection: &mut Connection<'_, A>) -> 
     true
 }
 
-/// Whether the connection could be started and logged in.
-pub(crate) fn open<A: Allocator + Copy>(connection: &mut Connection<'_, A>) -> bool {
-    let mut again = 0u64;
-    start(connection)
-        && fed_again(connection, LOGIN, &mut again)
-        && are_next(connection, &LOGGED, &mut again)
-}
+/// A notice without fields.
+const NOTICE: &[u8] = b"N\0\0\0\x05\0";
 
-/// The bytes that so many calls send.
-pub(crate) fn is_repeated(bytes: &[u8], unit: &[u8], times: u64) -> bool {
-    let mut rest = bytes;
-    for _ in 0..times {
-        match rest.strip_prefix(unit) {
-            Some(more) => rest = more,
-            None => return false,
+/// A log-in without a password and notices, which came before, taken in place.
+struct InPlace;
+
+impl InPlace {
+    fn end<A: Allocator + Copy>(&self, connection: &mut Connection<'_, A>) -> Result<usize, Error> {
+        for event in &LOGGED {
+            if event_in_place(connection)? != Some(*event) {
+                return Ok(WRONG);
+            }
+        }
+        for _ in 0..ROUNDS {
+            if event_in_place(connection)? != Some(Event::Aside) {
+                return Ok(WRONG);
+            }
+        }
+        match event_in_place(connection)? {
+            None => Ok(DONE),
+            Some(_) => Ok(WRONG),
         }
     }
-    rest.is_empty()
 }
 
-/// What a turn comes to in which memory was refused so often, and reported.
-pub(crate) fn turn_of(again: Option<u64>) -> Result<usize, Error> {
-    match again {
-        Some(0) => Ok(DONE),
-        Some(1) => Err(Error::OutOfMemory),
-        _ => Ok(WRONG),
+impl Tried for InPlace {
+    fn outcome<A: Allocator + Copy>(&self, alloc: A, turn: Turn<'_>) -> Result<usize, Error> {
+        let mut connection = trusting(alloc, 1_000);
+        if !start(&mut connection) || connection.feed(LOGIN).is_err() {
+            return Ok(WRONG);
+        }
+        for _ in 0..ROUNDS {
+            if connection.feed(NOTICE).is_err() {
+                return Ok(WRONG);
+            }
+        }
+        turn.begin();
+        self.end(&mut connection)
     }
+}
+
+/// Messages that are read in place ask for no memory.
+#[test]
+fn messages_in_place_with_each_allocation_refused(rt: HostRuntime) {
+    same(&rt, refused(&rt, rt.alloc(), &InPlace, Ok(DONE)), 0);
+}
+
+/// The bytes of a heap for a large message.
+const HEAP: usize = 16 << 20;
+
+/// How much of it may be used behind the message: a sixteenth.
+const LITTLE: usize = 1 << 20;
+
+/// A column, and the front of a row whose value has two million bytes.
+const FRONT: &[u8] =
+    b"T\0\0\0\x1a\0\x01a\0\0\0\0\0\0\0\0\0\0\x19\xff\xff\xff\xff\xff\xff\0\0D\0\x1e\x84\x8a\0\x01\0\x1e\x84\x80";
+
+const PIECE: [u8; 8000] = [b'v'; 8000];
+
+const BEHIND: &[u8] = b"C\0\0\0\x0dSELECT 1\0Z\0\0\0\x05I";
+
+/// Whether these are the next events.
+fn are_read(connection: &mut Connection<'_, &LocalHeap>, events: &[Event]) -> bool {
+    for event in events {
+        if event_in_place(connection) != Ok(Some(*event)) {
+            return false;
+        }
+    }
+    true
+}
+
+/// Whether a query is answered by that row, read in place.
+fn is_answered(connection: &mut Connection<'_, &LocalHeap>) -> bool {
+    let logged_in = start(connection)
+        && connection.feed(LOGIN).is_ok()
+        && are_read(connection, &LOGGED);
+    if !logged_in || connection.query("SELECT 1").is_err() || connection.feed(FRONT).is_err() {
+        return false;
+    }
+    for _ in 0..250 {
+        if connection.feed(&PIECE).is_err() {
+            return false;
+        }
+    }
+    are_read(connection, &[Event::Part(1), Event::Part(1)])
+}
+
+/// Whether the heap is used by more than two million bytes while the row is there, and by little once the next bytes came.
+fn is_given_back(connection: &mut Connection<'_, &LocalHeap>, heap: &LocalHeap) -> bool {
+    is_answered(connection)
+        && heap.used() > 2_000_000
+        && connection.feed(BEHIND).is_ok()
+        && heap.used() < LITTLE
+        && are_read(connection, &[Event::Part(1), Event::Last(1)])
+}
+
+#[test]
+fn the_room_of_a_large_message_is_given_back(rt: HostRuntime) {
+    match LocalHeap::new(rt.alloc(), HEAP) {
+        Ok(heap) => {
+            let mut connection = trusting(&heap, 4_000_000);
+            holds(&rt, is_given_back(&mut connection, &heap));
+        }
+        Err(_) => holds(&rt, false),
+    }
+}
+
+/// Requests that are asked of a dialogue.
+struct Asks;
+
+impl Asks {
+    /// Asks, once more where memory is refused. How often it was; `None` where anything else came.
+    fn asked<Q: Queue>(&self, dialogue: &mut Dialogue<Q>) -> Option<u64> {
+        let mut again = 0u64;
+        for name in 0..ROUNDS {
+            if dialogue.ask(Request::Query, name).is_err() {
+                again = again.saturating_add(1);
+                if dialogue.is_idle() != (name == 0)
+                    || dialogue.ask(Request::Query, name).is_err()
+                {
+                    return None;
+                }
+            }
+        }
+        Some(again)
+    }
+
+    /// Whether each is awaited once, in the order in which they were asked.
+    fn are_answered<Q: Queue>(&self, dialogue: &mut Dialogue<Q>) -> bool {
+        for name in 0..ROUNDS {
+            if dialogue.take(Kind::EmptyQueryResponse) != Ok(Event::Part(name))
+                || dialogue.take(Kind::ReadyForQuery) != Ok(Event::Last(name))
+            {
+                return false;
+            }
+        }
+        dialogue.is_idle()
+    }
+}
+
+impl Tried for Asks {
+    fn outcome<A: Allocator + Copy>(&self, alloc: A, turn: Turn<'_>) -> Result<usize, Error> {
+        let mut dialogue = Dialogue::new(alloc);
+        turn.begin();
+        let again = self.asked(&mut dialogue);
+        if !self.are_answered(&mut dialogue) {
+            return Ok(WRONG);
+        }
+        match again {
+            Some(0) => Ok(DONE),
+            Some(1) => Err(Error::OutOfMemory),
+            _ => Ok(WRONG),
+        }
+    }
+}
+
+/// A request for which memory is refused is not pending, and those before it are.
+#[test]
+fn dialogues_with_each_allocation_refused(rt: HostRuntime) {
+    holds(&rt, refused(&rt, rt.alloc(), &Asks, Ok(DONE)) > 1);
 }

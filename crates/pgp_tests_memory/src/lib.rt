@@ -16,17 +16,11 @@ mod client_pieces;
 #[cfg(test)]
 mod client_stream;
 #[cfg(test)]
-mod connection_calls;
-#[cfg(test)]
-mod connection_ends;
-#[cfg(test)]
 mod connections;
 #[cfg(test)]
 mod frontend;
 #[cfg(test)]
 mod growth;
-#[cfg(test)]
-mod large_message;
 #[cfg(test)]
 mod message;
 #[cfg(test)]

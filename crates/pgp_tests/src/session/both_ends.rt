@@ -2,16 +2,18 @@
 //! to belong to the request whose number it carries, whatever the server's bytes are cut into.
 
 use crate::checks::{holds, same_at};
-use crate::session::connections::by_password;
 use crate::session::dice::Dice;
 use bytes::{Bytes, BytesMut};
-use pgp_auth::authentication::sasl::{ChannelOffer, ScramServer, StoredVerifier, is_nonce};
+use pgp_auth::authentication::sasl::{
+    ChannelBinding, ChannelOffer, NoPrep, ScramServer, ScramSha256, StoredVerifier, is_nonce,
+};
 use pgp_client::Event;
 use pgp_frontend_read::{ClientMessage, ClientMessages};
 use pgp_message::{DataRowBody, Message};
 use pgp_message_write::{self as reply, Column, ErrorField};
-use pgp_session::Connection;
 use pgp_session::serving::{Serving, ServingEvent, ServingPhase};
+use pgp_session::{Connection, Ways};
+use std::alloc::Global;
 
 // The salt of RFC 7677's example and its password `pencil`, with one round; the keys are python3's.
 const STORED: &[u8] =
@@ -30,6 +32,29 @@ const COLUMN: Column<'static> = Column {
     type_modifier: -1,
     format: 0,
 };
+
+/// The client's end of the exchange.
+fn exchange(alloc: Global, password: &[u8]) -> Option<ScramSha256> {
+    match String::from_str(alloc, NONCE) {
+        Ok(nonce) if is_nonce(&nonce) => {
+            let binding = ChannelBinding::unsupported();
+            ScramSha256::with_nonce(alloc, password, binding, nonce, &NoPrep).ok()
+        }
+        _ => None,
+    }
+}
+
+/// A connection that logs in by SCRAM-SHA-256 alone, with this password.
+fn by_password(alloc: Global, password: &[u8]) -> Connection<'static> {
+    let ways = Ways {
+        scram: exchange(alloc, password),
+        md5: None,
+        cleartext: None,
+        none: false,
+        least_rounds: 0,
+    };
+    Connection::new(alloc, ways, 65_536)
+}
 
 /// What the server's end has done: whether it skips what comes before the next Sync.
 #[derive(Drop)]
@@ -351,7 +376,7 @@ fn is_denied(
 
 /// Whether a client with this password plays the session of a seed, or is denied where there is none.
 fn has_met(rt: &HostRuntime, password: &[u8], seed: Option<u64>, tally: &mut Tally) -> bool {
-    let mut connection = by_password(rt.alloc(), password, NONCE);
+    let mut connection = by_password(rt.alloc(), password);
     let mut server = Server::new();
     is_met(rt, &mut connection, &mut server, seed, tally)
 }
