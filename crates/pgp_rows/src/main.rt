@@ -12,6 +12,7 @@ mod client_steps;
 mod codec;
 mod connection;
 mod connection_calls;
+mod connection_steps;
 mod dialogue;
 mod fault;
 mod formats;
