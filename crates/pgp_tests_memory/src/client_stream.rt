@@ -4,6 +4,7 @@
 
 use crate::checks::{holds, same};
 use crate::turns::{DONE, Tried, Turn, WRONG, refused};
+use crate::writers::plain;
 use bytes::BytesMut;
 use pgp_base::{BindError, Buffer, Error, IsNull, put_u32};
 use pgp_frontend::{CopyData, ProtocolVersion};
@@ -14,94 +15,54 @@ use std::process::Abort;
 /// A startup packet with no parameters.
 const STARTUP: &[u8] = b"\0\0\0\x09\0\x03\0\0\0";
 
-/// A call that comes before a session.
+/// A call, whether it comes in a session, and what it writes.
 #[derive(Clone, Copy)]
-enum Opening {
-    SslRequest,
-    CancelRequest,
-    CancelRequestKey,
-    Startup,
-    BareStartup,
-    StartupOf32,
-}
-
-/// A call that comes in a session.
-#[derive(Clone, Copy)]
-enum Call {
-    Bind,
-    Close,
-    Describe,
-    Execute,
-    Flush,
-    Parse,
-    Query,
-    Sync,
-    Terminate,
-    CopyDone,
-    CopyData,
-    CopyFail,
-    Password,
-    SaslInitialResponse,
-    SaslResponse,
-}
-
-#[derive(Clone, Copy)]
-enum Step {
-    Opening(Opening),
-    InSession(Call),
+struct Made {
+    name: &'static str,
+    in_session: bool,
+    written: &'static [u8],
 }
 
 /// The calls before a session, and what each writes.
-const OPENINGS: [(Opening, &[u8]); 6] = [
-    (Opening::SslRequest, b"\0\0\0\x08\x04\xd2\x16\x2f"),
+const OPENINGS: [(&str, &[u8]); 6] = [
+    ("ssl_request", b"\0\0\0\x08\x04\xd2\x16\x2f"),
     (
-        Opening::CancelRequest,
+        "cancel_request",
         b"\0\0\0\x10\x04\xd2\x16\x2e\0\0\0\x01\0\0\0\x02",
     ),
     (
-        Opening::CancelRequestKey,
+        "cancel_request_key",
         b"\0\0\0\x11\x04\xd2\x16\x2e\0\0\0\x01\x01\x02\x03\x04\x05",
     ),
-    (Opening::Startup, b"\0\0\0\x14\0\x03\0\0user\0alice\0\0"),
-    (Opening::BareStartup, STARTUP),
-    (
-        Opening::StartupOf32,
-        b"\0\0\0\x14\0\x03\0\x02user\0alice\0\0",
-    ),
+    ("startup", b"\0\0\0\x14\0\x03\0\0user\0alice\0\0"),
+    ("bare startup", STARTUP),
+    ("startup of 3.2", b"\0\0\0\x14\0\x03\0\x02user\0alice\0\0"),
 ];
 
 /// The calls in a session, and what each writes. The texts of the SASL exchange are those of the Rust crate's tests.
-const CALLS: [(Call, &[u8]); 15] = [
+const CALLS: [(&str, &[u8]); 15] = [
     (
-        Call::Bind,
+        "bind",
         b"B\0\0\0\x1d\0s\0\0\x01\0\x01\0\x02\0\0\0\x04\0\0\0\x05\xff\xff\xff\xff\0\x01\0\x01",
     ),
-    (Call::Close, b"C\0\0\0\x07Ss\0"),
-    (Call::Describe, b"D\0\0\0\x06P\0"),
-    (Call::Execute, b"E\0\0\0\x09\0\0\0\0\0"),
-    (Call::Flush, b"H\0\0\0\x04"),
-    (Call::Parse, b"P\0\0\0\x14\0SELECT 1\0\0\x01\0\0\0\x17"),
-    (Call::Query, b"Q\0\0\0\x0dSELECT 1\0"),
-    (Call::Sync, b"S\0\0\0\x04"),
-    (Call::Terminate, b"X\0\0\0\x04"),
-    (Call::CopyDone, b"c\0\0\0\x04"),
-    (Call::CopyData, b"d\0\0\0\x06ab"),
-    (Call::CopyFail, b"f\0\0\0\x06x\0"),
-    (Call::Password, b"p\0\0\0\x05\0"),
+    ("close", b"C\0\0\0\x07Ss\0"),
+    ("describe", b"D\0\0\0\x06P\0"),
+    ("execute", b"E\0\0\0\x09\0\0\0\0\0"),
+    ("flush", b"H\0\0\0\x04"),
+    ("parse", b"P\0\0\0\x14\0SELECT 1\0\0\x01\0\0\0\x17"),
+    ("query", b"Q\0\0\0\x0dSELECT 1\0"),
+    ("sync", b"S\0\0\0\x04"),
+    ("terminate", b"X\0\0\0\x04"),
+    ("copy_done", b"c\0\0\0\x04"),
+    ("copy_data", b"d\0\0\0\x06ab"),
+    ("copy_fail", b"f\0\0\0\x06x\0"),
+    ("password_message", b"p\0\0\0\x05\0"),
     (
-        Call::SaslInitialResponse,
+        "sasl_initial_response",
         b"p\0\0\0\x36SCRAM-SHA-256\0\0\0\0\x20n,,n=,r=9IZ2O01zb9IgiIZ1WJ/zgpJB",
     ),
-    (Call::SaslResponse, b"p\0\0\0\x06ab"),
+    ("sasl_response", b"p\0\0\0\x06ab"),
 ];
-
-/// The error of a call, whoever refused. The serializer here is only refused memory.
-fn plain(answer: Result<(), BindError<Error>>) -> Result<(), Error> {
-    match answer {
-        Ok(()) => Ok(()),
-        Err(BindError::Conversion(e)) | Err(BindError::Serialization(e)) => Err(e),
-    }
-}
 
 fn bind_values<B: Buffer>(stream: &mut ClientStream<B>) -> Result<(), BindError<Error>> {
     if !stream.is_open() {
@@ -136,109 +97,91 @@ fn copy_data<B: Buffer>(stream: &mut ClientStream<B>) -> Result<(), Error> {
     }
 }
 
-fn begin<B: Buffer>(opening: Opening, stream: &mut ClientStream<B>) -> Result<(), Error> {
+fn begin<B: Buffer>(name: &str, stream: &mut ClientStream<B>) -> Result<(), Error> {
     if stream.is_open() {
         return Err(Error::InvalidLength);
     }
-    match opening {
-        Opening::SslRequest => stream.ssl_request(),
-        Opening::CancelRequest => stream.cancel_request(1, 2),
-        Opening::CancelRequestKey => stream.cancel_request_key(1, b"\x01\x02\x03\x04\x05"),
-        Opening::Startup => stream.startup_message(&[("user", "alice")]),
-        Opening::BareStartup => stream.startup_message(&[]),
-        Opening::StartupOf32 => {
+    match name {
+        "ssl_request" => stream.ssl_request(),
+        "cancel_request" => stream.cancel_request(1, 2),
+        "cancel_request_key" => stream.cancel_request_key(1, b"\x01\x02\x03\x04\x05"),
+        "startup" => stream.startup_message(&[("user", "alice")]),
+        "bare startup" => stream.startup_message(&[]),
+        "startup of 3.2" => {
             stream.startup_message_version(ProtocolVersion::V3_2, &[("user", "alice")])
         }
+        _ => Err(Error::InvalidCount),
     }
 }
 
-fn continue_by<B: Buffer>(call: Call, stream: &mut ClientStream<B>) -> Result<(), Error> {
+fn continue_by<B: Buffer>(name: &str, stream: &mut ClientStream<B>) -> Result<(), Error> {
     if !stream.is_open() {
         return Err(Error::InvalidLength);
     }
-    match call {
-        Call::Bind => plain(bind_values(stream)),
-        Call::Close => stream.close(b'S', "s"),
-        Call::Describe => stream.describe(b'P', ""),
-        Call::Execute => stream.execute("", 0),
-        Call::Flush => stream.flush(),
-        Call::Parse => stream.parse("", "SELECT 1", Some(23u32)),
-        Call::Query => stream.query("SELECT 1"),
-        Call::Sync => stream.sync(),
-        Call::Terminate => stream.terminate(),
-        Call::CopyDone => stream.copy_done(),
-        Call::CopyData => copy_data(stream),
-        Call::CopyFail => stream.copy_fail("x"),
-        Call::Password => stream.password_message(b""),
-        Call::SaslInitialResponse => {
+    match name {
+        "bind" => plain(bind_values(stream)),
+        "close" => stream.close(b'S', "s"),
+        "describe" => stream.describe(b'P', ""),
+        "execute" => stream.execute("", 0),
+        "flush" => stream.flush(),
+        "parse" => stream.parse("", "SELECT 1", Some(23u32)),
+        "query" => stream.query("SELECT 1"),
+        "sync" => stream.sync(),
+        "terminate" => stream.terminate(),
+        "copy_done" => stream.copy_done(),
+        "copy_data" => copy_data(stream),
+        "copy_fail" => stream.copy_fail("x"),
+        "password_message" => stream.password_message(b""),
+        "sasl_initial_response" => {
             stream.sasl_initial_response("SCRAM-SHA-256", b"n,,n=,r=9IZ2O01zb9IgiIZ1WJ/zgpJB")
         }
-        Call::SaslResponse => stream.sasl_response(b"ab"),
+        "sasl_response" => stream.sasl_response(b"ab"),
+        _ => Err(Error::InvalidCount),
     }
-}
-
-/// Makes the call.
-fn make<B: Buffer>(step: Step, stream: &mut ClientStream<B>) -> Result<(), Error> {
-    match step {
-        Step::Opening(opening) => begin(opening, stream),
-        Step::InSession(call) => continue_by(call, stream),
-    }
-}
-
-/// A stream in which the call can be made: new, or of a session, with no room left.
-fn stream_for<A: Allocator + Copy>(
-    alloc: A,
-    step: Step,
-) -> Result<ClientStream<BytesMut<A>>, Error> {
-    match step {
-        Step::Opening(_) => Ok(ClientStream::new(alloc)),
-        Step::InSession(_) => {
-            let buf = BytesMut::with_capacity(alloc, STARTUP.len())?;
-            let mut stream = ClientStream::over(buf);
-            begin(Opening::BareStartup, &mut stream)?;
-            Ok(stream)
-        }
-    }
-}
-
-/// A call, and what it writes.
-#[derive(Clone, Copy)]
-struct Made {
-    step: Step,
-    written: &'static [u8],
 }
 
 impl Made {
+    fn make<B: Buffer>(&self, stream: &mut ClientStream<B>) -> Result<(), Error> {
+        match self.in_session {
+            true => continue_by(self.name, stream),
+            false => begin(self.name, stream),
+        }
+    }
+
+    /// A stream in which the call can be made: new, or of a session, with no room left.
+    fn stream<A: Allocator + Copy>(&self, alloc: A) -> Result<ClientStream<BytesMut<A>>, Error> {
+        if !self.in_session {
+            return Ok(ClientStream::new(alloc));
+        }
+        let mut stream = ClientStream::over(BytesMut::with_capacity(alloc, STARTUP.len())?);
+        begin("bare startup", &mut stream)?;
+        Ok(stream)
+    }
+
     /// What stands there before the call.
     fn front(&self) -> &'static [u8] {
-        match self.step {
-            Step::Opening(_) => b"",
-            Step::InSession(_) => STARTUP,
-        }
+        if self.in_session { STARTUP } else { b"" }
     }
 
     /// Whether the stream is as it was before the call.
     fn is_before<B: Buffer>(&self, stream: &ClientStream<B>) -> bool {
-        match self.step {
-            Step::Opening(_) => stream.bytes().is_empty() && !stream.is_open(),
-            Step::InSession(_) => stream.bytes() == STARTUP && stream.is_open(),
-        }
+        stream.bytes() == self.front() && stream.is_open() == self.in_session
     }
 
     /// Whether the stream is as it has to be after the call.
     fn is_behind<B: Buffer>(&self, stream: &ClientStream<B>) -> bool {
-        let is_open = !matches!(
-            self.step,
-            Step::Opening(Opening::SslRequest | Opening::CancelRequest | Opening::CancelRequestKey)
-        );
+        let is_open = match self.name {
+            "ssl_request" | "cancel_request" | "cancel_request_key" => false,
+            _ => true,
+        };
         stream.is_open() == is_open
             && stream.bytes().strip_prefix(self.front()) == Some(self.written)
     }
 
     /// Makes the call, and once more where it is rejected.
     fn end<B: Buffer>(&self, stream: &mut ClientStream<B>) -> Result<usize, Error> {
-        let first = make(self.step, stream);
-        if first.is_err() && (!self.is_before(stream) || make(self.step, stream).is_err()) {
+        let first = self.make(stream);
+        if first.is_err() && (!self.is_before(stream) || self.make(stream).is_err()) {
             return Ok(WRONG);
         }
         match first {
@@ -251,7 +194,7 @@ impl Made {
 
 impl Tried for Made {
     fn outcome<A: Allocator + Copy>(&self, alloc: A, turn: Turn<'_>) -> Result<usize, Error> {
-        match stream_for(alloc, self.step) {
+        match self.stream(alloc) {
             Ok(mut stream) => {
                 turn.begin();
                 self.end(&mut stream)
@@ -268,17 +211,15 @@ fn refuse_call(rt: &impl Abort, alloc: Global, made: Made) {
 
 #[test]
 fn requests_with_each_allocation_refused(rt: HostRuntime) {
-    for (opening, written) in OPENINGS {
-        let step = Step::Opening(opening);
-        refuse_call(&rt, rt.alloc(), Made { step, written });
-    }
-}
-
-#[test]
-fn calls_with_each_allocation_refused(rt: HostRuntime) {
-    for (call, written) in CALLS {
-        let step = Step::InSession(call);
-        refuse_call(&rt, rt.alloc(), Made { step, written });
+    for (in_session, calls) in [(false, OPENINGS.as_slice()), (true, &CALLS)] {
+        for (name, written) in calls {
+            let made = Made {
+                name,
+                in_session,
+                written,
+            };
+            refuse_call(&rt, rt.alloc(), made);
+        }
     }
 }
 
@@ -287,20 +228,36 @@ const SESSION: &[u8] =
     b"\0\0\0\x14\0\x03\0\0user\0alice\0\0Q\0\0\0\x0dSELECT 1\0S\0\0\0\x04X\0\0\0\x04";
 
 /// The calls of that session.
-const SAID: [Step; 4] = [
-    Step::Opening(Opening::Startup),
-    Step::InSession(Call::Query),
-    Step::InSession(Call::Sync),
-    Step::InSession(Call::Terminate),
+const SAID: [Made; 4] = [
+    Made {
+        name: "startup",
+        in_session: false,
+        written: b"",
+    },
+    Made {
+        name: "query",
+        in_session: true,
+        written: b"",
+    },
+    Made {
+        name: "sync",
+        in_session: true,
+        written: b"",
+    },
+    Made {
+        name: "terminate",
+        in_session: true,
+        written: b"",
+    },
 ];
 
 /// How many calls of that session were rejected, each of which is made again.
 fn made_again<B: Buffer>(stream: &mut ClientStream<B>) -> Result<usize, Error> {
     let mut again = 0usize;
     for said in SAID {
-        if make(said, stream).is_err() {
+        if said.make(stream).is_err() {
             again = again.saturating_add(1);
-            if let Err(e) = make(said, stream) {
+            if let Err(e) = said.make(stream) {
                 return Err(e);
             }
         }

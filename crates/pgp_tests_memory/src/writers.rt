@@ -32,7 +32,7 @@ pub(crate) enum Writer<'a> {
 }
 
 /// The error of a writer over closures; the closures here only run out of memory.
-fn plain(answer: Result<(), BindError<Error>>) -> Result<(), Error> {
+pub(crate) fn plain(answer: Result<(), BindError<Error>>) -> Result<(), Error> {
     match answer {
         Ok(()) => Ok(()),
         Err(BindError::Conversion(e)) | Err(BindError::Serialization(e)) => Err(e),
