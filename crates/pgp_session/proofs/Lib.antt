@@ -1,3 +1,4 @@
+mod Common
 pub mod Lent
 pub mod Known
 pub mod Listed

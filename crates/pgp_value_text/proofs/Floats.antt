@@ -1,13 +1,8 @@
 -- What is shown of a floating-point number.
-use Rattle.std.proofs.Common.{◌≡◌, ℕ, List, true, false, Some, refl, sym, ◌∙◌, from_bits, ltb}
-use Rattle.std.specs.Prelude.{codes, ◌%◌, ◌^◌}
-use Rattle.std.specs.Float.{Float, Format, binary32, binary64, float_is_finite, is_sign_negative}
+use Rattle.pgp_value_text.proofs.Common.{◌≡◌, ℕ, List, true, false, Some, refl, sym, ◌∙◌, from_bits, ltb, codes, ◌%◌, ◌^◌, Float, Format, binary32, binary64, float_is_finite, is_sign_negative, false≢true, nan_bits_is, nan_bits_above, ShowsFloat}
 use Rattle.std.specs.Float.Ieee.{nan, inf, fin}
-use Rattle.std.proofs.lemmas.Bool.{false≢true}
 use Rattle.ryu.specs.Parse.{parse_float}
 use lib.Ieee.{is_nan}
-use lib.Ieee.Bits.{nan_bits_is, nan_bits_above}
-use Rattle.pgp_value_text.specs.Float.{ShowsFloat}
 
 pub shows_nan : (f : Format) (x : Float) → is_nan x ≡ true → ShowsFloat f x (codes "NaN")
 unfolding is_nan

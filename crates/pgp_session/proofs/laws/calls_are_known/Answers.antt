@@ -1,5 +1,4 @@
-use Rattle.std.proofs.Common.{refl}
-use Rattle.pgp_session.specs.Connection.{dropped, fed}
+use Rattle.pgp_session.proofs.Common.{refl, dropped, fed}
 use Rattle.pgp_session.proofs.Sessions.{answered, asks_encryption, begins, ends, fed_some, observed_one, sends, sent_some, starts, stopped}
 use Rattle.pgp_session.proofs.laws.calls_are_known.Goals as goal
 

@@ -1,6 +1,4 @@
-use Rattle.std.proofs.Common.{sym, ◌∙◌}
-use Rattle.std.specs.Float.{binary64}
-use Rattle.pgp_value_text.specs.Float.{ShowsFloat}
+use Rattle.pgp_value_text.proofs.Common.{sym, ◌∙◌, binary64, ShowsFloat}
 use Rattle.pgp_value_text.proofs.Floats.{shows_finite, shows_negative, shows_positive}
 use Rattle.pgp_value_text.proofs.Texts.{tells_one}
 use Rattle.pgp_value_text.proofs.float.put_double.Goals as goal

@@ -1,9 +1,4 @@
-use Rattle.std.proofs.Common.{refl, from_bits}
-use Rattle.std.specs.Float.{binary64}
-use Rattle.pgp_types.specs.Scalar.{float8}
-use Rattle.pgp_types.proofs.Spelling.{fixed_sound}
-use Rattle.pgp_types.proofs.Numbers.{uint64_spelling}
-use Rattle.pgp_value_text.specs.Float.{ShowsFloat}
+use Rattle.pgp_value_text.proofs.Common.{refl, from_bits, binary64, float8, fixed_sound, uint64_spelling, ShowsFloat}
 use Rattle.pgp_value_text.proofs.Texts.{refused, tells_read}
 use Rattle.pgp_value_text.proofs.float.put_float8.Goals as goal
 

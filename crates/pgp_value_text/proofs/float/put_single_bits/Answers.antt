@@ -1,9 +1,4 @@
-use Rattle.std.proofs.Common.{◌∙◌, from_bits}
-use Rattle.std.specs.Float.{binary32}
-use Rattle.std.proofs.lemmas.Bool.{lt-ltb, le-ltb}
-use Rattle.std.proofs.lemmas.Float.{T_from_false}
-use lib.Ieee.Bits.{nan_bits_above}
-use Rattle.pgp_value_text.specs.Float.{ShowsFloat}
+use Rattle.pgp_value_text.proofs.Common.{◌∙◌, from_bits, binary32, lt-ltb, le-ltb, T_from_false, nan_bits_above, ShowsFloat}
 use Rattle.pgp_value_text.proofs.Floats.{nan_single, shows_nan}
 use Rattle.pgp_value_text.proofs.Texts.{tells_one}
 use Rattle.pgp_value_text.proofs.float.put_single_bits.Goals as goal
