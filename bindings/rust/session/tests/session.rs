@@ -1,14 +1,14 @@
-//! What the feature `extensions` adds, over the same messages and the same exchange of psql as the other tests.
-#![cfg(feature = "extensions")]
+//! What this package adds, over the same messages and the same exchange of psql as the other tests.
 use bytes::BytesMut;
 use postgres_protocol::authentication::sasl;
-use postgres_protocol::authentication::scram::{ChannelOffer, NoPrep, ScramServer, StoredVerifier};
-use postgres_protocol::dialogue::{Dialogue, Event, Kind, Refusal, Request};
-use postgres_protocol::message::client::{ClientMessage, ClientMessages, PasswordKind};
-use postgres_protocol::message::in_place::{Message, Messages};
-use postgres_protocol::message::{frontend, reply};
-use postgres_protocol::session::{ClientStream, Connection, StreamParser, Ways};
-use postgres_protocol::{values, Error, Global};
+use postgres_session::scram::{ChannelOffer, NoPrep, ScramServer, StoredVerifier};
+use postgres_session::dialogue::{Dialogue, Event, Kind, Refusal, Request};
+use postgres_session::message::client::{ClientMessage, ClientMessages, PasswordKind};
+use postgres_session::message::in_place::{Message, Messages};
+use postgres_protocol::message::frontend;
+use postgres_session::message::reply;
+use postgres_session::{ClientStream, Connection, StreamParser, Ways};
+use postgres_session::{values, Error, Global};
 
 #[test]
 fn messages_in_place() {
