@@ -43,6 +43,7 @@
 #![warn(missing_docs, rust_2018_idioms)]
 
 pub mod dialogue;
+mod errors;
 pub mod message;
 mod proved;
 pub mod scram;
