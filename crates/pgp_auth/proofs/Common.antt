@@ -50,8 +50,7 @@ unfoldable pub use Rattle.pgp_auth.specs.Md5Text.{md5_text}
 unfoldable pub use Rattle.pgp_auth.specs.Nonce.{drawn_char, drawn_chars}
 pub use Rattle.pgp_auth.specs.Pattern.{Run, word, Part, Begins, here, character, run, Character, EndsRun, Leaves}
 pub use Rattle.pgp_auth.specs.ScramAnswer.{client_key, client_proof, final_front, AnswersGranted, AnswersText, RefusesText}
-pub use Rattle.pgp_auth.specs.ScramClient.{Begun, AwaitsFirst, AwaitsFinal, Client, Answers, UpdateRefuses, UpdateRefused, FinishRefuses, FinishRefused, Serves, first_text, signature_of, NotVerified, message_of, Finished, NotShown, TakesMemory, long, State, Over, MadeSome}
-unfoldable pub use Rattle.pgp_auth.specs.ScramClient.{Answered}
+pub use Rattle.pgp_auth.specs.ScramClient.{Answered, Begun, AwaitsFirst, AwaitsFinal, Client, Answers, UpdateRefuses, UpdateRefused, FinishRefuses, FinishRefused, Serves, first_text, signature_of, NotVerified, message_of, Finished, NotShown, TakesMemory, long, State, Over, MadeSome}
 pub use Rattle.pgp_auth.specs.ScramErrorView.{refusal, number_of}
 pub use Rattle.pgp_auth.specs.ScramPartView.{parts_of, admits}
 pub use Rattle.pgp_auth.specs.ScramReading.{begins_with_e, refusal_of, front_of, rest_of, ◌>>=◌, FirstParts, AdmitsParts, Granted, grant_read, grant_salt}
