@@ -36,23 +36,23 @@ pushed ns (r ∷ rs) a h is = (h.0, pushed ns rs a h.1 is)
 
 first_named : (skipping : Bool) (ns : List ℕ) (rs : List Asked) → AllNamed ns rs → AllNamed ns (first_in skipping rs)
 first_named skipping ns [] h = tt
-first_named skipping ns (a ∷ rs) h = go (is_passed skipping a.request)
+first_named skipping ns (a ∷ rs) h = go (is_passed skipping a.request) (first_named skipping ns rs h.1)
   where
-    go : (b : Bool) → AllNamed ns (if b then first_in skipping rs else a ∷ rs)
-    go true = first_named skipping ns rs h.1
-    go false = h
+    go : (b : Bool) → AllNamed ns (first_in skipping rs) → AllNamed ns (if b then first_in skipping rs else a ∷ rs)
+    go true rest = rest
+    go false rest = h
 
 same_some : (a b : List Asked) → Some a ≡ Some b → a ≡ b
 same_some a b e = cc
 
 behind_named : (ns : List ℕ) (rs behind : List Asked) → AllNamed ns rs → behind_copy rs ≡ Some behind → AllNamed ns behind
 behind_named ns [] behind h e = cc
-behind_named ns (a ∷ rest) behind h e = at a.request e
+behind_named ns (a ∷ rest) behind h e = at a.request (behind_named ns rest behind h.1) e
   where
-    at : (r : Request) → behind_end r (behind_copy rest) rest ≡ Some behind → AllNamed ns behind
-    at requests.Sync x = behind_named ns rest behind h.1 x
-    at requests.CopyDone x = subst (AllNamed ns) (same_some rest behind x) h.1
-    at r x = cc
+    at : (r : Request) → (behind_copy rest ≡ Some behind → AllNamed ns behind) → behind_end r (behind_copy rest) rest ≡ Some behind → AllNamed ns behind
+    at requests.Sync more x = more x
+    at requests.CopyDone more x = subst (AllNamed ns) (same_some rest behind x) h.1
+    at r more x = cc
 
 same_ok : (a b : Stage × List Asked) → (let x : Result (Stage × List Asked) Refusal = Ok a in x ≡ Ok b) → a ≡ b
 same_ok a b e = cc
