@@ -11,7 +11,7 @@ TABLES = ['pgp_rows', 'pgp_hostile']
 # Where something stays that calls what doesn't: file, text, its substitute.
 CALLS = {
     ('pgp_rows', 'codec.rt'): ('    grows::<C>(case, out)\n', '    Ok(())\n'),
-    ('pgp_rows', 'connection.rt'): ('    with_each_failing(&list, row.right, out)?;\n', ''),
+    ('pgp_rows', 'connection.rt'): ('with_each_failing(&list, row.right, out)', 'Ok(())'),
     ('pgp_rows', 'server.rt'): ('    with_each_failing(bytes, wanted, out)?;\n', ''),
     ('pgp_rows', 'value_text.rt'): ('if !is_refused(alloc, type_oid, bytes, number, out)', 'if number == 1'),
     ('pgp_hostile', 'walks.rt'): ('!is_modest(', '!is_collected('),
