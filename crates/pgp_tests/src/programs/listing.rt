@@ -164,9 +164,9 @@ impl Listing {
         &self,
         rt: &impl Abort,
         alloc: Global,
-        (input, output): (&mut R, &mut W),
-        status: u8,
-        reported: &str,
+        input: &mut R,
+        output: &mut W,
+        (status, reported): (u8, &str),
     ) {
         let mut errors = Vec::new(alloc);
         let ended = run(alloc, false, self.words, input, output, &mut errors);
@@ -182,17 +182,12 @@ fn bytes_are_listed_however_they_are_cut(rt: HostRuntime) -> Result<(), Fail> {
         for cuts in 0..512u64 {
             let mut input = PieceReader {
                 rest: listing.bytes,
-                cuts: listing.cuts | cuts << listing.place,
+                cuts: listing.cuts | cuts.wrapping_shl(listing.place),
                 interrupted: false,
             };
             let mut output = Vec::new(rt.alloc());
-            listing.ends(
-                &rt,
-                rt.alloc(),
-                (&mut input, &mut output),
-                0,
-                listing.reported,
-            );
+            let ended = (0, listing.reported);
+            listing.ends(&rt, rt.alloc(), &mut input, &mut output, ended);
             holds(&rt, output.as_slice() == lines.as_slice());
         }
     }
@@ -208,8 +203,8 @@ fn what_came_whole_is_listed_where_a_read_fails(rt: HostRuntime) -> Result<(), F
             for step in [1usize, 7] {
                 let mut input = FailingReader { rest, step };
                 let mut output = Vec::new(rt.alloc());
-                let ends = (&mut input, &mut output);
-                listing.ends(&rt, rt.alloc(), ends, 1, "pgtrace: read failed\n");
+                let ended = (1, "pgtrace: read failed\n");
+                listing.ends(&rt, rt.alloc(), &mut input, &mut output, ended);
                 holds(&rt, output.as_slice() == lines.as_slice());
             }
         }
@@ -231,8 +226,8 @@ fn a_failing_writer_took_a_front(rt: HostRuntime) -> Result<(), Fail> {
         let lines = listing.whole(rt.alloc())?;
         for left in 0..=lines.len() {
             let (mut input, mut output) = (listing.bytes, writer(rt.alloc(), left));
-            let ends = (&mut input, &mut output);
-            listing.ends(&rt, rt.alloc(), ends, 1, "pgtrace: write failed\n");
+            let ended = (1, "pgtrace: write failed\n");
+            listing.ends(&rt, rt.alloc(), &mut input, &mut output, ended);
             holds(&rt, lines.starts_with(output.taken.as_slice()));
             same(&rt, output.taken.len(), left);
         }

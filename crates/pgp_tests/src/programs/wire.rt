@@ -80,9 +80,9 @@ impl Ran {
         &self,
         rt: &impl Abort,
         alloc: Global,
-        (input, output): (&mut R, &mut W),
-        status: u8,
-        reported: &str,
+        input: &mut R,
+        output: &mut W,
+        (status, reported): (u8, &str),
     ) {
         let mut errors = Vec::new(alloc);
         let ended = run(alloc, self.words, input, output, &mut errors);
@@ -101,8 +101,8 @@ fn the_same_comes_however_the_input_is_cut(rt: HostRuntime) {
                 interrupted: false,
             };
             let mut output = Vec::new(rt.alloc());
-            let ends = (&mut input, &mut output);
-            ran.ends(&rt, rt.alloc(), ends, ran.status, "");
+            let ended = (ran.status, "");
+            ran.ends(&rt, rt.alloc(), &mut input, &mut output, ended);
             same(&rt, output.as_slice(), ran.output.as_bytes());
         }
     }
@@ -117,8 +117,8 @@ fn nothing_is_written_where_a_read_fails(rt: HostRuntime) {
             for step in [1usize, 7] {
                 let mut input = FailingReader { rest, step };
                 let mut output = Vec::new(rt.alloc());
-                let ends = (&mut input, &mut output);
-                ran.ends(&rt, rt.alloc(), ends, 1, "pgwire: read failed\n");
+                let ended = (1, "pgwire: read failed\n");
+                ran.ends(&rt, rt.alloc(), &mut input, &mut output, ended);
                 holds(&rt, output.is_empty());
             }
         }
@@ -134,11 +134,11 @@ fn writes_fronts(rt: &impl Abort, alloc: Global, ran: &Ran) {
             left,
             taken: Vec::new(alloc),
         };
-        let (status, reported) = match left > len {
+        let ended = match left > len {
             true => (ran.status, ""),
             false => (1, "pgwire: write failed\n"),
         };
-        ran.ends(rt, alloc, (&mut input, &mut output), status, reported);
+        ran.ends(rt, alloc, &mut input, &mut output, ended);
         let (front, _) = ran.output.as_bytes().split_at(left.min(len));
         same(rt, output.taken.as_slice(), front);
     }
