@@ -93,6 +93,7 @@ SETTINGS = (
 CITY = frame(b"T", int16(2) + column(b"id", 23, 4, 0) + column(b"name", 25, -1, 0))
 BOTH_BINARY = frame(b"T", int16(2) + column(b"id", 23, 4, 1) + column(b"name", 25, -1, 1))
 NAME = frame(b"T", int16(1) + column(b"name", 25, -1, 0))
+ID = frame(b"T", int16(1) + column(b"id", 23, 4, 0))
 NOTICE = report(b"N", b"NOTICE", b"01000", b"a notice\nof two lines")
 ROWS = [row(b"1", "Reykjavík".encode()), row(b"-2", None), row(b"3", b"a\tb\\c")]
 SELECT_3 = frame(b"C", b"SELECT 3\0")
@@ -360,6 +361,63 @@ STEPS = [
     (frame(b"H"), b""),
     (frame(b"f", b"no\0"), error(b"57014", b"the client gave the copy up: no")),
     (SYNC, IDLE),
+    # answers in turn, of which the last stays; a portal has the answer of the time when it was bound
+    (
+        query(b"UPDATE city SET name = 'x'"),
+        frame(b"E", b"SERROR\0VERROR\0C40001\0Mcould not serialize access due to concurrent update\0WSQL statement\0\0") + IDLE,
+    ),
+    (query(b"UPDATE city SET name = 'x';"), tag(b"UPDATE 3") + IDLE),
+    *extended(b"UPDATE city SET name = 'x'"),
+    (execute(b"", 0), tag(b"UPDATE 3")),
+    (SYNC, IDLE),
+    (query(b"FETCH 2 FROM turns"), ID + row(b"1") + row(b"2") + tag(b"FETCH 2") + IDLE),
+    *extended(b"FETCH 2 FROM turns", formats=[1]),
+    (frame(b"D", b"P\0"), frame(b"T", int16(1) + column(b"id", 23, 4, 1))),
+    (execute(b"", 1), row(int32(3)) + SUSPENDED),
+    (execute(b"", 1), tag(b"FETCH 0")),
+    (SYNC, IDLE),
+    (query(b"FETCH 2 FROM turns"), ID + tag(b"FETCH 0") + IDLE),
+    (query(b"FETCH 2 FROM turns"), ID + tag(b"FETCH 0") + IDLE),
+    # all fields of an error
+    (
+        query(b"INSERT INTO city VALUES (1)"),
+        frame(
+            b"E",
+            b"SERROR\0VERROR\0C23505\0Mduplicate key\0DKey (id)=(1) already exists.\0spublic\0tcity\0cid\0dint4\0ncity_pkey\0R_bt_check_unique\0\0",
+        )
+        + IDLE,
+    ),
+    # two results of one statement; a column's table and modifier
+    (
+        query(b"SELECT 1; SELECT 2"),
+        frame(b"T", int16(1) + column(b"a", 23, 4, 0))
+        + row(b"1")
+        + tag(b"SELECT 1")
+        + frame(b"T", int16(1) + b"b\0" + int32(16384) + int16(2) + int32(25) + int16(-1) + int32(16) + int16(0))
+        + row(b"2")
+        + tag(b"SELECT 1")
+        + IDLE,
+    ),
+    # bytes of a type that has no name here: in binary format alone
+    *extended(b"SELECT '127.0.0.1'::inet raw", formats=[1]),
+    (execute(b"", 0), row(bytes([2, 32, 0, 4, 127, 0, 0, 1])) + tag(b"SELECT 1")),
+    *extended(b"SELECT '127.0.0.1'::inet raw"),
+    (execute(b"", 0), NOT_SUPPORTED),
+    (SYNC, IDLE),
+    # a statement by its words
+    (query(b"Select\n  LOOSE -- all\n;"), frame(b"T", int16(1) + column(b"loose", 25, -1, 0)) + row(b"ok") + tag(b"SELECT 1") + IDLE),
+    # a cursor, whose query the script has
+    (query(b"BEGIN"), tag(b"BEGIN") + INSIDE),
+    (query(b"DECLARE c CURSOR FOR SELECT id, name FROM city"), tag(b"DECLARE CURSOR") + INSIDE),
+    (query(b"FETCH 2 FROM c"), CITY + ROWS[0] + ROWS[1] + tag(b"FETCH 2") + INSIDE),
+    (query(b"MOVE ALL IN c"), tag(b"MOVE 1") + INSIDE),
+    (query(b"COMMIT"), tag(b"COMMIT") + IDLE),
+    # values that are none of their types
+    (parse(b"s8", b"SELECT $1::int4"), PARSED),
+    (bind(b"", b"s8", [b"abc"], []), error(b"22P02", b"invalid input syntax for the parameter's type: abc")),
+    (SYNC, IDLE),
+    (query(b"SELECT $1::int4"), error(b"42P02", b"there is no parameter $1") + IDLE),
+    (query(b"SELECT '\xff'"), error(b"22021", b'invalid byte sequence for encoding "UTF8"') + IDLE),
     # an error that ends the session, behind which nothing is read
     (query(b"SELECT pg_terminate_backend(pg_backend_pid())"), report(b"E", b"FATAL", b"57P01", b"terminating connection due to administrator command")),
     (query(b"BEGIN"), b""),

@@ -7,8 +7,8 @@ use crate::copy::put_copy_out;
 use crate::extended::are_formats;
 use crate::list::push;
 use crate::outbox::Outbox;
-use crate::script::{Column, End, Row, Statement};
-use crate::types::Type;
+use crate::script::{Column, End, Statement};
+use crate::types::PLAIN_TEXT;
 use bytes::BytesMut;
 use pgp_message_write as reply;
 use std::alloc::Global;
@@ -33,22 +33,30 @@ pub(crate) fn format_of(formats: &[i16], place: usize) -> i16 {
     }
 }
 
-/// A column of this name and type in the description of rows.
-fn described(name: &[u8], kind: Type, format: i16) -> reply::Column<'_> {
+/// A column in the description of rows.
+fn described(column: &Column, format: i16) -> reply::Column<'_> {
     reply::Column {
-        name,
-        table_oid: 0,
-        column_id: 0,
-        type_oid: kind.oid,
-        type_size: kind.size,
-        type_modifier: -1,
+        name: &column.name,
+        table_oid: column.table,
+        column_id: column.number,
+        type_oid: column.kind.oid,
+        type_size: column.kind.size,
+        type_modifier: column.modifier,
         format,
     }
 }
 
-/// Appends the description of rows with one column.
-pub(crate) fn describe_one(name: &[u8], kind: Type, formats: &[i16], out: &mut Outbox) {
-    let column = described(name, kind, format_of(formats, 0));
+/// Appends the description of rows with one text.
+pub(crate) fn describe_one(name: &[u8], formats: &[i16], out: &mut Outbox) {
+    let column = reply::Column {
+        name,
+        table_oid: 0,
+        column_id: 0,
+        type_oid: PLAIN_TEXT.oid,
+        type_size: PLAIN_TEXT.size,
+        type_modifier: -1,
+        format: format_of(formats, 0),
+    };
     let put = reply::row_description(&[column], &mut out.bytes);
     out.put(put);
 }
@@ -77,9 +85,24 @@ fn all_described<'c>(
     let mut list = Vec::new(out.alloc);
     for column in columns {
         let format = format_of(formats, list.len());
-        out.add(&mut list, described(&column.name, column.kind, format));
+        out.add(&mut list, described(column, format));
     }
     list
+}
+
+/// The value of a column in this format.
+fn value_of(
+    alloc: Global,
+    column: &Column,
+    format: i16,
+    value: &[u8],
+) -> Result<BytesMut, Unwritten> {
+    match column.only {
+        // They are sent as they stand, as texts are in text format.
+        Some(only) if only == format => value_in(alloc, 0, column.kind.oid, value),
+        Some(_) => Err(Unwritten::NoFormat),
+        None => value_in(alloc, format, column.kind.oid, value),
+    }
 }
 
 /// Adds the values of a row in the formats that are wanted.
@@ -97,7 +120,7 @@ fn add_values(
     for (column, value) in columns.iter().zip(row) {
         let format = format_of(formats, values.len());
         let shown = match value {
-            Some(text) => Some(value_in(alloc, format, column.kind.oid, text)?),
+            Some(value) => Some(value_of(alloc, column, format, value)?),
             None => None,
         };
         push(values, shown)?;
@@ -148,7 +171,7 @@ fn put_row<'r>(
 }
 
 /// Appends those of the rows from this place on, at most so many, and returns how many there were; or why a row can't be sent.
-fn put_rows<'r>(
+pub(crate) fn put_rows<'r>(
     statement: &Statement,
     bound: Bound<'_>,
     from: usize,

@@ -22,6 +22,18 @@ pub(crate) enum Refusal<'a> {
     PortalThere(&'a [u8]),
     /// `55000`: the portal of this name was run, and returns no rows.
     WasRun(&'a [u8]),
+    /// `42P02`: a simple query has no parameters.
+    NoParameter,
+    /// `22P02`: a text that is none of its parameter's type.
+    NotOfType(&'a [u8]),
+    /// `22003`: a number that its parameter's type doesn't have.
+    OutOfRange(&'a [u8]),
+    /// `22021`: a text that isn't UTF-8, or has a byte 0.
+    NotUtf8,
+    /// `08P01`: a value in binary format has less bytes than its type.
+    TooShort,
+    /// `22P03`: it has more.
+    TooLong,
     /// `42P18`: neither the client nor the script says a parameter's type.
     NoType,
     /// `08P01`: another number of values than the statement has parameters.
@@ -65,6 +77,11 @@ impl<'a> Refusal<'a> {
             Refusal::NoPortal(_) => b"34000",
             Refusal::PortalThere(_) => b"42P03",
             Refusal::WasRun(_) => b"55000",
+            Refusal::NoParameter => b"42P02",
+            Refusal::NotOfType(_) => b"22P02",
+            Refusal::OutOfRange(_) => b"22003",
+            Refusal::NotUtf8 => b"22021",
+            Refusal::TooLong => b"22P03",
             Refusal::NoType => b"42P18",
             Refusal::BadFormat => b"22023",
             Refusal::Aborted => b"25P02",
@@ -91,6 +108,8 @@ impl<'a> Refusal<'a> {
             | Refusal::NoTransaction(name)
             | Refusal::NoSavepoint(name)
             | Refusal::NoSetting(name)
+            | Refusal::NotOfType(name)
+            | Refusal::OutOfRange(name)
             | Refusal::CopyFailed(name) => Some(name),
             _ => None,
         }
@@ -106,6 +125,12 @@ impl<'a> Refusal<'a> {
             Refusal::NoPortal(_) => b"there is no portal of this name",
             Refusal::PortalThere(_) => b"there is a portal of this name",
             Refusal::WasRun(_) => b"the portal was run, and returns no rows",
+            Refusal::NoParameter => b"there is no parameter $1",
+            Refusal::NotOfType(_) => b"invalid input syntax for the parameter's type",
+            Refusal::OutOfRange(_) => b"value out of range for the parameter's type",
+            Refusal::NotUtf8 => b"invalid byte sequence for encoding \"UTF8\"",
+            Refusal::TooShort => b"insufficient data left in message",
+            Refusal::TooLong => b"incorrect binary data format in bind parameter",
             Refusal::NoType =>
                 b"a parameter's type is said neither by the client nor by the script",
             Refusal::WrongCount => b"another number of values than the statement has parameters",

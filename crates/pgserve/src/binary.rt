@@ -10,7 +10,7 @@ use crate::types::{
 use bytes::BytesMut;
 use pgp_base::{Error, IsNull, Oid};
 use pgp_types::{self as types, ArrayDimension};
-use pgp_values::{self as values, Moment, NumericError};
+use pgp_values::{self as values, NumericError};
 use std::alloc::{AllocError, Global};
 use uuid::Uuid;
 
@@ -47,25 +47,21 @@ fn written(put: Result<(), Error>) -> Result<(), Unwritten> {
     }
 }
 
+/// What was read of a text; it is none of its type where there is nothing.
+fn read<T: Drop>(found: Option<T>) -> Result<T, Unwritten> {
+    match found {
+        Some(value) => Ok(value),
+        None => Err(Unwritten::NotOfType),
+    }
+}
+
 /// Appends a number without a fraction.
 fn put_integer(oid: Oid, word: &str, out: &mut BytesMut) -> Result<(), Unwritten> {
     match oid {
-        INT8 => match word.parse() {
-            Ok(number) => written(types::int8_to_sql(number, out)),
-            Err(_) => Err(Unwritten::NotOfType),
-        },
-        INT2 => match word.parse() {
-            Ok(number) => written(types::int2_to_sql(number, out)),
-            Err(_) => Err(Unwritten::NotOfType),
-        },
-        INT4 => match word.parse() {
-            Ok(number) => written(types::int4_to_sql(number, out)),
-            Err(_) => Err(Unwritten::NotOfType),
-        },
-        _ => match word.parse() {
-            Ok(number) => written(types::oid_to_sql(number, out)),
-            Err(_) => Err(Unwritten::NotOfType),
-        },
+        INT8 => written(types::int8_to_sql(read(word.parse().ok())?, out)),
+        INT2 => written(types::int2_to_sql(read(word.parse().ok())?, out)),
+        INT4 => written(types::int4_to_sql(read(word.parse().ok())?, out)),
+        _ => written(types::oid_to_sql(read(word.parse().ok())?, out)),
     }
 }
 
@@ -89,14 +85,8 @@ fn bits8(number: f64) -> u64 {
 /// Appends a number with a fraction.
 fn put_number(oid: Oid, word: &str, out: &mut BytesMut) -> Result<(), Unwritten> {
     match oid {
-        FLOAT4 => match word.parse() {
-            Ok(number) => written(types::float4_to_sql(bits4(number), out)),
-            Err(_) => Err(Unwritten::NotOfType),
-        },
-        FLOAT8 => match word.parse() {
-            Ok(number) => written(types::float8_to_sql(bits8(number), out)),
-            Err(_) => Err(Unwritten::NotOfType),
-        },
+        FLOAT4 => written(types::float4_to_sql(bits4(read(word.parse().ok())?), out)),
+        FLOAT8 => written(types::float8_to_sql(bits8(read(word.parse().ok())?), out)),
         _ => match values::numeric_text_to_sql(word, out) {
             Ok(()) => Ok(()),
             Err(NumericError::OutOfMemory) => Err(Unwritten::Memory),
@@ -117,27 +107,11 @@ fn put_bool(word: &str, out: &mut BytesMut) -> Result<(), Unwritten> {
 /// Appends a date, a time or an interval.
 fn put_moment(oid: Oid, word: &str, out: &mut BytesMut) -> Result<(), Unwritten> {
     match oid {
-        DATE => match date_of(word) {
-            Some(days) => written(values::date_value_to_sql(days, out)),
-            None => Err(Unwritten::NotOfType),
-        },
-        TIME => match clock_of(word) {
-            Some(since_midnight) => written(types::time_to_sql(since_midnight, out)),
-            None => Err(Unwritten::NotOfType),
-        },
-        INTERVAL => match interval_of(word) {
-            Some(interval) => written(values::interval_to_sql(interval, out)),
-            None => Err(Unwritten::NotOfType),
-        },
-        TIMESTAMP => put_timestamp(timestamp_of(word), out),
-        _ => put_timestamp(timestamptz_of(word), out),
-    }
-}
-
-fn put_timestamp(moment: Option<Moment<i64>>, out: &mut BytesMut) -> Result<(), Unwritten> {
-    match moment {
-        Some(moment) => written(values::timestamp_value_to_sql(moment, out)),
-        None => Err(Unwritten::NotOfType),
+        DATE => written(values::date_value_to_sql(read(date_of(word))?, out)),
+        TIME => written(types::time_to_sql(read(clock_of(word))?, out)),
+        INTERVAL => written(values::interval_to_sql(read(interval_of(word))?, out)),
+        TIMESTAMP => written(values::timestamp_value_to_sql(read(timestamp_of(word))?, out)),
+        _ => written(values::timestamp_value_to_sql(read(timestamptz_of(word))?, out)),
     }
 }
 

@@ -1,7 +1,7 @@
 //! What a portal was bound to, and the rows that are sent for it.
 
 use crate::answer::format_of;
-use crate::binary::{Unwritten, value_in};
+use crate::input::is_value;
 use crate::outbox::Outbox;
 use crate::script::{Condition, Row};
 use pgp_base::Oid;
@@ -47,24 +47,12 @@ pub(crate) fn given_of(
     given
 }
 
-/// Whether the value is that of the text, in its format.
-fn is_value(given: &Given, text: &[u8], out: &mut Outbox) -> bool {
-    let Some(bytes) = &given.bytes else {
+fn is_met(condition: &Condition, values: &[Given], out: &mut Outbox) -> bool {
+    let Some(given) = values.get(condition.place) else {
         return false;
     };
-    match value_in(out.alloc, given.format, given.oid, text) {
-        Ok(value) => value.as_slice() == bytes.as_slice(),
-        Err(Unwritten::Memory) => {
-            out.lack();
-            false
-        }
-        Err(_) => false,
-    }
-}
-
-fn is_met(condition: &Condition, values: &[Given], out: &mut Outbox) -> bool {
-    match values.get(condition.place) {
-        Some(given) => is_value(given, &condition.value, out),
+    match &given.bytes {
+        Some(bytes) => is_value(given.oid, given.format, bytes, &condition.value, out),
         None => false,
     }
 }

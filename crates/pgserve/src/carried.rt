@@ -1,53 +1,132 @@
 //! Commands that need no script, carried out.
 
-use crate::answer::{Went, complete, describe_one};
+use crate::answer::{Went, complete, describe, describe_none, describe_one};
 use crate::asked::{Refusal, refuse, warn};
-use crate::command::Command;
+use crate::command::{Command, SEPARATOR};
+use crate::cursor::Fetch;
 use crate::outbox::Outbox;
 use crate::session::Session;
-use crate::settings::{Setting, assignment_of};
-use crate::text::trimmed;
+use crate::settings::{Scope, Setting};
 use crate::transaction::Taken;
-use crate::types::PLAIN_TEXT;
+use crate::wording::Wording;
 use pgp_message_write as reply;
 use pgp_monitor::Status;
 
 /// The tag of a command that is none of transactions.
 fn tag_of(command: Command<'_>) -> &'static [u8] {
     match command {
-        Command::Set => b"SET",
         Command::Reset(_) => b"RESET",
         Command::DeallocateAll => b"DEALLOCATE ALL",
         Command::Deallocate(_) => b"DEALLOCATE",
         Command::DiscardAll => b"DISCARD ALL",
+        Command::CloseCursor(_) => b"CLOSE CURSOR",
+        Command::CloseAll => b"CLOSE CURSOR ALL",
         _ => b"",
     }
 }
 
+/// The value of these words: lower-cased where it stands in no quotes, with a blank between two.
+fn joined(words: &str, out: &mut Outbox) -> Vec<u8> {
+    let mut value = Vec::new(out.alloc);
+    for word in words.split(SEPARATOR) {
+        if !value.is_empty() && !word.starts_with(',') {
+            out.add(&mut value, b' ');
+        }
+        let bare = word.strip_prefix('\'').or(word.strip_prefix('"'));
+        out.keep(value.extend_from_slice(bare.unwrap_or(word).as_bytes()));
+    }
+    value
+}
+
 impl<'h> Session<'h> {
-    /// Sets the setting that the statement says.
-    fn set(&mut self, statement: &[u8], out: &mut Outbox) {
-        let Some((name, value)) = assignment_of(statement) else {
+    /// Up to when a setting is set that is said now.
+    fn scope(&self, is_local: bool) -> Scope {
+        match self.transaction.status {
+            Status::Idle => Scope::Session,
+            _ if is_local => Scope::Local(self.transaction.depth()),
+            _ => Scope::Kept(self.transaction.depth()),
+        }
+    }
+
+    /// Sets a setting to the value of these words.
+    fn set(&mut self, name: &str, value: &str, is_local: bool, out: &mut Outbox) {
+        let scope = self.scope(is_local);
+        if is_local && scope == Scope::Session {
             return;
-        };
-        if value.eq_ignore_ascii_case("default") {
-            self.settings.reset(name.as_bytes(), out);
-        } else {
-            self.settings.set(name.as_bytes(), value.as_bytes(), out);
+        }
+        if value == "default" || (name == "timezone" && value == "local") {
+            return self.settings.reset(name.as_bytes(), scope, out);
+        }
+        let value = joined(value, out);
+        self.settings.set(name.as_bytes(), &value, scope, out);
+    }
+
+    /// Sets the modes of transactions from now on.
+    fn set_defaults(&mut self, modes: &str, out: &mut Outbox) {
+        let scope = self.scope(false);
+        self.settings.set_defaults(modes, scope, out);
+    }
+
+    /// Carries out a command on the transaction, and what it does to settings and portals.
+    pub(crate) fn carry<'c>(&mut self, command: Command<'c>, out: &mut Outbox) -> Taken<'c> {
+        let before = self.transaction.status;
+        let taken = self.transaction.take(command, out);
+        if !matches!(taken, Taken::Refused(_)) {
+            self.settle(command, before, out);
+        }
+        taken
+    }
+
+    /// What a command does to settings and portals, which was carried out in this status.
+    fn settle(&mut self, command: Command<'_>, before: Status, out: &mut Outbox) {
+        let depth = self.transaction.depth();
+        match command {
+            Command::Begin(_, modes) if before == Status::Idle => {
+                self.settings.begin_transaction(modes, out);
+            }
+            Command::SetTransaction(modes) if before != Status::Idle => {
+                self.settings.set_modes(modes, Scope::Local(depth), out);
+            }
+            Command::SetDefaults(modes) => self.set_defaults(modes, out),
+            Command::Set {
+                name,
+                value,
+                is_local,
+            } => self.set(name, value, is_local, out),
+            Command::Commit { .. } if before.commits() => {
+                self.settings.commit(out);
+                self.portals.commit();
+            }
+            Command::Commit { .. } | Command::Rollback { .. } => {
+                self.settings.roll_back(0, out);
+                self.portals.roll_back();
+            }
+            Command::RollbackTo(_) => {
+                self.settings.roll_back(depth, out);
+                self.portals.end_from(depth);
+            }
+            Command::Release(_) => {
+                self.settings.release(depth);
+                self.portals.keep_at(depth);
+            }
+            _ => {}
         }
     }
 
     /// Carries out a command that is none of transactions.
-    fn arrange(&mut self, command: Command<'_>, statement: &[u8], out: &mut Outbox) {
+    fn arrange(&mut self, command: Command<'_>, out: &mut Outbox) {
+        let scope = self.scope(false);
         match command {
-            Command::Set => self.set(statement, out),
-            Command::Reset(name) => self.settings.reset(name.as_bytes(), out),
+            Command::Reset(name) => self.settings.reset(name.as_bytes(), scope, out),
             Command::Deallocate(name) => self.prepared.remove(name.as_bytes()),
             Command::DeallocateAll => self.prepared.keep_unnamed(),
             Command::DiscardAll => {
                 self.prepared.keep_unnamed();
-                self.settings.reset(b"all", out);
+                self.portals.clear();
+                self.settings.reset(b"all", scope, out);
             }
+            Command::CloseCursor(name) => self.portals.remove(name.as_bytes()),
+            Command::CloseAll => self.portals.clear(),
             _ => {}
         }
     }
@@ -73,13 +152,7 @@ impl<'h> Session<'h> {
     }
 
     /// Appends what a command comes to.
-    fn put_taken(
-        &mut self,
-        taken: Taken<'_>,
-        command: Command<'_>,
-        statement: &[u8],
-        out: &mut Outbox,
-    ) -> Went {
+    fn put_taken(&mut self, taken: Taken<'_>, command: Command<'_>, out: &mut Outbox) -> Went {
         match taken {
             Taken::Done(tag) => complete(tag.as_bytes(), out),
             Taken::Warned(tag, warning) => {
@@ -87,7 +160,7 @@ impl<'h> Session<'h> {
                 complete(tag.as_bytes(), out);
             }
             Taken::Other => {
-                self.arrange(command, statement, out);
+                self.arrange(command, out);
                 complete(tag_of(command), out);
             }
             Taken::Refused(refusal) => {
@@ -107,45 +180,55 @@ impl<'h> Session<'h> {
             Command::DiscardAll if self.transaction.status != Status::Idle => {
                 Some(Refusal::InTransaction(b"DISCARD ALL"))
             }
+            Command::CloseCursor(name) if self.portals.find(name.as_bytes()).is_none() => {
+                Some(Refusal::NoPortal(name.as_bytes()))
+            }
             _ => None,
         }
     }
 
     /// Carries out this command, and appends its answer.
-    fn carry_out(&mut self, command: Command<'_>, statement: &[u8], out: &mut Outbox) -> Went {
-        if let Command::Show(name) = command {
-            return self.show(name, out);
+    fn carry_out(
+        &mut self,
+        command: Command<'_>,
+        statement: &[u8],
+        formats: &[i16],
+        out: &mut Outbox,
+    ) -> Went {
+        match command {
+            Command::Show(name) => return self.show(name, out),
+            Command::Declare { name, is_held } => {
+                return self.declare(name, is_held, statement, out);
+            }
+            Command::Fetch { name, most, moves } => {
+                let name = name.as_bytes();
+                let fetch = Fetch {
+                    name,
+                    most,
+                    moves,
+                    formats,
+                };
+                return self.fetch(fetch, out);
+            }
+            _ => {}
         }
         if let Some(refusal) = self.rejects_command(command) {
             refuse(refusal, out);
             return Went::Wrong;
         }
-        let taken = self.transaction.take(command, out);
-        let went = self.put_taken(taken, command, statement, out);
-        if went == Went::Well {
-            self.end_portals_of(command);
-        }
-        went
-    }
-
-    /// The portals that end with the transaction, or the part of it, that the command ends.
-    fn end_portals_of(&mut self, command: Command<'_>) {
-        match command {
-            Command::Commit { .. } | Command::Rollback { .. } => self.portals.clear(),
-            Command::RollbackTo(_) => self.portals.end_from(self.transaction.depth()),
-            Command::Release(_) => self.portals.keep_at(self.transaction.depth()),
-            _ => {}
-        }
+        let taken = self.carry(command, out);
+        self.put_taken(taken, command, out)
     }
 
     /// Carries out the command that this statement is, appends its answer, and returns how it went.
     pub(crate) fn command(
         &mut self,
         command: Command<'_>,
-        statement: &[u8],
+        statement: &Wording,
+        formats: &[i16],
         out: &mut Outbox,
     ) -> Went {
-        let went = self.carry_out(command, trimmed(statement), out);
+        let went = self.carry_out(command, &statement.bare, formats, out);
         if went == Went::Wrong {
             self.transaction.fail();
         }
@@ -156,12 +239,23 @@ impl<'h> Session<'h> {
     pub(crate) fn simple_command(
         &mut self,
         command: Command<'_>,
-        statement: &[u8],
+        statement: &Wording,
         out: &mut Outbox,
     ) -> Went {
-        if let Some(setting) = self.shown(command) {
-            describe_one(&setting.name, PLAIN_TEXT, &[], out);
+        if self.shown(command).is_some() || self.fetched(command).is_some() {
+            self.describe_command(command, &[], out);
         }
-        self.command(command, statement, out)
+        self.command(command, statement, &[], out)
+    }
+
+    /// Appends the description of a command's rows.
+    pub(crate) fn describe_command(&self, command: Command<'_>, formats: &[i16], out: &mut Outbox) {
+        if let Some(fetched) = self.fetched(command) {
+            return describe(&fetched.columns, formats, out);
+        }
+        match self.shown(command) {
+            Some(setting) => describe_one(&setting.name, formats, out),
+            None => describe_none(out),
+        }
     }
 }

@@ -1,7 +1,7 @@
 //! The commands that need no script: those of transactions, and of settings.
 //!
 //! PostgreSQL manual, "BEGIN", "COMMIT", "ROLLBACK", "SAVEPOINT", "RELEASE SAVEPOINT", "ROLLBACK TO SAVEPOINT", "SET", "RESET", "SHOW",
-//! "DEALLOCATE", "DISCARD".
+//! "DEALLOCATE", "DISCARD", "DECLARE", "FETCH", "MOVE", "CLOSE".
 
 /// What stands between two words.
 pub(crate) const SEPARATOR: char = '\0';
@@ -9,16 +9,27 @@ pub(crate) const SEPARATOR: char = '\0';
 /// A command, whose names are in small letters, or as they stand in quotes.
 #[derive(Clone, Copy)]
 pub(crate) enum Command<'w> {
-    /// `BEGIN` or `START TRANSACTION`, by its tag.
-    Begin(&'static str),
-    Commit { chains: bool },
-    Rollback { chains: bool },
+    /// `BEGIN` or `START TRANSACTION`, by its tag, and the words of its modes.
+    Begin(&'static str, &'w str),
+    Commit {
+        chains: bool,
+    },
+    Rollback {
+        chains: bool,
+    },
     Savepoint(&'w str),
     Release(&'w str),
     RollbackTo(&'w str),
-    SetTransaction,
-    /// `SET`, whose value stands in the text.
-    Set,
+    /// `SET TRANSACTION` with the words of its modes.
+    SetTransaction(&'w str),
+    /// `SET SESSION CHARACTERISTICS AS TRANSACTION` with the words of the modes.
+    SetDefaults(&'w str),
+    /// `SET` of a setting to a value of these words.
+    Set {
+        name: &'w str,
+        value: &'w str,
+        is_local: bool,
+    },
     /// `RESET`; of all by the name `all`, which no setting has.
     Reset(&'w str),
     Show(&'w str),
@@ -26,6 +37,20 @@ pub(crate) enum Command<'w> {
     Deallocate(&'w str),
     DeallocateAll,
     DiscardAll,
+    /// `DECLARE` of a cursor, whose query stands in the text.
+    Declare {
+        name: &'w str,
+        is_held: bool,
+    },
+    /// `FETCH` or `MOVE` of so many further rows of a cursor; of all by 0.
+    Fetch {
+        name: &'w str,
+        most: usize,
+        moves: bool,
+    },
+    /// `CLOSE` of a cursor.
+    CloseCursor(&'w str),
+    CloseAll,
 }
 
 impl Command<'_> {
@@ -52,9 +77,13 @@ enum Verb {
     Show,
     Deallocate,
     Discard,
+    Declare,
+    Fetch,
+    Move,
+    Close,
 }
 
-static VERBS: [(&str, Verb); 13] = [
+static VERBS: [(&str, Verb); 17] = [
     ("begin", Verb::Begin),
     ("start", Verb::Start),
     ("commit", Verb::Commit),
@@ -68,6 +97,10 @@ static VERBS: [(&str, Verb); 13] = [
     ("show", Verb::Show),
     ("deallocate", Verb::Deallocate),
     ("discard", Verb::Discard),
+    ("declare", Verb::Declare),
+    ("fetch", Verb::Fetch),
+    ("move", Verb::Move),
+    ("close", Verb::Close),
 ];
 
 /// The first of these words, and those after it.
@@ -173,14 +206,59 @@ fn setting(words: &str) -> Option<&str> {
     }
 }
 
-/// The `SET` of these words after it: one of a transaction's modes, or of a setting, of which a name and a value stand there.
-fn set(rest: &str) -> Option<Command<'_>> {
-    let (first, behind) = split(rest);
-    match first {
-        "transaction" if are_modes(behind) => Some(Command::SetTransaction),
-        _ if behind.is_empty() && !first.contains('=') => None,
-        _ => Some(Command::Set),
+/// The name and the words of the value of `NAME = VALUE` or `NAME TO VALUE`.
+fn assigned(words: &str) -> Option<(&str, &str)> {
+    let (first, rest) = split(words);
+    let (name, value) = match first.split_once('=') {
+        Some((name, "")) => (name, rest),
+        Some((name, _)) => (
+            name,
+            words
+                .split_at(name.len().saturating_add(1).min(words.len()))
+                .1,
+        ),
+        None => match after(rest, "to").or(after(rest, "=")) {
+            Some(value) => (first, value),
+            None => (first, rest.strip_prefix('=')?),
+        },
+    };
+    if value.is_empty() {
+        return None;
     }
+    Some((identifier(name)?, value))
+}
+
+/// The `SET` of these words after it: one of a transaction's modes, or of a setting.
+fn set(rest: &str) -> Option<Command<'_>> {
+    if let Some(modes) = rest.strip_prefix("session\0characteristics\0as\0transaction\0") {
+        return if are_modes(modes) {
+            Some(Command::SetDefaults(modes))
+        } else {
+            None
+        };
+    }
+    if let Some(modes) = after(rest, "transaction") {
+        return if are_modes(modes) && !modes.is_empty() {
+            Some(Command::SetTransaction(modes))
+        } else {
+            None
+        };
+    }
+    let local = after(rest, "local");
+    let words = local.or(after(rest, "session")).unwrap_or(rest);
+    let named = match after(words, "names") {
+        Some(value) => Some(("client_encoding", value)),
+        None => match words.strip_prefix("time\0zone\0") {
+            Some(value) => Some(("timezone", value)),
+            None => assigned(words),
+        },
+    };
+    let (name, value) = named?;
+    Some(Command::Set {
+        name,
+        value,
+        is_local: local.is_some(),
+    })
 }
 
 /// `DEALLOCATE` of the statement that these words name, or of all.
@@ -191,12 +269,55 @@ fn deallocate(rest: &str) -> Option<Command<'_>> {
     }
 }
 
+/// `DECLARE` of a cursor of this name, with these words.
+fn declare(rest: &str) -> Option<Command<'_>> {
+    let (name, words) = split(rest);
+    let (options, _) = words.split_once("\0for\0")?;
+    let held = options.strip_suffix("\0with\0hold");
+    let front = held
+        .or(options.strip_suffix("\0without\0hold"))
+        .unwrap_or(options);
+    if front != "cursor" && !front.ends_with("\0cursor") {
+        return None;
+    }
+    Some(Command::Declare {
+        name: identifier(name)?,
+        is_held: held.is_some(),
+    })
+}
+
+/// How many rows these words of a `FETCH` ask for, 0 for all; `None` of those that don't go forward.
+fn count_of(words: &str) -> Option<usize> {
+    match after(words, "forward").unwrap_or(words) {
+        "" | "next" => Some(1),
+        "all" => Some(0),
+        digits => match digits.parse::<usize>() {
+            Ok(0) | Err(_) => None,
+            Ok(count) => Some(count),
+        },
+    }
+}
+
+/// `FETCH` or `MOVE` with these words: how many, and behind `FROM` or `IN` the cursor's name.
+fn fetch(rest: &str, moves: bool) -> Option<Command<'_>> {
+    let (front, name) = rest.rsplit_once(SEPARATOR).unwrap_or(("", rest));
+    let words = front
+        .strip_suffix("from")
+        .or(front.strip_suffix("in"))
+        .unwrap_or(front);
+    Some(Command::Fetch {
+        name: identifier(name)?,
+        most: count_of(words.trim_end_matches(SEPARATOR))?,
+        moves,
+    })
+}
+
 /// The command of this first word, with these words after it.
 fn command_by(verb: Verb, rest: &str) -> Option<Command<'_>> {
     match verb {
-        Verb::Begin if are_modes(after_work(rest)) => Some(Command::Begin("BEGIN")),
+        Verb::Begin if are_modes(after_work(rest)) => Some(Command::Begin("BEGIN", rest)),
         Verb::Start if are_modes(after(rest, "transaction")?) => {
-            Some(Command::Begin("START TRANSACTION"))
+            Some(Command::Begin("START TRANSACTION", rest))
         }
         Verb::Commit => Some(Command::Commit {
             chains: chains(rest)?,
@@ -209,6 +330,11 @@ fn command_by(verb: Verb, rest: &str) -> Option<Command<'_>> {
         Verb::Show => Some(Command::Show(setting(rest)?)),
         Verb::Deallocate => deallocate(rest),
         Verb::Discard if rest == "all" => Some(Command::DiscardAll),
+        Verb::Declare => declare(rest),
+        Verb::Fetch => fetch(rest, false),
+        Verb::Move => fetch(rest, true),
+        Verb::Close if rest == "all" => Some(Command::CloseAll),
+        Verb::Close => Some(Command::CloseCursor(name_of(rest, "")?)),
         _ => None,
     }
 }

@@ -85,6 +85,9 @@ impl<'h> Connection<'h> {
     fn begin(&mut self, user: &[u8], opening: &Opening<'_>, minor: u16, out: &mut Outbox) {
         opening.negotiate(minor, out);
         self.set(user, opening, out);
+        if self.session.rejects_login(true, out) {
+            return;
+        }
         let host = self.host;
         host.ask(user, &mut self.serving, out);
         if self.serving.phase == ServingPhase::Open {

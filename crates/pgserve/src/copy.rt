@@ -22,7 +22,7 @@ pub(crate) struct CopyIn<'h> {
 fn formats_of(copy: &Copy, out: &mut Outbox) -> Vec<u16> {
     let mut formats = Vec::new(out.alloc);
     for _ in 0..copy.columns {
-        out.add(&mut formats, u16::from(copy.format));
+        out.add(&mut formats, u16::from(copy.is_binary));
     }
     formats
 }
@@ -30,10 +30,11 @@ fn formats_of(copy: &Copy, out: &mut Outbox) -> Vec<u16> {
 /// Appends that a copy begins.
 fn put_begin(copy: &Copy, out: &mut Outbox) {
     let formats = formats_of(copy, out);
+    let format = u8::from(copy.is_binary);
     let put = if copy.is_in {
-        reply::copy_in_response(copy.format, &formats, &mut out.bytes)
+        reply::copy_in_response(format, &formats, &mut out.bytes)
     } else {
-        reply::copy_out_response(copy.format, &formats, &mut out.bytes)
+        reply::copy_out_response(format, &formats, &mut out.bytes)
     };
     out.put(put);
 }

@@ -2,15 +2,15 @@
 //!
 //! PostgreSQL manual, "Message Flow", "Extended Query".
 
-use crate::answer::{Went, describe, describe_none, describe_one, execute};
+use crate::answer::{Went, describe, describe_none, execute};
 use crate::asked::{Refusal, put_error};
 use crate::bound::{Bound, given_of};
+use crate::input::{is_text, rejects_values};
 use crate::outbox::Outbox;
-use crate::portals::{Plan, Portal};
+use crate::portals::{Life, Plan, Portal};
 use crate::script::Statement;
 use crate::session::{Asks, Session};
 use crate::text::{only_of, trimmed};
-use crate::types::PLAIN_TEXT;
 use crate::wording::Wording;
 use pgp_base::Oid;
 use pgp_frontend_read::ClientMessage;
@@ -62,6 +62,7 @@ fn portal_of(plan: &Plan, binding: &Binding<'_>, depth: usize, out: &mut Outbox)
         values: given_of(&plan.types, binding.formats, binding.values, out),
         sent: None,
         depth,
+        life: Life::Transaction,
     }
 }
 
@@ -76,7 +77,8 @@ fn scripted_types<'h>(asks: Asks<'h, '_>) -> &'h [Oid] {
 impl<'h> Session<'h> {
     /// The one statement of a Parse; `None` where it has more.
     fn only<'q>(&self, query: &'q [u8], out: &mut Outbox) -> Option<&'q [u8]> {
-        match self.script.find(out.alloc, query) {
+        let whole = Wording::new(query, out);
+        match self.script.find(out.alloc, &whole) {
             Ok(Some(_)) => Some(trimmed(query)),
             Ok(None) => only_of(query, out),
             Err(_) => {
@@ -101,6 +103,9 @@ impl<'h> Session<'h> {
     pub(crate) fn parse(&mut self, name: &[u8], query: &[u8], named: &[Oid], out: &mut Outbox) {
         if name.is_empty() {
             self.prepared.remove(name);
+        }
+        if !is_text(query) {
+            return self.fail(Refusal::NotUtf8, out);
         }
         match self.only(query, out) {
             Some(statement) => self.parse_only(name, statement, named, out),
@@ -166,7 +171,10 @@ impl<'h> Session<'h> {
     fn width(&self, statement: &Wording, out: &mut Outbox) -> usize {
         match self.asks(statement, out) {
             Asks::Scripted(statement) => statement.columns.len(),
-            Asks::Command(command) if self.shown(command).is_some() => 1,
+            Asks::Command(command) => match self.fetched(command) {
+                Some(fetched) => fetched.columns.len(),
+                None => usize::from(self.shown(command).is_some()),
+            },
             _ => 0,
         }
     }
@@ -202,7 +210,8 @@ impl<'h> Session<'h> {
 
     fn open_portal(&mut self, binding: &Binding<'_>, out: &mut Outbox) {
         if let Some(plan) = self.prepared.find(binding.statement) {
-            let portal = portal_of(plan, binding, self.transaction.depth(), out);
+            let mut portal = portal_of(plan, binding, self.transaction.depth(), out);
+            portal.statement.place = self.place_of(&portal.statement, out);
             self.portals.put(binding.portal, portal, out);
         }
         let put = reply::bind_complete(&mut out.bytes);
@@ -224,6 +233,7 @@ impl<'h> Session<'h> {
         let results = binding.results.len();
         match self.rejects_portal(binding.portal, &plan.statement, results, out) {
             None if count != 0 && !are_formats(formats) => Some(Refusal::BadFormat),
+            None => rejects_values(&plan.types, binding, out),
             refusal => refusal,
         }
     }
@@ -237,10 +247,7 @@ impl<'h> Session<'h> {
     fn describe_rows(&self, statement: &Wording, formats: &[i16], out: &mut Outbox) {
         match self.asks(statement, out) {
             Asks::Scripted(statement) => describe(&statement.columns, formats, out),
-            Asks::Command(command) => match self.shown(command) {
-                Some(setting) => describe_one(&setting.name, PLAIN_TEXT, formats, out),
-                None => describe_none(out),
-            },
+            Asks::Command(command) => self.describe_command(command, formats, out),
             _ => describe_none(out),
         }
     }
@@ -274,7 +281,8 @@ impl<'h> Session<'h> {
         let Some(portal) = self.portals.find(name) else {
             return self.fail(Refusal::NoPortal(name), out);
         };
-        let statement = Wording::new(&portal.statement.text, out);
+        let mut statement = Wording::new(&portal.statement.text, out);
+        statement.place = portal.statement.place;
         self.execute_statement(name, &statement, max_rows, out);
     }
 
@@ -349,8 +357,12 @@ impl<'h> Session<'h> {
             Some(portal) if portal.sent.is_none() => portal.sent = Some(0),
             _ => return self.fail(Refusal::WasRun(name), out),
         }
+        let formats = match self.portals.find(name) {
+            Some(portal) => out.copy(&portal.formats),
+            None => out.copy(&[]),
+        };
         self.is_skipping = match statement.command() {
-            Some(command) => self.command(command, &statement.text, out) == Went::Wrong,
+            Some(command) => self.command(command, statement, &formats, out) == Went::Wrong,
             None => false,
         };
     }

@@ -27,6 +27,8 @@ pub(crate) enum Fault {
     Auth,
     /// The verifier isn't one.
     Verifier,
+    /// A verifier of one who has nothing to show.
+    NoVerifier,
     /// The nonce isn't one.
     Nonce,
     /// The hash of the certificate isn't one.
@@ -45,10 +47,11 @@ impl Fault {
             Fault::Misplaced => "an answer has no place after the requests that came",
             Fault::NoScript => "the script can't be read",
             Fault::NotText => "the script isn't UTF-8",
-            Fault::Script(place) => place.wrong.message(),
+            Fault::Script(place) => place.wrong,
             Fault::Auth => "--auth is trust, password, md5, scram or scram-plus",
             Fault::Verifier =>
                 "the verifier is no text of the method's: SCRAM-SHA-256$.., or md5..",
+            Fault::NoVerifier => "trust has no verifier",
             Fault::Nonce => "the nonce has to be printable ASCII without a comma",
             Fault::Certificate => "the hash of the certificate has to be hexadecimal digits",
         }

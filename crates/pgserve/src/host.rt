@@ -89,7 +89,9 @@ impl<'h> Host<'h> {
     ///
     /// Returns `Verifier`, `Nonce` and `Certificate` if they have another form.
     pub(crate) fn test(&self, alloc: Global) -> Result<(), Fault> {
-        self.account.auth.test(alloc, self.account.verifier)?;
+        if self.account.auth != Auth::Trust {
+            self.account.auth.test(alloc, self.account.verifier)?;
+        }
         let is_bound = self.asks_for(Auth::ScramPlus);
         if (is_bound || self.asks_for(Auth::Scram)) && !is_nonce(self.nonce) {
             return Err(Fault::Nonce);

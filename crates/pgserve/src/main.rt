@@ -8,12 +8,15 @@ mod asked;
 mod binary;
 mod bound;
 mod carried;
+mod column;
 mod command;
 mod connection;
 mod copy;
+mod cursor;
 mod extended;
 mod fault;
 mod host;
+mod input;
 mod line;
 mod list;
 mod log;
@@ -28,13 +31,16 @@ mod pause;
 mod portals;
 mod reader;
 mod reading;
+mod report;
 mod row_text;
 mod script;
 mod session;
 mod settings;
+mod simple;
 mod stream;
 mod text;
 mod transaction;
+mod turns;
 mod types;
 mod user;
 mod wording;
@@ -43,16 +49,17 @@ mod wrong;
 
 use fault::Fault;
 use host::Host;
-use reading::script_of;
+use reading::{script_of, unmarked};
 use script::Script;
 use std::process::ExitCode;
 use std::{fs, io};
 use words::Words;
+use wrong::Place;
 
-/// The script of this path.
-fn read_script(rt: &HostRuntime, path: &str) -> Result<Script, Fault> {
+/// The text of this path.
+fn read_text(rt: &HostRuntime, path: &str) -> Result<String, Fault> {
     match fs::read_to_string(rt, path) {
-        Ok(text) => script_of(rt.alloc(), &text),
+        Ok(text) => Ok(text),
         Err(why) => match why.kind() {
             io::ErrorKind::InvalidData => Err(Fault::NotText),
             io::ErrorKind::OutOfMemory => Err(Fault::Memory),
@@ -61,9 +68,9 @@ fn read_script(rt: &HostRuntime, path: &str) -> Result<Script, Fault> {
     }
 }
 
-/// Serves the client that is connected.
-fn serve(rt: &HostRuntime, words: &Words<'_>) -> Result<(), Fault> {
-    match read_script(rt, words.script) {
+/// Serves the client that is connected, by a script of this text.
+fn serve(rt: &HostRuntime, words: &Words<'_>, text: &str) -> Result<(), Fault> {
+    match script_of(rt.alloc(), text) {
         Ok(script) => serve_script(rt, words, &script),
         Err(fault) => Err(fault),
     }
@@ -77,13 +84,19 @@ fn serve_script(rt: &HostRuntime, words: &Words<'_>, script: &Script) -> Result<
     stream::run(rt, &host, &mut rt.reader(), &mut io::writer(rt))
 }
 
+/// Says what is wrong with a script of this text: what should stand there, and what stands there.
+fn complain_of(rt: &HostRuntime, path: &str, text: &str, place: Place) -> io::Result<()> {
+    let (line, column, why) = (place.line, place.column, place.wrong);
+    match place.seen(unmarked(text)) {
+        "" => eprintln!(rt; "pgserve: {path}:{line}:{column}: {why}; the line ends here"),
+        seen => eprintln!(rt; "pgserve: {path}:{line}:{column}: {why}; here stands `{seen}`"),
+    }
+}
+
 /// Says why there is no more.
-fn complain(rt: &HostRuntime, path: &str, fault: Fault) -> io::Result<()> {
+fn complain(rt: &HostRuntime, path: &str, text: &str, fault: Fault) -> io::Result<()> {
     match fault {
-        Fault::Script(place) => {
-            let (line, column) = (place.line, place.column);
-            eprintln!(rt; "pgserve: {path}:{line}:{column}: {}", fault.complaint())
-        }
+        Fault::Script(place) => complain_of(rt, path, text, place),
         Fault::NoScript | Fault::NotText => {
             eprintln!(rt; "pgserve: {path}: {}", fault.complaint())
         }
@@ -93,10 +106,20 @@ fn complain(rt: &HostRuntime, path: &str, fault: Fault) -> io::Result<()> {
 
 /// Serves as the words say, and returns the status.
 fn obey(rt: &HostRuntime, words: &Words<'_>) -> io::Result<u8> {
-    match serve(rt, words) {
+    match read_text(rt, words.script) {
+        Ok(text) => obey_text(rt, words, &text),
+        Err(fault) => {
+            complain(rt, words.script, "", fault)?;
+            Ok(1)
+        }
+    }
+}
+
+fn obey_text(rt: &HostRuntime, words: &Words<'_>, text: &str) -> io::Result<u8> {
+    match serve(rt, words, text) {
         Ok(()) => Ok(0),
         Err(fault) => {
-            complain(rt, words.script, fault)?;
+            complain(rt, words.script, text, fault)?;
             Ok(1)
         }
     }
@@ -110,7 +133,7 @@ fn explain(rt: &HostRuntime, refusal: &clap::Error) -> io::Result<u8> {
 
 fn run(rt: &HostRuntime, args: &[String]) -> io::Result<u8> {
     let Ok(command) = words::command(rt.alloc()) else {
-        complain(rt, "", Fault::Memory)?;
+        complain(rt, "", "", Fault::Memory)?;
         return Ok(1);
     };
     match command.try_get_matches_from(args) {

@@ -1,12 +1,13 @@
 //! What the lines below a `statement` of a script say.
 
+use crate::column::known_type;
 use crate::pause::Pause;
 use crate::reader::Reader;
 use crate::reading::pair_of;
+use crate::report::report_of;
 use crate::row_text::row_of;
-use crate::script::{Column, Copy, Detail, End, Report, Statement};
-use crate::types::{PLAIN_TEXT, Type, type_of};
-use crate::wrong::Wrong;
+use crate::script::{Copy, End, Statement};
+use crate::wrong;
 use pgp_base::Oid;
 use pgp_monitor::Status;
 use std::time::Duration;
@@ -16,6 +17,9 @@ use std::time::Duration;
 pub(crate) enum Part {
     Parameters,
     Column,
+    Table,
+    Modifier,
+    Format,
     Row,
     Notice,
     Tag,
@@ -24,6 +28,7 @@ pub(crate) enum Part {
     Detail,
     Hint,
     Position,
+    Field,
     Severity,
     Notify,
     Copy,
@@ -33,9 +38,12 @@ pub(crate) enum Part {
     Cut,
 }
 
-static PARTS: [(&str, Part); 17] = [
+static PARTS: [(&str, Part); 21] = [
     ("parameters", Part::Parameters),
     ("column", Part::Column),
+    ("table", Part::Table),
+    ("modifier", Part::Modifier),
+    ("format", Part::Format),
     ("row", Part::Row),
     ("notice", Part::Notice),
     ("tag", Part::Tag),
@@ -44,6 +52,7 @@ static PARTS: [(&str, Part); 17] = [
     ("detail", Part::Detail),
     ("hint", Part::Hint),
     ("position", Part::Position),
+    ("field", Part::Field),
     ("severity", Part::Severity),
     ("notify", Part::Notify),
     ("copy", Part::Copy),
@@ -63,21 +72,6 @@ pub(crate) fn part_of(word: &str) -> Option<Part> {
     None
 }
 
-/// The severities (PostgreSQL manual, "Message Severity Levels").
-static SEVERITIES: [&str; 8] = [
-    "DEBUG", "LOG", "INFO", "NOTICE", "WARNING", "ERROR", "FATAL", "PANIC",
-];
-
-/// The severity of this name.
-fn severity_of(word: &str) -> Option<&'static str> {
-    for severity in &SEVERITIES {
-        if *severity == word {
-            return Some(severity);
-        }
-    }
-    None
-}
-
 /// The status of this name.
 fn status_of(word: &str) -> Option<Status> {
     match word {
@@ -88,11 +82,6 @@ fn status_of(word: &str) -> Option<Status> {
     }
 }
 
-/// The type of this name.
-fn known_type(name: &str, reader: &mut Reader) -> Type {
-    reader.found(type_of(name), Wrong::Type, PLAIN_TEXT)
-}
-
 /// The types of these names.
 fn types_of(words: &str, reader: &mut Reader) -> Vec<Oid> {
     let mut types = Vec::new(reader.alloc);
@@ -101,39 +90,6 @@ fn types_of(words: &str, reader: &mut Reader) -> Vec<Oid> {
         reader.add(&mut types, kind.oid);
     }
     types
-}
-
-/// The column of this line: its name, and after the last space its type.
-fn column_of(line: &str, reader: &mut Reader) -> Column {
-    let (name, kind) = reader.found(line.rsplit_once(' '), Wrong::Column, ("", ""));
-    Column {
-        kind: known_type(kind, reader),
-        name: reader.text(name),
-    }
-}
-
-/// Whether it is five letters or digits.
-fn is_code(code: &str) -> bool {
-    for byte in code.bytes() {
-        if !byte.is_ascii_alphanumeric() {
-            return false;
-        }
-    }
-    code.len() == 5
-}
-
-/// The report of this line: five letters or digits, a space, and the message.
-fn report_of(severity: &'static str, line: &str, reader: &mut Reader) -> Report {
-    let (code, message) = line.split_once(' ').unwrap_or(("", ""));
-    if !is_code(code) {
-        reader.wrong(Wrong::Report);
-    }
-    Report {
-        severity,
-        code: reader.bytes(code.as_bytes()),
-        message: reader.text(message),
-        details: Vec::new(reader.alloc),
-    }
 }
 
 /// The pause of this line: so many milliseconds, before the answer or after so many bytes of it.
@@ -147,8 +103,8 @@ fn pause_of(line: &str, reader: &mut Reader) -> Pause {
     }
 }
 
-/// The number of a format of copies.
-fn format_of(word: &str) -> Option<u8> {
+/// The number of a format.
+pub(crate) fn format_of(word: &str) -> Option<i16> {
     match word {
         "text" => Some(0),
         "binary" => Some(1),
@@ -162,7 +118,7 @@ fn is_in(way: &str, reader: &mut Reader) -> bool {
         "in" => true,
         "out" => false,
         _ => {
-            reader.wrong(Wrong::Copy);
+            reader.wrong(wrong::COPY);
             false
         }
     }
@@ -174,8 +130,8 @@ fn copy_of(line: &str, reader: &mut Reader) -> Copy {
     let (format, columns) = rest.split_once(' ').unwrap_or((rest, "1"));
     Copy {
         is_in: is_in(way, reader),
-        format: reader.found(format_of(format), Wrong::Copy, 0),
-        columns: reader.found(columns.parse().ok(), Wrong::Copy, 0),
+        is_binary: reader.found(format_of(format), wrong::COPY, 0) == 1,
+        columns: reader.found(columns.parse().ok(), wrong::COPY, 0),
         chunks: Vec::new(reader.alloc),
     }
 }
@@ -189,57 +145,12 @@ impl Statement {
         }
     }
 
-    /// The further fields of the last error or notice.
-    fn details(&mut self) -> Option<&mut Vec<Detail>> {
-        match self.last_report() {
-            Some(report) => Some(&mut report.details),
-            None => None,
-        }
-    }
-
-    /// Adds a column; rows stand after all of them.
-    fn add_column(&mut self, line: &str, reader: &mut Reader) {
-        if !self.rows.is_empty() {
-            return reader.wrong(Wrong::LateColumn);
-        }
-        let column = column_of(line, reader);
-        reader.add(&mut self.columns, column);
-    }
-
     /// Says how the answer ends, once.
     fn set_end(&mut self, end: End, reader: &mut Reader) {
         if !matches!(self.end, End::Open) {
-            reader.wrong(Wrong::SecondEnd);
+            reader.wrong(wrong::SECOND_END);
         }
         self.end = end;
-    }
-
-    /// Adds a field to the last error or notice.
-    fn add_detail(&mut self, code: u8, line: &str, reader: &mut Reader) {
-        let value = reader.text(line);
-        reader.add_to(self.details(), Detail { code, value }, Wrong::NoReport);
-    }
-
-    /// Sets the severity of the last error or notice.
-    fn set_severity(&mut self, word: &str, reader: &mut Reader) {
-        let severity = reader.found(severity_of(word), Wrong::Severity, "");
-        match self.last_report() {
-            Some(report) => report.severity = severity,
-            None => reader.wrong(Wrong::NoReport),
-        }
-    }
-
-    /// Adds what a line says of an error or a notice.
-    fn add_to_report(&mut self, part: Part, rest: &str, reader: &mut Reader) {
-        match part {
-            Part::Detail => self.add_detail(b'D', rest, reader),
-            Part::Hint => self.add_detail(b'H', rest, reader),
-            Part::Position => {
-                reader.count(rest, 0);
-                self.add_detail(b'P', rest, reader);
-            }
-            _ => self.set_severity(rest, reader),
-        }
     }
 
     /// Adds what a line says of the rows.
@@ -247,8 +158,9 @@ impl Statement {
         match part {
             Part::Parameters => self.parameters = types_of(rest, reader),
             Part::Column => self.add_column(rest, reader),
+            Part::Table | Part::Modifier | Part::Format => self.add_to_column(part, rest, reader),
             _ => {
-                let row = row_of(&self.columns, rest, reader);
+                let row = row_of(&self.columns, &self.parameters, rest, reader);
                 reader.add(&mut self.rows, row);
             }
         }
@@ -259,8 +171,8 @@ impl Statement {
         match part {
             Part::Copy => self.copy = Some(copy_of(rest, reader)),
             _ => {
-                let chunk = reader.text(rest);
-                reader.add_to(self.chunks(), chunk, Wrong::NoCopy);
+                let chunk = reader.raw(rest);
+                reader.add_to(self.chunks(), chunk, wrong::NO_COPY);
             }
         }
     }
@@ -268,7 +180,12 @@ impl Statement {
     /// Adds what a line says.
     pub(crate) fn add(&mut self, part: Part, rest: &str, reader: &mut Reader) {
         match part {
-            Part::Parameters | Part::Column | Part::Row => self.add_to_rows(part, rest, reader),
+            Part::Parameters
+            | Part::Column
+            | Part::Table
+            | Part::Modifier
+            | Part::Format
+            | Part::Row => self.add_to_rows(part, rest, reader),
             Part::Copy | Part::Data => self.add_to_copy(part, rest, reader),
             Part::Notice => {
                 let report = report_of("NOTICE", rest, reader);
@@ -277,7 +194,7 @@ impl Statement {
             Part::Tag => self.set_end(End::Tag(reader.text(rest)), reader),
             Part::Error => self.set_end(End::Error(report_of("ERROR", rest, reader)), reader),
             Part::Status => {
-                self.status = Some(reader.found(status_of(rest), Wrong::Status, Status::Idle));
+                self.status = Some(reader.found(status_of(rest), wrong::STATUS, Status::Idle));
             }
             Part::Notify => {
                 let notification = pair_of(rest, reader);

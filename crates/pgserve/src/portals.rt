@@ -25,6 +25,17 @@ pub(crate) struct Portal {
     pub(crate) sent: Option<usize>,
     /// How many savepoints there were.
     pub(crate) depth: usize,
+    pub(crate) life: Life,
+}
+
+/// When a portal ends.
+#[derive(Clone, Copy, PartialEq, Eq)]
+pub(crate) enum Life {
+    /// With its transaction.
+    Transaction,
+    /// With its transaction if that is rolled back, and else with the session.
+    Held,
+    Session,
 }
 
 /// What a name stands for.
@@ -95,6 +106,22 @@ impl<T: Drop> Names<T> {
 }
 
 impl Names<Portal> {
+    /// A transaction is committed: the cursors that are held stay.
+    pub(crate) fn commit(&mut self) {
+        self.entries
+            .retain(|entry| entry.value.life != Life::Transaction);
+        for entry in self.entries.iter_mut() {
+            entry.value.life = Life::Session;
+            entry.value.depth = 0;
+        }
+    }
+
+    /// A transaction is rolled back.
+    pub(crate) fn roll_back(&mut self) {
+        self.entries
+            .retain(|entry| entry.value.life == Life::Session);
+    }
+
     /// Portals that were bound after a savepoint belong to what stands around it.
     pub(crate) fn keep_at(&mut self, depth: usize) {
         for entry in self.entries.iter_mut() {
@@ -104,6 +131,6 @@ impl Names<Portal> {
 
     /// Portals that were bound where there were so many savepoints end.
     pub(crate) fn end_from(&mut self, depth: usize) {
-        self.entries.retain(|entry| entry.value.depth < depth);
+        self.entries.retain(|entry| entry.value.life == Life::Session || entry.value.depth < depth);
     }
 }

@@ -2,7 +2,8 @@
 
 use crate::list::push;
 use crate::text::add_unescaped;
-use crate::wrong::{Stop, Wrong};
+use crate::wrong;
+use crate::wrong::Stop;
 use std::alloc::{AllocError, Global};
 
 /// Reads the parts of a line. The first fault is kept, and the caller looks for it behind the line, so that what reads a part gives something
@@ -32,11 +33,11 @@ impl Reader {
     }
 
     /// The same of one that stands so many bytes after the beginning.
-    pub(crate) fn wrong_at(&mut self, wrong: Wrong, at: usize) {
+    pub(crate) fn wrong_at(&mut self, wrong: &'static str, at: usize) {
         self.fail(Stop::In(wrong, self.base.saturating_add(at)));
     }
 
-    pub(crate) fn wrong(&mut self, wrong: Wrong) {
+    pub(crate) fn wrong(&mut self, wrong: &'static str) {
         self.wrong_at(wrong, 0);
     }
 
@@ -45,7 +46,7 @@ impl Reader {
     }
 
     /// What was found; or this, and a fault.
-    pub(crate) fn found<T: Drop>(&mut self, found: Option<T>, wrong: Wrong, other: T) -> T {
+    pub(crate) fn found<T: Drop>(&mut self, found: Option<T>, wrong: &'static str, other: T) -> T {
         match found {
             Some(found) => found,
             None => {
@@ -68,7 +69,12 @@ impl Reader {
     }
 
     /// The same, where it is wrong that there is no list.
-    pub(crate) fn add_to<T: Drop>(&mut self, list: Option<&mut Vec<T>>, item: T, wrong: Wrong) {
+    pub(crate) fn add_to<T: Drop>(
+        &mut self,
+        list: Option<&mut Vec<T>>,
+        item: T,
+        wrong: &'static str,
+    ) {
         match list {
             Some(list) => self.add(list, item),
             None => {
@@ -78,22 +84,36 @@ impl Reader {
         }
     }
 
-    /// A text without its escapes.
+    /// A text without its escapes, in which no byte 0 stands, as in no text of a message.
     pub(crate) fn text(&mut self, text: &str) -> Vec<u8> {
+        let bytes = self.raw(text);
+        if bytes.contains(&0) {
+            self.wrong(wrong::ZERO);
+        }
+        bytes
+    }
+
+    /// Bytes without their escapes.
+    pub(crate) fn raw(&mut self, text: &str) -> Vec<u8> {
         let mut bytes = Vec::new(self.alloc);
         match add_unescaped(text, &mut bytes) {
             Ok(true) => {}
-            Ok(false) => self.wrong(Wrong::Escape),
+            Ok(false) => self.wrong(wrong::ESCAPE),
             Err(_) => self.lack(),
         }
         bytes
     }
 
+    /// The same items in memory of their own.
+    pub(crate) fn copied<T: Copy>(&mut self, items: &[T]) -> Vec<T> {
+        let mut list = Vec::new(self.alloc);
+        self.keep(list.extend_from_slice(items));
+        list
+    }
+
     /// A text as it stands there.
     pub(crate) fn bytes(&mut self, text: &[u8]) -> Vec<u8> {
-        let mut bytes = Vec::new(self.alloc);
-        self.keep(bytes.extend_from_slice(text));
-        bytes
+        self.copied(text)
     }
 
     /// The same, which is kept as a text.
@@ -108,7 +128,7 @@ impl Reader {
         match word.parse() {
             Ok(count) => count,
             Err(_) => {
-                self.wrong_at(Wrong::Count, at);
+                self.wrong_at(wrong::COUNT, at);
                 0
             }
         }

@@ -1,20 +1,32 @@
 //! A script, read from its text.
 
 use crate::fault::Fault;
+use crate::outbox::Outbox;
 use crate::part::part_of;
 use crate::pattern::matches;
 use crate::reader::Reader;
-use crate::script::{Pair, Script, Statement};
+use crate::report::report_of;
+use crate::script::{By, Pair, Role, Script, Statement};
 use crate::text::trimmed;
 use crate::user::{Auth, User};
-use crate::wrong::{Stop, Wrong, place_of};
+use crate::wording::words_of;
+use crate::wrong;
+use crate::wrong::{Stop, place_of};
 use std::alloc::Global;
+
+/// The setting of this line: its name, and after a space its value, which may be empty.
+fn setting_of(line: &str, reader: &mut Reader) -> Pair {
+    if !line.contains(' ') {
+        reader.wrong_at(wrong::SETTING, line.len());
+    }
+    pair_of(line, reader)
+}
 
 /// A name, and after a space a text, which may be empty.
 pub(crate) fn pair_of(line: &str, reader: &mut Reader) -> Pair {
     let (name, value) = line.split_once(' ').unwrap_or((line, ""));
     if name.is_empty() {
-        reader.wrong(Wrong::Name);
+        reader.wrong(wrong::NAME);
     }
     Pair {
         name: reader.text(name),
@@ -26,37 +38,59 @@ pub(crate) fn pair_of(line: &str, reader: &mut Reader) -> Pair {
 fn pattern_of(pattern: &str, reader: &mut Reader) -> Vec<u8> {
     match matches(reader.alloc, pattern, "") {
         Ok(Some(_)) => {}
-        Ok(None) => reader.wrong_at(Wrong::Pattern, 2),
+        Ok(None) => reader.wrong_at(wrong::PATTERN, 2),
         Err(_) => reader.lack(),
     }
     reader.bytes(pattern.as_bytes())
 }
 
-/// The text of a statement.
-fn text_of(text: &str, reader: &mut Reader) -> Vec<u8> {
-    let text = reader.text(text);
-    reader.bytes(trimmed(&text))
+/// The words of a text.
+fn split(text: &[u8], reader: &mut Reader) -> String {
+    let mut out = Outbox::new(reader.alloc);
+    let words = words_of(text, &mut out);
+    if out.end().is_err() {
+        reader.lack();
+    }
+    words
 }
 
 /// A statement that begins at this line, which `~` makes a pattern.
-fn statement_of(number: usize, rest: &str, reader: &mut Reader) -> Statement {
+fn statement_of(number: usize, rest: &str, by_words: bool, reader: &mut Reader) -> Statement {
     let alloc = reader.alloc;
-    match rest.strip_prefix("~ ") {
-        Some(pattern) => Statement::new(alloc, number, pattern_of(pattern, reader), true),
-        None => Statement::new(alloc, number, text_of(rest, reader), false),
+    if let Some(pattern) = rest.strip_prefix("~ ") {
+        let pattern = pattern_of(pattern, reader);
+        return Statement::new(alloc, number, By::Pattern, pattern, String::new(alloc));
     }
+    let text = reader.text(rest);
+    let words = split(trimmed(&text), reader);
+    if by_words {
+        let text = reader.bytes(words.as_bytes());
+        return Statement::new(alloc, number, By::Words, text, words);
+    }
+    let text = reader.bytes(trimmed(&text));
+    Statement::new(alloc, number, By::Text, text, words)
 }
 
 /// Begins a statement.
 fn begin(script: &mut Script, number: usize, rest: &str, reader: &mut Reader) {
-    let statement = statement_of(number, rest, reader);
-    if script
-        .written(&statement.text, statement.is_pattern)
-        .is_some()
-    {
-        reader.wrong(Wrong::Duplicate);
+    let mut statement = statement_of(number, rest, script.by_words, reader);
+    if script.written(statement.by, &statement.text).is_some() {
+        reader.wrong(wrong::DUPLICATE);
     }
+    statement.place = script.statements.len();
+    statement.first = statement.place;
     reader.add(&mut script.statements, statement);
+}
+
+/// Begins a further answer to the last statement.
+fn begin_further(script: &mut Script, number: usize, role: Role, reader: &mut Reader) {
+    match script.statements.last() {
+        Some(last) => {
+            let further = last.further(number, role, reader);
+            reader.add(&mut script.statements, further);
+        }
+        None => reader.fail(Stop::First(wrong::NO_STATEMENT)),
+    }
 }
 
 /// Takes note of a verifier that is none of the method's, which stands so many bytes after the first word and its blank.
@@ -64,7 +98,8 @@ fn test_verifier(auth: Auth, verifier: &str, at: usize, reader: &mut Reader) {
     match auth.test(reader.alloc, verifier) {
         Ok(()) => {}
         Err(Fault::Memory) => reader.lack(),
-        Err(_) => reader.wrong_at(Wrong::Verifier, at),
+        Err(Fault::NoVerifier) => reader.wrong_at(wrong::NO_VERIFIER, at),
+        Err(_) => reader.wrong_at(wrong::VERIFIER, at),
     }
 }
 
@@ -73,7 +108,7 @@ fn method_of(name: &str, at: usize, reader: &mut Reader) -> Auth {
     match Auth::of(name) {
         Some(auth) => auth,
         None => {
-            reader.wrong_at(Wrong::Method, at);
+            reader.wrong_at(wrong::METHOD, at);
             Auth::Trust
         }
     }
@@ -81,7 +116,7 @@ fn method_of(name: &str, at: usize, reader: &mut Reader) -> Auth {
 
 /// The user of this line: the name, the method, and the method's verifier.
 fn user_of(line: &str, reader: &mut Reader) -> User {
-    let (name, rest) = reader.found(line.split_once(' '), Wrong::User, ("", ""));
+    let (name, rest) = reader.found(line.split_once(' '), wrong::USER, ("", ""));
     let (method, verifier) = rest.split_once(' ').unwrap_or((rest, ""));
     let at = name.len().saturating_add(1);
     let auth = method_of(method, at, reader);
@@ -98,7 +133,7 @@ fn user_of(line: &str, reader: &mut Reader) -> User {
 fn add_user(script: &mut Script, line: &str, reader: &mut Reader) {
     let user = user_of(line, reader);
     if script.has_user(&user.name) {
-        reader.wrong(Wrong::DuplicateUser);
+        reader.wrong(wrong::DUPLICATE_USER);
     }
     reader.add(&mut script.users, user);
 }
@@ -106,11 +141,20 @@ fn add_user(script: &mut Script, line: &str, reader: &mut Reader) {
 /// Adds what a line says of the last statement.
 fn add_part(script: &mut Script, word: &str, rest: &str, reader: &mut Reader) {
     let Some(statement) = script.statements.last_mut() else {
-        return reader.fail(Stop::First(Wrong::NoStatement));
+        return reader.fail(Stop::First(wrong::NO_STATEMENT));
     };
     match part_of(word) {
         Some(part) => statement.add(part, rest, reader),
-        None => reader.fail(Stop::First(Wrong::Word)),
+        None => reader.fail(Stop::First(wrong::WORD)),
+    }
+}
+
+/// Whether statements are meant by their words.
+fn by_words(word: &str) -> Option<bool> {
+    match word {
+        "words" => Some(true),
+        "text" => Some(false),
+        _ => None,
     }
 }
 
@@ -123,10 +167,14 @@ fn read_line(script: &mut Script, number: usize, line: &str, reader: &mut Reader
     match word {
         "statement" => begin(script, number, rest, reader),
         "setting" => {
-            let setting = pair_of(rest, reader);
+            let setting = setting_of(rest, reader);
             reader.add(&mut script.settings, setting);
         }
         "user" => add_user(script, rest, reader),
+        "login" => script.login = Some(report_of("FATAL", rest, reader)),
+        "match" => script.by_words = reader.found(by_words(rest), wrong::MATCH, false),
+        "then" => begin_further(script, number, Role::Then, reader),
+        "and" => begin_further(script, number, Role::And, reader),
         _ => add_part(script, word, rest, reader),
     }
 }
@@ -150,9 +198,14 @@ fn read_lines(script: &mut Script, text: &str, reader: &mut Reader) -> Result<()
         }
     }
     match script.open_line() {
-        Some(line) => Err(fault_of(line, "statement", Stop::In(Wrong::NoEnd, 0))),
+        Some(line) => Err(fault_of(line, "statement", Stop::In(wrong::NO_END, 0))),
         None => Ok(()),
     }
+}
+
+/// A text without the mark of its byte order.
+pub(crate) fn unmarked(text: &str) -> &str {
+    text.strip_prefix('\u{feff}').unwrap_or(text)
 }
 
 /// The script of this text.
@@ -163,6 +216,6 @@ fn read_lines(script: &mut Script, text: &str, reader: &mut Reader) -> Result<()
 pub(crate) fn script_of(alloc: Global, text: &str) -> Result<Script, Fault> {
     let mut script = Script::new(alloc);
     let mut reader = Reader::new(alloc);
-    read_lines(&mut script, text, &mut reader)?;
+    read_lines(&mut script, unmarked(text), &mut reader)?;
     Ok(script)
 }

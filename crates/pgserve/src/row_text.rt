@@ -3,26 +3,27 @@
 use crate::binary::{Unwritten, value_in};
 use crate::reader::Reader;
 use crate::script::{Column, Condition, Row};
-use crate::types::Type;
-use crate::wrong::Wrong;
+use crate::wrong;
+use pgp_base::Oid;
 
 /// Takes note of a value that is none of the type.
-fn test_value(kind: Type, value: &[u8], reader: &mut Reader) {
-    match value_in(reader.alloc, 1, kind.oid, value) {
+fn test_value(oid: Oid, value: &[u8], wrong: &'static str, reader: &mut Reader) {
+    match value_in(reader.alloc, 1, oid, value) {
         Ok(bytes) => drop(bytes),
         Err(Unwritten::NoFormat) => {}
-        Err(Unwritten::NotOfType) => reader.wrong(Wrong::Value),
+        Err(Unwritten::NotOfType) => reader.wrong(wrong),
         Err(Unwritten::Memory) => reader.lack(),
     }
 }
 
-/// The value of this text, which is one of the type; `\N` is a null.
-fn value_of(kind: Type, text: &str, reader: &mut Reader) -> Option<Vec<u8>> {
+/// The value of this text, which is one of the column's type; `\N` is a null.
+fn value_of(column: &Column, text: &str, reader: &mut Reader) -> Option<Vec<u8>> {
     match text {
         "\\N" => None,
+        _ if column.only.is_some() => Some(reader.raw(text)),
         _ => {
             let value = reader.text(text);
-            test_value(kind, &value, reader);
+            test_value(column.kind.oid, &value, wrong::VALUE, reader);
             Some(value)
         }
     }
@@ -37,9 +38,9 @@ fn add_values(
 ) {
     for text in line.split('\t') {
         let Some(column) = columns.get(values.len()) else {
-            return reader.wrong(Wrong::Width);
+            return reader.wrong(wrong::WIDTH);
         };
-        let value = value_of(column.kind, text, reader);
+        let value = value_of(column, text, reader);
         reader.add(values, value);
         reader.base = reader.base.saturating_add(text.len()).saturating_add(1);
     }
@@ -57,7 +58,7 @@ fn values_of(
     add_values(columns, line, reader, &mut values);
     reader.base = base;
     if values.len() != columns.len() {
-        reader.wrong(Wrong::Width);
+        reader.wrong(wrong::WIDTH);
     }
     reader.base = 0;
     values
@@ -68,7 +69,7 @@ fn place_of(number: &str, reader: &mut Reader) -> usize {
     match number.parse::<u16>() {
         Ok(number) if number != 0 => usize::from(number).saturating_sub(1),
         _ => {
-            reader.wrong_at(Wrong::Condition, 6);
+            reader.wrong_at(wrong::CONDITION, 6);
             0
         }
     }
@@ -82,16 +83,30 @@ fn split_condition(line: &str) -> Option<(&str, &str, &str)> {
 }
 
 /// A row with a condition, of this line after its first seven letters, and the whole line's length.
-fn row_with_condition(columns: &[Column], rest: &str, len: usize, reader: &mut Reader) -> Row {
+fn row_with_condition(
+    columns: &[Column],
+    parameters: &[Oid],
+    rest: &str,
+    len: usize,
+    reader: &mut Reader,
+) -> Row {
     let parts = split_condition(rest);
     if parts.is_none() {
-        reader.wrong_at(Wrong::Condition, 5);
+        reader.wrong_at(wrong::CONDITION, 5);
     }
     let (number, text, values) = parts.unwrap_or(("", "", ""));
     let condition = Condition {
         place: place_of(number, reader),
         value: reader.text(text),
     };
+    match parameters.get(condition.place) {
+        Some(oid) => {
+            reader.base = number.len().saturating_add(10);
+            test_value(*oid, &condition.value, wrong::CONDITION_VALUE, reader);
+            reader.base = 0;
+        }
+        None => reader.wrong_at(wrong::NO_PARAMETER, 5),
+    }
     Row {
         condition: Some(condition),
         values: values_of(columns, values, len.saturating_sub(values.len()), reader),
@@ -99,9 +114,14 @@ fn row_with_condition(columns: &[Column], rest: &str, len: usize, reader: &mut R
 }
 
 /// The row of this line: its values, after the condition on a parameter if it has one.
-pub(crate) fn row_of(columns: &[Column], line: &str, reader: &mut Reader) -> Row {
+pub(crate) fn row_of(
+    columns: &[Column],
+    parameters: &[Oid],
+    line: &str,
+    reader: &mut Reader,
+) -> Row {
     match line.strip_prefix("when $") {
-        Some(rest) => row_with_condition(columns, rest, line.len(), reader),
+        Some(rest) => row_with_condition(columns, parameters, rest, line.len(), reader),
         None => Row {
             condition: None,
             values: values_of(columns, line, 0, reader),

@@ -5,6 +5,7 @@ use crate::pause::Pause;
 use crate::text::trimmed;
 use crate::types::Type;
 use crate::user::User;
+use crate::wording::Wording;
 use pgp_base::Oid;
 use pgp_monitor::Status;
 use std::alloc::{AllocError, Global};
@@ -14,6 +15,12 @@ use std::alloc::{AllocError, Global};
 pub(crate) struct Column {
     pub(crate) name: Vec<u8>,
     pub(crate) kind: Type,
+    /// The table, and the column's number there; 0 of none.
+    pub(crate) table: Oid,
+    pub(crate) number: i16,
+    pub(crate) modifier: i32,
+    /// The one format in which the values stand and are sent, where it is one: 0 text, 1 binary.
+    pub(crate) only: Option<i16>,
 }
 
 /// A further field of an error or a notice, as its detail.
@@ -36,8 +43,7 @@ pub(crate) struct Report {
 #[derive(Drop)]
 pub(crate) struct Copy {
     pub(crate) is_in: bool,
-    /// 0 text, 1 binary.
-    pub(crate) format: u8,
+    pub(crate) is_binary: bool,
     pub(crate) columns: u16,
     /// What the server sends.
     pub(crate) chunks: Vec<Vec<u8>>,
@@ -74,14 +80,42 @@ pub(crate) struct Pair {
     pub(crate) value: Vec<u8>,
 }
 
+/// How the text of a statement says which are meant.
+#[derive(Clone, Copy, PartialEq, Eq)]
+pub(crate) enum By {
+    /// The same text.
+    Text,
+    /// The same words, whatever blanks and capital letters they have.
+    Words,
+    /// Those in which a regular expression matches.
+    Pattern,
+}
+
+/// Which answer to a statement it is.
+#[derive(Clone, Copy, PartialEq, Eq)]
+pub(crate) enum Role {
+    First,
+    /// That of the next time.
+    Then,
+    /// A further result of the same time.
+    And,
+}
+
 /// A statement, and what is answered.
 #[derive(Drop)]
 pub(crate) struct Statement {
     /// The line where it begins.
     pub(crate) line: usize,
+    /// Its place in the script, and that of the first answer to the same statement.
+    pub(crate) place: usize,
+    pub(crate) first: usize,
+    pub(crate) role: Role,
+    pub(crate) by: By,
     pub(crate) text: Vec<u8>,
-    /// Whether the text is a pattern of statements.
-    pub(crate) is_pattern: bool,
+    /// The text by its words.
+    pub(crate) words: String,
+    /// Whether its columns are those of the answer above.
+    pub(crate) has_old_columns: bool,
     /// The types of its parameters.
     pub(crate) parameters: Vec<Oid>,
     pub(crate) columns: Vec<Column>,
@@ -103,14 +137,29 @@ pub(crate) struct Script {
     pub(crate) statements: Vec<Statement>,
     pub(crate) settings: Vec<Pair>,
     pub(crate) users: Vec<User>,
+    /// The error of each log-in, if it has one.
+    pub(crate) login: Option<Report>,
+    /// Whether statements are meant by their words from here on.
+    pub(crate) by_words: bool,
 }
 
 impl Statement {
-    pub(crate) fn new(alloc: Global, line: usize, text: Vec<u8>, is_pattern: bool) -> Statement {
+    pub(crate) fn new(
+        alloc: Global,
+        line: usize,
+        by: By,
+        text: Vec<u8>,
+        words: String,
+    ) -> Statement {
         Statement {
             line,
+            place: 0,
+            first: 0,
+            role: Role::First,
+            by,
             text,
-            is_pattern,
+            words,
+            has_old_columns: false,
             parameters: Vec::new(alloc),
             columns: Vec::new(alloc),
             rows: Vec::new(alloc),
@@ -183,40 +232,78 @@ impl Script {
             statements: Vec::new(alloc),
             settings: Vec::new(alloc),
             users: Vec::new(alloc),
+            login: None,
+            by_words: false,
         }
     }
 
-    /// The statement that is written so, as a text or as a pattern.
-    pub(crate) fn written(&self, text: &[u8], is_pattern: bool) -> Option<&Statement> {
+    /// The first answer to the statement that is written so.
+    pub(crate) fn written(&self, by: By, text: &[u8]) -> Option<&Statement> {
         for statement in &self.statements {
-            if statement.is_pattern == is_pattern && statement.text.as_slice() == text {
+            if statement.role == Role::First
+                && statement.by == by
+                && statement.text.as_slice() == text
+            {
                 return Some(statement);
             }
         }
         None
     }
 
-    /// The statement of this text, or else the first pattern that matches it.
+    /// The first answer to a statement: that of its text, of the text without comments, of its words, or of the first pattern that matches.
     pub(crate) fn find(
         &self,
         alloc: Global,
-        text: &[u8],
+        asked: &Wording,
     ) -> Result<Option<&Statement>, AllocError> {
-        let text = trimmed(text);
-        match self.written(text, false) {
-            Some(statement) => Ok(Some(statement)),
-            None => self.matching(alloc, str::from_utf8(text).unwrap_or("")),
+        let found = self
+            .written(By::Text, trimmed(&asked.text))
+            .or(self.written(By::Text, &asked.bare))
+            .or(self.written(By::Words, asked.words.as_bytes()));
+        if found.is_some() {
+            return Ok(found);
+        }
+        match self.matching(alloc, trimmed(&asked.text)) {
+            Ok(None) => self.matching(alloc, &asked.bare),
+            matching => matching,
         }
     }
 
     /// The first pattern that matches the text.
-    fn matching(&self, alloc: Global, text: &str) -> Result<Option<&Statement>, AllocError> {
+    fn matching(&self, alloc: Global, text: &[u8]) -> Result<Option<&Statement>, AllocError> {
+        let text = str::from_utf8(text).unwrap_or("");
         for statement in &self.statements {
-            if statement.is_pattern && statement.matches(alloc, text)? {
+            if statement.role == Role::First
+                && statement.by == By::Pattern
+                && statement.matches(alloc, text)?
+            {
                 return Ok(Some(statement));
             }
         }
         Ok(None)
+    }
+
+    /// The further result of the same time, behind this place.
+    pub(crate) fn further(&self, place: usize) -> Option<&Statement> {
+        let next = self.statements.get(place.saturating_add(1))?;
+        if next.role == Role::And {
+            Some(next)
+        } else {
+            None
+        }
+    }
+
+    /// The place of the answer of the next time, behind this place.
+    pub(crate) fn turn_after(&self, place: usize) -> Option<usize> {
+        let rest = self.statements.get(place.saturating_add(1)..)?;
+        for next in rest {
+            match next.role {
+                Role::And => {}
+                Role::Then => return Some(next.place),
+                Role::First => return None,
+            }
+        }
+        None
     }
 
     /// The line of the first statement whose end isn't said.

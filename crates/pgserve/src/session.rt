@@ -6,9 +6,8 @@
 ghost use Rattle.std.specs.Prelude.{◌≡◌, false};
 ghost use Rattle.pgp_monitor.specs.Transaction.{ends_portals};
 
-use crate::answer::{Went, describe, execute};
-use crate::asked::{Refusal, refuse};
-use crate::bound::Bound;
+use crate::answer::Went;
+use crate::asked::{Refusal, put_error, refuse};
 use crate::command::{Command, command_of};
 use crate::copy::CopyIn;
 use crate::extended::Binding;
@@ -18,12 +17,10 @@ use crate::pause::Pause;
 use crate::portals::{Names, Plan, Portal};
 use crate::script::{Pair, Script, Statement};
 use crate::settings::Settings;
-use crate::text::{first_of, is_blank};
 use crate::transaction::Transaction;
-use crate::wording::{Wording, words_of};
+use crate::wording::Wording;
 use pgp_frontend_read::ClientMessage;
 use pgp_message_write as reply;
-use std::alloc::{AllocError, Global};
 
 /// What a statement asks for.
 #[derive(Clone, Copy)]
@@ -49,6 +46,8 @@ pub(crate) struct Session<'h> {
     /// What is sent before the server is ready.
     notifications: Vec<&'h Pair>,
     pub(crate) copying: Option<CopyIn<'h>>,
+    /// By the place of the first answer to a statement, that of the answer of the next time.
+    pub(crate) turns: Vec<(usize, usize)>,
     /// The connection ends where so many bytes were answered.
     pub(crate) end_at: Option<usize>,
     /// Where what was answered waits.
@@ -71,13 +70,30 @@ impl<'h> Session<'h> {
             is_skipping: false,
             notifications: Vec::new(alloc),
             copying: None,
+            turns: Vec::new(alloc),
             end_at: None,
             pauses: Vec::new(alloc),
         }
     }
 
+    /// Appends the error of the log-in, if the script has one, and returns whether it has. A server that takes no clients says so before it asks
+    /// who it is.
+    pub(crate) fn rejects_login(&mut self, is_early: bool, out: &mut Outbox) -> bool {
+        match &self.script.login {
+            Some(report) if is_early == matches!(&*report.code, b"57P03" | b"53300") => {
+                put_error(report, out);
+                self.end_at = Some(out.len());
+                true
+            }
+            _ => false,
+        }
+    }
+
     /// Appends what a server says after the log-in.
     pub(crate) fn welcome(&mut self, out: &mut Outbox) {
+        if self.rejects_login(false, out) {
+            return;
+        }
         self.settings.report(out);
         let put = reply::backend_key_data(1, &[0, 0, 0, 1], &mut out.bytes);
         out.put(put);
@@ -113,18 +129,6 @@ impl<'h> Session<'h> {
         }
     }
 
-    /// The script's statement of this text, or of the text without its comments.
-    fn scripted(
-        &self,
-        statement: &Wording,
-        alloc: Global,
-    ) -> Result<Option<&'h Statement>, AllocError> {
-        match self.script.find(alloc, &statement.text) {
-            Ok(None) => self.script.find(alloc, &statement.bare),
-            found => found,
-        }
-    }
-
     /// Whether the transaction failed, and this statement doesn't end that.
     pub(crate) fn is_aborted(&self, statement: &Wording) -> bool {
         let ends_failure = match statement.command() {
@@ -151,7 +155,7 @@ impl<'h> Session<'h> {
         ensures { ends_portals self.old.transaction.status ≡ false → self.new.portals ≡ self.old.portals }
     {
         if self.transaction.status.ends_portals() {
-            self.portals.clear();
+            self.portals.commit();
         }
     }
 
@@ -167,12 +171,13 @@ impl<'h> Session<'h> {
         for pause in &statement.pauses {
             out.add(&mut self.pauses, pause.shifted(start));
         }
+        self.turn(statement, out);
         if went == Went::Suspended {
             return;
         }
         match statement.status {
             Some(status) => self.transaction.set(status),
-            None => self.follow(&statement.text, went, out),
+            None => self.follow(statement, went, out),
         }
         self.add_notifications(&statement.notifications, out);
         if statement.is_fatal() {
@@ -189,99 +194,16 @@ impl<'h> Session<'h> {
         }
     }
 
-    /// What the text does to the transaction by itself.
-    fn follow(&mut self, text: &[u8], went: Went, out: &mut Outbox) {
+    /// What the statement does to the transaction by itself, and the cursor that it declares.
+    fn follow(&mut self, statement: &Statement, went: Went, out: &mut Outbox) {
         if went == Went::Wrong {
             return self.transaction.fail();
         }
-        let words = words_of(text, out);
-        if let Some(command) = command_of(&words) {
-            self.transaction.take(command, out);
-        }
-    }
-
-    /// Answers a statement of a simple query, and returns how it went.
-    fn simple(&mut self, text: &[u8], out: &mut Outbox) -> Went {
-        let statement = Wording::new(text, out);
-        self.simple_statement(&statement, out)
-    }
-
-    fn simple_statement(&mut self, statement: &Wording, out: &mut Outbox) -> Went {
-        if self.is_aborted(statement) {
-            self.stop(Refusal::Aborted, out);
-            return Went::Wrong;
-        }
-        self.portals.remove(b"");
-        match self.asks(statement, out) {
-            Asks::Scripted(scripted) => self.simple_scripted(scripted, out),
-            Asks::Command(command) => self.simple_command(command, &statement.text, out),
-            Asks::Nothing => Went::Well,
-            Asks::Unknown => {
-                self.stop(Refusal::NotScripted(statement.text.trim_ascii()), out);
-                Went::Wrong
+        if let Some(command) = command_of(&statement.words) {
+            self.carry(command, out);
+            if let Command::Declare { name, is_held } = command {
+                self.open_cursor(name, is_held, &statement.text, out);
             }
-        }
-    }
-
-    fn simple_scripted(&mut self, statement: &'h Statement, out: &mut Outbox) -> Went {
-        if let Some(copy) = statement.copy_in() {
-            self.begin_copy(statement, copy, true, out);
-            return Went::Suspended;
-        }
-        let start = out.len();
-        if !statement.columns.is_empty() {
-            describe(&statement.columns, &[], out);
-        }
-        let unbound = Bound {
-            values: &[],
-            formats: &[],
-        };
-        let progress = execute(statement, unbound, None, 0, out);
-        self.leave(statement, progress.went, start, out);
-        progress.went
-    }
-
-    /// Answers the statements of a query up to the first that goes wrong; returns whether there was one.
-    fn statements(&mut self, query: &[u8], out: &mut Outbox) -> bool {
-        let (mut rest, mut is_some) = (query, false);
-        for _ in 0..=query.len() {
-            let (first, behind) = first_of(rest);
-            rest = behind;
-            if first.is_empty() || is_blank(first, out) {
-                continue;
-            }
-            is_some = true;
-            if self.simple(first, out) != Went::Well {
-                return true;
-            }
-        }
-        is_some
-    }
-
-    /// Answers a query that the script has as a whole, or its statements; returns whether there was one.
-    fn whole_or_parts(&mut self, query: &[u8], out: &mut Outbox) -> bool {
-        match self.script.find(out.alloc, query) {
-            Ok(Some(_)) => {
-                self.simple(query, out);
-                true
-            }
-            Ok(None) => self.statements(query, out),
-            Err(_) => {
-                out.lack();
-                false
-            }
-        }
-    }
-
-    /// Answers a simple query.
-    fn query(&mut self, query: &[u8], out: &mut Outbox) {
-        self.prepared.remove(b"");
-        if !self.whole_or_parts(query, out) {
-            let put = reply::empty_query_response(&mut out.bytes);
-            out.put(put);
-        }
-        if self.copying.is_none() {
-            self.end_query(out);
         }
     }
 

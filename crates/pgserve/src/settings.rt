@@ -14,24 +14,22 @@ pub(crate) struct Setting {
     first: Vec<u8>,
     /// Whether the client is informed of each value.
     is_reported: bool,
-    /// Whether it has a value of which the client wasn't informed.
-    is_news: bool,
+    /// The value of which the client was informed last.
+    told: Option<Vec<u8>>,
 }
 
 impl Setting {
     /// Takes a value.
     fn set(&mut self, value: &[u8], out: &mut Outbox) {
-        let value = shown(&self.name, value);
-        if self.value.as_slice() != value {
-            self.value = out.copy(value);
-            self.is_news = self.is_reported;
-        }
+        self.value = out.copy(shown(&self.name, value));
     }
 
-    /// Takes the value that it had at first.
-    fn reset(&mut self, out: &mut Outbox) {
-        let first = out.copy(&self.first);
-        self.set(&first, out);
+    /// Whether it has a value of which the client has to be informed.
+    fn is_news(&self) -> bool {
+        match &self.told {
+            Some(told) => self.is_reported && told.as_slice() != self.value.as_slice(),
+            None => self.is_reported,
+        }
     }
 
     /// Has the value that it has as the one at first.
@@ -40,10 +38,33 @@ impl Setting {
     }
 }
 
+/// What a setting was before a transaction set it.
+#[derive(Drop)]
+struct Undo {
+    place: usize,
+    value: Vec<u8>,
+    /// How many savepoints there were.
+    depth: usize,
+    /// Whether it was set for the transaction alone.
+    is_local: bool,
+}
+
+/// Up to when a setting is set.
+#[derive(Clone, Copy, PartialEq, Eq)]
+pub(crate) enum Scope {
+    /// From now on, where no transaction is.
+    Session,
+    /// From now on, unless the transaction is rolled back, or the part of it where so many savepoints are.
+    Kept(usize),
+    /// Up to the end of the transaction.
+    Local(usize),
+}
+
 /// All settings that are known.
 #[derive(Drop)]
 pub(crate) struct Settings {
     list: Vec<Setting>,
+    undo: Vec<Undo>,
 }
 
 /// The value as a server shows it.
@@ -69,6 +90,7 @@ impl Settings {
     pub(crate) fn new(out: &mut Outbox) -> Settings {
         let mut settings = Settings {
             list: Vec::new(out.alloc),
+            undo: Vec::new(out.alloc),
         };
         settings.add_all(&REPORTED, true, out);
         settings.add_all(&OTHERS, false, out);
@@ -92,7 +114,7 @@ impl Settings {
             value: out.copy(value),
             first: out.copy(value),
             is_reported,
-            is_news: is_reported,
+            told: None,
         };
         out.add(&mut self.list, setting);
     }
@@ -117,91 +139,135 @@ impl Settings {
 
     /// What a script or a startup packet says of a setting at first.
     pub(crate) fn begin(&mut self, name: &[u8], value: &[u8], out: &mut Outbox) {
-        self.set(name, value, out);
+        self.set(name, value, Scope::Session, out);
         if let Some(setting) = self.find_mut(name) {
             setting.settle(out);
         }
     }
 
+    /// Keeps what the setting of this place is, where a transaction sets it.
+    fn note(&mut self, place: usize, scope: Scope, out: &mut Outbox) {
+        let (depth, is_local) = match scope {
+            Scope::Session => return,
+            Scope::Kept(depth) => (depth, false),
+            Scope::Local(depth) => (depth, true),
+        };
+        if let Some(setting) = self.list.get(place) {
+            let undo = Undo {
+                place,
+                value: out.copy(&setting.value),
+                depth,
+                is_local,
+            };
+            out.add(&mut self.undo, undo);
+        }
+    }
+
     /// Sets a setting. One that isn't known is from then on.
-    pub(crate) fn set(&mut self, name: &[u8], value: &[u8], out: &mut Outbox) {
-        match self.find_mut(name) {
-            Some(setting) => setting.set(value, out),
-            None => self.add(name, value, false, out),
+    pub(crate) fn set(&mut self, name: &[u8], value: &[u8], scope: Scope, out: &mut Outbox) {
+        if self.place(name).is_none() {
+            self.add(name, b"", false, out);
+        }
+        if let Some(place) = self.place(name) {
+            self.note(place, scope, out);
+            self.put(place, value, out);
+        }
+    }
+
+    fn put(&mut self, place: usize, value: &[u8], out: &mut Outbox) {
+        if let Some(setting) = self.list.get_mut(place) {
+            setting.set(value, out);
         }
     }
 
     /// Sets a setting, or all, to what it was at first.
-    pub(crate) fn reset(&mut self, name: &[u8], out: &mut Outbox) {
+    pub(crate) fn reset(&mut self, name: &[u8], scope: Scope, out: &mut Outbox) {
         let is_all = name == b"all".as_slice();
-        for setting in self.list.iter_mut() {
-            if is_all || setting.name.as_slice().eq_ignore_ascii_case(name) {
-                setting.reset(out);
+        for place in 0..self.list.len() {
+            let found = match self.list.get(place) {
+                Some(setting) if is_all || setting.name.eq_ignore_ascii_case(name) => {
+                    out.copy(&setting.first)
+                }
+                _ => continue,
+            };
+            self.note(place, scope, out);
+            self.put(place, &found, out);
+        }
+    }
+
+    /// Undoes what was set where so many savepoints or more were.
+    pub(crate) fn roll_back(&mut self, depth: usize, out: &mut Outbox) {
+        for _ in 0..self.undo.len() {
+            match self.undo.pop() {
+                Some(undo) if undo.depth >= depth => self.put(undo.place, &undo.value, out),
+                Some(undo) => return out.add(&mut self.undo, undo),
+                None => return,
             }
         }
+    }
+
+    /// What was set after a savepoint that is released belongs to what stands around it.
+    pub(crate) fn release(&mut self, depth: usize) {
+        for undo in self.undo.iter_mut() {
+            undo.depth = undo.depth.min(depth);
+        }
+    }
+
+    /// Undoes what was set for the transaction alone, unless it was set again for the session.
+    pub(crate) fn commit(&mut self, out: &mut Outbox) {
+        let mut kept = Vec::new(out.alloc);
+        for _ in 0..self.undo.len() {
+            match self.undo.pop() {
+                Some(undo) if !undo.is_local => out.add(&mut kept, undo.place),
+                Some(undo) if !kept.contains(&undo.place) => {
+                    self.put(undo.place, &undo.value, out);
+                }
+                _ => {}
+            }
+        }
+    }
+
+    /// Sets the modes of a transaction that these words say.
+    pub(crate) fn set_modes(&mut self, modes: &str, scope: Scope, out: &mut Outbox) {
+        for (words, name, value) in &MODES {
+            if modes.contains(words) {
+                self.set(name, value, scope, out);
+            }
+        }
+    }
+
+    /// Sets the modes of transactions from now on that these words say.
+    pub(crate) fn set_defaults(&mut self, modes: &str, scope: Scope, out: &mut Outbox) {
+        for (words, mode, value) in &MODES {
+            for (default, name) in &DEFAULTS {
+                if modes.contains(words) && name == mode {
+                    self.set(default, value, scope, out);
+                }
+            }
+        }
+    }
+
+    /// Sets the modes of a transaction that begins: those by default, and those that these words say.
+    pub(crate) fn begin_transaction(&mut self, modes: &str, out: &mut Outbox) {
+        for (default, name) in &DEFAULTS {
+            if let Some(setting) = self.find(default) {
+                let value = out.copy(&setting.value);
+                self.set(name, &value, Scope::Local(0), out);
+            }
+        }
+        self.set_modes(modes, Scope::Local(0), out);
     }
 
     /// Appends a ParameterStatus for each value of which the client wasn't informed.
     pub(crate) fn report(&mut self, out: &mut Outbox) {
         for setting in self.list.iter_mut() {
-            if setting.is_news {
+            if setting.is_news() {
                 let put = reply::parameter_status(&setting.name, &setting.value, &mut out.bytes);
                 out.put(put);
-                setting.is_news = false;
+                setting.told = Some(out.copy(&setting.value));
             }
         }
     }
-}
-
-/// The first word, and what follows it.
-fn word_of(text: &str) -> (&str, &str) {
-    let text = text.trim_ascii();
-    match text.split_once(' ') {
-        Some((word, rest)) => (word, rest.trim_ascii()),
-        None => (text, ""),
-    }
-}
-
-/// A value without its quotes.
-fn unquoted(value: &str) -> &str {
-    let value = value.trim_ascii();
-    match value.strip_prefix('\'') {
-        Some(inside) => inside.strip_suffix('\'').unwrap_or(inside),
-        None => value,
-    }
-}
-
-/// The name and the value of `NAME = VALUE` or `NAME TO VALUE`.
-fn assigned(text: &str) -> Option<(&str, &str)> {
-    let (name, rest) = word_of(text);
-    let (to, value) = word_of(rest);
-    if to.eq_ignore_ascii_case("to") || to == "=" {
-        return Some((name, unquoted(value)));
-    }
-    match text.split_once('=') {
-        Some((name, value)) => Some((name.trim_ascii(), unquoted(value))),
-        None => None,
-    }
-}
-
-/// The name and the value that a `SET` says; `None` of one that sets no setting, as `SET TRANSACTION`.
-pub(crate) fn assignment_of(statement: &[u8]) -> Option<(&str, &str)> {
-    let Ok(text) = str::from_utf8(statement) else {
-        return None;
-    };
-    let (_, rest) = word_of(text);
-    let (word, behind) = word_of(rest);
-    if word.eq_ignore_ascii_case("session") || word.eq_ignore_ascii_case("local") {
-        return assigned(behind);
-    }
-    if word.eq_ignore_ascii_case("names") {
-        return Some(("client_encoding", unquoted(behind)));
-    }
-    if word.eq_ignore_ascii_case("time") {
-        let (_, zone) = word_of(behind);
-        return Some(("TimeZone", unquoted(zone)));
-    }
-    assigned(rest)
 }
 
 /// What a server of version 15 reports after a log-in, in its order.
@@ -221,12 +287,35 @@ static REPORTED: [(&[u8], &[u8]); 13] = [
     (b"TimeZone", b"UTC"),
 ];
 
+/// The modes of a transaction, by words of it: the settings that have them, and their values. Of two that stand in the words, the later one
+/// counts.
+static MODES: [(&str, &[u8], &[u8]); 8] = [
+    ("committed", b"transaction_isolation", b"read committed"),
+    ("uncommitted", b"transaction_isolation", b"read uncommitted"),
+    ("repeatable", b"transaction_isolation", b"repeatable read"),
+    ("serializable", b"transaction_isolation", b"serializable"),
+    ("only", b"transaction_read_only", b"on"),
+    ("write", b"transaction_read_only", b"off"),
+    ("deferrable", b"transaction_deferrable", b"on"),
+    ("not\0deferrable", b"transaction_deferrable", b"off"),
+];
+
+/// The settings of which a transaction takes its modes where it says none.
+static DEFAULTS: [(&[u8], &[u8]); 3] = [
+    (b"default_transaction_isolation", b"transaction_isolation"),
+    (b"default_transaction_read_only", b"transaction_read_only"),
+    (b"default_transaction_deferrable", b"transaction_deferrable"),
+];
+
 /// More that drivers ask for.
-static OTHERS: [(&[u8], &[u8]); 6] = [
+static OTHERS: [(&[u8], &[u8]); 9] = [
+    (b"default_transaction_deferrable", b"off"),
+    (b"default_transaction_isolation", b"read committed"),
     (b"extra_float_digits", b"1"),
     (b"max_identifier_length", b"63"),
     (b"search_path", b"\"$user\", public"),
     (b"statement_timeout", b"0"),
+    (b"transaction_deferrable", b"off"),
     (b"transaction_isolation", b"read committed"),
     (b"transaction_read_only", b"off"),
 ];

@@ -14,24 +14,61 @@ fn escape_of(letter: u8) -> Option<u8> {
     }
 }
 
-/// Adds a text without its escapes, which are `\\`, `\n`, `\r` and `\t`, as in the text format of PostgreSQL's `COPY`. Returns whether it is
-/// one: no other stands in it, and no byte 0, which no text of a message has.
-pub(crate) fn add_unescaped(text: &str, bytes: &mut Vec<u8>) -> Result<bool, AllocError> {
-    let mut is_escaped = false;
-    for byte in text.bytes() {
-        let meant = if is_escaped {
-            escape_of(byte)
-        } else {
-            Some(byte)
-        };
-        is_escaped = !is_escaped && byte == b'\\';
-        match meant {
-            None | Some(0) => return Ok(false),
-            Some(_) if is_escaped => {}
-            Some(byte) => bytes.push(byte)?,
+/// The value of a hexadecimal digit.
+fn digit_of(letter: u8) -> Option<u8> {
+    match letter {
+        b'0'..=b'9' => Some(letter.saturating_sub(b'0')),
+        b'a'..=b'f' => Some(letter.saturating_sub(b'a').saturating_add(10)),
+        b'A'..=b'F' => Some(letter.saturating_sub(b'A').saturating_add(10)),
+        _ => None,
+    }
+}
+
+/// How much of an escape was read.
+#[derive(Clone, Copy, PartialEq, Eq)]
+enum Escape {
+    Outside,
+    Backslash,
+    /// The x of a byte in two hexadecimal digits.
+    Hex,
+    /// Its first digit.
+    Digit(u8),
+}
+
+impl Escape {
+    /// How much is read with this byte, and the byte that is meant, if it ends here; `None` where it has no place.
+    fn after(self, byte: u8) -> Option<(Escape, Option<u8>)> {
+        match self {
+            Escape::Outside if byte == b'\\' => Some((Escape::Backslash, None)),
+            Escape::Outside => Some((Escape::Outside, Some(byte))),
+            Escape::Backslash if byte == b'x' => Some((Escape::Hex, None)),
+            Escape::Backslash => Some((Escape::Outside, Some(escape_of(byte)?))),
+            Escape::Hex => Some((Escape::Digit(digit_of(byte)?), None)),
+            Escape::Digit(high) => {
+                let low = digit_of(byte)?;
+                Some((
+                    Escape::Outside,
+                    Some(high.wrapping_mul(16).wrapping_add(low)),
+                ))
+            }
         }
     }
-    Ok(!is_escaped)
+}
+
+/// Adds a text without its escapes, which are `\\`, `\n`, `\r` and `\t`, and `\x` with two digits, as in the text format of PostgreSQL's
+/// `COPY`. Returns whether no other stands in it.
+pub(crate) fn add_unescaped(text: &str, bytes: &mut Vec<u8>) -> Result<bool, AllocError> {
+    let mut escape = Escape::Outside;
+    for byte in text.bytes() {
+        let Some((next, meant)) = escape.after(byte) else {
+            return Ok(false);
+        };
+        escape = next;
+        if let Some(byte) = meant {
+            bytes.push(byte)?;
+        }
+    }
+    Ok(escape == Escape::Outside)
 }
 
 /// A statement without the spaces around it and the semicolon after it.

@@ -167,8 +167,8 @@ impl Transaction {
         }
     }
 
-    fn set_transaction<'c>(&self) -> Taken<'c> {
-        if self.status == Status::Idle {
+    fn set_here<'c>(&self, is_here: bool) -> Taken<'c> {
+        if is_here && self.status == Status::Idle {
             return Taken::Warned("SET", Warning::NoTransaction);
         }
         Taken::Done("SET")
@@ -177,13 +177,15 @@ impl Transaction {
     /// Carries out a command on the transaction.
     pub(crate) fn take<'c>(&mut self, command: Command<'c>, out: &mut Outbox) -> Taken<'c> {
         match command {
-            Command::Begin(tag) => self.begin(tag),
+            Command::Begin(tag, _) => self.begin(tag),
             Command::Commit { chains } => self.commit(chains),
             Command::Rollback { chains } => self.rollback(chains),
             Command::Savepoint(name) => self.savepoint(name, out),
             Command::Release(name) => self.release(name),
             Command::RollbackTo(name) => self.rollback_to(name),
-            Command::SetTransaction => self.set_transaction(),
+            Command::SetTransaction(_) => self.set_here(true),
+            Command::Set { is_local, .. } => self.set_here(is_local),
+            Command::SetDefaults(_) => self.set_here(false),
             _ => Taken::Other,
         }
     }

@@ -83,6 +83,16 @@ static TYPES: [(&str, Oid, i16, Oid); 21] = [
     ("jsonb", JSONB, -1, 3807),
 ];
 
+/// How many bytes a value of this type has in binary format, where all have as many.
+pub(crate) fn size_of(oid: Oid) -> Option<usize> {
+    for (_, of, size, _) in &TYPES {
+        if *of == oid && oid != NAME {
+            return usize::try_from(*size).ok();
+        }
+    }
+    None
+}
+
 /// The type of the elements of an array of this type.
 pub(crate) fn element_of(array: Oid) -> Option<Oid> {
     for (_, oid, _, of) in &TYPES {

@@ -39,7 +39,8 @@ impl Auth {
     /// Returns `Verifier` if it has another form, and `Memory`.
     pub(crate) fn test(self, alloc: Global, verifier: &str) -> Result<(), Fault> {
         match self {
-            Auth::Trust => Ok(()),
+            Auth::Trust if verifier.is_empty() => Ok(()),
+            Auth::Trust => Err(Fault::NoVerifier),
             Auth::Md5 if is_md5(verifier) => Ok(()),
             Auth::Md5 => Err(Fault::Verifier),
             _ => {

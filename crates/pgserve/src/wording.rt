@@ -9,7 +9,9 @@ use crate::text::{trimmed, uncommented};
 pub(crate) struct Wording {
     pub(crate) text: Vec<u8>,
     pub(crate) bare: Vec<u8>,
-    words: String,
+    pub(crate) words: String,
+    /// The place of the script's answer, once it is bound.
+    pub(crate) place: Option<usize>,
 }
 
 impl Wording {
@@ -20,6 +22,7 @@ impl Wording {
             text: out.copy(text),
             words: words_of(&bare, out),
             bare,
+            place: None,
         }
     }
 

@@ -1,0 +1,56 @@
+//! Which of the script's answers to a statement is that of this time.
+
+use crate::outbox::Outbox;
+use crate::script::Statement;
+use crate::session::{Asks, Session};
+use crate::wording::Wording;
+use std::alloc::{AllocError, Global};
+
+impl<'h> Session<'h> {
+    /// The script's answer to this statement: that to which it was bound, or the first to such a statement.
+    pub(crate) fn scripted(
+        &self,
+        statement: &Wording,
+        alloc: Global,
+    ) -> Result<Option<&'h Statement>, AllocError> {
+        match statement.place {
+            Some(place) => Ok(self.script.statements.get(place)),
+            None => match self.script.find(alloc, statement) {
+                Ok(Some(first)) => Ok(Some(self.now(first))),
+                other => other,
+            },
+        }
+    }
+
+    /// The answer of this time, by the first one.
+    fn now(&self, first: &'h Statement) -> &'h Statement {
+        for (of, place) in &self.turns {
+            if *of == first.place {
+                return self.script.statements.get(*place).unwrap_or(first);
+            }
+        }
+        first
+    }
+
+    /// Has the next answer to a statement as that of the next time, once this one was given. The last is that of all times from then on.
+    pub(crate) fn turn(&mut self, given: &Statement, out: &mut Outbox) {
+        let Some(next) = self.script.turn_after(given.place) else {
+            return;
+        };
+        for (of, place) in self.turns.iter_mut() {
+            if *of == given.first {
+                *place = next.max(*place);
+                return;
+            }
+        }
+        out.add(&mut self.turns, (given.first, next));
+    }
+
+    /// The place of the script's answer to this statement, if it has one.
+    pub(crate) fn place_of(&self, statement: &Wording, out: &mut Outbox) -> Option<usize> {
+        match self.asks(statement, out) {
+            Asks::Scripted(scripted) => Some(scripted.place),
+            _ => None,
+        }
+    }
+}
