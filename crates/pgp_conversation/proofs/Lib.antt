@@ -16,7 +16,7 @@ pub mod PrintedObjects
 pub mod PrintedTables
 pub mod Summaries
 pub mod Secrets
-pub mod SettingLemmas
+pub mod CommandLemmas
 pub mod Endings
 pub mod RowLemmas
 pub mod TypedFrames

@@ -16,7 +16,7 @@ use Rattle.pgp_client.specs.declared.stage.Stage.TheVariants.{Idle, Over, Skippi
 use Rattle.pgp_trace.specs.Listing.{place_behind}
 use Rattle.pgp_trace.specs.View.{View}
 use Rattle.pgp_conversation.specs.declared.chunk.Sender.{Sender}
-use Rattle.pgp_conversation.specs.declared.marking.Marking.{Marking}
+use Rattle.pgp_trace.specs.declared.marking.Marking.{Marking}
 use Rattle.pgp_conversation.specs.declared.noted.Noted.{Noted}
 use Rattle.pgp_conversation.specs.declared.noted.Noted.TheVariants as noted
 use Rattle.pgp_conversation.specs.declared.role.Role.{Role}

@@ -17,7 +17,7 @@ use Rattle.pgp_trace.specs.declared.side.Phase.TheVariants.{Beginning, Messages,
 use Rattle.pgp_trace.specs.View.{View, shown}
 use Rattle.pgp_conversation.specs.declared.chunk.Sender.{Sender}
 use Rattle.pgp_conversation.specs.declared.chunk.Sender.TheVariants.{Client, Server}
-use Rattle.pgp_conversation.specs.declared.marking.Marking.{Marking}
+use Rattle.pgp_trace.specs.declared.marking.Marking.{Marking}
 use Rattle.pgp_conversation.specs.declared.noted.Encryption.{Encryption}
 use Rattle.pgp_conversation.specs.declared.noted.Encryption.TheVariants.{Tls, Gss}
 use Rattle.pgp_conversation.specs.declared.noted.Noted.{Noted}

@@ -18,6 +18,4 @@ pub mod Secrets
 pub mod Order
 pub mod Turns
 pub mod Pieces
-pub mod Settings
-pub mod Chosen
 pub mod Command

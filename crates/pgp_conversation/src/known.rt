@@ -6,7 +6,6 @@ ghost use Rattle.pgp_conversation.specs.Steps.{KnowsNext, known_of};
 ghost use Rattle.pgp_conversation.specs.Conversation.{at_first, counts, is_replicating, note};
 
 use crate::chunk::Sender;
-use crate::marking::Marking;
 use crate::noted::{Encryption, Noted};
 use crate::numbers::{Numbers, first_numbers};
 use crate::typed::first_types;
@@ -18,6 +17,7 @@ use pgp_names::MapMemory;
 use pgp_trace::answer::first_line;
 use pgp_trace::client::client_line;
 use pgp_trace::frame::{Next, server_line};
+use pgp_trace::marking::Marking;
 use pgp_trace::next::sealed;
 use pgp_trace::side::{Phase, phase_in};
 use std::alloc::AllocError;

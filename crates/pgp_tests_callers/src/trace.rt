@@ -4,12 +4,12 @@
 use crate::checks::{holds, refused_more, same};
 use crate::failing::{FailingReader, FailingWriter, PieceReader};
 use crate::trace_words::{Outcome, comes_to};
+use pgp_conversation::run::run;
 use pgp_frontend_read::PasswordKind;
 use pgp_line::style::{Form, Style};
 use pgp_program::fault::Fault;
 use pgp_test_alloc::Refusing;
 use pgp_trace::pipe::Pipe;
-use pgp_trace::run::run;
 use pgp_trace::side::{Phase, Side};
 use pgp_trace::stream::list;
 use pgp_trace::view::View;
