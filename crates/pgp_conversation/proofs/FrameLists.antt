@@ -11,11 +11,11 @@ use Rattle.pgp_trace.specs.View.{View}
 use Rattle.pgp_trace.proofs.Shorter.{frame_has}
 use Rattle.pgp_conversation.specs.declared.chunk.Sender.{Sender}
 use Rattle.pgp_conversation.specs.declared.chunk.Sender.TheVariants.{Client, Server}
-use Rattle.pgp_conversation.specs.declared.noted.Noted.{Noted}
-use Rattle.pgp_conversation.specs.declared.noted.Noted.TheVariants.{Asks, Requests, Answers, Nothing}
-use Rattle.pgp_conversation.specs.declared.known.Known as code_known
+use Rattle.pgp_conversation.specs.declared.expectation.Noted.{Noted}
+use Rattle.pgp_conversation.specs.declared.expectation.Noted.TheVariants.{Asks, Requests, Answers, Nothing}
+use Rattle.pgp_conversation.specs.declared.state.Known as code_known
 use Rattle.pgp_conversation.specs.declared.role.Role.{Role}
-use Rattle.pgp_conversation.specs.declared.told.Told.{Told}
+use Rattle.pgp_conversation.specs.declared.placement.Told.{Told}
 use Rattle.pgp_conversation.specs.Conversation.{Known, ListsFrame, ListsFrames, NoFrames, OneFrame, as_standby, note, noted_in, other, replicates_in, side_in, text_of, told_by, with_kind, with_numbers, with_side, with_types}
 use Rattle.pgp_conversation.specs.Summing.{Asking, asking_in, summed}
 use Rattle.pgp_conversation.proofs.Summed.{asking_side, name_asks}

@@ -11,7 +11,7 @@ use Rattle.pgp_trace.specs.Listing.{LineOf, client_frame_name, name_in, server_n
 use Rattle.pgp_trace.specs.Names.{name_of}
 use Rattle.pgp_trace.specs.Sides.{Side, Server, Client, is_reported}
 use Rattle.pgp_trace.specs.declared.side.Phase.TheVariants.{Beginning, Messages, Replicating, Encrypted}
-use Rattle.pgp_conversation.specs.declared.noted.Noted.TheVariants.{Answers, Nothing}
+use Rattle.pgp_conversation.specs.declared.expectation.Noted.TheVariants.{Answers, Nothing}
 use Rattle.pgp_conversation.specs.Conversation.{asks, asks_by, noted_in, requests, requests_by}
 use Rattle.pgp_conversation.specs.Steps.{noted_by}
 

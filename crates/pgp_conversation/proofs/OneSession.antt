@@ -17,7 +17,7 @@ use Rattle.pgp_conversation.specs.declared.ending.End.{End}
 use Rattle.pgp_conversation.specs.declared.ending.End.TheVariants.{Whole, Cut, NoChunk, NoRecording}
 use Rattle.pgp_conversation.specs.Conversation.{Half, ListsChunks, NoChunkListed, OneChunkListed, ListsChunk, Known, Talk, ListsFrame, ListsFrames, NoFrames, OneFrame, begins, half_in, last_lines, note, noted_in, now_at, other, side_in, text_of, told_by, with_numbers, with_side, with_types}
 use Rattle.pgp_trace.specs.declared.marking.Marking.{Marking}
-use Rattle.pgp_conversation.specs.declared.told.Told.{Told}
+use Rattle.pgp_conversation.specs.declared.placement.Told.{Told}
 use Rattle.pgp_conversation.specs.Marks.{mark, since, word}
 use Rattle.pgp_conversation.specs.Requests.{Numbers, role_in, told_in}
 use Rattle.pgp_conversation.specs.Summing.{asking_in, summed}

@@ -20,8 +20,8 @@ use Rattle.pgp_trace.specs.declared.side.Phase.{Phase}
 use Rattle.pgp_trace.specs.declared.side.Phase.TheVariants.{Beginning, Messages, Replicating, Encrypted}
 use Rattle.pgp_conversation.specs.declared.chunk.Sender.{Sender}
 use Rattle.pgp_conversation.specs.declared.chunk.Sender.TheVariants.{Client, Server}
-use Rattle.pgp_conversation.specs.declared.known.Known as code_known
-use Rattle.pgp_conversation.specs.declared.told.Told.{Told}
+use Rattle.pgp_conversation.specs.declared.state.Known as code_known
+use Rattle.pgp_conversation.specs.declared.placement.Told.{Told}
 use Rattle.pgp_conversation.specs.Conversation.{is_replicating, side_in}
 use Rattle.pgp_conversation.specs.Steps.{known_of}
 use Rattle.pgp_conversation.specs.Typed.{Heard, Learns, Said, Sent, ShowsTyped, Unsaid, said_in}

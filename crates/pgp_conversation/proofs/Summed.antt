@@ -21,7 +21,7 @@ use Rattle.pgp_trace.specs.Listing.{LineOf, client_frame_name, name_in}
 use Rattle.pgp_trace.specs.Sides.{Side, Server, Client, expected, is_reported}
 use Rattle.pgp_conversation.specs.declared.chunk.Sender.{Sender}
 use Rattle.pgp_conversation.specs.declared.chunk.Sender.TheVariants as sender
-use Rattle.pgp_conversation.specs.declared.known.Known as code_known
+use Rattle.pgp_conversation.specs.declared.state.Known as code_known
 use Rattle.pgp_conversation.specs.Askings.{asking_from, asking_named, first_text, front_text, text_or_none}
 use Rattle.pgp_conversation.specs.Conversation.{side_in}
 use Rattle.pgp_conversation.specs.Steps.{known_of}

@@ -18,12 +18,12 @@ use Rattle.pgp_trace.specs.View.{View, shown}
 use Rattle.pgp_conversation.specs.declared.chunk.Sender.{Sender}
 use Rattle.pgp_conversation.specs.declared.chunk.Sender.TheVariants.{Client, Server}
 use Rattle.pgp_trace.specs.declared.marking.Marking.{Marking}
-use Rattle.pgp_conversation.specs.declared.noted.Encryption.{Encryption}
-use Rattle.pgp_conversation.specs.declared.noted.Encryption.TheVariants.{Tls, Gss}
-use Rattle.pgp_conversation.specs.declared.noted.Noted.{Noted}
-use Rattle.pgp_conversation.specs.declared.noted.Noted.TheVariants.{Asks, Requests, Answers, Nothing}
+use Rattle.pgp_conversation.specs.declared.expectation.Encryption.{Encryption}
+use Rattle.pgp_conversation.specs.declared.expectation.Encryption.TheVariants.{Tls, Gss}
+use Rattle.pgp_conversation.specs.declared.expectation.Noted.{Noted}
+use Rattle.pgp_conversation.specs.declared.expectation.Noted.TheVariants.{Asks, Requests, Answers, Nothing}
 use Rattle.pgp_conversation.specs.Recording.{Chunk}
-use Rattle.pgp_conversation.specs.declared.told.Told.{Told}
+use Rattle.pgp_conversation.specs.declared.placement.Told.{Told}
 use Rattle.pgp_conversation.specs.Marks.{last_mark, mark, marked, since, word}
 use Rattle.pgp_conversation.specs.Requests.{Numbers, at_time, first_numbers, role_in, summary_in, told_in, unnumbered}
 use Rattle.pgp_conversation.specs.Summing.{asking_in, summed}

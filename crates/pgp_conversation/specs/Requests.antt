@@ -23,8 +23,8 @@ use Rattle.pgp_trace.specs.Sides.{Side}
 use Rattle.pgp_trace.specs.declared.side.Phase.TheVariants.{Beginning, Messages, Replicating, Encrypted}
 use Rattle.pgp_conversation.specs.declared.role.Role.{Role}
 use Rattle.pgp_conversation.specs.declared.role.Role.TheVariants as role
-use Rattle.pgp_conversation.specs.declared.told.Told.{Told}
-use Rattle.pgp_conversation.specs.declared.told.Told.TheVariants as told
+use Rattle.pgp_conversation.specs.declared.placement.Told.{Told}
+use Rattle.pgp_conversation.specs.declared.placement.Told.TheVariants as told
 
 -- ---- what a frame is to the requests
 

@@ -19,13 +19,13 @@ use Rattle.pgp_conversation.specs.declared.chunk.Part.{Part}
 use Rattle.pgp_conversation.specs.declared.chunk.Part.TheVariants as part
 use Rattle.pgp_conversation.specs.declared.ending.End.{End}
 use Rattle.pgp_conversation.specs.declared.ending.End.TheVariants.{Whole, Cut, NoChunk, NoRecording}
-use Rattle.pgp_conversation.specs.declared.talk.Half as code_half
-use Rattle.pgp_conversation.specs.declared.talk.Talk as code_talk
-use Rattle.pgp_conversation.specs.declared.known.Known as code_known
+use Rattle.pgp_conversation.specs.declared.connection.Half as code_half
+use Rattle.pgp_conversation.specs.declared.connection.Talk as code_talk
+use Rattle.pgp_conversation.specs.declared.state.Known as code_known
 use Rattle.pgp_conversation.specs.declared.numbers.Numbers as code_numbers
-use Rattle.pgp_conversation.specs.declared.noted.Encryption.TheVariants.{Tls, Gss}
-use Rattle.pgp_conversation.specs.declared.noted.Noted.{Noted}
-use Rattle.pgp_conversation.specs.declared.noted.Noted.TheVariants.{Asks, Requests, Answers, Nothing}
+use Rattle.pgp_conversation.specs.declared.expectation.Encryption.TheVariants.{Tls, Gss}
+use Rattle.pgp_conversation.specs.declared.expectation.Noted.{Noted}
+use Rattle.pgp_conversation.specs.declared.expectation.Noted.TheVariants.{Asks, Requests, Answers, Nothing}
 use Rattle.std.specs.Borrow.{Bor}
 use Rattle.std.specs.declared.collections.VecDeque.{VecDeque}
 use Rattle.pgp_conversation.specs.Conversation.{Half, ListsChunk, Known, Talk, ListsFrame, ListsFrames, is_replicating, side_in, with_side}

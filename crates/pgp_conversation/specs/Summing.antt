@@ -11,8 +11,8 @@ use Rattle.pgp_summary.specs.declared.work.Reply.TheVariants.{ParseComplete, Bin
 use Rattle.pgp_trace.specs.Listing.{LineOf}
 use Rattle.pgp_trace.specs.Sides as side
 use Rattle.pgp_trace.specs.Sides.{Side}
-use Rattle.pgp_conversation.specs.declared.told.Told.{Told}
-use Rattle.pgp_conversation.specs.declared.told.Told.TheVariants.{Number, Answer, Lost, Nothing}
+use Rattle.pgp_conversation.specs.declared.placement.Told.{Told}
+use Rattle.pgp_conversation.specs.declared.placement.Told.TheVariants.{Number, Answer, Lost, Nothing}
 use Rattle.pgp_conversation.specs.Requests.{Numbers}
 
 -- ---- what a client's frame asks

@@ -12,8 +12,8 @@ use Rattle.pgp_trace.specs.Steps.{IsFrameOf}
 use Rattle.pgp_conversation.specs.declared.chunk.Sender.{Sender}
 use Rattle.pgp_conversation.specs.declared.chunk.Sender.TheVariants.{Client, Server}
 use Rattle.pgp_conversation.specs.declared.column.Column.{Column}
-use Rattle.pgp_conversation.specs.declared.told.Told.{Told}
-use Rattle.pgp_conversation.specs.declared.told.Told.TheVariants as told
+use Rattle.pgp_conversation.specs.declared.placement.Told.{Told}
+use Rattle.pgp_conversation.specs.declared.placement.Told.TheVariants as told
 use Rattle.pgp_conversation.specs.Typed.{Heard, HearsAt, Learns, Said, Sent, ShowsBytes, ShowsHeard, ShowsTyped, ShowsValue, ShowsValues, Unsaid}
 use Rattle.pgp_conversation.specs.Types.{Types, first}
 

@@ -16,7 +16,7 @@ ghost use Rattle.pgp_trace.specs.View.{View};
 ghost use Rattle.pgp_conversation.specs.declared.chunk.Sender.{Sender};
 ghost use Rattle.pgp_conversation.specs.declared.ending.End.{End};
 ghost use Rattle.pgp_trace.specs.declared.marking.Marking.{Marking};
-ghost use Rattle.pgp_conversation.specs.declared.told.Told.{Told};
+ghost use Rattle.pgp_conversation.specs.declared.placement.Told.{Told};
 ghost use Rattle.pgp_conversation.specs.Conversation.{Known, ListsChunks, ListsFrame, Talk, begins, side_in};
 ghost use Rattle.pgp_conversation.specs.Marks.{last_mark, mark, marked, since, word};
 ghost use Rattle.pgp_conversation.specs.Order.{IsSplit};

@@ -7,8 +7,8 @@ ghost use Rattle.pgp_conversation.specs.Roles.{role_by};
 ghost use Rattle.pgp_conversation.specs.Steps.{numbers_in, numbers_of, talk_in};
 
 use crate::chunk::Sender;
+use crate::placement::Told;
 use crate::role::{Role, role_of};
-use crate::told::Told;
 use pgp_base::Memory;
 use pgp_client::{Asked, Dialogue, Event, Kind, Request};
 use pgp_names::MapMemory;

@@ -15,12 +15,12 @@ ghost use Rattle.pgp_conversation.specs.Session.{IsCutShort, ReadsWhenReady, Was
 ghost use Rattle.pgp_conversation.specs.Steps.{end_of, half_of, kept_of};
 
 use crate::chunk::{Part, first_part};
+use crate::connection::{Half, Talk, list_chunk};
 use crate::ending::{End, end_of};
 use crate::frames::{Texts, no_texts};
 use crate::hint::hint_of;
-use crate::known::{at_first, is_replicating};
 use crate::last::add_end;
-use crate::talk::{Half, Talk, list_chunk};
+use crate::state::{at_first, is_replicating};
 use bytes::{Buf, BytesMut};
 use pgp_base::Memory;
 use pgp_names::MapMemory;

@@ -9,7 +9,7 @@ ghost use Rattle.pgp_conversation.specs.Summing.{answers_so, asks_for, ends_so, 
 
 use crate::chunk::Sender;
 use crate::numbers::Numbers;
-use crate::told::Told;
+use crate::placement::Told;
 use pgp_base::Memory;
 use pgp_base::reading::string_at;
 use pgp_names::MapMemory;

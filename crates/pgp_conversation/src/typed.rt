@@ -7,11 +7,11 @@ ghost use Rattle.pgp_conversation.specs.Typed.{first_types};
 ghost use Rattle.pgp_conversation.specs.TypedLines.{AnswersFrame, AsksFrame, TypesFrame};
 ghost use Rattle.pgp_conversation.specs.TypesKept.{types_in, types_of};
 
-use crate::ask::ask_frame;
 use crate::bound::show_frame;
 use crate::chunk::Sender;
-use crate::hear::hear_frame;
-use crate::told::Told;
+use crate::client_types::ask_frame;
+use crate::placement::Told;
+use crate::server_types::hear_frame;
 use crate::types::{Types, no_types};
 use bytes::BytesMut;
 use pgp_base::Memory;

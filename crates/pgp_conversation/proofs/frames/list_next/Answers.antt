@@ -4,7 +4,7 @@ use Rattle.pgp_frontend_read.specs.Views.{kind_view}
 use Rattle.pgp_trace.specs.Sides.{expected}
 use Rattle.pgp_trace.specs.Steps.{view_of}
 use Rattle.pgp_trace.specs.declared.frame.Next.TheVariants.{Line}
-use Rattle.pgp_conversation.specs.declared.told.Told.{Told}
+use Rattle.pgp_conversation.specs.declared.placement.Told.{Told}
 use Rattle.pgp_conversation.specs.Conversation.{note, text_of, told_by, with_numbers, with_types}
 use Rattle.pgp_conversation.specs.Marks.{word}
 use Rattle.pgp_conversation.specs.Requests.{told_in}

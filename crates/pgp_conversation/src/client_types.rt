@@ -12,8 +12,8 @@ ghost use Rattle.pgp_conversation.specs.Types.{binds, parameters_of, waits};
 ghost use Rattle.pgp_conversation.specs.TypesKept.{types_of};
 
 use crate::awaited::{Object, wait, wait_bound};
+use crate::columns::formatted;
 use crate::fields::{binaries_of, given_types};
-use crate::shelf::formatted;
 use crate::types::{Types, parameters_of, parse, sync};
 use pgp_base::Memory;
 use pgp_frontend_read::{ClientMessage, ClientMessages, Formats, PasswordKind};

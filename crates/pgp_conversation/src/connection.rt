@@ -1,4 +1,4 @@
-//! The lines of a chunk.
+//! What is kept of a connection, and the lines of a chunk.
 
 ghost use Rattle.std.specs.Prelude.{◌≡◌, ◌++◌, OnErr, OnOk, string_bytes};
 ghost use Rattle.pgp_trace.specs.Steps.{view_of};
@@ -8,9 +8,9 @@ ghost use Rattle.pgp_conversation.specs.Steps.{ListsBytes, ListsChunkTo, Holds, 
 
 use crate::chunk::{Chunk, Sender};
 use crate::frames::{Texts, list_frames};
-use crate::known::Known;
-use crate::mark::put_mark;
+use crate::line_mark::put_mark;
 use crate::numbers::set_time;
+use crate::state::Known;
 use bytes::{Buf, BytesMut};
 use pgp_base::Memory;
 use pgp_names::MapMemory;

@@ -6,7 +6,7 @@ ghost use Rattle.pgp_conversation.specs.Steps.{KnowsNext, known_of};
 ghost use Rattle.pgp_conversation.specs.Conversation.{at_first, counts, is_replicating, note};
 
 use crate::chunk::Sender;
-use crate::noted::{Encryption, Noted};
+use crate::expectation::{Encryption, Noted};
 use crate::numbers::{Numbers, first_numbers};
 use crate::typed::first_types;
 use crate::types::Types;

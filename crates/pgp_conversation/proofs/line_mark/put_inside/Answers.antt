@@ -1,6 +1,6 @@
 use Rattle.std.proofs.Common.{string_bytes}
 use Rattle.pgp_conversation.proofs.Marked.{put_before}
-use Rattle.pgp_conversation.proofs.mark.put_inside.Goals as goal
+use Rattle.pgp_conversation.proofs.line_mark.put_inside.Goals as goal
 
 pub returns-in_default-clause-text : goal.returns-in_default-clause-text
 unfolding lib.Utf8.encode

@@ -3,7 +3,7 @@ use Rattle.pgp_frontend_read.specs.Step.{Step}
 use Rattle.pgp_frontend_read.specs.Views.{kind_view, view}
 use Rattle.pgp_conversation.specs.TypesKept.{types_of}
 use Rattle.pgp_conversation.proofs.TypedFrames.{ask_only, ask_read, none_sent}
-use Rattle.pgp_conversation.proofs.ask.ask_frame.Goals as goal
+use Rattle.pgp_conversation.proofs.client_types.ask_frame.Goals as goal
 
 pub returns-in-Ok-Some-clause-asked : goal.returns-in-Ok-Some-clause-asked
 returns-in-Ok-Some-clause-asked g c =

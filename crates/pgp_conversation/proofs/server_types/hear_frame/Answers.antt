@@ -5,7 +5,7 @@ use Rattle.pgp_message.specs.Views.{view}
 use Rattle.pgp_conversation.specs.TypesKept.{types_of}
 use Rattle.pgp_conversation.proofs.RowLemmas.{ok_both}
 use Rattle.pgp_conversation.proofs.TypedFrames.{heard_fault, heard_none, heard_so}
-use Rattle.pgp_conversation.proofs.hear.hear_frame.Goals as goal
+use Rattle.pgp_conversation.proofs.server_types.hear_frame.Goals as goal
 
 pub returns-in-Ok-Some-clause-heard : goal.returns-in-Ok-Some-clause-heard
 returns-in-Ok-Some-clause-heard g c =

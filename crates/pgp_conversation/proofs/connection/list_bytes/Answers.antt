@@ -3,7 +3,7 @@ use Rattle.std.specs.Prelude.{string_bytes}
 use Rattle.pgp_trace.specs.Steps.{view_of}
 use Rattle.pgp_conversation.specs.Steps.{ListsAllFrames, half_of, known_of}
 use Rattle.pgp_conversation.proofs.ChunkLists.{counted, listed}
-use Rattle.pgp_conversation.proofs.talk.list_bytes.Goals as goal
+use Rattle.pgp_conversation.proofs.connection.list_bytes.Goals as goal
 
 pub returns-then-half-clause-lines : goal.returns-then-half-clause-lines
 returns-then-half-clause-lines g c before holds =

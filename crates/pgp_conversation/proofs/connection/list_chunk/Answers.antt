@@ -2,7 +2,7 @@ use Rattle.std.specs.Prelude.{string_bytes}
 use Rattle.pgp_trace.specs.Steps.{view_of}
 use Rattle.pgp_conversation.specs.Steps.{chunk_of, half_of, kept_of, known_of, numbers_in}
 use Rattle.pgp_conversation.proofs.ChunkLists.{ok_client, ok_server}
-use Rattle.pgp_conversation.proofs.talk.list_chunk.Goals as goal
+use Rattle.pgp_conversation.proofs.connection.list_chunk.Goals as goal
 
 pub returns-in-Client-clause-lines : goal.returns-in-Client-clause-lines
 returns-in-Client-clause-lines g c =

@@ -3,7 +3,7 @@ use Rattle.pgp_conversation.specs.Typed.{columns_of}
 use Rattle.pgp_conversation.specs.Types.{described, first}
 use Rattle.pgp_conversation.specs.TypesKept.{types_of}
 use Rattle.pgp_conversation.proofs.RowLemmas.{ok_then}
-use Rattle.pgp_conversation.proofs.hear.describe_row.Goals as goal
+use Rattle.pgp_conversation.proofs.server_types.describe_row.Goals as goal
 
 pub returns-in-Some-clause-hears : goal.returns-in-Some-clause-hears
 returns-in-Some-clause-hears g c =

@@ -3,7 +3,7 @@ use Rattle.pgp_conversation.specs.Typed.{parameters_in}
 use Rattle.pgp_conversation.specs.Types.{first, tells}
 use Rattle.pgp_conversation.specs.TypesKept.{types_of}
 use Rattle.pgp_conversation.proofs.RowLemmas.{ok_then}
-use Rattle.pgp_conversation.proofs.hear.tell_types.Goals as goal
+use Rattle.pgp_conversation.proofs.server_types.tell_types.Goals as goal
 
 pub returns-in-Some-clause-hears : goal.returns-in-Some-clause-hears
 returns-in-Some-clause-hears g c =

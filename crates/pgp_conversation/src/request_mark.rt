@@ -3,8 +3,8 @@
 ghost use Rattle.std.specs.Prelude.{◌≡◌, ◌++◌, OnErr, OnOk, string_bytes};
 ghost use Rattle.pgp_conversation.specs.Marks.{later, members, millis, padded, says, stamped, word};
 
-use crate::mark::{put_blanks, put_since};
-use crate::told::Told;
+use crate::line_mark::{put_blanks, put_since};
+use crate::placement::Told;
 use pgp_base::Memory;
 use pgp_line::style::Form;
 use pgp_names::MapMemory;
