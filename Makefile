@@ -50,7 +50,7 @@ wheel:
 	@scripts/wheel
 
 rust:
-	@python3 -B bindings/rust/generate.py out/rust/postgres-protocol
+	@python3 -B bindings/rust/generate.py out/rust
 
 verify:
 	$(needs_rt)

@@ -1,6 +1,7 @@
-"""generate.py OUT: the Cargo package OUT: the `.rt` sources without their contracts, at the global allocator, as modules of one crate,
-over kit/ and under adapter/. A construct that no rule knows stops it with the place."""
+"""generate.py OUT: the Cargo packages OUT/postgres-protocol and OUT/postgres-session: the `.rt` sources without their contracts, at the global
+allocator, as modules over kit/ and under adapter/ and session/. A construct that no rule knows stops it with the place."""
 import os, re, shutil, sys
+from conditions import asserted
 from erase import Unknown, erase, is_part
 from rules import PLACES, fit, leftovers, without_idle_prelude
 
@@ -19,9 +20,11 @@ def below(*tops):
     return [name for name in uses if name in found - set(tops) - {'pgp_text'}]
 
 
-# What the API of the Rust crate stands on; the rest is behind a feature.
+# What the API of the Rust crate stands on; the rest is the package postgres-session.
 CORE = ['pgp_base', 'pgp_frontend', 'pgp_message', 'pgp_types', 'pgp_auth', 'pgp_saslprep']
 MORE = [name for name in below('postgres_protocol') if name not in CORE]
+# Whose calls the packages show as they are, so that their conditions are assertions.
+SHOWN = {'pgp_auth', 'pgp_saslprep', *MORE}
 # The crates that a `use` may name; else it names a module.
 NAMES = set(CORE + MORE) | {'pgp_rows', 'postgres_protocol', 'std', 'crate', 'bytes', 'self', 'super'}
 HEAD = '//! The generated modules: the proved sources without their contracts. Change the sources, not these.\n'
@@ -49,7 +52,11 @@ def module(crate, name, used, before=None):
     erased = erase(source)
     if not is_part(erased, source):
         raise Unknown(f'{path}: what stays is no part of the source')
-    return checked(before(erased, crate) if before else erased, crate, name, used)
+    if before is asserted and crate in SHOWN:
+        erased = asserted(erased, crate, name, source)
+    elif before and before is not asserted:
+        erased = before(erased, crate)
+    return checked(erased, crate, name, used)
 
 
 def checked(erased, crate, name, used, without=LEFT_OUT):
@@ -80,21 +87,28 @@ def all_used(used, crates):
             raise Unknown(f'crates/{file.replace("/", "/src/", 1)}.rt: no such file: {old}')
 
 
-def generate(out, more=()):
-    used = set()
-    crates = CORE + MORE + list(more)
-    texts = modules(crates, used)
-    all_used(used, crates)
+def package(out, adapter, texts, mods):
+    """A package of what is by hand in this folder, and of these modules below `proved`, which has these lines."""
     shutil.rmtree(os.path.join(out, 'src'), ignore_errors=True)
-    shutil.copytree(os.path.join(here, 'adapter'), out, dirs_exist_ok=True)
-    shutil.copytree(os.path.join(here, 'kit'), os.path.join(out, 'src/kit'), dirs_exist_ok=True)
+    shutil.copytree(os.path.join(here, adapter), out, dirs_exist_ok=True)
     for name, text in texts.items():
         write(os.path.join(out, 'src/proved', name), text)
+    with open(os.path.join(here, 'lints.rs')) as file:
+        write(os.path.join(out, 'src/proved/mod.rs'), HEAD + file.read() + mods)
     for licence in ('LICENSE-APACHE', 'LICENSE-MIT'):
         shutil.copy(os.path.join(top, licence), out)
-    gate = '#[cfg(feature = "extensions")]\n'
-    mods = ''.join((gate if c not in CORE else '') + f'pub mod {c};\n' for c in crates)
-    write(os.path.join(out, 'src/proved/mod.rs'), HEAD + mods)
+
+
+def generate(out):
+    used = set()
+    core, more = (modules(crates, used, asserted) for crates in (CORE, MORE))
+    all_used(used, CORE + MORE)
+    lines = lambda crates: ''.join(f'pub mod {crate};\n' for crate in crates)
+    protocol = os.path.join(out, 'postgres-protocol')
+    package(protocol, 'adapter', core, lines(CORE))
+    shutil.copytree(os.path.join(here, 'kit'), os.path.join(protocol, 'src/kit'), dirs_exist_ok=True)
+    package(os.path.join(out, 'postgres-session'), 'session', more, f'\npub use postgres_protocol::proved::{{{", ".join(CORE)}}};\n' + lines(MORE))
+    texts = core | more
     return sum(text.count('\n') for text in texts.values()), len(texts)
 
 
@@ -103,4 +117,4 @@ if __name__ == '__main__':
         lines, files = generate(sys.argv[1])
     except Unknown as e:
         sys.exit(f'rust: {e}')
-    print(f'{sys.argv[1]}: {files} modules, {lines} lines')
+    print(f'{sys.argv[1]}: postgres-protocol and postgres-session, {files} modules, {lines} lines')

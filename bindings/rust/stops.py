@@ -11,6 +11,7 @@ CASES = [
     ('pgp_base/src/walk.rt', '    final fn collect', '    fn collect', 'crates/pgp_base/src/walk.rt'),
     ('pgp_message/src/header.rt', '\nuse ', '\nuse simdutf8::is_utf8;\nuse ', 'crates/pgp_message/src/header.rt:'),
     ('pgp_types/src/time.rt', '\n{\n', '\n{\n    unsafe { core() };\n', 'crates/pgp_types/src/time.rt:'),
+    ('pgp_stream/src/client_stream.rt', 'requires { self.old.opened ≡ true }', 'requires { self.old.opened ≢ false }', 'crates/pgp_stream/src/client_stream.rt:'),
     ('pgp_session/src/proxy.rt', '\nuse ', '\nuse std::alloc::Layout as Allocator;\n// left\ntype Other = Allocator;\nuse ', 'crates/pgp_session/src/proxy.rt:'),
     ('pgp_message/src/parser.rt', 'let Some(front) =', 'let Some(Front { tag, total }) =', 'crates/pgp_message/src/parser.rt'),
     ('pgp_types/src/range.rt', '\nuse ', '\nghost lemma {\nuse ', 'crates/pgp_types/src/range.rt:'),
@@ -38,7 +39,9 @@ def run(case):
             return f'{file} has no {old!r}'
         open(path, 'w').write(text.replace(old, new, 1))
         out = os.path.join(copy, 'out')
-        program, below = ('generate.py', 'src/proved') if file.split('/')[0] in generate.CORE + generate.MORE else ('quick.py', 'erased/src/proved')
+        crate = file.split('/')[0]
+        package = 'postgres-protocol' if crate in generate.CORE else 'postgres-session'
+        program, below = ('generate.py', f'{package}/src/proved') if crate in generate.CORE + generate.MORE else ('quick.py', 'erased/src/proved')
         made = subprocess.run([sys.executable, '-B', os.path.join(copy, 'bindings/rust', program), out], capture_output=True, text=True)
         if words:
             return '' if made.returncode == 1 and words in made.stderr else f'{file}: {new!r} went through: {made.stderr}'

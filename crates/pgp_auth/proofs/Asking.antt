@@ -1,11 +1,5 @@
 -- When the mapping of passwords is asked.
-use Rattle.std.proofs.Common.{◌≡◌, ℕ, zero, suc, ◌<◌, ◌≤◌, true, false, List, [], ◌∷◌, refl, arith, inl, inr, slice_index}
-use Rattle.std.specs.Prelude.{Option, unwrap_or, nat_lt}
-use Rattle.std.specs.List.{list_any}
-use Rattle.std.specs.Str.{is_utf8, IsUtf8, IsAscii, IsNotAscii}
-use Rattle.std.proofs.lemmas.Bool.{cases_Bool}
-use Rattle.std.proofs.lemmas.Bool.Decides.{nat_tests}
-use Rattle.std.proofs.lemmas.Str.{is_utf8-from_IsUtf8, IsUtf8-from_is_utf8}
+use Rattle.pgp_auth.proofs.Common.{◌≡◌, ℕ, zero, suc, ◌<◌, ◌≤◌, true, false, List, [], ◌∷◌, refl, arith, inl, inr, slice_index, Option, unwrap_or, nat_lt, list_any, is_utf8, IsUtf8, IsAscii, IsNotAscii, cases_Bool, nat_tests, is_utf8-from_IsUtf8, IsUtf8-from_is_utf8}
 use Rattle.pgp_auth.specs.Prepared.{is_asked, prepared}
 
 low_byte : (b : ℕ) → b < 128 → nat_lt 127 b ≡ false

@@ -1,10 +1,5 @@
 -- Steps of the loops over a key's block and over two lists that are joined by xor.
-use Rattle.std.proofs.Common.{◌≡◌, ℕ, zero, suc, ◌+◌, ◌-◌, ◌<◌, ◌≤◌, List, [], ◌∷◌, ◌++◌, length, get_or, set, take, map, replicate, refl, sym, ap, ◌∙◌, arith, bit_xor}
-use Rattle.std.proofs.lemmas.List.{set_at, take_more, map-append, length-map, length-take-le, append_assoc, ext_get_or, take_all}
-use Rattle.std.proofs.lemmas.Simd.{length-zip2, get_or-zip2, length-chunk, get_or-chunk, get_or-put_chunk_at}
-use Rattle.std.specs.Simd.Lanes.{put_chunk, chunk}
-use Rattle.pgp_auth.specs.Hmac.{padded}
-use Rattle.pgp_auth.specs.IteratedKey.{xor_bytes}
+use Rattle.pgp_auth.proofs.Common.{◌≡◌, ℕ, zero, suc, ◌+◌, ◌-◌, ◌<◌, ◌≤◌, List, [], ◌∷◌, ◌++◌, length, get_or, set, take, map, replicate, refl, sym, ap, ◌∙◌, arith, bit_xor, set_at, take_more, map-append, length-map, length-take-le, append_assoc, ext_get_or, take_all, length-zip2, get_or-zip2, length-chunk, get_or-chunk, get_or-put_chunk_at, put_chunk, chunk, padded, xor_bytes}
 
 -- a block with i bytes of the key in it takes one more
 pub block_step : (f : ℕ → ℕ) (k : List ℕ) (i : ℕ) → i < length k → length k ≤ 64

@@ -1,26 +1,7 @@
 -- What the server answers is accepted by the client.
-use Rattle.std.proofs.Common.{◌≡◌, ℕ, zero, suc, ◌+◌, ◌*◌, ◌/◌, ◌%◌, ◌<◌, true, List, [], ◌∷◌, ◌++◌, length, replicate, slice_index, refl, sym, ap, ◌∙◌, arith, inl, inr, codes}
-use Rattle.std.specs.List.{AllPass}
+use Rattle.pgp_auth.proofs.Common.{◌≡◌, ℕ, zero, suc, ◌+◌, ◌*◌, ◌/◌, ◌%◌, ◌<◌, true, List, [], ◌∷◌, ◌++◌, length, replicate, slice_index, refl, sym, ap, ◌∙◌, arith, inl, inr, codes, AllPass, length-append, All-nil, All-cons, All-append, All-replicate, AllPass-from_list_all, encode_symbols, encode_group, padding_len, standard, decode_of-encode_of, IsBytes, base64, verifier, Binding, is_base64_char, IfErr, Result, Ok, Err, ScramError, refusal, Signs, Refusal, OutOfMemory, Meets, Verifies, Begun, AwaitsFirst, AwaitsFinal, Client, Answers, UpdateRefuses, UpdateRefused, FinishRefuses, FinishRefused, Serves, first_text, signature_of, NotVerified}
 use Rattle.std.specs.Prelude.{All}
-use Rattle.std.proofs.lemmas.List.{length-append}
-use Rattle.std.proofs.lemmas.List.Elements.{All-nil, All-cons, All-append, All-replicate}
-use Rattle.std.proofs.lemmas.List.Sums.{AllPass-from_list_all}
-use Rattle.base64.specs.Rfc4648.{encode_symbols, encode_group, padding_len}
-use Rattle.base64.specs.Engines.{standard}
 use Rattle.base64.proofs.RoundTrip.{length-encode_symbols}
-use Rattle.base64.proofs.EngineFacts.{decode_of-encode_of}
-use Rattle.pgp_base.specs.Wire.{IsBytes}
-use Rattle.pgp_auth.specs.Base64.{base64}
-use Rattle.pgp_auth.specs.Verifier.{verifier}
-use Rattle.pgp_auth.specs.ScramText.{Binding, is_base64_char}
-use Rattle.std.specs.Result.{IfErr}
-use Rattle.std.specs.declared.result.Result.{Result}
-use Rattle.std.specs.declared.result.Result.TheVariants.{Ok, Err}
-use Rattle.pgp_auth.specs.declared.scram.error.ScramError.{ScramError}
-use Rattle.pgp_auth.specs.ScramErrorView.{refusal}
-use Rattle.pgp_auth.specs.ScramServer.{Signs}
-use Rattle.pgp_auth.specs.ScramRefusal.{Refusal, OutOfMemory, Meets, Verifies}
-use Rattle.pgp_auth.specs.ScramClient.{Begun, AwaitsFirst, AwaitsFinal, Client, Answers, UpdateRefuses, UpdateRefused, FinishRefuses, FinishRefused, Serves, first_text, signature_of, NotVerified}
 use Rattle.pgp_auth.proofs.Grants.{meets_not_refused}
 use Rattle.pgp_auth.proofs.Once.{meets_once, signs_once, verified_memory}
 use Rattle.pgp_auth.proofs.ServerSide.{mac_bytes, length-mac}

@@ -1,7 +1,5 @@
 -- A code that is made of a key's two blocks is the key's code.
-use Rattle.std.proofs.Common.{◌≡◌, ℕ, List, refl}
-use Rattle.pgp_auth.specs.Hmac.{mac}
-use Rattle.pgp_auth.specs.MacBlocks.{blocks_of, code_of}
+use Rattle.pgp_auth.proofs.Common.{◌≡◌, ℕ, List, refl, mac, blocks_of, code_of}
 
 pub code_is : (key message : List ℕ) → code_of (blocks_of key) message ≡ mac key message
 unfolding mac code_of

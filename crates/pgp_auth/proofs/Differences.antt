@@ -1,8 +1,5 @@
 -- Two lists that are compared byte by byte.
-use Rattle.std.proofs.Common.{◌≡◌, ℕ, ◌+◌, ◌<◌, ◌≤◌, List, length, get_or, sym, ap, ◌∙◌, arith, bit_xor, inl, inr}
-use Rattle.std.proofs.lemmas.Bool.{cases_lt}
-use Rattle.std.proofs.lemmas.List.{ext_get_or}
-use lib.Bits.{xor_assoc, xor_self, xor_zero_r}
+use Rattle.pgp_auth.proofs.Common.{◌≡◌, ℕ, ◌+◌, ◌<◌, ◌≤◌, List, length, get_or, sym, ap, ◌∙◌, arith, bit_xor, inl, inr, cases_lt, ext_get_or, xor_assoc, xor_self, xor_zero_r}
 
 xor_none : (a b : ℕ) → bit_xor a b ≡ 0 → b ≡ a
 xor_none a b e =

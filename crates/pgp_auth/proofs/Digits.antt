@@ -1,15 +1,6 @@
 -- Hex digits are text.
-use Rattle.std.proofs.Common.{◌≡◌, ℕ, ◌<◌, true, List, [], ◌∷◌, refl, arith}
-use Rattle.std.specs.Prelude.{nat_lt}
-use Rattle.std.specs.List.{list_all}
-use Rattle.std.specs.Str.{IsUtf8, IsAscii}
-use Rattle.std.specs.Prelude.{Result, IsOk, MatchResult, Ok, Err}
-use Rattle.std.proofs.lemmas.Bool.{and_parts}
-use Rattle.std.proofs.lemmas.Bool.Decides.{nat_tests}
-use Rattle.std.proofs.lemmas.Str.{IsUtf8-from_ascii}
-use Rattle.std.proofs.lemmas.Str.Ascii.{IsAscii-nil, IsAscii-cons}
-use Rattle.hex.specs.Hex.{encode_lower, lower_digits}
-use Rattle.hex.proofs.HexLemmas.{IsAscii-encode_with}
+use Rattle.pgp_auth.proofs.Common.{◌≡◌, ℕ, ◌<◌, true, List, [], ◌∷◌, refl, arith, nat_lt, list_all, IsUtf8, IsAscii, IsOk, MatchResult, and_parts, nat_tests, IsUtf8-from_ascii, IsAscii-nil, IsAscii-cons, encode_lower, lower_digits, IsAscii-encode_with}
+use Rattle.std.specs.Prelude.{Result, Ok, Err}
 
 low_byte : (b : ℕ) → nat_lt b 128 ≡ true → b < 128
 low_byte b low = grind (arith, nat_tests)

@@ -1,11 +1,7 @@
 -- A text that is doubled in blocks.
-use Rattle.std.proofs.Common.{◌≡◌, ◌≢◌, ℕ, zero, suc, ◌-◌, ◌⊎◌, ◌+◌, ◌<◌, ◌≤◌, Bool, true, false, cond, if◌then◌else◌, List, [], ◌∷◌, ◌++◌, length, take, drop, set, get_or, slice_index, add-one, refl, sym, ap, ◌∙◌, arith, inl, inr}
-use Rattle.std.proofs.lemmas.Bool.{cases_Bool}
+use Rattle.pgp_auth.proofs.Common.{◌≡◌, ◌≢◌, ℕ, zero, suc, ◌-◌, ◌+◌, ◌<◌, ◌≤◌, Bool, true, false, cond, List, [], ◌∷◌, ◌++◌, length, take, drop, set, get_or, slice_index, add-one, refl, sym, ap, ◌∙◌, arith, inl, inr, cases_Bool, take_more, take_more_set, take-set, take-append-drop, append_assoc, length-set, length-drop, IsUtf8-append, IsUtf8-take, IsUtf8-drop, IsUtf8-between, IsCharBoundary-before_ascii, IsCharBoundary-after_ascii, IsUtf8, is_doubled, doubled}
+use Rattle.std.proofs.Common.{◌⊎◌, if◌then◌else◌}
 use Rattle.std.proofs.lemmas.Grind.{flat_map-append}
-use Rattle.std.proofs.lemmas.List.{take_more, take_more_set, take-set, take-append-drop, append_assoc, length-set, length-drop}
-use Rattle.std.proofs.lemmas.Str.{IsUtf8-append, IsUtf8-take, IsUtf8-drop, IsUtf8-between, IsCharBoundary-before_ascii, IsCharBoundary-after_ascii}
-use Rattle.std.specs.Str.{IsUtf8}
-use Rattle.pgp_auth.specs.Doubling.{is_doubled, doubled}
 use Rattle.pgp_auth.proofs.Quoting.{true_not_false, doubled_low, doubled_none, doubled_run}
 
 doubled-append : (q : ℕ) (s : Bool) (xs ys : List ℕ) → doubled q s (xs ++ ys) ≡ doubled q s xs ++ doubled q s ys

@@ -1,15 +1,7 @@
 -- What `random_range(0x21u8..0x7e)` draws.
-use Rattle.std.proofs.Common.{◌≡◌, ◌≢◌, ◌==◌, ℕ, ◌+◌, ◌^◌, List, [], ◌∷◌, ◌++◌, arith, refl, false, true, add-one}
-use Rattle.std.specs.Prelude.{pos}
-use Rattle.std.proofs.Common.{length}
-use Rattle.std.specs.List.{AllPass}
-use Rattle.std.proofs.lemmas.List.{length-append}
-use Rattle.std.proofs.lemmas.List.Elements.{All-nil, All-cons, All-append}
-use Rattle.pgp_auth.specs.ScramText.{is_nonce_char}
-use Rattle.std.proofs.lemmas.Bool.Decides.{nat_tests}
+use Rattle.pgp_auth.proofs.Common.{◌≡◌, ◌≢◌, ◌==◌, ℕ, ◌+◌, ◌^◌, List, [], ◌∷◌, ◌++◌, arith, refl, false, true, add-one, pos, length, AllPass, length-append, All-nil, All-cons, All-append, is_nonce_char, nat_tests, drawn_char, drawn_chars}
 use Rattle.rand.specs.Uniform.{canon, DrawsBetween}
 use Rattle.rand_core.specs.Stream.{Stream, next_u32}
-use Rattle.pgp_auth.specs.Nonce.{drawn_char, drawn_chars}
 
 abbrev under_93 : Stream → ℕ × Stream
 under_93 = canon (2 ^ 32) next_u32 93

@@ -1,18 +1,11 @@
 -- Our client and our server, step by step.
-use Rattle.std.proofs.Common.{◌≡◌, ℕ, ◌<◌, ◌≤◌, Bool, true, List, [], ◌∷◌, ◌++◌, codes, Some, subst, refl, sym, ap, ◌∙◌, arith, inl, inr}
-use Rattle.pgp_base.specs.Wire.{IsBytes}
-use Rattle.pgp_auth.specs.Base64.{base64}
-use Rattle.pgp_auth.specs.Verifier.{Verifier, verifier}
-use Rattle.pgp_auth.specs.ScramText.{Binding, Unsupported, Unrequested, TlsServerEndPoint, IsNonce, gs2_header, named_bare, first_bare, is_nonce_char}
-use Rattle.pgp_auth.specs.ScramServer.{Accepts, Signs}
-use Rattle.pgp_auth.specs.ScramRefusal.{Refusal, OutOfMemory as RefusedMemory, Meets}
-use Rattle.pgp_auth.specs.ScramClient.{Begun, Answered, AwaitsFirst as ClientAwaitsFirst, AwaitsFinal as ClientAwaitsFinal, Client, first_text, message_of, Answers, UpdateRefuses, UpdateRefused, Finished, FinishRefuses, FinishRefused}
-use Rattle.pgp_auth.specs.ScramServing.{Offer, NotOffered, Declined, Chosen, IsTaken, Serving, Challenge, Server, AwaitsFirst, AwaitsFinal, answer_of, server_first, Opens, Challenges, FirstRefuses, FirstRefused, AcceptsFinal, Shown, Admits, FinalRefuses, FinalRefused}
+use Rattle.pgp_auth.proofs.Common.{◌≡◌, ℕ, ◌<◌, ◌≤◌, Bool, true, List, [], ◌∷◌, ◌++◌, codes, subst, refl, sym, ap, ◌∙◌, arith, inl, inr, IsBytes, base64, Verifier, verifier, Binding, Unsupported, Unrequested, TlsServerEndPoint, IsNonce, gs2_header, named_bare, first_bare, is_nonce_char, Accepts, Signs, Refusal, Meets, Begun, Client, first_text, message_of, Answers, UpdateRefuses, UpdateRefused, Finished, FinishRefuses, FinishRefused, Offer, NotOffered, Declined, Chosen, IsTaken, Serving, Challenge, Server, answer_of, server_first, Opens, Challenges, FirstRefuses, FirstRefused, AcceptsFinal, Shown, Admits, FinalRefuses, FinalRefused, ServerError, append_cancel_left, All-append}
+use Rattle.std.proofs.Common.{Some}
+use Rattle.pgp_auth.specs.ScramRefusal.{OutOfMemory as RefusedMemory}
+use Rattle.pgp_auth.specs.ScramClient.{AwaitsFirst as ClientAwaitsFirst, AwaitsFinal as ClientAwaitsFinal}
+use Rattle.pgp_auth.specs.ScramServing.{AwaitsFirst, AwaitsFinal}
 use Rattle.pgp_auth.specs.ScramMeeting.{Meeting, Met}
-use Rattle.pgp_auth.specs.declared.scram.server_error.ServerError.{ServerError}
 use Rattle.pgp_auth.specs.declared.scram.server_error.ServerError.TheVariants.{OutOfMemory}
-use Rattle.std.proofs.lemmas.List.{append_cancel_left}
-use Rattle.std.proofs.lemmas.List.Elements.{All-append}
 use Rattle.pgp_auth.proofs.Grants.{meets_not_refused}
 use Rattle.pgp_auth.proofs.Once.{meets_once}
 use Rattle.pgp_auth.proofs.BothWays.{never_refused}
@@ -74,9 +67,6 @@ same_challenge a b e = cc
 
 same_begun : (a b : Begun) → ClientAwaitsFirst a ≡ ClientAwaitsFirst b → a ≡ b
 same_begun a b e = cc
-
-same_answered : (a b : Answered) → ClientAwaitsFinal a ≡ ClientAwaitsFinal b → a ≡ b
-same_answered a b e = cc
 
 -- the challenge that a server makes of this client's text
 abbrev pub challenge_at : Begun → Serving → Challenge
@@ -148,9 +138,6 @@ final_accepted x y s new text f m is h a =
     let one : Accepts m.serving.verifier a.begun.binding (first_text a.begun) f a.answered.final = rw both.0 at a.accepts in
     let two : Accepts m.serving.verifier m.begun.binding (first_text m.begun) f a.answered.final = rw both.1 at one in
     subst (λ t. Accepts m.serving.verifier m.begun.binding (first_text m.begun) t a.answered.final) answer_is two
-
-state_is : (x : Client) (a : Answered) (n : ℕ) → x ≡ record { state = ClientAwaitsFinal a; hmacs = n } → x.state ≡ ClientAwaitsFinal a
-state_is x a n e = ap (λ (c : Client). c.state) e
 
 pub answered_state : (x y : Client) (f : List ℕ) (a : Answers x f y) → y.state ≡ ClientAwaitsFinal a.answered
 answered_state x y f a = ap (λ (c : Client). c.state) a.new_is

@@ -1,26 +1,7 @@
 -- How a server's final text is read.
-use Rattle.std.proofs.Common.{◌≡◌, ◌≢◌, ℕ, ◌<◌, Bool, true, false, List, [], ◌∷◌, ◌++◌, length, codes, refl, sym, ap, subst, ◌∙◌, append-nil, inl, inr}
-use Rattle.std.specs.List.{AllPass, prefix_len}
-use Rattle.std.specs.Str.{is_utf8, IsUtf8}
-use Rattle.std.specs.Result.{IsErr, IsErrAnd, IfErr}
-use Rattle.std.proofs.lemmas.Bool.{eqb-true}
-use Rattle.std.proofs.lemmas.List.{take-append-drop}
-use Rattle.std.proofs.lemmas.Str.{IsUtf8-from_is_utf8, is_utf8-from_IsUtf8, IsUtf8-past_char}
-use Rattle.std.specs.declared.result.Result.{Result}
-use Rattle.std.specs.declared.result.Result.TheVariants.{Ok, Err}
-use Rattle.base64.specs.declared.decode.DecodeError.{DecodeError}
-use Rattle.base64.specs.Engines.{standard}
-use Rattle.base64.specs.GeneralPurpose.{decode_of}
-use Rattle.pgp_auth.specs.declared.scram.reading.Fault.{Fault}
-use Rattle.pgp_auth.specs.ScramText.{is_base64_char, is_value_char, ServerFinal}
-use Rattle.pgp_auth.specs.Pattern.{Run, word}
-use Rattle.pgp_auth.specs.ScramRefusal.{Refusal, InvalidBase64, error_parts, server_final_parts, FinalForm, error, verifier, RefusesFinal, not_utf8, other, trailing, no_base64, IsServerError, ShowsOther, NotUtf8, OutOfMemory}
-use Rattle.pgp_auth.specs.ScramClient.{NotShown, NotVerified, TakesMemory, long}
-use Rattle.pgp_auth.specs.declared.scram.error.ScramError.{ScramError}
+use Rattle.pgp_auth.proofs.Common.{◌≡◌, ◌≢◌, ℕ, ◌<◌, Bool, true, false, List, [], ◌∷◌, ◌++◌, length, codes, refl, sym, ap, subst, ◌∙◌, append-nil, inl, inr, AllPass, prefix_len, is_utf8, IsUtf8, IsErr, IsErrAnd, IfErr, eqb-true, take-append-drop, IsUtf8-from_is_utf8, is_utf8-from_IsUtf8, IsUtf8-past_char, Result, Ok, Err, DecodeError, standard, decode_of, Fault, is_base64_char, is_value_char, ServerFinal, Run, word, Refusal, InvalidBase64, error_parts, server_final_parts, FinalForm, error, RefusesFinal, not_utf8, other, trailing, no_base64, IsServerError, ShowsOther, NotUtf8, OutOfMemory, NotShown, NotVerified, TakesMemory, long, ScramError, refusal, ◌⊎◌, expected, ended, front_of, rest_of, read_run, begins_with_e, refusal_of}
+use Rattle.pgp_auth.specs.ScramRefusal.{verifier}
 use Rattle.pgp_auth.specs.declared.scram.error.ScramError.TheVariants as code
-use Rattle.pgp_auth.specs.ScramErrorView.{refusal}
-use Rattle.std.specs.Prelude.{◌⊎◌}
-use Rattle.pgp_auth.specs.ScramReading.{expected, ended, front_of, rest_of, read_run, begins_with_e, refusal_of}
 use Rattle.pgp_auth.proofs.FirstTexts.{from_bind, fault_bind, expected-ok, ended-ok, ended-err, word_scan, word_left}
 use Rattle.pgp_auth.proofs.Patterns.{scan, scanned_begins, scanned_leaves}
 use Rattle.pgp_auth.proofs.Runs.{front_passes}

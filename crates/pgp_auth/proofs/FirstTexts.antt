@@ -1,17 +1,7 @@
 -- What `read_first` reads is a server's first text, and what it rejects has the fault that is named.
-use Rattle.std.proofs.Common.{◌≡◌, ◌≢◌, ◌^◌, ◌==◌, nat_lt, ℕ, ◌-◌, ◌<◌, Bool, true, false, List, [], ◌∷◌, ◌++◌, length, codes, refl, sym, ap, ◌∙◌, arith, append-nil, cond, subst}
-use Rattle.std.proofs.lemmas.List.{take-append-drop}
-use Rattle.std.proofs.lemmas.Bool.{eqb-true, ltb-true}
-use Rattle.std.proofs.lemmas.Bool.Decides.{nat_tests}
-use Rattle.std.specs.List.{prefix_len, AllPass}
-use Rattle.std.specs.declared.result.Result.{Result}
-use Rattle.std.specs.declared.result.Result.TheVariants.{Ok, Err}
-use Rattle.pgp_auth.specs.declared.scram.reading.Fault.{Fault}
+use Rattle.pgp_auth.proofs.Common.{◌≡◌, ◌≢◌, ◌^◌, ◌==◌, ℕ, ◌-◌, ◌<◌, Bool, true, false, List, [], ◌∷◌, ◌++◌, length, codes, refl, sym, ap, ◌∙◌, arith, append-nil, cond, subst, take-append-drop, eqb-true, ltb-true, nat_tests, prefix_len, AllPass, Result, Ok, Err, Fault, number, is_digit, is_nonce_char, is_base64_char, NamesCount, ServerFirst, Part, Run, word, Begins, here, character, run, Refusal, place, unexpected, server_first_parts, InvalidNumber, Trailing, ◌>>=◌, expected, count_of, ended, front_of, rest_of, read_first, FirstParts, refusal_of}
+use Rattle.std.proofs.Common.{nat_lt}
 use Rattle.pgp_auth.specs.declared.scram.reading.Fault.TheVariants as faults
-use Rattle.pgp_auth.specs.ScramText.{number, is_digit, is_nonce_char, is_base64_char, NamesCount, ServerFirst}
-use Rattle.pgp_auth.specs.Pattern.{Part, Run, word, Begins, here, character, run}
-use Rattle.pgp_auth.specs.ScramRefusal.{Refusal, place, unexpected, server_first_parts, InvalidNumber, Trailing}
-use Rattle.pgp_auth.specs.ScramReading.{◌>>=◌, expected, count_of, ended, front_of, rest_of, read_first, FirstParts, refusal_of}
 use Rattle.pgp_auth.proofs.Patterns.{Scan, scan, scan_of, begun_scan}
 use Rattle.pgp_auth.proofs.Runs.{front_passes, run_stops, run_ends}
 
@@ -244,10 +234,6 @@ pub data FirstFault (s : List ℕ) : Refusal → Type 0 where
       → FirstFault s InvalidNumber
   further : {n t d rest : List ℕ} {i : ℕ} → scan server_first_parts s ≡ scan_of (n ∷ t ∷ d ∷ []) rest → NamesCount d i → rest ≢ []
       → FirstFault s (Trailing (place s rest))
-
-scan_one : (n : ℕ) (s a : List ℕ) → expected n (codes "r=") s ≡ Ok a
-    → (r : Result Scan (List ℕ)) → scan parts_two (rest_of is_nonce_char a) ≡ r → scan server_first_parts s ≡ scan (Run is_nonce_char ∷ parts_two) a
-scan_one n s a ea r e = word_scan n (codes "r=") s a (Run is_nonce_char ∷ parts_two) ea
 
 abbrev FaultOf : List ℕ → Fault → Type 0
 FaultOf s f = FirstFault s (refusal_of f)

@@ -1,27 +1,7 @@
 -- What a client grants meets its conditions, and what it doesn't is rejected by the first cause.
-use Rattle.std.proofs.Common.{◌≡◌, ◌≢◌, ℕ, zero, suc, ◌<◌, ◌≤◌, nat_le, nat_lt, nat_eq, ◌&&◌, Bool, true, false, cond, List, [], ◌∷◌, ◌++◌, length, drop, codes, get_or, refl, sym, subst, ◌∙◌, arith, inl, inr}
-use Rattle.std.specs.Prelude.{◌⊎◌}
-use Rattle.std.specs.List.{starts_with, AllPass, list_all}
-use Rattle.std.specs.Str.{is_utf8, IsUtf8, IsAscii}
-use Rattle.std.proofs.lemmas.Bool.{cases_Bool, cases_lt}
-use Rattle.std.proofs.lemmas.Bool.Decides.{nat_tests, Decides-eqb}
-use Rattle.std.proofs.lemmas.List.{get_or_past}
-use Rattle.std.proofs.lemmas.Slice.Eq.{starts_is}
-use Rattle.std.proofs.lemmas.Str.{IsAscii-append, IsUtf8-from_ascii, is_utf8-from_IsUtf8, IsUtf8-from_is_utf8}
-use Rattle.std.specs.Result.{IfErr}
-use Rattle.std.specs.declared.result.Result.{Result}
-use Rattle.std.specs.declared.result.Result.TheVariants.{Ok, Err}
-use Rattle.base64.specs.Engines.{standard}
-use Rattle.base64.specs.GeneralPurpose.{decode_of}
-use Rattle.base64.specs.declared.decode.DecodeError.{DecodeError}
-use Rattle.pgp_auth.specs.declared.scram.error.ScramError.{ScramError}
+use Rattle.pgp_auth.proofs.Common.{◌≡◌, ◌≢◌, ℕ, zero, suc, ◌<◌, ◌≤◌, nat_le, nat_eq, ◌&&◌, Bool, true, false, cond, List, [], ◌∷◌, ◌++◌, length, drop, codes, get_or, refl, sym, subst, ◌∙◌, arith, inl, inr, ◌⊎◌, starts_with, AllPass, list_all, is_utf8, IsUtf8, IsAscii, cases_Bool, cases_lt, nat_tests, Decides-eqb, get_or_past, starts_is, IsAscii-append, IsUtf8-from_ascii, is_utf8-from_IsUtf8, IsUtf8-from_is_utf8, IfErr, Result, Ok, Err, standard, decode_of, DecodeError, ScramError, Fault, refusal, Shows, is_digit, is_nonce_char, is_base64_char, ServerFirst, Refusal, NotUtf8, InvalidNonce, TooManyIterations, InvalidBase64, Admitted, Meets, RefusesFirst, not_utf8, other, no_number, trailing, other_nonce, too_many, no_salt, FirstParts, AdmitsParts, read_first, Granted, grant, grant_read, grant_parts, grant_salt, refusal_of}
+use Rattle.std.proofs.Common.{nat_lt}
 use Rattle.pgp_auth.specs.declared.scram.error.ScramError.TheVariants as code
-use Rattle.pgp_auth.specs.declared.scram.reading.Fault.{Fault}
-use Rattle.pgp_auth.specs.ScramErrorView.{refusal}
-use Rattle.pgp_auth.specs.Base64.{Shows}
-use Rattle.pgp_auth.specs.ScramText.{is_digit, is_nonce_char, is_base64_char, ServerFirst}
-use Rattle.pgp_auth.specs.ScramRefusal.{Refusal, NotUtf8, InvalidNonce, TooManyIterations, InvalidBase64, Admitted, Meets, RefusesFirst, not_utf8, other, no_number, trailing, other_nonce, too_many, no_salt}
-use Rattle.pgp_auth.specs.ScramReading.{FirstParts, AdmitsParts, read_first, Granted, grant, grant_read, grant_parts, grant_salt, refusal_of}
 use Rattle.pgp_auth.proofs.FirstTexts.{cond_ok, read_first-sound, read_first-complete, read_first-fault, FirstFault, left, uncounted, further, one_fault, no_fault}
 use Rattle.pgp_auth.proofs.Patterns.{scanned_begins, scanned_leaves, begun_scan, left_scan}
 

@@ -1,12 +1,7 @@
 -- The base64 text of a GS2 header and that of the data after it stand side by side: each header is a whole
 -- number of groups of three bytes.
-use Rattle.std.proofs.Common.{◌≡◌, ℕ, ◌+◌, ◌-◌, ◌*◌, ◌%◌, List, ◌++◌, length, replicate, refl, ◌∙◌, ap}
+use Rattle.pgp_auth.proofs.Common.{◌≡◌, ℕ, ◌+◌, ◌-◌, ◌*◌, ◌%◌, List, ◌++◌, length, replicate, refl, ◌∙◌, ap, length-append, encode_symbols, padding_len, standard, base64, Binding, Unsupported, Unrequested, TlsServerEndPoint, gs2_header}
 use Rattle.std.proofs.Math.Nat.{mul-add-mod_self_left}
-use Rattle.std.proofs.lemmas.List.{length-append}
-use Rattle.base64.specs.Rfc4648.{encode_symbols, padding_len}
-use Rattle.base64.specs.Engines.{standard}
-use Rattle.pgp_auth.specs.Base64.{base64}
-use Rattle.pgp_auth.specs.ScramText.{Binding, Unsupported, Unrequested, TlsServerEndPoint, gs2_header}
 
 -- the text of a header and data, padded for this many bytes
 padded : Binding → List ℕ → ℕ → List ℕ

@@ -1,10 +1,10 @@
+mod Common
 pub mod Asking
 pub mod Blocks
 pub mod Differences
 pub mod Digits
 pub mod BothWays
 pub mod Codes
-pub mod Counts
 pub mod Doubles
 pub mod Draws
 pub mod FinalAnswers

@@ -1,11 +1,5 @@
 -- A key that is longer than a block and its digest make the same codes.
-use Rattle.std.proofs.Common.{◌≡◌, ℕ, zero, suc, ◌-◌, ◌<◌, ◌≤◌, true, false, List, length, refl, sym, ◌∙◌, arith}
-use Rattle.std.specs.Prelude.{nat_lt}
-use Rattle.std.proofs.lemmas.Bool.Decides.{nat_tests}
-use Rattle.sha2.specs.Sha256.{sha256}
-use Rattle.sha2.proofs.Facts256.{length-sha256}
-use Rattle.pgp_auth.specs.Hmac.{block, padded, mac}
-use Rattle.pgp_auth.specs.IteratedKey.{nth_code, xor_of_codes, salted}
+use Rattle.pgp_auth.proofs.Common.{◌≡◌, ℕ, zero, suc, ◌-◌, ◌<◌, ◌≤◌, true, false, List, length, refl, sym, ◌∙◌, arith, nat_lt, nat_tests, sha256, length-sha256, block, padded, mac, nth_code, xor_of_codes, salted}
 
 hashed : (key : List ℕ) → nat_lt 64 (length key) ≡ true → block key ≡ padded (sha256 key)
 hashed key long = rw long refl

@@ -1,13 +1,6 @@
 -- What is compared with a stored MD5 text.
-use Rattle.std.proofs.Common.{◌≡◌, ◌≢◌, ◌==◌, ℕ, Bool, false, List, ◌++◌, length, codes, refl, sym, ap, ◌∙◌, arith}
-use Rattle.std.specs.Prelude.{◌↔◌, IsTrue}
-use Rattle.std.proofs.lemmas.Bool.{eqb-true, eq-eqb}
-use Rattle.std.proofs.lemmas.List.{append_cancel_left}
-use Rattle.hex.specs.Hex.{encode_lower, lower_digits}
-use Rattle.hex.proofs.HexLemmas.{length-encode_with}
-use Rattle.md5.specs.Md5.{md5}
+use Rattle.pgp_auth.proofs.Common.{◌≡◌, ◌≢◌, ◌==◌, ℕ, Bool, false, List, ◌++◌, length, codes, refl, sym, ap, ◌∙◌, arith, ◌↔◌, IsTrue, eqb-true, eq-eqb, append_cancel_left, encode_lower, lower_digits, length-encode_with, md5, md5_text, md5_verifier, md5_answer, AnswersStored}
 use Rattle.md5.proofs.StandardFacts.{length-md5}
-use Rattle.pgp_auth.specs.Md5Text.{md5_text, md5_verifier, md5_answer, AnswersStored}
 
 pub other_front : (text digits : List ℕ) → ((rest : List ℕ) → text ≢ codes "md5" ++ rest) → (IsTrue false ↔ (text ≡ codes "md5" ++ digits))
 other_front text digits none = (λ bad. cc, λ is. absurd (none digits is))

@@ -1,9 +1,7 @@
 -- A made-up verifier lets nobody in.
-use Rattle.std.proofs.Common.{◌≡◌, Bool, true, false, List, ℕ, sym, ap, ◌∙◌}
-use Rattle.std.specs.Prelude.{◌↔◌}
-use Rattle.pgp_auth.specs.ScramServing.{Serving, Challenge, Server, AwaitsFirst, Challenges, Admits, RefusesProof, other_exchange, no_proof, other_proof, mock}
+use Rattle.pgp_auth.proofs.Common.{◌≡◌, Bool, true, false, List, ℕ, sym, ap, ◌∙◌, ◌↔◌, Serving, Challenge, Server, Challenges, Admits, RefusesProof, other_exchange, no_proof, other_proof, mock, ServerError}
+use Rattle.pgp_auth.specs.ScramServing.{AwaitsFirst}
 use Rattle.pgp_auth.specs.ScramMock.{as_known, ShowsNoProof}
-use Rattle.pgp_auth.specs.declared.scram.server_error.ServerError.{ServerError}
 use Rattle.pgp_auth.proofs.EndsMeet.{same_serving, same_challenge}
 
 not_both : (b : Bool) → b ≡ true → b ≡ false → ⊥

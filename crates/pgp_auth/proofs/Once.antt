@@ -1,23 +1,7 @@
 -- A server's text is rejected for one cause, and a server makes one signature.
-use Rattle.std.proofs.Common.{◌≡◌, ◌≢◌, ◌==◌, ℕ, zero, suc, ◌<◌, Bool, true, false, cond, List, [], ◌∷◌, ◌++◌, length, codes, refl, sym, ap, ◌∙◌, arith, append-nil, inl, inr}
-use Rattle.std.specs.Str.{is_utf8, IsUtf8, IsAscii}
-use Rattle.std.proofs.lemmas.Str.{is_utf8-from_IsUtf8, IsUtf8-from_is_utf8, IsUtf8-from_ascii}
-use Rattle.std.proofs.lemmas.Bool.{cases_Bool, eqb-true}
-use Rattle.std.proofs.lemmas.List.{append_cancel_left}
-use Rattle.std.specs.declared.result.Result.{Result}
-use Rattle.std.specs.declared.result.Result.TheVariants.{Ok, Err}
-use Rattle.base64.specs.declared.decode.DecodeError.{DecodeError}
-use Rattle.base64.specs.Engines.{standard}
-use Rattle.base64.specs.GeneralPurpose.{decode_of}
-use Rattle.pgp_auth.specs.declared.scram.reading.Fault.{Fault}
-use Rattle.pgp_auth.specs.Base64.{Shows}
-use Rattle.pgp_auth.specs.Verifier.{Verifier}
-use Rattle.pgp_auth.specs.Pattern.{Part, Begins, here, character, run}
-use Rattle.pgp_auth.specs.ScramText.{Binding, gs2_header, ServerFirst, ServerFinal}
-use Rattle.pgp_auth.specs.ScramServer.{Expects, Signs}
-use Rattle.pgp_auth.specs.ScramRefusal.{Refusal, NotUtf8, OutOfMemory, InvalidBase64, Server, Trailing, place, unexpected, error_parts, server_final_parts, FinalForm, error, verifier, RefusesFinal, not_utf8, other, trailing, server, no_base64, IsServerError, Verifies, ShowsOther, Meets}
-use Rattle.pgp_auth.specs.ScramClient.{TakesMemory, error as takes_error, long, NotVerified}
-use Rattle.pgp_auth.specs.ScramReading.{FirstParts, read_first, Granted, grant}
+use Rattle.pgp_auth.proofs.Common.{◌≡◌, ◌≢◌, ◌==◌, ℕ, zero, suc, ◌<◌, Bool, true, false, cond, List, [], ◌∷◌, ◌++◌, length, codes, refl, sym, ap, ◌∙◌, arith, append-nil, inl, inr, is_utf8, IsUtf8, IsAscii, is_utf8-from_IsUtf8, IsUtf8-from_is_utf8, IsUtf8-from_ascii, cases_Bool, eqb-true, append_cancel_left, Result, Ok, Err, DecodeError, standard, decode_of, Fault, Shows, Verifier, Part, Begins, here, character, run, Binding, gs2_header, ServerFirst, ServerFinal, Expects, Signs, Refusal, NotUtf8, OutOfMemory, InvalidBase64, Trailing, place, unexpected, error_parts, server_final_parts, FinalForm, error, RefusesFinal, not_utf8, other, trailing, server, no_base64, IsServerError, Verifies, ShowsOther, Meets, TakesMemory, long, NotVerified, FirstParts, read_first, Granted, grant}
+use Rattle.pgp_auth.specs.ScramRefusal.{Server, verifier}
+use Rattle.pgp_auth.specs.ScramClient.{error as takes_error}
 use Rattle.pgp_auth.proofs.FirstTexts.{read_first-complete}
 use Rattle.pgp_auth.proofs.Grants.{meets_granted, base64_ascii}
 use Rattle.pgp_auth.proofs.Patterns.{Scan, scan, scan_of, begun_scan, left_scan}

@@ -1,9 +1,6 @@
 -- A text is written in one way in each form.
-use Rattle.std.proofs.Common.{◌≡◌, ◌≢◌, ◌==◌, ◌↔◌, ℕ, ◌<◌, Bool, true, false, not, List, [], ◌∷◌, ◌++◌, refl, sym, ap, ◌∙◌, arith, inl, inr}
-use Rattle.std.specs.Prelude.{Some, slice_get}
-use Rattle.std.proofs.lemmas.Bool.{cases_Bool, ne_eqb, eq-eqb}
-use Rattle.pgp_auth.specs.Lexer.{Body, empty, join, two_quotes, two_slashes, itself, Quoted, Literal, plain, escape, IsPlain}
-use Rattle.pgp_auth.specs.Doubling.{is_doubled, doubled}
+use Rattle.pgp_auth.proofs.Common.{◌≡◌, ◌≢◌, ◌==◌, ℕ, ◌<◌, Bool, true, false, not, List, [], ◌∷◌, ◌++◌, refl, sym, ap, ◌∙◌, arith, inl, inr, Some, slice_get, cases_Bool, ne_eqb, eq-eqb, Body, empty, join, two_quotes, two_slashes, itself, Quoted, Literal, plain, escape, IsPlain, is_doubled, doubled}
+use Rattle.std.proofs.Common.{◌↔◌}
 
 quote_doubled : (q : ℕ) (s : Bool) → is_doubled q s q ≡ true
 quote_doubled q true = rw (eq-eqb q q refl) refl

@@ -1,14 +1,5 @@
 -- A text begins with parts, or leaves them, as a scan from the left finds.
-use Rattle.std.proofs.Common.{◌≡◌, ◌≢◌, ◌==◌, ℕ, Bool, true, false, List, [], ◌∷◌, ◌++◌, refl, ap, arith, append-nil, inl, inr}
-use Rattle.std.specs.Prelude.{Some, slice_get, if◌then◌else◌}
-use Rattle.std.proofs.lemmas.Bool.{eqb-true, cases_Bool}
-use Rattle.std.proofs.lemmas.Bool.Decides.{nat_tests}
-use Rattle.std.proofs.lemmas.List.{take-append-drop}
-use Rattle.std.specs.List.{AllPass, prefix_len}
-use Rattle.std.specs.declared.result.Result.{Result}
-use Rattle.std.specs.declared.result.Result.TheVariants.{Ok, Err}
-use Rattle.pgp_auth.specs.Pattern.{Part, Character, Run, EndsRun, Begins, here, character, run, Leaves}
-use Rattle.pgp_auth.specs.ScramReading.{front_of, rest_of}
+use Rattle.pgp_auth.proofs.Common.{◌≡◌, ◌≢◌, ◌==◌, ℕ, Bool, true, false, List, [], ◌∷◌, ◌++◌, refl, ap, arith, append-nil, inl, inr, Some, slice_get, if◌then◌else◌, eqb-true, cases_Bool, nat_tests, take-append-drop, AllPass, prefix_len, Result, Ok, Err, Part, Character, Run, EndsRun, Begins, here, character, run, Leaves, front_of, rest_of}
 use Rattle.pgp_auth.proofs.Runs.{front_passes, run_stops, run_ends, rest_ends}
 
 -- the runs that were read, and the rest; or the text from where it leaves the parts

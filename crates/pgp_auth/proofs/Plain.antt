@@ -1,19 +1,5 @@
 -- No byte of a verifier needs an escape.
-use Rattle.std.proofs.Common.{inl, inr, ◌≡◌, ◌≢◌, ℕ, zero, suc, ◌+◌, ◌*◌, ◌/◌, ◌%◌, ◌<◌, ◌==◌, ◌&&◌, Bool, true, false, not, List, [], ◌∷◌, ◌++◌, length, replicate, slice_index, refl, arith, All, codes}
-use Rattle.std.specs.Prelude.{nat_lt}
-use Rattle.std.specs.Fmt.{decimal, digits, digits_onto, digit_glyph}
-use Rattle.std.specs.List.{list_all}
-use Rattle.std.proofs.lemmas.Bool.Decides.{nat_tests}
-use Rattle.std.proofs.lemmas.Bool.{cases_Bool, and_parts, eq-eqb}
-use Rattle.std.proofs.lemmas.List.Elements.{All-nil, All-cons, All-append, All-replicate, All-from_get_or}
-use Rattle.base64.specs.Rfc4648.{encode_symbols, encode_group, padding_len}
-use Rattle.base64.specs.Engines.{standard}
-use Rattle.hex.specs.Hex.{encode_with, encode_lower, lower_digits}
-use Rattle.md5.specs.Md5.{md5}
-use Rattle.pgp_auth.specs.Base64.{base64}
-use Rattle.pgp_auth.specs.Lexer.{NeedsNoEscape}
-use Rattle.pgp_auth.specs.Md5Text.{md5_text}
-use Rattle.pgp_auth.specs.Verifier.{Verifier, verifier_text}
+use Rattle.pgp_auth.proofs.Common.{inl, inr, ◌≡◌, ◌≢◌, ℕ, zero, suc, ◌+◌, ◌*◌, ◌/◌, ◌%◌, ◌<◌, ◌==◌, ◌&&◌, Bool, true, false, not, List, [], ◌∷◌, ◌++◌, length, replicate, slice_index, refl, arith, All, codes, nat_lt, decimal, digits, digits_onto, digit_glyph, list_all, nat_tests, cases_Bool, and_parts, eq-eqb, All-nil, All-cons, All-append, All-replicate, All-from_get_or, encode_symbols, encode_group, padding_len, standard, encode_with, encode_lower, lower_digits, md5, base64, NeedsNoEscape, md5_text, Verifier, verifier_text}
 
 is_plain : ℕ → Bool
 is_plain b = not (b == 39) && not (b == 92)

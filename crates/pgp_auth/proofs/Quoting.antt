@@ -1,12 +1,6 @@
 -- The text that is written is read back, and nothing that follows changes how it is read.
-use Rattle.std.proofs.Common.{◌≡◌, ◌≢◌, ℕ, zero, suc, ◌+◌, ◌-◌, ◌<◌, ◌==◌, Bool, true, false, List, [], ◌∷◌, ◌++◌, length, take, drop, slice_index, refl, arith, inl, inr, add-one}
-use Rattle.std.proofs.lemmas.List.{append_assoc}
-use Rattle.std.proofs.lemmas.Str.{IsCharBoundary-after_ascii}
-use Rattle.std.specs.Str.{IsUtf8, IsCharBoundary}
+use Rattle.pgp_auth.proofs.Common.{◌≡◌, ◌≢◌, ℕ, zero, suc, ◌+◌, ◌-◌, ◌<◌, ◌==◌, Bool, true, false, List, [], ◌∷◌, ◌++◌, length, take, drop, slice_index, refl, arith, inl, inr, add-one, append_assoc, IsCharBoundary-after_ascii, IsUtf8, IsCharBoundary, cases_Bool, cases_eq, ne_eqb, eq-eqb, two_quotes, two_slashes, itself, Body, empty, join, Literal, plain, escape, Identifier, is_doubled, doubled}
 use Rattle.memchr.specs.Find.{Passes, NoneBefore, Nowhere, is_byte}
-use Rattle.std.proofs.lemmas.Bool.{cases_Bool, cases_eq, ne_eqb, eq-eqb}
-use Rattle.pgp_auth.specs.Lexer.{two_quotes, two_slashes, itself, Body, empty, join, Literal, plain, escape, Identifier}
-use Rattle.pgp_auth.specs.Doubling.{is_doubled, doubled}
 
 -- ---- the runs
 

@@ -1,10 +1,5 @@
 -- A lexer's text ends at one place and is read in one way, whatever follows.
-use Rattle.std.proofs.Common.{◌≡◌, ◌≢◌, ◌==◌, ◌&&◌, ℕ, ◌<◌, Bool, true, false, not, cond, List, [], ◌∷◌, ◌++◌, length, refl, sym, ap, ◌∙◌, arith, All}
-use Rattle.std.proofs.lemmas.List.{append_assoc, append_cancel_right}
-use Rattle.std.proofs.lemmas.Bool.{ne_eqb, eq-eqb}
-use Rattle.std.proofs.lemmas.List.Elements.{All-head, All-tail}
-use Rattle.std.specs.Prelude.{Option, Some, None, option_map, slice_get}
-use Rattle.pgp_auth.specs.Lexer.{Body, empty, join, two_quotes, two_slashes, itself, Quoted, Literal, plain, escape, NeedsNoEscape}
+use Rattle.pgp_auth.proofs.Common.{◌≡◌, ◌≢◌, ◌==◌, ◌&&◌, ℕ, ◌<◌, Bool, true, false, not, cond, List, [], ◌∷◌, ◌++◌, length, refl, sym, ap, ◌∙◌, arith, All, append_assoc, append_cancel_right, ne_eqb, eq-eqb, All-head, All-tail, Option, Some, None, option_map, slice_get, Body, empty, join, two_quotes, two_slashes, itself, Quoted, Literal, plain, escape, NeedsNoEscape}
 
 -- what a scan from after the first quote finds: what was read, and what follows the last quote
 put : ℕ → Option (List ℕ × List ℕ) → Option (List ℕ × List ℕ)

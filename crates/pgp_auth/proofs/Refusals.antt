@@ -1,8 +1,8 @@
 -- Each variant is known by its number.
-use Rattle.std.proofs.Common.{◌≡◌, ℕ, [], refl, sym, ap, ◌∙◌}
-use Rattle.std.specs.Prelude.{◌==◌, if◌then◌else◌}
-use Rattle.pgp_auth.specs.ScramRefusal.{Refusal, OutOfMemory, WrongState, NotUtf8, UnexpectedEnd, UnexpectedCharacter, Trailing, InvalidNumber, InvalidNonce, TooManyIterations, InvalidBase64, Server, Verification}
-use Rattle.pgp_auth.specs.ScramErrorView.{number_of, plain}
+use Rattle.pgp_auth.proofs.Common.{◌≡◌, ℕ, [], refl, sym, ap, ◌∙◌, if◌then◌else◌, Refusal, OutOfMemory, WrongState, NotUtf8, UnexpectedEnd, UnexpectedCharacter, Trailing, InvalidNumber, InvalidNonce, TooManyIterations, InvalidBase64, Verification, number_of}
+use Rattle.std.specs.Prelude.{◌==◌}
+use Rattle.pgp_auth.specs.ScramRefusal.{Server}
+use Rattle.pgp_auth.specs.ScramErrorView.{plain}
 
 -- the variant of a number
 variant_of : ℕ → Refusal

@@ -1,17 +1,7 @@
 -- How the parts of a text are read.
-use Rattle.std.proofs.Common.{◌^◌, ◌==◌, nat_lt, ◌≡◌, ℕ, ◌+◌, ◌-◌, ◌*◌, ◌<◌, ◌≤◌, Bool, true, false, List, [], ◌∷◌, length, take, drop, get_or, refl, sym, arith}
-use Rattle.std.proofs.lemmas.List.{get_or-take, length-take-le, drop_more, drop_all}
-use Rattle.std.proofs.lemmas.List.Sums.{prefix_len_passes, prefix_len-le-length}
-use Rattle.std.specs.List.{prefix_len, AllPass}
-use Rattle.pgp_auth.specs.ScramText.{number, number_from}
-use Rattle.std.proofs.lemmas.Bool.Decides.{nat_tests}
-use Rattle.std.specs.declared.result.Result.TheVariants.{Ok, Err}
+use Rattle.pgp_auth.proofs.Common.{◌^◌, ◌==◌, ◌≡◌, ℕ, ◌+◌, ◌-◌, ◌*◌, ◌<◌, ◌≤◌, Bool, true, false, List, [], ◌∷◌, length, take, drop, get_or, refl, sym, arith, get_or-take, length-take-le, drop_more, drop_all, prefix_len_passes, prefix_len-le-length, prefix_len, AllPass, number, number_from, nat_tests, Ok, Err, front_of, rest_of, count_of, EndsRun, ◌++◌, suc, cond, subst, take_at, drop_at, take_all, get_or_append_left, get_or_at, length-append, prefix_len_is}
+use Rattle.std.proofs.Common.{nat_lt}
 use Rattle.pgp_auth.specs.declared.scram.reading.Fault.TheVariants.{InvalidNumber}
-use Rattle.pgp_auth.specs.ScramReading.{front_of, rest_of, count_of}
-use Rattle.pgp_auth.specs.Pattern.{EndsRun}
-use Rattle.std.proofs.Common.{◌++◌, suc, cond, subst}
-use Rattle.std.proofs.lemmas.List.{take_at, drop_at, take_all, get_or_append_left, get_or_at, length-append}
-use Rattle.std.proofs.lemmas.List.Sums.{prefix_len_is}
 
 -- each byte of the front passes
 pub front_passes : (p : ℕ → Bool) (s : List ℕ) → AllPass p (front_of p s)

@@ -1,15 +1,6 @@
 -- A server accepts what the client computes.
-use Rattle.std.proofs.Common.{◌≡◌, ℕ, zero, suc, ◌<◌, List, [], ◌∷◌, ◌++◌, length, refl, sym, ap, ◌∙◌, arith, bit_xor, slice_index}
-use Rattle.std.proofs.lemmas.Simd.{length-zip2}
-use Rattle.std.proofs.lemmas.Nat.{xor_of_8}
+use Rattle.pgp_auth.proofs.Common.{◌≡◌, ℕ, zero, suc, ◌<◌, List, [], ◌∷◌, ◌++◌, length, refl, sym, ap, ◌∙◌, arith, bit_xor, slice_index, length-zip2, xor_of_8, xor_assoc, xor_self, xor_zero_r, sha256, digest_bytes, length-sha256, IsBytes, mac, xor_bytes, client_key, client_proof}
 use Rattle.std.specs.Int.{w32, to_be_bytes}
-use lib.Bits.{xor_assoc, xor_self, xor_zero_r}
-use Rattle.sha2.specs.Sha256.{sha256, digest_bytes}
-use Rattle.sha2.proofs.Facts256.{length-sha256}
-use Rattle.pgp_base.specs.Wire.{IsBytes}
-use Rattle.pgp_auth.specs.Hmac.{mac}
-use Rattle.pgp_auth.specs.IteratedKey.{xor_bytes}
-use Rattle.pgp_auth.specs.ScramAnswer.{client_key, client_proof}
 
 -- xor by the same byte twice
 xor_back : (a b : ℕ) → bit_xor (bit_xor a b) b ≡ a

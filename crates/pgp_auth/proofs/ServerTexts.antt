@@ -1,26 +1,6 @@
 -- The texts of a server, and which final texts it accepts.
-use Rattle.std.proofs.Common.{◌≡◌, ◌≢◌, ℕ, ◌+◌, ◌*◌, ◌-◌, ◌/◌, ◌%◌, ◌<◌, ◌≤◌, ◌^◌, Bool, true, false, List, [], ◌∷◌, ◌++◌, length, inl, codes, refl, sym, ap, ◌∙◌, arith}
-use Rattle.std.specs.Fmt.{decimal}
-use Rattle.std.specs.List.{AllPass}
-use Rattle.std.specs.Result.{IsErr}
-use Rattle.std.specs.declared.result.Result.{Result}
-use Rattle.std.specs.declared.result.Result.TheVariants.{Ok, Err}
+use Rattle.pgp_auth.proofs.Common.{◌≡◌, ◌≢◌, ℕ, ◌+◌, ◌*◌, ◌-◌, ◌/◌, ◌%◌, ◌<◌, ◌≤◌, ◌^◌, Bool, true, false, List, [], ◌∷◌, ◌++◌, length, inl, codes, refl, sym, ap, ◌∙◌, arith, decimal, AllPass, IsErr, Result, Ok, Err, nat_tests, append_cancel_left, append_assoc, length-append, All-nil, All-cons, All-append, DecodeError, standard, decode_of, decode_of-encode_of, decode_of_strict, sha256, IsBytes, base64, Shows, mac, xor_bytes, Binding, IsUserName, IsNonce, is_digit, is_nonce_char, number, number_from, ServerFirst, gs2_header, binding_data, named_bare, without_proof, with_proof, auth_message, Serving, Challenge, IsTaken, NotOpened, server_first, answer_of, first_of, ExpectsOf, AcceptsFinal, Shown, RefusesProof, other_exchange, no_proof, other_proof, mock, NotAdmitted, ServerError}
 use Rattle.std.proofs.lemmas.Fmt.{decimal_by_steps}
-use Rattle.std.proofs.lemmas.Bool.Decides.{nat_tests}
-use Rattle.std.proofs.lemmas.List.{append_cancel_left, append_assoc, length-append}
-use Rattle.std.proofs.lemmas.List.Elements.{All-nil, All-cons, All-append}
-use Rattle.base64.specs.declared.decode.DecodeError.{DecodeError}
-use Rattle.base64.specs.Engines.{standard}
-use Rattle.base64.specs.GeneralPurpose.{decode_of}
-use Rattle.base64.proofs.EngineFacts.{decode_of-encode_of, decode_of_strict}
-use Rattle.sha2.specs.Sha256.{sha256}
-use Rattle.pgp_base.specs.Wire.{IsBytes}
-use Rattle.pgp_auth.specs.Base64.{base64, Shows}
-use Rattle.pgp_auth.specs.Hmac.{mac}
-use Rattle.pgp_auth.specs.IteratedKey.{xor_bytes}
-use Rattle.pgp_auth.specs.ScramText.{Binding, IsUserName, IsNonce, is_digit, is_nonce_char, number, number_from, ServerFirst, gs2_header, binding_data, named_bare, without_proof, with_proof, auth_message}
-use Rattle.pgp_auth.specs.ScramServing.{Serving, Challenge, IsTaken, NotOpened, server_first, answer_of, first_of, ExpectsOf, AcceptsFinal, Shown, RefusesProof, other_exchange, no_proof, other_proof, mock, NotAdmitted}
-use Rattle.pgp_auth.specs.declared.scram.server_error.ServerError.{ServerError}
 use Rattle.pgp_auth.specs.declared.scram.server_error.ServerError.TheVariants.{OutOfMemory, OtherExchange, InvalidEncoding, InvalidProof}
 use Rattle.pgp_auth.proofs.BothWays.{base64_chars, base64_len}
 use Rattle.pgp_auth.proofs.Once.{expects_once}

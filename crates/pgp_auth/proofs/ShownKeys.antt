@@ -1,13 +1,6 @@
 -- A final text that is accepted shows a key, and a first text with the empty name is the one of PostgreSQL's clients.
-use Rattle.std.proofs.Common.{◌≡◌, ℕ, List, [], ◌++◌, length, refl, sym, ap, ◌∙◌}
-use Rattle.std.proofs.lemmas.List.{append_cancel_left}
-use Rattle.std.proofs.lemmas.Simd.{length-zip2}
+use Rattle.pgp_auth.proofs.Common.{◌≡◌, ℕ, List, [], ◌++◌, length, refl, sym, ap, ◌∙◌, append_cancel_left, length-zip2, mac, xor_bytes, Binding, gs2_header, first_bare, client_first, Expects, Server, Challenge, AcceptsFinal, Admits, ShowsKey}
 use Rattle.std.specs.Prelude.{bit_xor}
-use Rattle.pgp_auth.specs.Hmac.{mac}
-use Rattle.pgp_auth.specs.IteratedKey.{xor_bytes}
-use Rattle.pgp_auth.specs.ScramText.{Binding, gs2_header, first_bare, client_first}
-use Rattle.pgp_auth.specs.ScramServer.{Expects}
-use Rattle.pgp_auth.specs.ScramServing.{Server, Challenge, AcceptsFinal, Admits, ShowsKey}
 use Rattle.pgp_auth.proofs.ServerSide.{xor_bytes_back, xor_are_bytes, length-mac, mac_bytes}
 use Rattle.pgp_auth.proofs.UserNames.{empty_name}
 

@@ -1,24 +1,7 @@
 -- What each call of the client comes to.
-use Rattle.std.proofs.Common.{◌≡◌, ℕ, ◌+◌, List, [], ◌++◌, codes, refl, ap, inl, inr, ◌==◌, not}
-use Rattle.std.specs.Prelude.{◌⊎◌}
-use Rattle.pgp_auth.specs.Verifier.{verifier}
-use Rattle.pgp_auth.specs.ScramText.{Binding, Unsupported, Unrequested, TlsServerEndPoint, gs2_header, first_bare, IsUserName, no_more}
-use Rattle.pgp_auth.specs.ScramServer.{comma, CutAfterSecondComma, Expects, Accepts, Signs}
-use Rattle.pgp_auth.specs.ScramRefusal.{Refusal, OutOfMemory, Admitted, Meets, RefusesFirst, Verifies}
-use Rattle.pgp_auth.specs.ScramClient.{Begun, Answered, State, AwaitsFirst, AwaitsFinal, Over, Client, first_text, signature_of, Answers, MadeSome, UpdateRefused, Finished, NotVerified, FinishRefused}
-use Rattle.std.specs.Result.{OnOk, IfErr}
-use Rattle.std.specs.declared.result.Result.{Result}
-use Rattle.std.specs.declared.result.Result.TheVariants.{Ok, Err}
-use Rattle.pgp_auth.specs.declared.scram.error.ScramError.{ScramError}
-use Rattle.pgp_auth.specs.ScramErrorView.{refusal}
+use Rattle.pgp_auth.proofs.Common.{◌≡◌, ℕ, ◌+◌, List, [], ◌++◌, codes, refl, ap, inl, inr, ◌==◌, not, ◌⊎◌, verifier, Binding, Unsupported, Unrequested, TlsServerEndPoint, gs2_header, first_bare, IsUserName, no_more, comma, CutAfterSecondComma, Expects, Accepts, Signs, Refusal, OutOfMemory, Admitted, Meets, RefusesFirst, Verifies, Begun, Answered, State, AwaitsFirst, AwaitsFinal, Over, Client, first_text, signature_of, Answers, MadeSome, UpdateRefused, Finished, NotVerified, FinishRefused, OnOk, IfErr, Result, Ok, Err, ScramError, refusal, state_of, Granted, client_proof, final_front, AnswersGranted, AnswersText, RefusesText, AllPass-from_list_all, IsUtf8-from_ascii, IsAscii-nil}
 use Rattle.pgp_auth.specs.declared.scram.state.State.{State as CodeState}
 use Rattle.pgp_auth.specs.declared.scram.state.State.TheVariants as code
-use Rattle.pgp_auth.specs.ScramStateView.{state_of}
-use Rattle.pgp_auth.specs.ScramReading.{Granted}
-use Rattle.pgp_auth.specs.ScramAnswer.{client_proof, final_front, AnswersGranted, AnswersText, RefusesText}
-use Rattle.std.proofs.lemmas.List.Sums.{AllPass-from_list_all}
-use Rattle.std.proofs.lemmas.Str.{IsUtf8-from_ascii}
-use Rattle.std.proofs.lemmas.Str.Ascii.{IsAscii-nil}
 use Rattle.pgp_auth.proofs.Grants.{granted_meets, not_granted}
 use Rattle.pgp_auth.proofs.ServerSide.{recovers, length-client_proof, proof_bytes}
 

@@ -1,24 +1,9 @@
 -- What `read_stored` reads is a stored verifier's text, and each such text is read.
-use Rattle.std.proofs.Common.{◌≡◌, ◌≢◌, ℕ, List, ◌++◌, length, codes, refl, sym, ap, ◌∙◌, subst, inl, inr}
-use Rattle.std.specs.Prelude.{◌⊎◌, ◌↔◌, ◌==◌, IsTrue, Bool, true, false}
-use Rattle.std.proofs.lemmas.Bool.{eqb-true, eq-eqb}
-use Rattle.std.proofs.lemmas.List.{take-append-drop}
-use Rattle.std.specs.List.{prefix_len, AllPass}
-use Rattle.std.specs.declared.result.Result.{Result}
-use Rattle.std.specs.declared.result.Result.TheVariants.{Ok, Err}
-use Rattle.sha2.specs.Sha256.{sha256}
-use Rattle.pgp_base.specs.Wire.{IsBytes}
-use Rattle.pgp_auth.specs.declared.scram.reading.Fault.{Fault}
+use Rattle.pgp_auth.proofs.Common.{◌≡◌, ◌≢◌, ℕ, List, ◌++◌, length, codes, refl, sym, ap, ◌∙◌, subst, inl, inr, ◌⊎◌, ◌↔◌, IsTrue, eqb-true, eq-eqb, take-append-drop, prefix_len, AllPass, Result, Ok, Err, sha256, IsBytes, Fault, base64, Shows, mac, salted, Verifier, verifier, is_digit, is_base64_char, NamesCount, ◌>>=◌, expected, count_of, front_of, rest_of, StoredParts, read_parts, read_stored}
+use Rattle.std.specs.Prelude.{◌==◌, Bool, true, false}
 use Rattle.pgp_auth.specs.declared.scram.server_error.VerifierError.{VerifierError}
 use Rattle.pgp_auth.specs.declared.scram.server_error.VerifierError.TheVariants.{OutOfMemory, NotAVerifier}
-use Rattle.pgp_auth.specs.Base64.{base64, Shows}
-use Rattle.pgp_auth.specs.Hmac.{mac}
-use Rattle.pgp_auth.specs.IteratedKey.{salted}
-use Rattle.pgp_auth.specs.Verifier.{Verifier, verifier}
-use Rattle.pgp_auth.specs.ScramText.{is_digit, is_base64_char, NamesCount}
-use Rattle.pgp_auth.specs.ScramReading.{◌>>=◌, expected, count_of, front_of, rest_of}
 use Rattle.pgp_auth.specs.ScramStored.{stored_text, IsKey, Stores, StoresBut, NotStored}
-use Rattle.pgp_auth.specs.StoredReading.{StoredParts, read_parts, read_stored}
 use Rattle.pgp_auth.proofs.FirstTexts.{from_bind, bind_is, expected-ok, expected-append, count_of-ok, count_of-is}
 use Rattle.pgp_auth.proofs.Runs.{front_passes, run_stops}
 use Rattle.pgp_auth.proofs.BothWays.{base64_chars}

@@ -1,15 +1,8 @@
 -- A user's name in a client's first text, and where it ends.
-use Rattle.std.proofs.Common.{◌≡◌, ◌≢◌, ◌==◌, ℕ, Bool, true, false, not, List, [], ◌∷◌, ◌++◌, length, codes, refl, sym, ap, ◌∙◌, subst, arith, inl, inr}
-use Rattle.std.specs.Prelude.{◌↔◌, ◌⊎◌, ◌&&◌, ◌||◌, IsTrue, Option, Some, None, MatchOption}
-use Rattle.std.specs.List.{AllPass, prefix_len}
-use Rattle.std.specs.Str.{is_utf8}
-use Rattle.std.proofs.lemmas.Bool.{eqb-true}
-use Rattle.std.proofs.lemmas.Str.{is_utf8-from_IsUtf8, IsUtf8-from_is_utf8}
-use Rattle.std.proofs.lemmas.List.{append_cancel_left, take-append-drop}
-use Rattle.std.proofs.lemmas.List.Elements.{All-nil, All-cons, All-head}
-use Rattle.pgp_auth.specs.ScramText.{is_value_char, is_attribute_char, SaslName, no_more, itself, comma, equals, IsUserName, IsNonce, named_bare, first_bare}
+use Rattle.pgp_auth.proofs.Common.{◌≡◌, ◌≢◌, ◌==◌, ℕ, Bool, true, false, not, List, [], ◌∷◌, ◌++◌, length, codes, refl, sym, ap, ◌∙◌, subst, arith, inl, inr, ◌↔◌, ◌⊎◌, ◌||◌, IsTrue, Option, Some, None, MatchOption, AllPass, prefix_len, is_utf8, eqb-true, is_utf8-from_IsUtf8, IsUtf8-from_is_utf8, append_cancel_left, take-append-drop, All-nil, All-cons, All-head, is_value_char, is_attribute_char, SaslName, no_more, equals, IsUserName, IsNonce, named_bare, first_bare, front_of, rest_of}
+use Rattle.std.specs.Prelude.{◌&&◌}
+use Rattle.pgp_auth.specs.ScramText.{itself, comma}
 use Rattle.pgp_auth.specs.NameReading.{is_escape, may_stand, spells}
-use Rattle.pgp_auth.specs.ScramReading.{front_of, rest_of}
 use Rattle.pgp_auth.proofs.Runs.{run_stops}
 
 abbrev Plain : ℕ → Type 0

@@ -1,8 +1,5 @@
 -- The text of a verifier of the count that is made here.
-use Rattle.std.proofs.Common.{◌≡◌, ℕ, List, ◌++◌, refl, codes}
-use Rattle.std.specs.Fmt.{digits}
-use Rattle.pgp_auth.specs.Base64.{base64}
-use Rattle.pgp_auth.specs.Verifier.{verifier_text}
+use Rattle.pgp_auth.proofs.Common.{◌≡◌, ℕ, List, ◌++◌, refl, codes, digits, base64, verifier_text}
 
 pub text_of_default : (salt stored server : List ℕ)
     → verifier_text (record { salt = salt; count = 4096; stored_key = stored; server_key = server })

@@ -1,11 +1,6 @@
 -- When a part has a cause.
-use Rattle.std.proofs.Common.{◌≡◌, ℕ, ◌<◌, ◌≤◌, ◌^◌, Bool, true, false, List, [], ◌∷◌, ◌++◌, length, Some, None, refl, arith, inl, inr, sym, ◌∙◌}
-use Rattle.std.specs.Prelude.{zero, suc, nat_le, ◌==◌, if◌then◌else◌, slice_index_or}
-use Rattle.std.specs.List.{list_any, Contains}
-use Rattle.std.proofs.lemmas.Bool.{le-leb, lt-leb, leb-true, eq-eqb, ne_eqb, cases_Bool, or_left, or_right, or_from}
-use Rattle.pgp_base.specs.Cause.{Cause, either, first, text_cause, length_cause, count_cause}
-use Rattle.pgp_base.specs.declared.error.Error.{Error}
-use Rattle.pgp_base.specs.declared.error.Error.TheVariants.{EmbeddedNull, TooLarge}
+use Rattle.pgp_base.proofs.Common.{◌≡◌, ℕ, ◌<◌, ◌≤◌, ◌^◌, Bool, true, false, List, [], ◌∷◌, ◌++◌, length, Some, None, refl, arith, inl, inr, sym, ◌∙◌, nat_le, ◌==◌, if◌then◌else◌, slice_index_or, list_any, Contains, le-leb, lt-leb, leb-true, eq-eqb, ne_eqb, cases_Bool, or_left, or_right, or_from, Cause, either, first, text_cause, length_cause, count_cause, Error, EmbeddedNull, TooLarge}
+use Rattle.std.specs.Prelude.{zero, suc}
 
 chosen_true : (b : Bool) (x y : Cause) → b ≡ true → (if b then x else y) ≡ x
 chosen_true b x y e = rw e refl

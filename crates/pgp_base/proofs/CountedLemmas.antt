@@ -1,13 +1,5 @@
 -- A counted walk: what is read is the one list and end that the grammar allows.
-use Rattle.std.proofs.Common.{◌≡◌, ◌≢◌, ℕ, zero, suc, ◌+◌, ◌-◌, ◌<◌, ◌≤◌, List, [], ◌∷◌, ◌++◌, length, get_or, Option, Some, None, Result, Ok, Err, refl, sym, ap, subst, ◌∙◌, append_assoc, arith, length-append}
-use Rattle.std.proofs.lemmas.List.{get_or-append-add}
-use Rattle.std.specs.List.{concat}
-use Rattle.pgp_base.specs.declared.error.Error.{Error}
-use Rattle.pgp_base.specs.declared.error.Error.TheVariants.{NotDrained}
-use Rattle.pgp_base.specs.Wire.{IsBytes}
-use Rattle.pgp_base.specs.Grammar.{StandsAt, IsReader}
-use Rattle.pgp_base.specs.Items.{Spellings, IsCut, CountedEnd, Items, CountedItems}
-use Rattle.pgp_base.specs.WalkReading.{read_on, drained, counted_run, left_of}
+use Rattle.pgp_base.proofs.Common.{◌≡◌, ◌≢◌, ℕ, zero, suc, ◌+◌, ◌-◌, ◌<◌, ◌≤◌, List, [], ◌∷◌, ◌++◌, length, get_or, Option, Some, None, Result, Ok, Err, refl, sym, ap, subst, ◌∙◌, append_assoc, arith, length-append, get_or-append-add, concat, Error, NotDrained, IsBytes, StandsAt, IsReader, Spellings, IsCut, CountedEnd, Items, CountedItems, read_on, drained, counted_run, left_of}
 
 pub IsBytes-after : (front after bytes : List ℕ) → bytes ≡ front ++ after → IsBytes bytes → IsBytes after
 IsBytes-after front after bytes e h i =

@@ -1,13 +1,6 @@
 -- A `Counted` and the walk that it keeps the rest of.
-use Rattle.std.proofs.Common.{◌≡◌, ℕ, List, Option, Some, None, Result, Ok, Err, refl, subst}
-use Rattle.std.specs.Borrow.{Bor}
-use Rattle.pgp_base.specs.declared.error.Error.{Error}
-use Rattle.pgp_base.specs.Wire.{IsBytes}
-use Rattle.pgp_base.specs.Grammar.{IsReader}
-use Rattle.pgp_base.specs.Walk.{TakesFront, hint_of}
-use Rattle.pgp_base.specs.CountedRest.{Rest, IsDue, IsTaken, walk_of, hint_at, rest_hint}
+use Rattle.pgp_base.proofs.Common.{◌≡◌, ℕ, List, Option, Some, None, Result, Ok, Err, refl, subst, Bor, Error, IsBytes, IsReader, TakesFront, hint_of, Rest, IsDue, IsTaken, walk_of, hint_at, rest_hint, Answers}
 use Rattle.pgp_base.specs.CountedWalk.{BeginsWalk, NextOf, SpelledFor, RefusedBy}
-use Rattle.pgp_base.specs.PartReading.{Answers}
 use Rattle.pgp_base.specs.WalkReading.{counted}
 use Rattle.pgp_base.proofs.CountedLemmas.{counted_whole}
 use Rattle.pgp_base.proofs.RestSteps.{due_err, due_none, taken}

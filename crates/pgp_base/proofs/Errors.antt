@@ -1,8 +1,5 @@
 -- Each variant is known by its number.
-use Rattle.std.proofs.Common.{◌≡◌, ℕ, refl, sym, ap, ◌∙◌}
-use Rattle.std.specs.Prelude.{pos, ◌==◌, if◌then◌else◌}
-use Rattle.pgp_base.specs.declared.error.Error.{Error}
-use Rattle.pgp_base.specs.declared.error.Error.TheVariants.{OutOfMemory, EmbeddedNull, TooLarge, InvalidLength, UnknownTag, UnknownAuthentication, UnexpectedEof, NotDrained, NotUtf8, InvalidSize, InvalidCount, InvalidKeyLength, InvalidValueLength, InvalidDimension, TooManyElements, InvalidBitLength, InvalidNetmask, InvalidAddressLength, InvalidFamily, InvalidVersion}
+use Rattle.pgp_base.proofs.Common.{◌≡◌, ℕ, refl, sym, ap, ◌∙◌, pos, ◌==◌, if◌then◌else◌, Error, OutOfMemory, EmbeddedNull, TooLarge, InvalidLength, UnknownTag, UnknownAuthentication, UnexpectedEof, NotDrained, NotUtf8, InvalidSize, InvalidCount, InvalidKeyLength, InvalidValueLength, InvalidDimension, TooManyElements, InvalidBitLength, InvalidNetmask, InvalidAddressLength, InvalidFamily, InvalidVersion}
 use Rattle.pgp_base.specs.Error.{number_of, plain}
 
 -- the variant of a number

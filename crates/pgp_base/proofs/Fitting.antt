@@ -1,15 +1,5 @@
 -- What a writer comes to in a window, by the room that is left there.
-use Rattle.std.proofs.Common.{◌≡◌, ◌⊎◌, ℕ, ◌+◌, ◌≤◌, List, length, take, Some, None, Result, Ok, Err, refl, sym, ap, ◌∙◌, arith, inl, inr, length-append}
-use Rattle.std.specs.Prelude.{IfErr}
-use Rattle.std.specs.Result.{IsOk}
-use Rattle.std.specs.Borrow.{GName}
-use Rattle.std.proofs.lemmas.List.{length-take}
-use Rattle.pgp_base.specs.Cause.{Cause, Writes}
-use Rattle.pgp_base.specs.Held.{Held, ◌⊕◌, lengthened}
-use Rattle.pgp_base.specs.Window.{window_held, window_lacks}
-use Rattle.pgp_base.specs.declared.window.Window.{Window}
-use Rattle.pgp_base.specs.declared.error.Error.{Error}
-use Rattle.pgp_base.specs.declared.error.Error.TheVariants.{OutOfMemory}
+use Rattle.pgp_base.proofs.Common.{◌≡◌, ◌⊎◌, ℕ, ◌+◌, ◌≤◌, List, length, take, Some, None, Result, Ok, Err, refl, sym, ap, ◌∙◌, arith, inl, inr, length-append, IfErr, IsOk, GName, length-take, Cause, Writes, Held, ◌⊕◌, lengthened, window_held, window_lacks, Window, Error, OutOfMemory}
 use Rattle.pgp_base.proofs.Needs.{wants_window}
 
 -- what stands in a window after a writer is within the caller's memory

@@ -1,3 +1,4 @@
+mod Common
 pub mod Causes
 pub mod Errors
 pub mod Strings

@@ -1,12 +1,5 @@
 -- A walk that a byte 0 ends: what is read is the one list and end that the grammar allows.
-use Rattle.std.proofs.Common.{◌≡◌, ◌≢◌, ℕ, zero, suc, true, false, drop, ◌+◌, ◌-◌, ◌<◌, ◌≤◌, List, [], ◌∷◌, ◌++◌, length, get_or, Option, Some, None, Result, Ok, Err, refl, sym, ap, subst, ◌∙◌, append_assoc, arith, length-append}
-use Rattle.std.specs.List.{concat}
-use Rattle.pgp_base.specs.declared.error.Error.{Error}
-use Rattle.pgp_base.specs.declared.error.Error.TheVariants.{NotDrained}
-use Rattle.pgp_base.specs.Wire.{IsBytes}
-use Rattle.pgp_base.specs.Grammar.{StandsAt, IsReader}
-use Rattle.pgp_base.specs.Items.{Spellings, IsCut, MarkedEnd, Unmarked, Items, MarkedItems}
-use Rattle.pgp_base.specs.WalkReading.{read_on, drained, is_marked, marked_step, marked_run, marked, left_of}
+use Rattle.pgp_base.proofs.Common.{◌≡◌, ◌≢◌, ℕ, zero, suc, true, false, drop, ◌+◌, ◌-◌, ◌<◌, ◌≤◌, List, [], ◌∷◌, ◌++◌, length, get_or, Option, Some, None, Result, Ok, Err, refl, sym, ap, subst, ◌∙◌, append_assoc, arith, length-append, concat, Error, NotDrained, IsBytes, StandsAt, IsReader, Spellings, IsCut, MarkedEnd, Unmarked, Items, MarkedItems, read_on, drained, is_marked, marked_step, marked_run, marked, left_of}
 use Rattle.pgp_base.proofs.CountedLemmas.{left_over, IsBytes-after, is_cut, none_there, one_more}
 
 cut_end : {V : Type 0} (Spelled : ℕ → V → List ℕ → Type 0) (Refused : List ℕ → Error → Type 0) (place : ℕ) (rest : List ℕ) (e : Error)

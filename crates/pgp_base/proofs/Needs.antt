@@ -1,17 +1,6 @@
 -- How many bytes parts take, and growths that were refused on the way.
-use Rattle.std.proofs.Common.{◌≡◌, ◌⊎◌, ℕ, ◌+◌, ◌≤◌, ◌<◌, List, [], ◌∷◌, ◌++◌, length, Option, Some, None, Result, Ok, Err, ap, ◌∙◌, arith, inl, inr, length-append, true, false}
-use Rattle.std.specs.Prelude.{IfErr, negsuc}
-use Rattle.std.specs.Int.{w32, cast_unsigned}
-use Rattle.std.specs.List.{flat_map}
-use Rattle.std.specs.Result.{IsErr, IsErrAnd}
-use Rattle.std.specs.Borrow.{GName}
+use Rattle.pgp_base.proofs.Common.{◌≡◌, ◌⊎◌, ℕ, ◌+◌, ◌≤◌, ◌<◌, List, [], ◌∷◌, ◌++◌, length, Option, Some, None, Result, Ok, Err, ap, ◌∙◌, arith, inl, inr, length-append, true, false, IfErr, negsuc, w32, cast_unsigned, flat_map, IsErr, IsErrAnd, GName, append-nil, uint16, uint32, nullable, counted, Cause, Wants, WantsMemory, Writes, Held, ◌⊕◌, Leaves, window_lacks, Error}
 use Rattle.std.proofs.lemmas.List.Concat.{flat_map-append}
-use Rattle.std.proofs.lemmas.List.{append-nil}
-use Rattle.pgp_base.specs.Wire.{uint16, uint32, nullable, counted}
-use Rattle.pgp_base.specs.Cause.{Cause, Wants, WantsMemory, Writes}
-use Rattle.pgp_base.specs.Held.{Held, ◌⊕◌, Leaves}
-use Rattle.pgp_base.specs.Window.{window_lacks}
-use Rattle.pgp_base.specs.declared.error.Error.{Error}
 use Rattle.pgp_base.proofs.Parts.{length-uint16, length-uint32, int32_spelled, wants_more, wants_then, wants_same, more_twice}
 
 -- Lengths.

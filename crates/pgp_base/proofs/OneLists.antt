@@ -1,9 +1,6 @@
 -- What a reader reads is the one list and end of a buffer.
-use Rattle.std.proofs.Common.{ℕ, List, length, Result, sym, ap, ◌∙◌}
-use Rattle.pgp_base.specs.declared.error.Error.{Error}
-use Rattle.pgp_base.specs.Grammar.{IsReader}
+use Rattle.pgp_base.proofs.Common.{ℕ, List, length, Result, sym, ap, ◌∙◌, Error, IsReader, counted_run, marked, left_of}
 use Rattle.pgp_base.specs.OneList.{HasOneCountedList, HasOneMarkedList}
-use Rattle.pgp_base.specs.WalkReading.{counted_run, marked, left_of}
 use Rattle.pgp_base.proofs.CountedLemmas.{counted_whole, counted_one}
 use Rattle.pgp_base.proofs.MarkedLemmas.{marked_whole, marked_one}
 

@@ -1,17 +1,5 @@
 -- What a buffer holds after parts whose lengths and counts are filled in at last.
-use Rattle.std.proofs.Common.{◌≡◌, ℕ, ◌+◌, List, [], ◌∷◌, ◌++◌, length, take, drop, Result, Ok, Err, Some, None, MutBor, refl, sym, ap, ◌∙◌, subst, append_assoc, length-append, suc, OnOk, OnErr, arith, inl, inr, ◌≤◌, true, false}
-use Rattle.std.proofs.lemmas.List.{append-nil, drop-drop}
-use Rattle.std.proofs.Math.Seq.{take-append_seam, drop-append_seam}
-use Rattle.std.specs.List.{flat_map}
-use Rattle.std.specs.Prelude.{ℤ, IfErr}
-use Rattle.std.specs.Int.{w16, w32, cast_unsigned}
-use Rattle.std.specs.Result.{IsErr, IsErrAnd}
-use Rattle.pgp_base.specs.Wire.{uint16, uint32, int16, int32, nullable, counted}
-use Rattle.pgp_base.specs.Cause.{Cause, length_cause, Wants, Writes}
-use Rattle.pgp_base.specs.Held.{Held, ◌⊕◌, lengthened, overwritten, Leaves, IsFrontOf}
-use Rattle.pgp_base.specs.Calls.{value_of, length_of, null_of, Keeps, KeepsValue, Adds, Puts, Runs, ValueRefused, once, Appends, BodyRefused, NullableRefused}
-use Rattle.pgp_base.specs.declared.error.Error.{Error}
-use Rattle.pgp_base.specs.declared.error.Error.TheVariants.{OutOfMemory}
+use Rattle.pgp_base.proofs.Common.{◌≡◌, ℕ, ◌+◌, List, [], ◌∷◌, ◌++◌, length, take, drop, Result, Ok, Err, Some, None, MutBor, refl, sym, ap, ◌∙◌, subst, append_assoc, length-append, suc, OnOk, OnErr, arith, inl, inr, ◌≤◌, true, false, append-nil, drop-drop, take-append_seam, drop-append_seam, flat_map, ℤ, IfErr, w16, w32, cast_unsigned, IsErr, IsErrAnd, uint16, uint32, int16, int32, nullable, counted, Cause, length_cause, Wants, Writes, Held, ◌⊕◌, lengthened, overwritten, Leaves, IsFrontOf, value_of, length_of, null_of, Keeps, KeepsValue, Adds, Puts, Runs, ValueRefused, once, Appends, BodyRefused, NullableRefused, Error, OutOfMemory}
 use Rattle.pgp_base.specs.declared.error.BindError.TheVariants.{Serialization}
 use Rattle.pgp_base.specs.declared.number.IsNull.{IsNull}
 use Rattle.pgp_base.specs.declared.number.IsNull.TheVariants.{Yes, No}

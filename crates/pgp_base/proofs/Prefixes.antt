@@ -1,16 +1,6 @@
 -- No spelling of a part begins another.
-use Rattle.std.proofs.Common.{◌≡◌, ℕ, ◌<◌, ◌^◌, true, false, List, [], ◌∷◌, ◌++◌, length, Option, Some, None, refl, sym, ap, ◌∙◌, append_assoc, suc, arith}
-use Rattle.std.specs.Prelude.{All, FitsSigned, ◌==◌}
-use Rattle.std.specs.Int.{w16, w32, cast_unsigned, cast_signed, from_be_bytes}
-use Rattle.std.specs.List.{list_any, flat_map}
-use Rattle.std.proofs.lemmas.Nat.{from_be_bytes-to_be_bytes_2, from_be_bytes-to_be_bytes_4}
-use Rattle.std.proofs.lemmas.Int.{to_z-of_z}
+use Rattle.pgp_base.proofs.Common.{◌≡◌, ℕ, ◌<◌, ◌^◌, true, false, List, [], ◌∷◌, ◌++◌, length, Option, Some, None, refl, sym, ap, ◌∙◌, append_assoc, suc, arith, All, FitsSigned, ◌==◌, w16, w32, cast_unsigned, cast_signed, from_be_bytes, list_any, flat_map, from_be_bytes-to_be_bytes_2, from_be_bytes-to_be_bytes_4, to_z-of_z, append-nil, or_parts, eq-eqb, int16, int32, uint16, uint32, text, nullable, counted, text_cause, count_cause, nullable_cause, BeginsNoOther}
 use Rattle.std.proofs.Math.Facts.{Fits-of_z}
-use Rattle.std.proofs.lemmas.List.{append-nil}
-use Rattle.std.proofs.lemmas.Bool.{or_parts, eq-eqb}
-use Rattle.pgp_base.specs.Wire.{int16, int32, uint16, uint32, text, nullable, counted}
-use Rattle.pgp_base.specs.Cause.{text_cause, count_cause, nullable_cause}
-use Rattle.pgp_base.specs.Reading.{BeginsNoOther}
 use Rattle.pgp_base.proofs.Causes.{fits_of, counts_of, zero_free}
 use Rattle.pgp_base.proofs.Parts.{length-uint16, length-uint32, int16_spelled, int32_spelled, null_spelled}
 

@@ -1,9 +1,5 @@
 -- One call of next of a counted walk, by what its rest did.
-use Rattle.std.proofs.Common.{◌≡◌, ◌≢◌, ℕ, List, [], ◌∷◌, length, ◌≤◌, IfOk, Option, Some, None, Result, Ok, Err, refl, ap, arith}
-use Rattle.pgp_base.specs.declared.error.Error.{Error}
-use Rattle.pgp_base.specs.Walk.{IsFinished, IsRefused, TakesFront}
-use Rattle.pgp_base.specs.PartReading.{Answers}
-use Rattle.pgp_base.specs.CountedRest.{Rest, walk_of, Over, IsDue, IsTaken}
+use Rattle.pgp_base.proofs.Common.{◌≡◌, ◌≢◌, ℕ, List, [], ◌∷◌, length, ◌≤◌, IfOk, Option, Some, None, Result, Ok, Err, refl, ap, arith, Error, IsFinished, IsRefused, TakesFront, Answers, Rest, walk_of, Over, IsDue, IsTaken}
 use Rattle.pgp_base.proofs.Steps.{counted_over, counted_finished, counted_not_drained, counted_item, counted_cut}
 
 no_length : (bytes : List ℕ) → bytes ≢ [] → length bytes ≢ 0

@@ -1,13 +1,5 @@
 -- What the functions of `reading` give is what the writers spell.
-use Rattle.std.proofs.Common.{◌≡◌, ◌≢◌, ◌⊎◌, ℕ, zero, suc, ◌<◌, ◌^◌, List, [], ◌∷◌, ◌++◌, Option, Some, None, Err, refl, sym, ap, subst, ◌∙◌, arith, inl, inr}
-use Rattle.std.specs.List.{Contains}
-use Rattle.std.specs.Str.{IsUtf8}
-use Rattle.pgp_base.specs.declared.error.Error.{Error}
-use Rattle.pgp_base.specs.declared.error.Error.TheVariants.{UnexpectedEof, NotUtf8}
-use Rattle.pgp_base.specs.Cause.{text_cause}
-use Rattle.pgp_base.specs.PartReading.{front_at, byte_at, string_at, text_at}
-use Rattle.pgp_base.specs.Reading.{BeginsNoOther, ReadsSpelling, ReadsTexts, TextStands}
-use Rattle.pgp_base.specs.Wire.{text, HasNoZero, IsBytes}
+use Rattle.pgp_base.proofs.Common.{◌≡◌, ◌≢◌, ◌⊎◌, ℕ, zero, suc, ◌<◌, ◌^◌, List, [], ◌∷◌, ◌++◌, Option, Some, None, Err, refl, sym, ap, subst, ◌∙◌, arith, inl, inr, Contains, IsUtf8, Error, UnexpectedEof, NotUtf8, text_cause, front_at, byte_at, string_at, text_at, BeginsNoOther, ReadsSpelling, ReadsTexts, TextStands, text, HasNoZero, IsBytes}
 use Rattle.pgp_base.proofs.Causes.{text_clean, clean_of}
 use Rattle.pgp_base.proofs.PartLemmas.{IsNumber, number_takes, number_again, text_read, TextFound, text_found, some_none}
 use Rattle.pgp_base.proofs.Prefixes.{fronts}

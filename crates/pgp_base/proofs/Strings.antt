@@ -1,8 +1,5 @@
 -- The first 0 ends a string.
-use Rattle.std.proofs.Common.{◌≡◌, ◌≢◌, ℕ, zero, suc, ◌+◌, ◌<◌, List, [], ◌∷◌, ◌++◌, length, get_or, take, drop, Option, Some, None, refl, sym, ap, ◌∙◌, arith, subst, append_assoc}
-use Rattle.std.proofs.Math.Seq.{take-append_seam, drop-append-add}
-use Rattle.pgp_base.specs.Wire.{text, HasNoZero}
-use Rattle.pgp_base.specs.PartReading.{string_at, with_first}
+use Rattle.pgp_base.proofs.Common.{◌≡◌, ◌≢◌, ℕ, zero, suc, ◌+◌, ◌<◌, List, [], ◌∷◌, ◌++◌, length, get_or, take, drop, Option, Some, None, refl, sym, ap, ◌∙◌, arith, subst, append_assoc, take-append_seam, drop-append-add, text, HasNoZero, string_at, with_first}
 
 pub string_found : (bytes : List ℕ) (k : ℕ) → k < length bytes → get_or bytes k 0 ≡ 0 → ((j : ℕ) → j < k → get_or bytes j 0 ≢ 0) → string_at bytes ≡ Some (take k bytes, drop (suc k) bytes)
 unfolding string_at

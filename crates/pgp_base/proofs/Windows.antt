@@ -1,10 +1,5 @@
 -- What the caller of a writer into a window learns of its memory.
-use Rattle.std.proofs.Common.{◌≡◌, ℕ, List, [], ◌++◌, length, take, drop, refl, sym, ap, ◌∙◌}
-use Rattle.std.proofs.lemmas.List.{take-append-drop}
-use Rattle.std.specs.Borrow.{GName}
-use Rattle.pgp_base.specs.Held.{Held, ◌⊕◌, lengthened}
-use Rattle.pgp_base.specs.Window.{window_held}
-use Rattle.pgp_base.specs.declared.window.Window.{Window}
+use Rattle.pgp_base.proofs.Common.{◌≡◌, ℕ, List, [], ◌++◌, length, take, drop, refl, sym, ap, ◌∙◌, take-append-drop, GName, Held, ◌⊕◌, lengthened, window_held, Window}
 
 -- `w` is the window as it was made on memory that held `old`, `v` as a writer of p left it, and `x` what
 -- the memory holds at last

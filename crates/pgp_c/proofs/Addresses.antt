@@ -1,12 +1,8 @@
 -- The addresses that bytes are.
-use Rattle.std.proofs.Common.{◌≡◌, ℕ, ◌+◌, ◌-◌, ◌*◌, ◌≤◌, List, length, Ok, arith, refl, ap, ◌∙◌, sym, subst}
+use Rattle.pgp_c.proofs.Common.{◌≡◌, ℕ, ◌+◌, ◌-◌, ◌*◌, ◌≤◌, List, length, Ok, arith, refl, ap, ◌∙◌, sym, subst, ipv6_segments, segments_of, octets_of, IsV6And, IsBytes, Inet, InetReads, IsAddress, IsAddressed, IsInetOf}
 use Rattle.std.specs.declared.net.ip_addr.IpAddr.{IpAddr}
 use Rattle.std.specs.declared.net.ip_addr.IpAddr.TheVariants.{V4, V6}
-use Rattle.std.specs.Net.Addr.{ipv6_segments, segments_of, octets_of, IsV6And}
-use Rattle.pgp_base.specs.Wire.{IsBytes}
-use Rattle.pgp_types.specs.Network.{Inet, InetReads}
 use Rattle.pgp_types.proofs.InetLemmas.{octets_of-segments_of, length-segments_of, segments_below}
-use Rattle.pgp_c.specs.Compound.{IsAddress, IsAddressed, IsInetOf}
 
 pub is_v6 : (bytes : List ℕ) (addr : IpAddr) → length bytes ≡ 16 → IsBytes bytes → IsV6And addr (λ ip. ipv6_segments ip ≡ segments_of bytes) → IsAddress bytes addr
 is_v6 bytes (V4 ip) size each is = absurd is

@@ -1,10 +1,5 @@
 -- All items of a list, read into an array of the caller's.
-use Rattle.std.specs.Prelude.{All}
-use Rattle.std.proofs.Common.{◌≡◌, ℕ, ◌+◌, ◌<◌, List, [], ◌∷◌, ◌++◌, map, take, drop, length, get_or, set, refl, sym, ap, subst, ◌∙◌, arith}
-use Rattle.std.proofs.lemmas.List.{map-append, take_more_set, drop-set-lt, set-get_or, drop-drop}
-use Rattle.std.proofs.lemmas.List.Elements.{All-append, All-cons, All-nil}
-use Rattle.pgp_c.specs.Walks.{Takes, TakesAll}
-use Rattle.pgp_c.specs.declared.cursor.PgpCursor.{PgpCursor}
+use Rattle.pgp_c.proofs.Common.{All, ◌≡◌, ℕ, ◌+◌, ◌<◌, List, [], ◌∷◌, ◌++◌, map, take, drop, length, get_or, set, refl, sym, ap, subst, ◌∙◌, arith, map-append, take_more_set, drop-set-lt, set-get_or, drop-drop, All-append, All-cons, All-nil, Takes, TakesAll, PgpCursor}
 
 module _ {V X : Type 0} (Spelled : ℕ → V → List ℕ → Type 0) (bytes : List ℕ) (meaning : X → V) (Inside : X → Type 0) (before : PgpCursor) (old : List X) where
   -- the first n are the items so far, and the others are as they were

@@ -1,17 +1,7 @@
 -- What is computed from a length that stands among the bytes is how many are missing.
-use Rattle.std.proofs.Common.{◌≡◌, ℕ, ◌+◌, ◌-◌, ◌<◌, ◌^◌, Bool, List, [], ◌∷◌, ◌++◌, length, drop, Some, None, refl, sym, ap, ◌∙◌, arith, inl, inr, length-append, append_assoc}
-use Rattle.std.specs.Int.{w32, from_be_bytes}
-use Rattle.std.proofs.Math.Seq.{drop-append_seam}
-use Rattle.std.proofs.lemmas.Bool.{lt-ltb}
-use Rattle.std.proofs.lemmas.List.{length-drop}
-use Rattle.pgp_base.specs.PartReading.{oid_at}
-use Rattle.pgp_base.specs.Wire.{uint32}
-use Rattle.pgp_base.proofs.PartLemmas.{front_again, oid_number}
-use Rattle.pgp_base.proofs.Parts.{length-uint32}
+use Rattle.pgp_c.proofs.Common.{◌≡◌, ℕ, ◌+◌, ◌-◌, ◌<◌, ◌^◌, Bool, List, [], ◌∷◌, ◌++◌, length, drop, Some, None, refl, sym, ap, ◌∙◌, arith, inl, inr, length-append, append_assoc, w32, from_be_bytes, drop-append_seam, lt-ltb, length-drop, oid_at, uint32, front_again, oid_number, length-uint32, IsMissing, less, missing_from}
 use Rattle.pgp_message.specs.Stream as server
 use Rattle.pgp_frontend_read.specs.Step as client
-use Rattle.pgp_c.specs.Missing.{IsMissing}
-use Rattle.pgp_c.specs.MissingReading.{less, missing_from}
 
 few : (at : ℕ) (bytes : List ℕ) → length bytes < at + 4 → IsMissing at bytes (missing_from (drop at bytes))
 few at bytes short =

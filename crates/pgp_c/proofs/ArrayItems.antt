@@ -1,20 +1,7 @@
 -- An array whose elements are put where they stand: its head, and its end.
-use Rattle.std.proofs.Common.{◌≡◌, ℕ, ◌≤◌, false, List, [], ◌∷◌, ◌++◌, length, take, drop, map, Option, None, refl, sym, ap, ◌∙◌, arith, append_assoc, length-append}
-use Rattle.std.specs.Prelude.{◌≢◌}
-use Rattle.std.specs.List.{flat_map}
-use Rattle.std.proofs.lemmas.List.{append-nil, length-take, take-append-drop}
-use Rattle.std.proofs.Math.Seq.{take-append_seam, drop-append_seam}
-use Rattle.pgp_base.specs.Cause.{first, length_cause, nullable_cause}
-use Rattle.pgp_base.specs.Wire.{nullable, uint32}
-use Rattle.pgp_base.proofs.Causes.{either_left, either_none}
-use Rattle.pgp_base.proofs.Parts.{length-uint32}
-use Rattle.pgp_types.specs.Array.{Product, array, array_bytes, dimension_bytes, elements_of, flag_of, has_null}
+use Rattle.pgp_c.proofs.Common.{◌≡◌, ℕ, ◌≤◌, false, List, [], ◌∷◌, ◌++◌, length, take, drop, map, Option, None, refl, sym, ap, ◌∙◌, arith, append_assoc, length-append, ◌≢◌, flat_map, append-nil, length-take, take-append-drop, take-append_seam, drop-append_seam, first, length_cause, nullable_cause, nullable, uint32, either_left, either_none, length-uint32, Product, array, array_bytes, dimension_bytes, flag_of, has_null, HasShape, dimension_of, WroteValue, Wrote, PgpDimension, PgpItems}
+use Rattle.pgp_types.specs.Array.{elements_of}
 use Rattle.pgp_c.specs.ArrayItems.{ArraySoFar, array_with}
-use Rattle.pgp_c.specs.ArrayWriting.{HasShape, dimension_of}
-use Rattle.pgp_c.specs.ListWriting.{WroteValue}
-use Rattle.pgp_c.specs.Values.{Wrote}
-use Rattle.pgp_c.specs.declared.array.PgpDimension.{PgpDimension}
-use Rattle.pgp_c.specs.declared.in_place.PgpItems.{PgpItems}
 
 module _ (t : ℕ) (ds : List PgpDimension) (old new : List ℕ) (at : ℕ) (w : WroteValue array (array_with t ds []) old new at) where
   pub head_stands : take at new ≡ array_bytes (array_with t ds [])

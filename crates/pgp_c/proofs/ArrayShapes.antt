@@ -1,20 +1,9 @@
 -- The dimensions of an array, one after another.
-use Rattle.std.proofs.Common.{◌≡◌, ℕ, pos, ◌+◌, ◌*◌, ◌<◌, ◌≤◌, List, [], ◌∷◌, ◌++◌, length, map, take, drop, get_or, None, refl, sym, ap, subst, ◌∙◌, arith, append_assoc, length-append}
-use Rattle.std.specs.Int.{w32, cast_unsigned}
-use Rattle.std.specs.List.{flat_map}
-use Rattle.std.proofs.lemmas.List.{take_more, map-append, drop_more, length-map}
-use Rattle.pgp_base.specs.declared.error.Error.{Error}
+use Rattle.pgp_c.proofs.Common.{◌≡◌, ℕ, pos, ◌+◌, ◌*◌, ◌<◌, ◌≤◌, List, [], ◌∷◌, ◌++◌, length, map, take, drop, get_or, None, refl, sym, ap, subst, ◌∙◌, arith, append_assoc, length-append, w32, cast_unsigned, flat_map, take_more, map-append, drop_more, length-map, Error, int32, uint32, length-uint32, Product, array_bytes, dimension_bytes, ArrayDimension, Blames, Misshapen, Stops, array_of, body_of, dimension_item, dimension_of, items_cause, flag_in, PgpValue, PgpDimension}
 use Rattle.pgp_base.specs.declared.error.Error.TheVariants as errors
-use Rattle.pgp_base.specs.Wire.{int32, uint32}
-use Rattle.pgp_base.proofs.Parts.{length-uint32}
-use Rattle.pgp_types.specs.Array.{Product, array_bytes, dimension_bytes}
-use Rattle.pgp_types.specs.declared.array.ArrayDimension.{ArrayDimension}
-use Rattle.pgp_c.specs.ArrayWriting.{Blames, Misshapen, Stops, array_of, body_of, dimension_item, dimension_of, head_of}
-use Rattle.pgp_c.specs.ListWriting.{items_cause}
-use Rattle.pgp_c.specs.Putting.{flag_in, elements_of as elements_bytes}
-use Rattle.pgp_c.specs.declared.listing.PgpValue.{PgpValue}
+use Rattle.pgp_c.specs.ArrayWriting.{head_of}
+use Rattle.pgp_c.specs.Putting.{elements_of as elements_bytes}
 use Rattle.pgp_c.proofs.Elements.{flags}
-use Rattle.pgp_c.specs.declared.array.PgpDimension.{PgpDimension}
 
 product_snoc : (q : ℕ) (ds : List ArrayDimension) (p : ℕ) (d : ArrayDimension) (n : ℕ) → Product q ds p → d.len ≡ pos n → p * n ≤ 2147483647 → Product q (ds ++ d ∷ []) (p * n)
 product_snoc q [] p d n h len few = (n, len, subst (λ k. k * n ≤ 2147483647) (sym h) few, ap (λ k. k * n) h)

@@ -1,33 +1,7 @@
 -- A bind whose values are put where they stand: its begin, and its end.
-use Rattle.std.proofs.Common.{◌≡◌, ◌⊎◌, ℕ, ◌+◌, ◌-◌, ◌<◌, ◌≤◌, ◌^◌, ℤ, pos, negsuc, true, false, ◌&&◌, List, [], ◌∷◌, ◌++◌, length, take, drop, map, Option, Some, None, Result, Ok, Err, refl, sym, ap, subst, ◌∙◌, inl, inr, arith, append_assoc, length-append}
-use Rattle.std.specs.Borrow.{GName}
-use Rattle.std.specs.Prelude.{FitsSigned, All, IfErr, OnOk, min}
-use Rattle.std.specs.Int.{w16, cast_unsigned}
-use Rattle.std.specs.List.{AllByRecursion, flat_map, list_all}
-use Rattle.std.proofs.lemmas.Bool.{cases_lt, ltb-true}
-use Rattle.std.proofs.lemmas.List.{append-nil, length-drop, length-take, take-append-le, drop-append-le, drop-drop, take_all}
-use Rattle.std.proofs.lemmas.List.Concat.{flat_map-append}
-use Rattle.std.proofs.lemmas.List.Elements.{All-from_recursion}
-use Rattle.std.proofs.Math.Seq.{take-append_seam, drop-append_seam}
-use Rattle.pgp_base.specs.Cause.{Cause, counted_cause, count_cause, either, first, length_cause, nullable_cause, text_cause, Wants, WantsMemory}
-use Rattle.pgp_base.specs.Error.{number_of}
-use Rattle.pgp_base.specs.Held.{Held, ◌⊕◌}
-use Rattle.pgp_base.specs.Window.{window_held, window_lacks}
-use Rattle.pgp_base.specs.declared.error.Error.{Error}
-use Rattle.pgp_base.specs.declared.window.Window.{Window}
-use Rattle.pgp_base.specs.Wire.{counted, int16, nullable, uint16, uint32}
-use Rattle.pgp_base.specs.declared.error.Error.TheVariants.{TooLarge}
-use Rattle.pgp_base.proofs.Causes.{count_fits, count_past, either_first, either_left, either_none, either_right, either_then}
-use Rattle.pgp_base.proofs.Needs.{wants_window}
-use Rattle.pgp_base.proofs.Parts.{length-uint16, length-uint32}
-use Rattle.pgp_frontend.specs.ClientMessage.{ClientMessage, Bind}
-use Rattle.pgp_frontend.specs.Payload.{Int16s, Text, Values, bytes_of, cause, joined, parts, parts_cause, payload, spelling}
+use Rattle.pgp_c.proofs.Common.{◌≡◌, ◌⊎◌, ℕ, ◌+◌, ◌-◌, ◌<◌, ◌≤◌, ◌^◌, ℤ, pos, negsuc, true, false, ◌&&◌, List, [], ◌∷◌, ◌++◌, length, take, drop, map, Option, Some, None, Result, Ok, Err, refl, sym, ap, subst, ◌∙◌, inl, inr, arith, append_assoc, length-append, GName, FitsSigned, All, IfErr, min, w16, cast_unsigned, AllByRecursion, flat_map, list_all, cases_lt, ltb-true, append-nil, length-drop, length-take, take-append-le, drop-append-le, drop-drop, take_all, flat_map-append, All-from_recursion, take-append_seam, drop-append_seam, Cause, counted_cause, count_cause, either, first, length_cause, nullable_cause, text_cause, Wants, WantsMemory, number_of, Held, ◌⊕◌, window_held, window_lacks, Error, Window, counted, int16, nullable, uint16, uint32, TooLarge, count_fits, count_past, either_first, either_left, either_none, either_right, either_then, wants_window, length-uint16, length-uint32, ClientMessage, Bind, Int16s, Text, Values, bytes_of, cause, joined, parts, parts_cause, payload, spelling, items_cause, are_bound, is_format, suits, NotSent, Sent, Wrote, PgpItems}
+use Rattle.std.specs.Prelude.{OnOk}
 use Rattle.pgp_c.specs.BindItems.{BindSoFar, Ends, WhyNoFormats, WhyNotEnded, bind_head, format_item}
-use Rattle.pgp_c.specs.ListWriting.{items_cause}
-use Rattle.pgp_c.specs.Requests.{are_bound, is_format, suits}
-use Rattle.pgp_c.specs.Sending.{NotSent, Sent}
-use Rattle.pgp_c.specs.Values.{Wrote}
-use Rattle.pgp_c.specs.declared.in_place.PgpItems.{PgpItems}
 use Rattle.pgp_c.proofs.Extensions.{both}
 use Rattle.pgp_c.proofs.Sending.{wrote}
 

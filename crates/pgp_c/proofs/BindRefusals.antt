@@ -1,30 +1,8 @@
 -- Why a `bind` of the lists that C hands over is refused: its message is too long for the memory, or has this cause.
-use Rattle.std.proofs.Common.{◌≡◌, ◌⊎◌, ℕ, suc, ◌+◌, ◌-◌, ◌*◌, ◌<◌, ◌≤◌, ℤ, false, List, [], ◌∷◌, ◌++◌, length, take, map, Option, Some, None, Result, Err, Bor, MutBor, refl, sym, ap, subst, ◌∙◌, inl, inr, arith, length-append}
-use Rattle.std.specs.List.{flat_map}
-use Rattle.std.specs.Option.{option_to_list}
-use Rattle.std.proofs.lemmas.Bool.{cases_lt}
-use Rattle.std.proofs.lemmas.List.{map-append, take_all}
-use Rattle.std.proofs.lemmas.List.Concat.{flat_map-append}
-use Rattle.std.proofs.Math.Seq.{take-append_seam, take-append-add}
-use Rattle.pgp_base.specs.Wire.{uint32, int16, nullable, counted}
-use Rattle.pgp_base.specs.Calls.{Gives, Runs}
-use Rattle.pgp_base.specs.Cause.{Cause, either, first, text_cause, count_cause, nullable_cause, counted_cause, Wants, WantsMemory}
-use Rattle.pgp_base.specs.Held.{Held, ◌⊕◌}
-use Rattle.pgp_base.specs.declared.error.Error.{Error}
+use Rattle.pgp_c.proofs.Common.{◌≡◌, ◌⊎◌, ℕ, suc, ◌+◌, ◌-◌, ◌*◌, ◌<◌, ◌≤◌, ℤ, false, List, [], ◌∷◌, ◌++◌, length, take, map, Option, Some, None, Result, Err, Bor, MutBor, refl, sym, ap, subst, ◌∙◌, inl, inr, arith, length-append, flat_map, option_to_list, cases_lt, map-append, take_all, flat_map-append, take-append_seam, take-append-add, uint32, int16, nullable, counted, Gives, Runs, Cause, either, first, text_cause, count_cause, nullable_cause, counted_cause, Wants, WantsMemory, Held, ◌⊕◌, Error, IsNull, No, counts_of, count_fits, either_left, either_right, either_first, either_then, first-append, first_here, counted_length, flat_more, nullable_least, sized_wants, counted_wants, wants_here, wants_more, count_more, either_more, last_cause, no_cause, parts_first, int16_length, null_length, bind_length, joined_more, framed_wants, ClientMessage, Bind, Arrived, Serves, before_values, BindWhole, BindRefused, ValuesUpTo, Text, Int16s, parts, parts_cause, joined, bytes_of, cause, PgpValue, error_of, value_of, Puts}
 use Rattle.pgp_base.specs.declared.error.BindError.{BindError}
 use Rattle.pgp_base.specs.declared.error.BindError.TheVariants.{Conversion, Serialization}
-use Rattle.pgp_base.specs.declared.number.IsNull.{IsNull}
-use Rattle.pgp_base.specs.declared.number.IsNull.TheVariants.{No}
-use Rattle.pgp_base.proofs.Causes.{counts_of, count_fits, either_left, either_right, either_first, either_then, first-append, first_here}
-use Rattle.pgp_base.proofs.Needs.{counted_length, flat_more, nullable_least, sized_wants, counted_wants}
-use Rattle.pgp_base.proofs.Parts.{wants_here, wants_more}
-use Rattle.pgp_frontend.proofs.Causes.{count_more, either_more, last_cause, no_cause, parts_first}
-use Rattle.pgp_frontend.proofs.Needs.{int16_length, null_length, bind_length, joined_more, framed_wants}
-use Rattle.pgp_frontend.specs.ClientMessage.{ClientMessage, Bind}
-use Rattle.pgp_frontend.specs.Given.{Arrived, Serves, before_values, BindWhole, BindSoFar, BindRefused, ValuesUpTo}
-use Rattle.pgp_frontend.specs.Payload.{Text, Int16s, parts, parts_cause, joined, bytes_of, cause}
-use Rattle.pgp_c.specs.declared.listing.PgpValue.{PgpValue}
-use Rattle.pgp_c.specs.Lists.{error_of, value_of, Puts}
+use Rattle.pgp_frontend.specs.Given.{BindSoFar}
 use Rattle.pgp_c.proofs.Lists.{one, all_made, fused, same_bind}
 
 -- ---- a list's first items

@@ -1,22 +1,9 @@
 -- The parts of a client's message stand where they are reported to.
-use Rattle.std.proofs.Common.{◌≡◌, ℕ, ℤ, pos, ◌+◌, ◌*◌, ◌-◌, ◌≤◌, Bool, true, false, List, [], ◌∷◌, ◌++◌, length, take, drop, Option, Some, None, Result, Ok, Err, refl, sym, ap, ◌∙◌, subst, arith, inl, inr, length-append, append_assoc}
-use Rattle.std.specs.Prelude.{◌≢◌}
-use Rattle.std.specs.List.{flat_map}
-use Rattle.std.proofs.Math.Seq.{drop-append_seam}
-use Rattle.pgp_base.specs.Wire.{int16, int32, uint32, oid, nullable, counted, text}
-use Rattle.pgp_base.proofs.Needs.{counted_length}
-use Rattle.pgp_base.proofs.PartLemmas.{oid_number}
-use Rattle.pgp_frontend.specs.ClientMessage.{ClientMessage, Bind, Close, CopyData, CopyDone, CopyFail, Describe, Execute, Flush, FunctionCall, Parse, PasswordMessage, Query, SaslInitialResponse, SaslResponse, Sync, Terminate, Startup, CancelRequest, SslRequest, GssEncRequest, PasswordKind}
-use Rattle.pgp_frontend.specs.Payload.{pair, framed, payload, minor_code, bytes_of}
-use Rattle.pgp_frontend.proofs.Needs.{framed_length, int16_length, int32_length, tagged_length}
+use Rattle.pgp_c.proofs.Common.{◌≡◌, ℕ, ℤ, pos, ◌+◌, ◌*◌, ◌-◌, ◌≤◌, Bool, true, false, List, [], ◌∷◌, ◌++◌, length, take, drop, Option, Some, None, Result, Ok, Err, refl, sym, ap, ◌∙◌, subst, arith, inl, inr, length-append, append_assoc, ◌≢◌, flat_map, drop-append_seam, int16, int32, uint32, oid, nullable, counted, text, counted_length, oid_number, ClientMessage, Bind, Close, CopyData, CopyDone, CopyFail, Describe, Execute, Flush, FunctionCall, Parse, PasswordMessage, Query, SaslInitialResponse, SaslResponse, Sync, Terminate, Startup, CancelRequest, SslRequest, GssEncRequest, PasswordKind, pair, framed, payload, minor_code, bytes_of, framed_length, int16_length, int32_length, tagged_length, UnknownPacket, Reading, after_text, numbers_at, past, place, IsMissing, missing_from}
 use Rattle.pgp_frontend_read.specs.Step.{Step, Unread, place as length_place}
 use Rattle.pgp_frontend_read.specs.declared.error.ClientError.{ClientError}
-use Rattle.pgp_frontend_read.specs.declared.error.ClientError.TheVariants.{UnknownPacket, Reading}
 use Rattle.pgp_c.specs.ClientFront.{Misses, ReportsClient, ShowsAll, code_of, kind_reported}
 use Rattle.pgp_c.specs.ClientParts.{ArePartsInside, Shows, no_client_parts}
-use Rattle.pgp_c.specs.ClientPlaces.{after_text, numbers_at, past, place}
-use Rattle.pgp_c.specs.Missing.{IsMissing}
-use Rattle.pgp_c.specs.MissingReading.{missing_from}
 use Rattle.pgp_c.proofs.Announced.{of_client}
 use Rattle.pgp_c.specs.declared.client_front.PgpClientMessage.{PgpClientMessage}
 use Rattle.pgp_c.specs.declared.client_places.PgpClientParts.{PgpClientParts}

@@ -1,14 +1,5 @@
 -- What stands at places of bytes, and the places of the parts of a message in its frame.
-use Rattle.std.proofs.Common.{◌≡◌, ℕ, ℤ, ◌+◌, ◌*◌, ◌-◌, ◌≤◌, List, [], ◌∷◌, ◌++◌, length, take, drop, refl, sym, ap, ◌∙◌, arith, length-append, append_assoc}
-use Rattle.std.specs.Prelude.{nat_le}
-use Rattle.std.specs.List.{flat_map}
-use Rattle.std.proofs.Math.Seq.{take-append_seam, drop-append_seam}
-use Rattle.std.proofs.lemmas.Bool.{le-leb}
-use Rattle.pgp_base.specs.Wire.{int16, text, uint16}
-use Rattle.pgp_base.proofs.PartLemmas.{uint16_number}
-use Rattle.pgp_frontend.proofs.Needs.{int16_length}
-use Rattle.pgp_c.specs.ClientPlaces.{after_text, numbers_at, past}
-use Rattle.pgp_c.specs.Walks.{rest_of}
+use Rattle.pgp_c.proofs.Common.{◌≡◌, ℕ, ℤ, ◌+◌, ◌*◌, ◌-◌, ◌≤◌, List, [], ◌∷◌, ◌++◌, length, take, drop, refl, sym, ap, ◌∙◌, arith, length-append, append_assoc, nat_le, flat_map, take-append_seam, drop-append_seam, le-leb, int16, text, uint16, uint16_number, int16_length, after_text, numbers_at, past, rest_of}
 use Rattle.pgp_c.proofs.Walks.{chosen, drop-drop}
 
 module _ (bytes new : List ℕ) where

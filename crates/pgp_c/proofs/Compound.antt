@@ -1,41 +1,12 @@
 -- The parts of values stand at their places among the bytes.
-use Rattle.std.proofs.Common.{◌≡◌, ℕ, ℤ, pos, negsuc, true, false, ◌+◌, ◌-◌, ◌*◌, ◌<◌, ◌≤◌, ◌^◌, List, [], ◌∷◌, ◌++◌, length, take, drop, Option, Some, None, Ok, refl, sym, ap, subst, ◌∙◌, inl, inr, arith, length-append}
-use Rattle.std.specs.Prelude.{min}
-use Rattle.std.specs.List.{flat_map}
+use Rattle.pgp_c.proofs.Common.{◌≡◌, ℕ, ℤ, pos, negsuc, true, false, ◌+◌, ◌-◌, ◌*◌, ◌<◌, ◌≤◌, ◌^◌, List, [], ◌∷◌, ◌++◌, length, take, drop, Option, Some, None, Ok, refl, sym, ap, subst, ◌∙◌, inl, inr, arith, length-append, min, flat_map, append-nil, cases_lt, drop-append_seam, take-append_seam, take-length, StandsAt, IsReader, uint32, int32, length-uint32, Cause, length_cause, number_of, Error, length_fits, length_past, Walk, hint_of, NotDrained, UnexpectedEof, int32_number, oid_number, IsValue, RangeSpelled, ArrayDimension, IsFlag, dimension_bytes, head, ArrayRead, ArrayReads, Entry, entry, entry_count, HstoreReads, Begins, NullableSpelled, Side, between, RangeReads, SideSpelled, lower_bits, upper_bits, Bits, Inclusive, Exclusive, Unbounded, part_reader, fixed_is, then_part, dimension, value_in, BeginsHstore, IsArrayIn, IsRangeInside, IsSideInside, side_in, IsColumnInside, range_of, dimension_at, column_before, value_length, bound_before, side_length, PgpCursor, PgpColumn, StandsFrom, rest_of, rest}
 use Rattle.std.specs.declared.ops.Range.{Range}
-use Rattle.std.proofs.lemmas.List.{append_assoc, append-nil}
-use Rattle.std.proofs.lemmas.Bool.{cases_lt}
-use Rattle.std.proofs.Math.Seq.{drop-append_seam, take-append_seam, take-length}
-use Rattle.pgp_base.specs.Grammar.{StandsAt, IsReader}
-use Rattle.pgp_base.specs.Wire.{uint32, int32}
-use Rattle.pgp_base.proofs.Parts.{length-uint32}
-use Rattle.pgp_base.specs.Cause.{Cause, length_cause}
-use Rattle.pgp_base.specs.Error.{number_of}
-use Rattle.pgp_base.specs.declared.error.Error.{Error}
-use Rattle.pgp_base.proofs.Causes.{length_fits, length_past}
-use Rattle.pgp_base.specs.Walk.{Walk, hint_of}
-use Rattle.pgp_base.specs.declared.error.Error.TheVariants.{NotDrained, UnexpectedEof}
-use Rattle.pgp_base.proofs.PartLemmas.{int32_number, oid_number}
-use Rattle.pgp_message.specs.Items.{IsValue, RangeSpelled}
-use Rattle.pgp_types.specs.declared.array.ArrayDimension.{ArrayDimension}
-use Rattle.pgp_types.specs.Array.{IsFlag, dimension_bytes, head, ArrayRead, ArrayReads}
-use Rattle.pgp_types.specs.Hstore.{Entry, entry, entry_count, HstoreReads}
-use Rattle.pgp_types.specs.Part.{Begins, NullableSpelled}
-use Rattle.pgp_types.specs.Range.{Side, between, RangeReads, SideSpelled, lower_bits, upper_bits, Bits}
+use Rattle.std.proofs.lemmas.List.{append_assoc}
 use Rattle.pgp_types.specs.Varbit.{Varbit, VarbitReads}
-use Rattle.pgp_types.specs.declared.range.RangeBound.TheVariants.{Inclusive, Exclusive, Unbounded}
-use Rattle.pgp_types.proofs.ArrayLemmas.{part_reader}
 use Rattle.pgp_types.proofs.Numbers.{int32_spelling}
-use Rattle.pgp_types.proofs.PartLemmas.{fixed_is, then_part}
-use Rattle.pgp_c.specs.Compound.{dimension, value_in, BeginsHstore, IsArrayIn, IsRangeInside, IsSideInside, side_in}
-use Rattle.pgp_c.specs.Listings.{IsColumnInside, range_of}
-use Rattle.pgp_c.specs.PartPlaces.{dimension_at, column_before, value_length, bound_before, side_length}
 use Rattle.pgp_c.specs.declared.array.PgpArray.{PgpArray}
-use Rattle.pgp_c.specs.declared.cursor.PgpCursor.{PgpCursor}
 use Rattle.pgp_c.specs.declared.range.PgpBound.{PgpBound}
 use Rattle.pgp_c.specs.declared.range.PgpRange.{PgpRange}
-use Rattle.pgp_c.specs.declared.row.PgpColumn.{PgpColumn}
-use Rattle.pgp_c.specs.Walks.{StandsFrom, rest_of, rest}
 use Rattle.pgp_c.proofs.Listings.{part_stands}
 use Rattle.pgp_c.proofs.Walks.{rest_after, rest_between}
 

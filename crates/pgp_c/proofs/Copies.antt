@@ -1,21 +1,5 @@
 -- The head of a message with data of a copy.
-use Rattle.std.proofs.Common.{◌≡◌, ℕ, ◌+◌, ◌≤◌, List, [], ◌∷◌, ◌++◌, length, take, drop, Result, Ok, Err, None, refl, ap, ◌∙◌, inl, arith}
-use Rattle.std.specs.Borrow.{GName}
-use Rattle.std.specs.Prelude.{IfErr}
-use Rattle.std.proofs.lemmas.List.{append-nil}
-use Rattle.pgp_base.specs.Cause.{Wants, WantsMemory}
-use Rattle.pgp_base.specs.Error.{number_of}
-use Rattle.pgp_base.specs.Held.{Held, ◌⊕◌}
-use Rattle.pgp_base.specs.Window.{window_held, window_lacks}
-use Rattle.pgp_base.specs.Wire.{uint32, frame}
-use Rattle.pgp_base.specs.declared.error.Error.{Error}
-use Rattle.pgp_base.specs.declared.window.Window.{Window}
-use Rattle.pgp_base.proofs.Causes.{length_fits}
-use Rattle.pgp_base.proofs.Needs.{wants_window, memory_more, memory_then}
-use Rattle.pgp_frontend.specs.ClientMessage.{CopyData}
-use Rattle.pgp_frontend.specs.Payload.{bytes_of, cause}
-use Rattle.pgp_c.specs.Copying.{copy_head, SentHead, NoHead}
-use Rattle.pgp_c.specs.Values.{Wrote}
+use Rattle.pgp_c.proofs.Common.{◌≡◌, ℕ, ◌+◌, ◌≤◌, List, [], ◌∷◌, ◌++◌, length, take, drop, Result, Ok, Err, None, refl, ap, ◌∙◌, inl, arith, GName, IfErr, append-nil, Wants, WantsMemory, number_of, Held, ◌⊕◌, window_held, window_lacks, uint32, frame, Error, Window, length_fits, wants_window, memory_more, memory_then, CopyData, bytes_of, cause, copy_head, SentHead, NoHead, Wrote}
 use Rattle.pgp_c.proofs.Sending.{wrote}
 
 -- any data of this length after the head are the message of these data

@@ -1,8 +1,6 @@
 -- A dialogue in memory of the caller's: what a message came to.
-use Rattle.std.proofs.Common.{◌≡◌, ℕ, Some, Ok, Err, Result, subst, sym}
-use Rattle.std.specs.Prelude.{OnErr}
+use Rattle.pgp_c.proofs.Common.{◌≡◌, ℕ, Some, Ok, Err, Result, subst, sym, OnErr, Talk}
 use Rattle.pgp_client.specs.Taking.{Takes, taken}
-use Rattle.pgp_client.specs.Talk.{Talk}
 use Rattle.pgp_client.specs.declared.event.Event.{Event}
 use Rattle.pgp_client.specs.declared.event.Refusal.{Refusal}
 use Rattle.pgp_client.specs.declared.kind.Kind.{Kind}

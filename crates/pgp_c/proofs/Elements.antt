@@ -1,21 +1,7 @@
 -- The elements of an array, one after another, and its head.
-use Rattle.std.proofs.Common.{◌≡◌, ℕ, ◌<◌, ◌≤◌, List, [], ◌∷◌, ◌++◌, length, map, ◌*◌, ◌^◌, pos, Some, inl, inr, sym, ap, ◌∙◌, refl, arith, length-append}
-use Rattle.std.proofs.lemmas.Bool.{cases_Bool}
-use Rattle.std.proofs.lemmas.List.{append_assoc, append-nil, length-map}
-use Rattle.std.proofs.lemmas.List.Elements.{All-from_recursion}
-use Rattle.pgp_base.specs.Cause.{nullable_cause}
-use Rattle.pgp_base.specs.Held.{Held, ◌⊕◌}
-use Rattle.pgp_base.specs.Wire.{uint32, int32}
-use Rattle.pgp_base.specs.declared.error.Error.{Error}
-use Rattle.pgp_base.specs.declared.error.Error.TheVariants.{TooLarge}
-use Rattle.pgp_base.proofs.Causes.{length_fits}
-use Rattle.pgp_base.proofs.Parts.{length-uint32, more_twice}
-use Rattle.pgp_c.specs.Lists.{value_of}
-use Rattle.pgp_c.specs.Putting.{elements_cause, elements_of, flag_in, head_of, list_of}
-use Rattle.pgp_types.specs.Array.{IsArray, IsDimension, array_bytes, flag_of, has_null}
-use Rattle.pgp_types.proofs.PartLemmas.{int32_pos, signed_fits}
+use Rattle.pgp_c.proofs.Common.{◌≡◌, ℕ, ◌<◌, ◌≤◌, List, [], ◌∷◌, ◌++◌, length, map, ◌*◌, ◌^◌, pos, Some, inl, inr, sym, ap, ◌∙◌, refl, arith, length-append, cases_Bool, append-nil, length-map, All-from_recursion, nullable_cause, Held, ◌⊕◌, uint32, int32, Error, TooLarge, length_fits, length-uint32, more_twice, value_of, elements_cause, elements_of, flag_in, head_of, list_of, IsArray, IsDimension, array_bytes, flag_of, has_null, int32_pos, signed_fits, PgpValue}
+use Rattle.std.proofs.lemmas.List.{append_assoc}
 use Rattle.pgp_c.proofs.Putting.{either_large, value_large}
-use Rattle.pgp_c.specs.declared.listing.PgpValue.{PgpValue}
 
 -- two parts, one after the other
 pub then_more : {K : Type 0} (old h k : Held K) (p q : List ℕ) → h ≡ old ⊕ p → k ≡ h ⊕ q → k ≡ old ⊕ (p ++ q)

@@ -1,24 +1,8 @@
 -- What a call added to a client's stream.
-use Rattle.std.proofs.Common.{◌≡◌, ℕ, ◌+◌, ◌-◌, ◌<◌, ◌≤◌, ◌^◌, Bool, true, false, List, [], ◌∷◌, ◌++◌, length, take, drop, map, Option, Some, None, refl, sym, ap, subst, ◌∙◌, arith, inl, MutBor, ◌&&◌}
-use Rattle.std.specs.Prelude.{◌≢◌, min, if◌then◌else◌}
-use Rattle.std.specs.List.{AllByRecursion, list_all}
-use Rattle.std.proofs.lemmas.Bool.{ltb-true}
-use Rattle.std.proofs.lemmas.List.Elements.{All-from_recursion}
-use Rattle.std.proofs.Math.Seq.{take-append_seam, take-append-add, drop-append_seam}
-use Rattle.std.proofs.lemmas.List.{append-nil, length-append, append_assoc, length-drop, length-take, drop-append-le, drop-drop, take-append-drop}
-use Rattle.pgp_base.proofs.Parts.{length-uint32}
-use Rattle.pgp_base.specs.Wire.{uint32}
-use Rattle.pgp_frontend.specs.ClientMessage.{ClientMessage, CopyData, PasswordKind, Startup}
-use Rattle.pgp_frontend.specs.declared.startup.ProtocolVersion.{ProtocolVersion}
-use Rattle.pgp_frontend.specs.Payload.{bytes_of, framed, minor_of, payload, tag_of}
-use Rattle.pgp_frontend.specs.ClientRun.{ClientRun, MayCome, kinds_of, is_startup, is_opened}
+use Rattle.pgp_c.proofs.Common.{◌≡◌, ℕ, ◌+◌, ◌-◌, ◌<◌, ◌≤◌, ◌^◌, Bool, true, false, List, [], ◌∷◌, ◌++◌, length, take, drop, map, Option, Some, None, refl, sym, ap, subst, ◌∙◌, arith, inl, MutBor, ◌&&◌, ◌≢◌, min, if◌then◌else◌, AllByRecursion, list_all, ltb-true, All-from_recursion, take-append_seam, take-append-add, drop-append_seam, append-nil, length-drop, length-take, drop-append-le, drop-drop, take-append-drop, length-uint32, uint32, ClientMessage, CopyData, PasswordKind, Startup, ProtocolVersion, bytes_of, framed, minor_of, payload, tag_of, ClientRun, MayCome, kinds_of, is_startup, is_opened, PgpPair, is_named, pair_of, copy_head, SentHead, Sent, Why, Wrote}
+use Rattle.std.proofs.lemmas.List.{length-append, append_assoc}
 use Rattle.pgp_frontend.proofs.ClientRuns.{run_more}
-use Rattle.pgp_c.specs.declared.opening.PgpPair.{PgpPair}
 use Rattle.pgp_c.specs.declared.stream.PgpStream.{PgpStream}
-use Rattle.pgp_c.specs.Opening.{is_named, pair_of}
-use Rattle.pgp_c.specs.Copying.{copy_head, SentHead, WhyNoHead}
-use Rattle.pgp_c.specs.Sending.{Sent, Why}
-use Rattle.pgp_c.specs.Values.{Wrote}
 use Rattle.pgp_c.specs.Streams.{Extends, ExtendsByHead, free}
 
 -- what a call was handed of the memory, and what lies after that
@@ -158,6 +142,3 @@ drop_past n xs past = omega (arith, length-drop n xs, past)
 
 pub no_room : (m : ClientMessage) (s : PgpStream) (code : ℕ) → length s.room.now < s.len → code ≡ 1 → Why m (free s) code
 no_room m s code past one = inl (one, omega (arith, drop_past s.len s.room.now past, framed_some (tag_of m) (payload m)))
-
-pub no_room_for_head : (len : ℕ) (s : PgpStream) → length s.room.now < s.len → WhyNoHead len (free s) 1
-no_room_for_head len s past = inl (refl, omega (arith, drop_past s.len s.room.now past))

@@ -1,23 +1,14 @@
 -- The parts of a message stand where they are reported to.
-use Rattle.std.proofs.Common.{◌≡◌, ℕ, ℤ, pos, ◌+◌, ◌-◌, ◌≤◌, List, [], ◌∷◌, ◌++◌, length, take, drop, Option, Some, None, Result, Ok, Err, refl, sym, ap, ◌∙◌, subst, arith}
-use Rattle.std.specs.Prelude.{◌≢◌}
-use Rattle.std.proofs.Math.Seq.{take-append_seam, drop-append_seam}
-use Rattle.std.proofs.lemmas.List.{length-append, append_assoc, append-nil}
-use Rattle.pgp_base.specs.Wire.{uint16, uint32, int32, text, HasNoZero}
-use Rattle.pgp_base.specs.PartReading.{string_at}
-use Rattle.pgp_base.specs.declared.error.Error.{Error}
+use Rattle.pgp_c.proofs.Common.{◌≡◌, ℕ, ℤ, pos, ◌+◌, ◌-◌, ◌≤◌, List, [], ◌∷◌, ◌++◌, length, take, drop, Option, Some, None, Result, Ok, Err, refl, sym, ap, ◌∙◌, subst, arith, ◌≢◌, take-append_seam, drop-append_seam, append-nil, uint16, uint32, int32, text, HasNoZero, string_at, Error, int32_number, uint16_number, string_front, AuthenticationOk, AuthenticationKerberosV5, AuthenticationCleartextPassword, AuthenticationMd5Password, AuthenticationScmCredential, AuthenticationGss, AuthenticationGssContinue, AuthenticationSspi, AuthenticationSasl, AuthenticationSaslContinue, AuthenticationSaslFinal, Message, NegotiateProtocolVersion, NotificationResponse, CommandComplete, DataRow, ErrorResponse, CopyInResponse, CopyOutResponse, BackendKeyData, NoticeResponse, Authentication, ParameterStatus, RowDescription, ReadyForQuery, ParameterDescription, payload_of, IsMissing, missing_from, IsInside, no_parts, part, stands}
+use Rattle.std.proofs.lemmas.List.{length-append, append_assoc}
 use Rattle.pgp_base.specs.declared.error.Error.TheVariants as errors
-use Rattle.pgp_base.proofs.PartLemmas.{int32_number, uint16_number}
-use Rattle.pgp_base.proofs.Strings.{string_front}
-use Rattle.pgp_message.specs.BackendMessage.{AuthenticationOk, AuthenticationKerberosV5, AuthenticationCleartextPassword, AuthenticationMd5Password, AuthenticationScmCredential, AuthenticationGss, AuthenticationGssContinue, AuthenticationSspi, AuthenticationSasl, AuthenticationSaslContinue, AuthenticationSaslFinal, Message, NegotiateProtocolVersion, NotificationResponse, CommandComplete, DataRow, ErrorResponse, CopyInResponse, CopyOutResponse, BackendKeyData, NoticeResponse, Authentication, ParameterStatus, RowDescription, ReadyForQuery, CopyData, ParameterDescription, payload_of}
+use Rattle.pgp_message.specs.BackendMessage.{CopyData}
 use Rattle.pgp_message.specs.Stream.{Frame, frame_bytes, TakesFrame, Step}
 use Rattle.pgp_c.specs.declared.front.PgpMessage.{PgpMessage}
 use Rattle.pgp_c.specs.declared.front.PgpParts.{PgpParts}
 use Rattle.pgp_c.specs.Front.{Misses, Reported, code_of as code_reported, kind_reported, ShowsAll}
-use Rattle.pgp_c.specs.Missing.{IsMissing}
-use Rattle.pgp_c.specs.MissingReading.{missing_from}
 use Rattle.pgp_c.proofs.Announced.{of_server}
-use Rattle.pgp_c.specs.Parts.{IsInside, Shows, no_parts, part, stands}
+use Rattle.pgp_c.specs.Parts.{Shows}
 use Rattle.pgp_c.specs.Places.{place, first_of, second_of}
 
 module _ (bytes new : List ℕ) (f : Frame) (whole : bytes ≡ frame_bytes f ++ new) where

@@ -1,7 +1,5 @@
 -- What a call's answer that is handed on says: by cases on it, from what the call said.
-use Rattle.std.proofs.Common.{Result, Ok, Err, OnOk}
-use Rattle.std.specs.Prelude.{IfErr}
-use Rattle.pgp_base.specs.declared.error.Error.{Error}
+use Rattle.pgp_c.proofs.Common.{Result, Ok, Err, OnOk, IfErr, Error}
 
 pub ok_then : {A : Type 0} (P Q : Type 0) (r : Result A Error) → OnOk r P → (P → Q) → OnOk r Q
 ok_then P Q (Ok x) p f = f p

@@ -1,15 +1,5 @@
 -- An item that is put where the list goes on.
-use Rattle.std.proofs.Common.{◌≡◌, ℕ, ◌+◌, ◌≤◌, Bool, true, List, [], ◌∷◌, ◌++◌, length, take, drop, map, Option, Some, None, refl, sym, ap, ◌∙◌, arith, append_assoc, length-append}
-use Rattle.std.specs.List.{flat_map}
-use Rattle.std.proofs.lemmas.List.{append-nil, map-append, length-drop, length-take}
-use Rattle.std.proofs.lemmas.List.Concat.{flat_map-append}
-use Rattle.std.proofs.Math.Seq.{take-append_seam, take-append-add, drop-append_seam}
-use Rattle.pgp_base.specs.Cause.{first, nullable_cause}
-use Rattle.pgp_base.specs.Wire.{nullable, uint32}
-use Rattle.pgp_base.proofs.Causes.{first_more, length_fits}
-use Rattle.pgp_base.proofs.Parts.{length-uint32, null_spelled}
-use Rattle.pgp_types.specs.Array.{has_null}
-use Rattle.pgp_c.specs.declared.in_place.PgpItems.{PgpItems}
+use Rattle.pgp_c.proofs.Common.{◌≡◌, ℕ, ◌+◌, ◌≤◌, Bool, true, List, [], ◌∷◌, ◌++◌, length, take, drop, map, Option, Some, None, refl, sym, ap, ◌∙◌, arith, append_assoc, length-append, flat_map, append-nil, map-append, length-drop, length-take, flat_map-append, take-append_seam, take-append-add, drop-append_seam, first, nullable_cause, nullable, uint32, first_more, length_fits, length-uint32, null_spelled, has_null, PgpItems}
 use Rattle.pgp_c.specs.InPlace.{Adds, HasItems, Places, value_at}
 
 -- whether a value is a null, after whether one before it was

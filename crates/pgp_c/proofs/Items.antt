@@ -1,14 +1,5 @@
 -- Items of a list that are written one after another: a front of them, and one more.
-use Rattle.std.proofs.Common.{◌≡◌, ℕ, ◌+◌, ◌<◌, ◌≤◌, List, [], ◌∷◌, ◌++◌, length, map, take, drop, Some, None, sym, ap, ◌∙◌, get_or, arith, length-append}
-use Rattle.std.proofs.lemmas.List.{take_more, map-append, take-append-drop, drop_more}
-use Rattle.std.specs.List.{flat_map}
-use Rattle.std.proofs.lemmas.List.Concat.{flat_map-append}
-use Rattle.pgp_base.specs.Cause.{Cause, first, Wants, WantsMemory}
-use Rattle.pgp_base.specs.Held.{Held, ◌⊕◌}
-use Rattle.pgp_base.specs.declared.error.Error.{Error}
-use Rattle.pgp_base.proofs.Causes.{first_more, first_here}
-use Rattle.pgp_base.proofs.Needs.{memory_then}
-use Rattle.pgp_base.proofs.Parts.{more_parts}
+use Rattle.pgp_c.proofs.Common.{◌≡◌, ℕ, ◌+◌, ◌<◌, ◌≤◌, List, [], ◌∷◌, ◌++◌, length, map, take, drop, Some, None, sym, ap, ◌∙◌, get_or, arith, length-append, take_more, map-append, take-append-drop, drop_more, flat_map, flat_map-append, Cause, first, Wants, WantsMemory, Held, ◌⊕◌, Error, first_more, first_here, memory_then, more_parts}
 
 -- the values of one item more, and all of them around one
 values_more : {X Y : Type 0} (of : X → Y) (xs : List X) (i : ℕ) (d : X) → i < length xs → map of (take (i + 1) xs) ≡ map of (take i xs) ++ of (get_or xs i d) ∷ []

@@ -1,3 +1,4 @@
+mod Common
 mod Addresses
 mod Announced
 mod Alls

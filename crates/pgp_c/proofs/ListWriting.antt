@@ -1,16 +1,5 @@
 -- A writer of a value into the memory of a caller, from the core's answer, which the call after it reported.
-use Rattle.std.proofs.Common.{◌≡◌, ◌⊎◌, ℕ, List, [], length, take, None, Some, OnOk, Result, Ok, Err, refl, ap, subst, ◌∙◌, inl, inr, arith}
-use Rattle.std.specs.Borrow.{GName}
-use Rattle.std.specs.Prelude.{IfErr}
-use Rattle.pgp_base.specs.Cause.{Wants, WantsMemory}
-use Rattle.pgp_base.specs.Error.{number_of}
-use Rattle.pgp_base.specs.Held.{Held, ◌⊕◌}
-use Rattle.pgp_base.specs.Window.{window_held, window_lacks}
-use Rattle.pgp_base.specs.declared.error.Error.{Error}
-use Rattle.pgp_base.specs.declared.window.Window.{Window}
-use Rattle.pgp_base.proofs.Needs.{wants_window}
-use Rattle.pgp_types.specs.Format.{Format}
-use Rattle.pgp_c.specs.ListWriting.{IsNotWritten, WroteValue}
+use Rattle.pgp_c.proofs.Common.{◌≡◌, ◌⊎◌, ℕ, List, [], length, take, None, Some, OnOk, Result, Ok, Err, refl, ap, subst, ◌∙◌, inl, inr, arith, GName, IfErr, Wants, WantsMemory, number_of, Held, ◌⊕◌, window_held, window_lacks, Error, Window, wants_window, Format, IsNotWritten, WroteValue}
 use Rattle.pgp_c.proofs.Sending.{wrote}
 
 pub writes_value : {V R : Type 0} (f : Format V R) (x : V) (w v : Window) (old : List ℕ) (name : GName) → window_held w ≡ record { bytes = []; behind = old; kept = (name, length old) }

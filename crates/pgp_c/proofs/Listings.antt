@@ -1,17 +1,7 @@
 -- The items that are read at the front stand at their places among the bytes.
-use Rattle.std.proofs.Common.{◌≡◌, ℕ, ◌+◌, ◌<◌, ◌≤◌, List, [], ◌∷◌, ◌++◌, length, take, drop, Option, Some, None, Result, Ok, Err, refl, sym, ap, subst, ◌∙◌, arith}
-use Rattle.std.proofs.lemmas.List.{length-append, take-append-drop, append_assoc}
-use Rattle.std.proofs.Math.Seq.{drop-append_seam, take-append_seam}
-use Rattle.pgp_base.specs.Grammar.{StandsAt, IsReader}
-use Rattle.pgp_base.specs.PartReading.{◌>>=◌, text_at}
-use Rattle.pgp_base.specs.Wire.{IsBytes, text}
-use Rattle.pgp_base.specs.declared.error.Error.{Error}
-use Rattle.pgp_base.specs.declared.error.Error.TheVariants.{UnexpectedEof}
-use Rattle.pgp_message.specs.ItemReading.{error_field_at, field_at, numbers_at}
-use Rattle.pgp_message.specs.Items.{ErrorPart, FieldPart}
-use Rattle.pgp_message.proofs.ErrorFieldLemmas.{error_field_reader}
-use Rattle.pgp_message.proofs.TextLemmas.{text_reader}
-use Rattle.pgp_c.specs.Walks.{StandsFrom}
+use Rattle.pgp_c.proofs.Common.{◌≡◌, ℕ, ◌+◌, ◌<◌, ◌≤◌, List, [], ◌∷◌, ◌++◌, length, take, drop, Option, Some, None, Result, Ok, Err, refl, sym, ap, subst, ◌∙◌, arith, take-append-drop, drop-append_seam, take-append_seam, StandsAt, IsReader, ◌>>=◌, text_at, IsBytes, text, Error, UnexpectedEof, error_field_at, field_at, ErrorPart, FieldPart, error_field_reader, text_reader, StandsFrom}
+use Rattle.std.proofs.lemmas.List.{length-append, append_assoc}
+use Rattle.pgp_message.specs.ItemReading.{numbers_at}
 use Rattle.pgp_c.proofs.Walks.{drop-drop}
 
 -- a part of the bytes that stand from a place on stands after what comes before it

@@ -1,18 +1,7 @@
 -- What the lists that C hands over make of a message.
-use Rattle.std.proofs.Common.{◌≡◌, ℕ, ℤ, List, [], ◌∷◌, map, Option, None, Result, Ok, Err, Bor, MutBor, refl, sym, ap, subst, ◌∙◌}
-use Rattle.std.proofs.lemmas.List.{map-id, append_cancel_left}
-use Rattle.std.proofs.lemmas.Iterator.{YieldsList, items_from_drains}
+use Rattle.pgp_c.proofs.Common.{◌≡◌, ℕ, ℤ, List, [], ◌∷◌, map, Option, None, Result, Ok, Err, Bor, MutBor, refl, sym, ap, subst, ◌∙◌, map-id, append_cancel_left, YieldsList, items_from_drains, Error, IsNull, Yes, No, uint32, nullable, Held, ◌⊕◌, Gives, Runs, KeepsValue, more_bytes, front_same, Bind, PgpValue, value_of, Puts}
 use Rattle.std.specs.Iterator.{YieldsThen}
-use Rattle.pgp_base.specs.declared.error.Error.{Error}
-use Rattle.pgp_base.specs.declared.number.IsNull.{IsNull}
-use Rattle.pgp_base.specs.declared.number.IsNull.TheVariants.{Yes, No}
-use Rattle.pgp_base.specs.Wire.{uint32, nullable}
-use Rattle.pgp_base.specs.Held.{Held, ◌⊕◌}
-use Rattle.pgp_base.specs.Calls.{value_of as value_made, Puts as Put, Gives, Runs, KeepsValue}
-use Rattle.pgp_base.proofs.Parts.{more_bytes, front_same}
-use Rattle.pgp_frontend.specs.ClientMessage.{Bind}
-use Rattle.pgp_c.specs.declared.listing.PgpValue.{PgpValue}
-use Rattle.pgp_c.specs.Lists.{value_of, Puts}
+use Rattle.pgp_base.specs.Calls.{value_of as value_made, Puts as Put}
 
 -- a call of the serializer keeps the bytes that stood there
 pub keeps : {K : Type 0} (p : PgpValue) (lacks : Held K → ℕ → Type 0) (old new : Held K) (r : Result IsNull Error) → Puts p lacks old new r → KeepsValue r old new

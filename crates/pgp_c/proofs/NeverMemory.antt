@@ -1,17 +1,6 @@
 -- No part has lack of memory as its cause.
-use Rattle.std.proofs.Common.{◌≡◌, ℕ, ◌+◌, pos, List, [], ◌∷◌, length, Some, None, sym, ◌∙◌, arith, inl, inr}
-use Rattle.std.specs.List.{flat_map}
-use Rattle.std.proofs.lemmas.Bool.{cases_lt}
-use Rattle.pgp_base.specs.Cause.{Cause, either, count_cause, length_cause}
-use Rattle.pgp_base.specs.Wire.{uint16}
-use Rattle.pgp_base.specs.declared.error.Error.TheVariants.{OutOfMemory, TooLarge}
-use Rattle.pgp_base.proofs.Causes.{count_fits, count_past, either_first}
-use Rattle.pgp_frontend.specs.ClientMessage.{ClientMessage, Bind, CancelRequest, Parse, Query, SaslInitialResponse, Startup}
-use Rattle.pgp_frontend.specs.Payload.{Part, Byte, Int16, Int32, Oid, Text, Int16s, Oids, Values, Nullable, Rest, Key, Pairs, frame_cause, joined, part_cause, parts, parts_cause}
-use Rattle.pgp_frontend.proofs.Causes.{never_memory, parts_first}
+use Rattle.pgp_c.proofs.Common.{◌≡◌, ℕ, ◌+◌, pos, List, [], ◌∷◌, length, Some, None, sym, ◌∙◌, arith, inl, inr, flat_map, cases_lt, Cause, either, count_cause, length_cause, uint16, OutOfMemory, TooLarge, count_fits, count_past, either_first, ClientMessage, Bind, CancelRequest, Parse, Query, SaslInitialResponse, Startup, Part, Byte, Int16, Int32, Oid, Text, Int16s, Oids, Values, Nullable, Rest, Key, Pairs, frame_cause, joined, part_cause, parts, parts_cause, never_memory, parts_first, format_parts, type_parts, with_list, formats_cause, types_cause}
 use Rattle.pgp_message_write.specs.Given.{items_cause}
-use Rattle.pgp_message_write.specs.Lists.{format_parts, type_parts, with_list}
-use Rattle.pgp_c.specs.Replies.{formats_cause, types_cause}
 use Rattle.pgp_c.proofs.Putting.{IsLarge, length_large}
 
 abbrev pub Never : Cause → Type 0

@@ -1,11 +1,5 @@
 -- A numeric's digits stand after the eight bytes of its other parts.
-use Rattle.std.proofs.Common.{◌≡◌, ℕ, ◌+◌, ◌*◌, ◌≤◌, List, length, drop, Ok, refl, sym, ap, subst, ◌∙◌, arith, length-append}
-use Rattle.std.specs.List.{flat_map}
-use Rattle.std.proofs.Math.Seq.{drop-append_seam}
-use Rattle.pgp_base.specs.Wire.{uint16}
-use Rattle.pgp_base.proofs.Parts.{length-uint16}
-use Rattle.pgp_values.specs.Decimal.{Numeric, finite, nan, plus_infinity, minus_infinity, Front, NumericReads}
-use Rattle.pgp_values.proofs.PlaceLemmas.{pairs_size}
+use Rattle.pgp_c.proofs.Common.{◌≡◌, ℕ, ◌+◌, ◌*◌, ◌≤◌, List, length, drop, Ok, refl, sym, ap, subst, ◌∙◌, arith, length-append, flat_map, drop-append_seam, uint16, length-uint16, Numeric, finite, nan, plus_infinity, minus_infinity, Front, NumericReads, pairs_size}
 use Rattle.pgp_c.specs.Numerics.{parts_of, HasParts}
 use Rattle.pgp_c.specs.declared.numeric.PgpNumeric.{PgpNumeric}
 use Rattle.pgp_c.proofs.BindItems.{length-int16}

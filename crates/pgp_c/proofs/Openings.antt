@@ -1,31 +1,6 @@
 -- The packet of the names and values that C hands over.
-use Rattle.std.proofs.Common.{◌≡◌, ◌⊎◌, ℕ, ◌≤◌, List, [], ◌∷◌, ◌++◌, map, length, Option, Some, None, Bor, refl, sym, ap, subst, ◌∙◌, inl, inr, arith, length-append, append_assoc}
-use denote.Param.Members.{Mut}
-use Rattle.std.specs.Borrow.{GName}
-use Rattle.std.specs.Fn.{Called}
-use Rattle.std.specs.Iterator.Adapters.{map_source, map_callee}
-use Rattle.std.specs.declared.iter.Map.{Map}
-use Rattle.std.proofs.lemmas.Iterator.{maps, YieldsList, YieldsList-from_map_by}
-use Rattle.std.specs.List.{flat_map}
-use Rattle.std.specs.Option.{option_to_list}
-use Rattle.std.proofs.lemmas.List.{append-nil, map-append}
-use Rattle.std.proofs.lemmas.List.Concat.{flat_map-append}
-use Rattle.pgp_base.specs.Calls.{Yielded}
-use Rattle.pgp_base.specs.Cause.{first, Wants, WantsMemory}
-use Rattle.pgp_base.specs.Held.{Held}
-use Rattle.pgp_base.specs.Window.{window_lacks}
-use Rattle.pgp_base.specs.declared.error.Error.{Error}
-use Rattle.pgp_base.proofs.Causes.{either_first, first-append}
-use Rattle.pgp_base.proofs.Parts.{wants_more}
-use Rattle.pgp_frontend.specs.ClientMessage.{Startup}
-use Rattle.pgp_frontend.specs.Given.{Arrived, StartupWhole, StartupSoFar, Refused, shown, shown_pairs}
-use Rattle.pgp_frontend.specs.Payload.{Int32, minor_of, version_code, pair, pair_cause, parts, parts_cause, bytes_of, cause}
-use Rattle.pgp_frontend.specs.declared.startup.ProtocolVersion.{ProtocolVersion}
-use Rattle.pgp_frontend.proofs.Causes.{last_cause, refused_pairs}
-use Rattle.pgp_frontend.proofs.Needs.{startup_length}
-use Rattle.pgp_frontend.proofs.Lists.{all_given, some_given}
-use Rattle.pgp_c.specs.declared.opening.PgpPair.{PgpPair}
-use Rattle.pgp_c.specs.Opening.{pair_of}
+use Rattle.pgp_c.proofs.Common.{◌≡◌, ◌⊎◌, ℕ, ◌≤◌, List, [], ◌∷◌, ◌++◌, map, length, Option, Some, None, Bor, refl, sym, ap, subst, ◌∙◌, inl, inr, arith, length-append, append_assoc, Mut, GName, Called, map_source, map_callee, Map, maps, YieldsList, YieldsList-from_map_by, flat_map, option_to_list, append-nil, map-append, flat_map-append, Yielded, first, Wants, WantsMemory, Held, window_lacks, Error, either_first, first-append, wants_more, Startup, Arrived, StartupWhole, StartupSoFar, Refused, shown_pairs, Int32, minor_of, version_code, pair, pair_cause, parts, parts_cause, bytes_of, cause, ProtocolVersion, last_cause, refused_pairs, startup_length, all_given, some_given, PgpPair, pair_of}
+use Rattle.pgp_frontend.specs.Given.{shown}
 
 module _ (v : ProtocolVersion) (all : List (List ℕ × List ℕ)) where
   module _ (xs : List (Bor (List ℕ) × Bor (List ℕ))) (more : List (List ℕ × List ℕ)) (is : all ≡ map shown xs ++ more) where

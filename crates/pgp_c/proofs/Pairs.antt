@@ -1,15 +1,7 @@
 -- The keys and values of an hstore.
-use Rattle.std.proofs.Common.{◌≡◌, ℕ, true, false, ◌||◌, List, [], ◌∷◌, length, map, Some, sym, inl, inr}
-use Rattle.std.proofs.lemmas.Bool.{cases_Bool}
+use Rattle.pgp_c.proofs.Common.{◌≡◌, ℕ, true, false, ◌||◌, List, [], ◌∷◌, length, map, Some, sym, inl, inr, cases_Bool, list_all, AllByRecursion, IsUtf8, is_utf8, Cause, first, length_cause, IsEntry, IsTextOrNull, entry_cause, hstore, value_of, are_texts, entry_of, PgpValue}
 use Rattle.std.proofs.lemmas.Str.{IsUtf8-from_is_utf8, is_utf8-from_IsUtf8}
-use Rattle.std.specs.List.{list_all, AllByRecursion}
-use Rattle.std.specs.Str.{IsUtf8, is_utf8}
-use Rattle.pgp_base.specs.Cause.{Cause, first, length_cause}
-use Rattle.pgp_types.specs.Hstore.{IsEntry, IsTextOrNull, entry_cause, hstore}
-use Rattle.pgp_c.specs.Lists.{value_of}
-use Rattle.pgp_c.specs.Putting.{are_texts, entry_of}
 use Rattle.pgp_c.specs.declared.hstore.PgpKeyValue.{PgpKeyValue}
-use Rattle.pgp_c.specs.declared.listing.PgpValue.{PgpValue}
 use Rattle.pgp_c.proofs.Extensions.{both}
 use Rattle.pgp_c.proofs.Putting.{IsLarge, either_large, length_large, value_large}
 

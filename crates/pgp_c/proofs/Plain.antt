@@ -1,9 +1,7 @@
 -- The phase in which a message without lists may come.
-use Rattle.std.proofs.Common.{◌≡◌, false, refl, inr}
-use Rattle.pgp_frontend.specs.ClientRun.{MayCome, is_startup}
+use Rattle.pgp_c.proofs.Common.{◌≡◌, false, refl, inr, MayCome, is_startup, comes_open, message_of}
 use Rattle.pgp_c.specs.declared.message.PlainMessage.{PlainMessage}
 use Rattle.pgp_c.specs.declared.message.PlainMessage.TheVariants.{CancelRequest, Close, CopyData, CopyDone, CopyFail, Describe, Execute, Flush, PasswordMessage, Query, SaslInitialResponse, SaslResponse, SslRequest, Sync, Terminate}
-use Rattle.pgp_c.specs.Plain.{comes_open, message_of}
 
 pub may_come : (m : PlainMessage) → MayCome (message_of m) (comes_open m)
 may_come (CancelRequest process_id secret_key) = (inr tt, tt)

@@ -1,20 +1,6 @@
 -- The points of polygons and paths.
-use Rattle.std.proofs.Common.{◌≡◌, ℕ, ◌+◌, Bool, true, false, List, [], ◌∷◌, ◌++◌, length, map, None, Some, Ok, refl, sym, ap, subst, ◌∙◌, arith, length-append}
-use Rattle.pgp_base.specs.Cause.{Cause, either, first, length_cause}
-use Rattle.pgp_base.specs.Grammar.{StandsAt}
-use Rattle.pgp_base.specs.Walk.{hint_of}
-use Rattle.pgp_base.specs.Wire.{uint64}
-use Rattle.pgp_base.specs.declared.error.Error.{Error}
+use Rattle.pgp_c.proofs.Common.{◌≡◌, ℕ, ◌+◌, Bool, true, false, List, [], ◌∷◌, ◌++◌, length, map, None, Some, Ok, refl, sym, ap, subst, ◌∙◌, arith, length-append, Cause, either, first, length_cause, StandsAt, hint_of, uint64, Error, length-uint32, FixedRefused, Point, Begins, PathReads, WalkedPath, header, point_part, BoolReads, polygon, BeginsPath, rest_of}
 use Rattle.pgp_base.specs.declared.error.Error.TheVariants as errors
-use Rattle.pgp_base.proofs.Parts.{length-uint32}
-use Rattle.pgp_types.specs.Format.{FixedRefused}
-use Rattle.pgp_types.specs.Geometry.{Point}
-use Rattle.pgp_types.specs.Part.{Begins}
-use Rattle.pgp_types.specs.Path.{PathReads, WalkedPath, header, point_part}
-use Rattle.pgp_types.specs.Scalar.{BoolReads}
-use Rattle.pgp_values.specs.Polygon.{polygon}
-use Rattle.pgp_c.specs.Points.{BeginsPath}
-use Rattle.pgp_c.specs.Walks.{rest_of}
 use Rattle.pgp_c.proofs.Walks.{rest_after}
 
 -- no point has a cause

@@ -1,13 +1,5 @@
 -- The only cause of a value is that it is too long.
-use Rattle.std.proofs.Common.{◌≡◌, ℕ, List, length, Option, Some, None, sym, ap, ◌∙◌, arith, inl, inr}
-use Rattle.std.proofs.lemmas.Bool.{cases_lt}
-use Rattle.pgp_base.specs.Cause.{Cause, either, length_cause, nullable_cause}
-use Rattle.pgp_base.specs.declared.error.Error.{Error}
-use Rattle.pgp_base.specs.declared.error.Error.TheVariants.{TooLarge}
-use Rattle.pgp_base.proofs.Causes.{length_fits, length_past}
-use Rattle.pgp_types.specs.Range.{Side, range_cause, side_cause}
-use Rattle.pgp_types.specs.declared.range.RangeBound.TheVariants.{Inclusive, Exclusive, Unbounded}
-use Rattle.pgp_c.specs.Putting.{range_of_sides, side_of}
+use Rattle.pgp_c.proofs.Common.{◌≡◌, ℕ, List, length, Option, Some, None, sym, ap, ◌∙◌, arith, inl, inr, cases_lt, Cause, either, length_cause, nullable_cause, Error, TooLarge, length_fits, length_past, Side, range_cause, side_cause, Inclusive, Exclusive, Unbounded, range_of_sides, side_of}
 use Rattle.pgp_c.specs.declared.range.PgpSide.{PgpSide}
 
 abbrev pub IsLarge : Cause → Type 0
@@ -16,9 +8,6 @@ IsLarge c = (e : Error) → c ≡ Some e → e ≡ TooLarge
 abbrev error_in : Cause → Error
 error_in None = TooLarge
 error_in (Some e) = e
-
-none_large : IsLarge None
-none_large e is = absurd cc
 
 pub length_large : (n : ℕ) → IsLarge (length_cause n)
 length_large n e is = elim (cases_lt 2147483647 n) [

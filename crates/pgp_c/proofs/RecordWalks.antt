@@ -1,19 +1,8 @@
 -- The items of records and multiranges stand at their places among the bytes.
-use Rattle.std.proofs.Common.{◌≡◌, ℕ, ◌+◌, ◌-◌, ◌≤◌, List, ◌++◌, length, take, drop, Ok, refl, sym, ap, subst, ◌∙◌, arith, length-append}
+use Rattle.pgp_c.proofs.Common.{◌≡◌, ℕ, ◌+◌, ◌-◌, ◌≤◌, List, ◌++◌, length, take, drop, Ok, refl, sym, ap, subst, ◌∙◌, arith, length-append, StandsAt, Walk, hint_of, uint32, length-uint32, Begins, item_count, ListReads, member, Field, field, value_in, column_before, StandsFrom, rest_of, PgpColumn}
 use Rattle.std.proofs.lemmas.List.{append_assoc}
-use Rattle.pgp_base.specs.Grammar.{StandsAt}
-use Rattle.pgp_base.specs.Walk.{Walk, hint_of}
-use Rattle.pgp_base.specs.Wire.{uint32}
-use Rattle.pgp_base.proofs.Parts.{length-uint32}
-use Rattle.pgp_types.specs.Part.{Part, Begins}
-use Rattle.pgp_values.specs.List.{item_count, ListReads}
-use Rattle.pgp_values.specs.Multirange.{member}
-use Rattle.pgp_values.specs.Record.{Field, field}
-use Rattle.pgp_c.specs.Compound.{value_in}
-use Rattle.pgp_c.specs.PartPlaces.{column_before}
+use Rattle.pgp_types.specs.Part.{Part}
 use Rattle.pgp_c.specs.Records.{BeginsList}
-use Rattle.pgp_c.specs.Walks.{StandsFrom, rest_of}
-use Rattle.pgp_c.specs.declared.row.PgpColumn.{PgpColumn}
 use Rattle.pgp_c.proofs.Compound.{column_in, value_size}
 use Rattle.pgp_c.proofs.Listings.{part_stands}
 use Rattle.pgp_c.proofs.Walks.{rest_after}

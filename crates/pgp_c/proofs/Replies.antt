@@ -1,25 +1,7 @@
 -- The memory of a caller of a server's writer.
-use Rattle.std.proofs.Common.{◌≡◌, ◌⊎◌, ℕ, ◌+◌, ◌-◌, ◌≤◌, List, [], ◌∷◌, ◌++◌, map, length, take, None, Some, Option, Result, Ok, Err, refl, sym, ap, subst, ◌∙◌, inl, inr, arith, length-append, append_assoc}
-use Rattle.std.specs.Borrow.{GName}
-use Rattle.std.specs.Prelude.{◌≢◌}
-use Rattle.std.specs.Option.{option_to_list}
-use Rattle.std.proofs.Math.Seq.{take-append_seam}
-use Rattle.std.proofs.lemmas.List.{append-nil, length-map, map-append}
-use Rattle.pgp_base.specs.Cause.{Cause, either, Wants, WantsMemory, Writes}
-use Rattle.pgp_base.specs.Error.{number_of}
-use Rattle.pgp_base.specs.Held.{Held, ◌⊕◌}
-use Rattle.pgp_base.specs.Window.{window_held, window_lacks}
-use Rattle.pgp_base.specs.declared.error.Error.{Error}
-use Rattle.pgp_base.specs.declared.error.Error.TheVariants.{OutOfMemory}
-use Rattle.pgp_base.specs.declared.window.Window.{Window}
-use Rattle.pgp_base.proofs.Errors.{same_number}
-use Rattle.pgp_base.proofs.Needs.{wants_window}
-use Rattle.pgp_base.proofs.Parts.{wants_more}
-use Rattle.pgp_frontend.specs.Payload.{Part, frame_cause, parts_cause}
-use Rattle.pgp_message.specs.BackendMessage.{Message}
-use Rattle.pgp_message_write.specs.Given.{Arrived, GivenRefused, WritesGiven, items_cause}
-use Rattle.pgp_message_write.specs.Reply.{WritesReply, bytes_of, cause, parts}
-use Rattle.pgp_c.specs.Replying.{HasListFault, NotRepliedList, NotSentAs, Replied, NotReplied, RepliedList, SentAs, list_cause}
+use Rattle.pgp_c.proofs.Common.{◌≡◌, ◌⊎◌, ℕ, ◌+◌, ◌-◌, ◌≤◌, List, [], ◌∷◌, ◌++◌, map, length, take, None, Some, Option, Result, Ok, Err, refl, sym, ap, subst, ◌∙◌, inl, inr, arith, length-append, append_assoc, GName, ◌≢◌, option_to_list, take-append_seam, append-nil, length-map, map-append, Cause, either, Wants, WantsMemory, Writes, number_of, Held, ◌⊕◌, window_held, window_lacks, Error, OutOfMemory, Window, same_number, wants_window, wants_more, Part, frame_cause, parts_cause, Message, GivenRefused, WritesGiven, WritesReply, HasListFault, NotRepliedList, NotSentAs, Replied, NotReplied, RepliedList, SentAs, list_cause}
+use Rattle.pgp_message_write.specs.Given.{Arrived, items_cause}
+use Rattle.pgp_message_write.specs.Reply.{bytes_of, cause, parts}
 use Rattle.pgp_c.proofs.NeverMemory.{Never, never_frame, never_items}
 use Rattle.pgp_c.proofs.Sending.{is_memory, wrote}
 

@@ -1,31 +1,8 @@
 -- The messages of the lists that C hands over.
-use Rattle.std.proofs.Common.{◌≡◌, ℕ, ℤ, pos, ◌+◌, ◌≤◌, List, [], ◌∷◌, ◌++◌, map, length, take, Option, Some, None, Result, Ok, Err, Bor, sym, ap, subst, ◌∙◌, arith, length-append}
-use denote.Param.Members.{Mut}
-use Rattle.std.specs.Borrow.{GName}
-use Rattle.std.specs.Fn.{Called}
-use Rattle.std.specs.Iterator.Adapters.{map_source, map_callee}
-use Rattle.std.specs.declared.iter.Map.{Map}
-use Rattle.std.specs.List.{flat_map}
-use Rattle.std.proofs.lemmas.Iterator.{maps, YieldsList, YieldsList-from_map_by}
-use Rattle.std.proofs.lemmas.List.Concat.{flat_map-append}
-use Rattle.pgp_base.specs.Calls.{Yielded}
-use Rattle.pgp_base.specs.Cause.{Cause, length_cause}
-use Rattle.pgp_base.specs.Error.{number_of}
-use Rattle.pgp_base.specs.Wire.{int32, uint16, frame}
-use Rattle.pgp_base.specs.Window.{window_held, window_lacks}
-use Rattle.pgp_base.specs.declared.error.Error.{Error}
-use Rattle.pgp_base.specs.declared.window.Window.{Window}
-use Rattle.pgp_base.proofs.Parts.{length-uint16}
-use Rattle.pgp_frontend.specs.Payload.{Part, Int32, joined}
-use Rattle.pgp_frontend.proofs.Lists.{all_given, some_given}
-use Rattle.pgp_frontend.proofs.Needs.{int32_length, tagged_length}
-use Rattle.pgp_message.specs.BackendMessage.{Message, Authentication, AuthenticationSasl, ErrorResponse, NoticeResponse}
-use Rattle.pgp_message.specs.Items.{ErrorPart, FieldPart}
-use Rattle.pgp_message_write.specs.Given.{WritesGiven, items_cause, uncounted}
-use Rattle.pgp_message_write.specs.Lists.{column_parts, field_parts, text_parts, value_parts, wide_list}
-use Rattle.pgp_message_write.specs.Reply.{bytes_of, description_of, fields_of, names_of, negotiation_of, row_of}
+use Rattle.pgp_c.proofs.Common.{◌≡◌, ℕ, ℤ, pos, ◌+◌, ◌≤◌, List, [], ◌∷◌, ◌++◌, map, length, take, Option, Some, None, Result, Ok, Err, Bor, sym, ap, subst, ◌∙◌, arith, length-append, Mut, GName, Called, map_source, map_callee, Map, flat_map, maps, YieldsList, YieldsList-from_map_by, flat_map-append, Yielded, Cause, length_cause, number_of, int32, uint16, frame, window_held, window_lacks, Error, Window, length-uint16, Part, Int32, joined, all_given, some_given, int32_length, tagged_length, Message, Authentication, AuthenticationSasl, ErrorResponse, NoticeResponse, ErrorPart, FieldPart, WritesGiven, uncounted, column_parts, field_parts, text_parts, value_parts, wide_list, description_of, fields_of, names_of, negotiation_of, row_of, NotRepliedList, RepliedList}
+use Rattle.pgp_message_write.specs.Given.{items_cause}
+use Rattle.pgp_message_write.specs.Reply.{bytes_of}
 use Rattle.pgp_message_write.proofs.Lists.{joined-append}
-use Rattle.pgp_c.specs.Replying.{NotRepliedList, RepliedList}
 use Rattle.pgp_c.proofs.NeverMemory.{Never, never_none}
 use Rattle.pgp_c.proofs.Replies.{list_replied, list_not_replied}
 

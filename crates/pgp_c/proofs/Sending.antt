@@ -1,24 +1,7 @@
 -- The memory of a caller of a writer.
-use Rattle.std.proofs.Common.{◌≡◌, ◌⊎◌, ℕ, ◌≤◌, List, [], length, take, None, Some, Result, Ok, Err, refl, sym, ap, subst, ◌∙◌, inl, inr, arith}
-use Rattle.std.specs.Borrow.{GName}
-use Rattle.std.specs.Prelude.{◌≢◌}
-use Rattle.std.proofs.lemmas.Bool.{cases_lt}
-use Rattle.pgp_base.specs.Cause.{Cause, Wants, WantsMemory}
-use Rattle.pgp_base.specs.Error.{number_of, plain}
-use Rattle.pgp_base.specs.Held.{Held, ◌⊕◌}
-use Rattle.pgp_base.specs.Window.{window_held, window_lacks}
-use Rattle.pgp_base.specs.declared.error.Error.{Error}
-use Rattle.pgp_base.specs.declared.error.Error.TheVariants.{OutOfMemory, UnknownTag, UnknownAuthentication}
-use Rattle.pgp_base.specs.declared.window.Window.{Window}
-use Rattle.pgp_base.proofs.Errors.{same_number}
+use Rattle.pgp_c.proofs.Common.{◌≡◌, ◌⊎◌, ℕ, ◌≤◌, List, [], length, take, None, Some, Result, Ok, Err, refl, sym, ap, subst, ◌∙◌, inl, inr, arith, GName, ◌≢◌, cases_lt, Cause, Wants, WantsMemory, number_of, plain, Held, ◌⊕◌, window_held, window_lacks, Error, OutOfMemory, UnknownTag, UnknownAuthentication, Window, same_number, wants_window, ClientMessage, bytes_of, cause, IsInRange, WritesMessage, never_memory, no_cause, Sent, NotSent, Wrote, Lacks}
 use Rattle.pgp_base.proofs.Fitting.{too_long}
-use Rattle.pgp_base.proofs.Needs.{wants_window}
 use Rattle.pgp_base.proofs.Windows.{window_size, window_written}
-use Rattle.pgp_frontend.specs.ClientMessage.{ClientMessage}
-use Rattle.pgp_frontend.specs.Payload.{bytes_of, cause, IsInRange, WritesMessage}
-use Rattle.pgp_frontend.proofs.Causes.{never_memory, no_cause}
-use Rattle.pgp_c.specs.Sending.{Sent, NotSent}
-use Rattle.pgp_c.specs.Values.{Wrote, Lacks}
 
 never : (let r : Result (Unit {0}) Error = Ok tt in let s : Result (Unit {0}) Error = Err OutOfMemory in r ≡ s) → ⊥
 never h = cc

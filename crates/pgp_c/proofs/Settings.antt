@@ -1,14 +1,6 @@
 -- A name and a value that are read at the front stand at their places among the bytes.
-use Rattle.std.proofs.Common.{◌≡◌, ℕ, ◌+◌, List, ◌∷◌, ◌++◌, [], length, take, drop, Some, None, refl, sym, ap, ◌∙◌, subst, arith, inl, inr, length-append, append_assoc}
-use Rattle.pgp_base.specs.Grammar.{StandsAt}
-use Rattle.pgp_base.specs.PartReading.{string_at}
-use Rattle.pgp_base.specs.Wire.{text}
-use Rattle.pgp_base.specs.declared.error.Error.TheVariants.{UnexpectedEof}
-use Rattle.pgp_base.proofs.PartLemmas.{no_string}
-use Rattle.pgp_base.proofs.Strings.{string_takes, string_whole}
-use Rattle.pgp_frontend.specs.Payload.{pair}
+use Rattle.pgp_c.proofs.Common.{◌≡◌, ℕ, ◌+◌, List, ◌∷◌, ◌++◌, [], length, take, drop, Some, None, refl, sym, ap, ◌∙◌, subst, arith, inl, inr, length-append, append_assoc, StandsAt, string_at, text, UnexpectedEof, no_string, string_takes, string_whole, pair, StandsFrom}
 use Rattle.pgp_c.specs.Settings.{PairRefused, PairSpelled}
-use Rattle.pgp_c.specs.Walks.{StandsFrom}
 use Rattle.pgp_c.proofs.Listings.{front_stands, part_stands}
 
 module _ (rest name more : List ℕ) (first : string_at rest ≡ Some (name, more)) where

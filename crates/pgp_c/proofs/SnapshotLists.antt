@@ -1,17 +1,7 @@
 -- A snapshot of the transactions that an iterator over a list gave.
-use Rattle.std.proofs.Common.{◌≡◌, ℕ, ◌+◌, ◌*◌, ◌≤◌, List, [], ◌∷◌, ◌++◌, length, Option, None, Some, OnOk, Result, Ok, Err, refl, sym, ap, subst, ◌∙◌, inl, inr, arith, length-append}
-use Rattle.std.specs.Prelude.{◌⊎◌, IfErr, option_to_list}
-use Rattle.std.specs.List.{flat_map}
-use Rattle.std.proofs.lemmas.Bool.{cases_lt}
-use Rattle.pgp_base.specs.Calls.{SoFar}
-use Rattle.pgp_base.specs.Cause.{length_cause, Wants, WantsMemory}
-use Rattle.pgp_base.specs.Held.{Held, ◌⊕◌}
-use Rattle.pgp_base.specs.Wire.{uint32, uint64}
-use Rattle.pgp_base.specs.declared.error.Error.{Error}
-use Rattle.pgp_base.proofs.Causes.{length_fits, length_past}
-use Rattle.pgp_base.proofs.Parts.{length-uint32, wants_more}
+use Rattle.pgp_c.proofs.Common.{◌≡◌, ℕ, ◌+◌, ◌*◌, ◌≤◌, List, [], ◌∷◌, ◌++◌, length, Option, None, Some, OnOk, Result, Ok, Err, refl, sym, ap, subst, ◌∙◌, inl, inr, arith, length-append, IfErr, flat_map, cases_lt, SoFar, length_cause, Wants, WantsMemory, Held, ◌⊕◌, uint32, uint64, Error, length_fits, length_past, length-uint32, wants_more, bounds_bytes, snapshot, snapshot_of}
+use Rattle.std.specs.Prelude.{◌⊎◌, option_to_list}
 use Rattle.pgp_types.specs.Given.{WritesAll}
-use Rattle.pgp_values.specs.Snapshot.{bounds_bytes, snapshot, snapshot_of}
 use Rattle.pgp_c.proofs.SnapshotWalks.{length-uint64}
 
 ids_length : (xs : List ℕ) → length (flat_map uint64 xs) ≡ 8 * length xs

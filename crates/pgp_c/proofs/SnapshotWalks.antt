@@ -1,15 +1,6 @@
 -- The transactions of a snapshot.
-use Rattle.std.proofs.Common.{◌≡◌, ℕ, ◌+◌, List, ◌++◌, length, Ok, refl, sym, ap, subst, ◌∙◌, arith, length-append}
-use Rattle.pgp_base.specs.Grammar.{StandsAt}
-use Rattle.pgp_base.specs.Walk.{hint_of}
-use Rattle.pgp_base.specs.Wire.{uint64}
-use Rattle.pgp_base.specs.declared.error.Error.{Error}
+use Rattle.pgp_c.proofs.Common.{◌≡◌, ℕ, ◌+◌, List, ◌++◌, length, Ok, refl, sym, ap, subst, ◌∙◌, arith, length-append, StandsAt, hint_of, uint64, Error, length-uint32, FixedRefused, Begins, SnapshotReads, WalkedSnapshot, snapshot_head, xid_part, rest_of}
 use Rattle.pgp_base.specs.declared.error.Error.TheVariants as errors
-use Rattle.pgp_base.proofs.Parts.{length-uint32}
-use Rattle.pgp_types.specs.Format.{FixedRefused}
-use Rattle.pgp_types.specs.Part.{Begins}
-use Rattle.pgp_values.specs.Snapshot.{SnapshotReads, WalkedSnapshot, snapshot_head, xid_part}
-use Rattle.pgp_c.specs.Walks.{rest_of}
 use Rattle.pgp_c.proofs.Walks.{rest_after}
 
 -- eight bytes are a transaction

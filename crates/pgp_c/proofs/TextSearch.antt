@@ -1,25 +1,8 @@
 -- Lexemes and items of queries stand at their places among the bytes; and what is written of them.
-use Rattle.std.proofs.Common.{◌≡◌, ℕ, ◌+◌, ◌-◌, ◌<◌, ◌≤◌, true, false, List, [], ◌∷◌, ◌++◌, length, take, drop, map, None, Some, Result, Ok, Err, refl, sym, ap, subst, ◌∙◌, arith, length-append, length-take}
-use Rattle.std.specs.Prelude.{◌⊎◌, IfErr}
-use Rattle.std.specs.List.{flat_map}
-use Rattle.std.specs.Int.{w16, from_be_bytes}
-use Rattle.std.specs.Str.{is_utf8}
-use Rattle.std.proofs.lemmas.List.{append_assoc, length-drop}
-use Rattle.pgp_base.specs.Cause.{Cause, Wants, WantsMemory, Writes, either, first}
-use Rattle.pgp_base.specs.Grammar.{StandsAt}
-use Rattle.pgp_base.specs.Held.{Held}
-use Rattle.pgp_base.specs.Wire.{text, uint16}
-use Rattle.pgp_base.specs.declared.error.Error.{Error}
-use Rattle.pgp_base.specs.declared.error.Error.TheVariants.{NotUtf8}
-use Rattle.pgp_base.proofs.Parts.{length-uint16}
-use Rattle.pgp_types.specs.Part.{Begins}
-use Rattle.pgp_values.specs.DecimalReading.{pairs}
-use Rattle.pgp_values.specs.Tsquery.{QueryItem, operand, negation, conjunction, disjunction, phrase, query_item}
-use Rattle.pgp_values.specs.Tsvector.{lexeme}
-use Rattle.pgp_values.proofs.Pairs.{pairs_again}
-use Rattle.pgp_values.proofs.PlaceLemmas.{pairs_size}
-use Rattle.pgp_c.specs.TextSearch.{IsQueryItemInside, item_before, numbers, query_item_in, utf8_cause}
-use Rattle.pgp_c.specs.Walks.{StandsFrom, rest_of}
+use Rattle.pgp_c.proofs.Common.{◌≡◌, ℕ, ◌+◌, ◌-◌, ◌<◌, ◌≤◌, true, List, [], ◌∷◌, ◌++◌, length, take, drop, map, None, Some, Result, Ok, Err, refl, sym, ap, subst, ◌∙◌, arith, length-append, IfErr, flat_map, w16, from_be_bytes, is_utf8, length-drop, Cause, Wants, WantsMemory, Writes, either, first, StandsAt, Held, text, uint16, Error, length-uint16, Begins, pairs, QueryItem, operand, negation, conjunction, disjunction, phrase, query_item, lexeme, pairs_again, pairs_size, IsQueryItemInside, item_before, numbers, query_item_in, utf8_cause, StandsFrom, rest_of}
+use Rattle.std.proofs.Common.{length-take}
+use Rattle.std.specs.Prelude.{◌⊎◌}
+use Rattle.std.proofs.lemmas.List.{append_assoc}
 use Rattle.pgp_c.proofs.Listings.{front_stands, part_stands}
 use Rattle.pgp_c.proofs.Walks.{rest_between}
 
@@ -109,9 +92,6 @@ query_inside rest more disjunction at end size b last within = (omega arith, ome
 query_inside rest more (phrase distance) at end size b last within = (omega arith, omega arith, ((λ other. (refl, refl, refl)), (λ other. absurd (other refl))))
 
 -- what is written
-
-pub no_utf8 : (z : List ℕ) (d : Cause) → is_utf8 z ≡ false → either (utf8_cause z) d ≡ Some NotUtf8
-no_utf8 z d h = rw h refl
 
 pub then_cause : (z : List ℕ) (d : Cause) → is_utf8 z ≡ true → either (utf8_cause z) d ≡ d
 then_cause z d h = rw h refl

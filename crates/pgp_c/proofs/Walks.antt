@@ -1,14 +1,7 @@
 -- A step over the items of a walk.
-use Rattle.std.proofs.Common.{◌≡◌, ◌⊎◌, ℕ, zero, suc, ◌+◌, ◌-◌, ◌<◌, ◌≤◌, Bool, true, false, List, [], ◌∷◌, ◌++◌, length, take, drop, slice_index, refl, sym, ap, subst, ◌∙◌, inl, inr, arith}
-use Rattle.std.specs.Prelude.{◌≢◌, nat_le, if◌then◌else◌}
-use Rattle.std.proofs.lemmas.Bool.{le-leb, leb-true, cases_Bool}
-use Rattle.std.proofs.lemmas.List.{length-append, length-take, drop-take}
-use Rattle.std.proofs.Math.Seq.{drop-append_seam, take-length}
-use Rattle.pgp_base.specs.Grammar.{StandsAt}
-use Rattle.pgp_base.specs.Items.{Unmarked}
+use Rattle.pgp_c.proofs.Common.{◌≡◌, ◌⊎◌, ℕ, zero, suc, ◌+◌, ◌-◌, ◌<◌, ◌≤◌, Bool, true, false, List, [], ◌∷◌, ◌++◌, length, take, drop, slice_index, refl, sym, ap, subst, ◌∙◌, inl, inr, arith, ◌≢◌, nat_le, if◌then◌else◌, le-leb, leb-true, cases_Bool, length-take, drop-take, drop-append_seam, take-length, StandsAt, Unmarked, PgpCursor, rest_of, rest, StandsFrom, Passes}
+use Rattle.std.proofs.lemmas.List.{length-append}
 use Rattle.pgp_base.specs.WalkReading.{is_marked}
-use Rattle.pgp_c.specs.declared.cursor.PgpCursor.{PgpCursor}
-use Rattle.pgp_c.specs.Walks.{rest_of, rest, StandsFrom, Passes}
 
 pub one_fewer : (n : ℕ) → n ≢ 0 → n - 1 + 1 ≡ n
 one_fewer zero h = absurd (h refl)

@@ -1,7 +1,5 @@
 -- What a log-in for C has come by.
-use Rattle.std.proofs.Common.{◌≡◌, ℕ, Bool, true, false, List, inl, inr, arith, refl, sym, subst}
-use Rattle.pgp_c_auth.specs.Scram.{Start, AnswersWith}
-use Rattle.pgp_c_auth.specs.Login.{Step, Cleartext, Md5, Offer, First, Final, Welcome, Comes, Begins, Goes, LetIn, ByNone, ByCleartext, ByMd5, BySignature, IsAdmitted, at_phase, by_scram, now_begun}
+use Rattle.pgp_c_auth.proofs.Common.{◌≡◌, ℕ, Bool, true, false, List, inl, inr, arith, refl, sym, subst, Start, AnswersWith, Step, Cleartext, Md5, Offer, First, Final, Welcome, Comes, Begins, Goes, LetIn, ByNone, ByCleartext, ByMd5, BySignature, IsAdmitted, at_phase, by_scram, now_begun}
 use Rattle.pgp_c_auth.specs.declared.login.PgpLogin.{PgpLogin}
 
 -- the client answered a first text, and a server that holds the verifier answers with this signature

@@ -1,7 +1,6 @@
 -- A server that has challenged, and what it answers to the client's final text.
-use Rattle.std.proofs.Common.{ℕ, List, ◌<◌, length}
+use Rattle.pgp_c_auth.proofs.Common.{ℕ, List, ◌<◌, length, Delivered, Delivers, IsLonger}
 use Rattle.pgp_auth.specs.ScramServing.{Admits, Server}
-use Rattle.pgp_c_auth.specs.Delivering.{Delivered, Delivers, IsLonger}
 use Rattle.pgp_c_auth.specs.Serving.{AdmitsWith, HasChallenged, Serve}
 use Rattle.pgp_c_auth.proofs.Texts.{delivers, longer}
 

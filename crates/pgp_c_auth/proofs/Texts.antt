@@ -1,11 +1,8 @@
 -- A client that has answered: what it sends, and what it awaits.
-use Rattle.std.specs.Prelude.{◌↔◌, Contains}
-use Rattle.std.proofs.Common.{◌≡◌, ℕ, List, [], true, false, ◌<◌, length, Option, Some, unwrap_or, ap, sym, ◌∙◌}
+use Rattle.pgp_c_auth.proofs.Common.{◌↔◌, Contains, ◌≡◌, ℕ, List, [], true, false, ◌<◌, length, Option, Some, unwrap_or, ap, sym, ◌∙◌, IsLiteral, Delivered, Delivers, IsLonger, Start, AnswersIn, AnswersWith, FirstText, HasAnswered, NoRoom}
 use Rattle.pgp_auth.specs.ScramClient.{Client, awaited_of, message_of}
 use Rattle.pgp_auth.specs.Lexer.{Literal, IsPlain, backslash}
-use Rattle.pgp_c_auth.specs.Escaping.{IsLiteral}
-use Rattle.pgp_c_auth.specs.Delivering.{Delivered, Delivers, IsLonger}
-use Rattle.pgp_c_auth.specs.Scram.{Start, AnswersIn, AnswersWith, Begins, FirstText, HasAnswered, NoRoom}
+use Rattle.pgp_c_auth.specs.Scram.{Begins}
 
 -- a text of this kind that is handed over
 pub delivers : (Is : List ℕ → Type 0) (text old new : List ℕ) (reported : ℕ) → Is text → Delivered text old new reported → Delivers Is old new reported

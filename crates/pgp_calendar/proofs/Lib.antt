@@ -1,2 +1,3 @@
+mod Common
 pub mod TextLemmas
 pub mod Uniqueness

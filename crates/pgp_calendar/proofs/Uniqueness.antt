@@ -1,12 +1,11 @@
 -- A day, an instant and a time have one text.
-use Rattle.std.proofs.Common.{◌≡◌, ℕ, ℤ, pos, ◌*ℤ◌, List, refl, sym, ap, ◌∙◌, arith, inl, inr}
+use Rattle.pgp_calendar.proofs.Common.{◌≡◌, ℕ, ℤ, pos, ◌*ℤ◌, List, refl, sym, ap, ◌∙◌, arith, inl, inr, era, day_text, clock_text, ShowsDay, ShowsInstant, ShowsTime}
 use Rattle.jiff_core.specs.declared.civil.date.Date.{Date}
 use Rattle.jiff_core.specs.declared.civil.time.Time.{Time}
 use Rattle.jiff_core.specs.Date.{epoch_day}
 use Rattle.jiff_core.specs.Time.{time_nanos}
 use Rattle.jiff_core.proofs.SignedLemmas.{signed_arith}
 use Rattle.jiff.proofs.Family.{epoch_day_injective, time_nanos_injective, civil_nanos_injective, time_nanos_bound}
-use Rattle.pgp_calendar.specs.Text.{era, day_text, clock_text, ShowsDay, ShowsInstant, ShowsTime}
 
 same_day : (a b : Date) → epoch_day a ≡ epoch_day b → day_text a ≡ day_text b
 same_day a b e = let h = epoch_day_injective a b e in rw (h.0, h.1, h.2) refl

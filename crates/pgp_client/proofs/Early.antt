@@ -1,16 +1,6 @@
 -- A step of a dialogue where it is known how many of the requests are asked after the message was heard.
-use Rattle.std.proofs.Common.{◌≡◌, ℕ, Bool, true, false, List, [], ◌∷◌, Result, Ok, Err, ◌∙◌, ap, arith, refl, length, nat_le, le-leb, if◌then◌else◌}
-use Rattle.pgp_client.specs.Talk.{Talk}
-use Rattle.pgp_client.specs.Taking.{behind_copy, completes, copied, fails, follows, goes, observed_at, is_aside, is_sync, moved, ready, starts_with_sync, taken, taken_as}
-use Rattle.pgp_client.specs.declared.event.Event.{Event}
-use Rattle.pgp_client.specs.declared.event.Event.TheVariants.{Aside}
-use Rattle.pgp_client.specs.declared.event.Refusal.{Refusal}
-use Rattle.pgp_client.specs.declared.event.Refusal.TheVariants.{Unexpected}
-use Rattle.pgp_client.specs.declared.kind.Kind.{Kind}
+use Rattle.pgp_client.proofs.Common.{◌≡◌, ℕ, Bool, true, false, List, [], ◌∷◌, Result, Ok, Err, ◌∙◌, ap, arith, refl, length, nat_le, le-leb, if◌then◌else◌, Talk, behind_copy, completes, copied, fails, follows, goes, observed_at, is_aside, is_sync, moved, ready, starts_with_sync, taken, taken_as, Event, Aside, Refusal, Unexpected, Kind, Asked, Stage, Idle, Skipping, Answering, CopyingIn, TakingCopy, Failed}
 use Rattle.pgp_client.specs.declared.kind.Kind.TheVariants as kinds
-use Rattle.pgp_client.specs.declared.request.Asked.{Asked}
-use Rattle.pgp_client.specs.declared.stage.Stage.{Stage}
-use Rattle.pgp_client.specs.declared.stage.Stage.TheVariants.{Idle, Skipping, Answering, CopyingIn, TakingCopy, Failed}
 
 -- the first is a Sync that was asked before: it isn't one of the last `later`
 abbrev pub early : ℕ → List Asked → Bool

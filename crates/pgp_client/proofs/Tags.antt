@@ -1,5 +1,5 @@
 -- What a message asks, by its tag.
-use Rattle.std.proofs.Common.{◌≡◌, ℕ, Option, Some, None, refl, sym, subst}
+use Rattle.pgp_client.proofs.Common.{◌≡◌, ℕ, Option, Some, None, refl, sym, subst}
 use Rattle.pgp_client.specs.Kinds.{BeginsWith, kind_of_tag, request_of, request_of_tag}
 use Rattle.pgp_frontend.specs.ClientMessage.{ClientMessage, Bind, CancelRequest, Close, CopyData, CopyDone, CopyFail, Describe, Execute, Flush, FunctionCall, GssEncRequest, Parse, PasswordMessage, Query, SaslInitialResponse, SaslResponse, SslRequest, Startup, Sync, Terminate}
 use Rattle.pgp_frontend.specs.Payload.{payload, tag_of}

@@ -1,20 +1,7 @@
 -- What is taken in turns is what belongs there, in one way.
-use Rattle.std.proofs.Common.{◌≡◌, ◌≢◌, ◌≤◌, ◌<◌, ◌==◌, ℕ, Bool, true, false, List, [], ◌∷◌, ◌++◌, Option, Some, None, Result, Ok, Err, ◌∙◌, ◌⊎◌, inl, inr, ap, ap₂, append_assoc, append-nil, arith, refl, sym, subst, length, nat_le, leb-true, if◌then◌else◌, eqb-true, eq-eqb}
-use Rattle.pgp_client.specs.InTurns.{AmongTurns, NoTurnLeft, OneAsked, OneAnswer, OneElse, BelongInTurns}
-use Rattle.pgp_client.specs.Talk.{Talk}
-use Rattle.pgp_client.specs.Taking.{asked, begins, begun, behind_copy, behind_end, completes, copied, event_of, fails, first_in, follows, goes, observed, is_aside, is_passed, is_sync, moved, ready, starts_with_sync, taken, taken_as}
-use Rattle.pgp_client.specs.Telling.{Follows, Turn, Asks, Hears, asked_all, asked_in, reported_in, start}
-use Rattle.pgp_client.specs.declared.event.Event.{Event}
-use Rattle.pgp_client.specs.declared.event.Event.TheVariants.{Aside, Ended}
-use Rattle.pgp_client.specs.declared.event.Refusal.{Refusal}
-use Rattle.pgp_client.specs.declared.event.Refusal.TheVariants.{Uncertain}
-use Rattle.pgp_client.specs.declared.kind.Kind.{Kind}
+use Rattle.pgp_client.proofs.Common.{◌≡◌, ◌≢◌, ◌≤◌, ◌<◌, ◌==◌, ℕ, Bool, true, false, List, [], ◌∷◌, ◌++◌, Option, Some, None, Result, Ok, Err, ◌∙◌, ◌⊎◌, inl, inr, ap, ap₂, append_assoc, append-nil, arith, refl, sym, subst, length, nat_le, leb-true, if◌then◌else◌, eqb-true, eq-eqb, AmongTurns, NoTurnLeft, OneAsked, OneAnswer, OneElse, BelongInTurns, Talk, asked, begins, begun, behind_copy, behind_end, completes, copied, event_of, fails, first_in, follows, goes, observed, is_aside, is_passed, is_sync, moved, ready, starts_with_sync, taken, taken_as, Follows, Turn, Asks, Hears, asked_all, asked_in, reported_in, start, Event, Aside, Ended, Refusal, Uncertain, Kind, Asked, Request, Stage, Idle, Skipping, Answering, CopyingIn, TakingCopy, Failed}
 use Rattle.pgp_client.specs.declared.kind.Kind.TheVariants as kinds
-use Rattle.pgp_client.specs.declared.request.Asked.{Asked}
-use Rattle.pgp_client.specs.declared.request.Request.{Request}
 use Rattle.pgp_client.specs.declared.request.Request.TheVariants as requests
-use Rattle.pgp_client.specs.declared.stage.Stage.{Stage}
-use Rattle.pgp_client.specs.declared.stage.Stage.TheVariants.{Idle, Skipping, Answering, CopyingIn, TakingCopy, Failed}
 use Rattle.pgp_client.proofs.Early.{early, copied_by, heard_by, taken_by, taken_by_as}
 use Rattle.pgp_client.proofs.Served.{TellsBy, aside_is, ok_parts, served, talk}
 use Rattle.pgp_client.proofs.Later.{idle_ends}

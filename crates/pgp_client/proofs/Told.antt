@@ -1,18 +1,6 @@
 -- What a server sends in turns is taken where it is heard, or it isn't certain.
-use Rattle.std.proofs.Common.{◌≡◌, ℕ, Bool, true, false, List, [], ◌∷◌, ◌++◌, Option, Some, None, Result, Ok, Err, ◌∙◌, ◌⊎◌, inl, inr, ap, refl, sym, subst, length}
-use Rattle.pgp_client.specs.InTurns.{AmongTurns, NoTurnLeft, OneAsked, OneAnswer, OneElse, BelongInTurns}
-use Rattle.pgp_client.specs.Talk.{Talk}
-use Rattle.pgp_client.specs.Taking.{asked, behind_copy, completes, copied, fails, is_aside, is_copying, moved, observed, ready, starts_with_sync, taken, taken_as}
-use Rattle.pgp_client.specs.Telling.{FollowsTo, Turn, Asks, Hears, asked_all, asked_in, reported_in, start}
-use Rattle.pgp_client.specs.declared.event.Event.{Event}
-use Rattle.pgp_client.specs.declared.event.Event.TheVariants.{Aside}
-use Rattle.pgp_client.specs.declared.event.Refusal.{Refusal}
-use Rattle.pgp_client.specs.declared.event.Refusal.TheVariants.{Uncertain}
-use Rattle.pgp_client.specs.declared.kind.Kind.{Kind}
+use Rattle.pgp_client.proofs.Common.{◌≡◌, ℕ, Bool, true, false, List, [], ◌∷◌, ◌++◌, Option, Some, None, Result, Ok, Err, ◌∙◌, ◌⊎◌, inl, inr, ap, refl, sym, subst, length, AmongTurns, NoTurnLeft, OneAsked, OneAnswer, OneElse, BelongInTurns, Talk, asked, behind_copy, completes, copied, fails, is_aside, is_copying, moved, observed, ready, starts_with_sync, taken, taken_as, FollowsTo, Turn, Asks, Hears, asked_all, asked_in, reported_in, start, Event, Aside, Refusal, Uncertain, Kind, Asked, Stage, Idle, Skipping, Answering, CopyingIn, TakingCopy, Failed}
 use Rattle.pgp_client.specs.declared.kind.Kind.TheVariants as kinds
-use Rattle.pgp_client.specs.declared.request.Asked.{Asked}
-use Rattle.pgp_client.specs.declared.stage.Stage.{Stage}
-use Rattle.pgp_client.specs.declared.stage.Stage.TheVariants.{Idle, Skipping, Answering, CopyingIn, TakingCopy, Failed}
 use Rattle.pgp_client.proofs.Copying.{certain_outside, in_copy, ready_outside}
 use Rattle.pgp_client.proofs.Early.{at_once, taken_by}
 use Rattle.pgp_client.proofs.Served.{TellsBy, aside_is, ok_parts, served, talk}

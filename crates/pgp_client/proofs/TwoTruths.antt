@@ -1,11 +1,6 @@
 -- Over which Sync a server passed where a copy failed can be uncertain.
-use Rattle.std.proofs.Common.{◌==◌, ℕ, [], ◌∷◌, arith, refl, if◌then◌else◌}
-use Rattle.pgp_client.specs.Flow.{BreaksBehind, BreaksHere, CopyBreaks, Ready, Serves, Skips, Syncs}
+use Rattle.pgp_client.proofs.Common.{◌==◌, ℕ, [], ◌∷◌, arith, refl, if◌then◌else◌, BreaksBehind, BreaksHere, CopyBreaks, Ready, Serves, Skips, Syncs, AmongTurns, NoTurnLeft, OneAsked, OneAnswer, BelongInTurns, failed_copy, Last, Part, CopyInResponse, ErrorResponse, ReadyForQuery, Asked}
 use Rattle.pgp_client.specs.Flow as flow
-use Rattle.pgp_client.specs.InTurns.{AmongTurns, NoTurnLeft, OneAsked, OneAnswer, BelongInTurns, failed_copy}
-use Rattle.pgp_client.specs.declared.event.Event.TheVariants.{Last, Part}
-use Rattle.pgp_client.specs.declared.kind.Kind.TheVariants.{CopyInResponse, ErrorResponse, ReadyForQuery}
-use Rattle.pgp_client.specs.declared.request.Asked.{Asked}
 use Rattle.pgp_client.specs.declared.request.Request.TheVariants.{Execute, Sync}
 
 -- the second Sync alone is asked after the error

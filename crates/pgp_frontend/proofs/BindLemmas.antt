@@ -1,23 +1,6 @@
 -- What `bind` wrote, or why it rejected, from what its steps did.
-use Rattle.std.proofs.Common.{◌≡◌, ℕ, ℤ, ◌+◌, ◌-◌, ◌≤◌, List, [], ◌∷◌, sym, Result, Option, Some, None, refl, ap, subst, inl, inr, MutBor, length, arith, length-append}
-use Rattle.std.specs.Prelude.{FitsSigned, All}
-use Rattle.std.specs.Int.{w16}
-use Rattle.pgp_base.specs.Wire.{uint32, int16, nullable, counted}
-use Rattle.std.proofs.lemmas.List.{append-nil}
-use Rattle.pgp_base.specs.Cause.{length_cause}
-use Rattle.pgp_base.proofs.Needs.{counted_length}
+use Rattle.pgp_frontend.proofs.Common.{◌≡◌, ℕ, ℤ, ◌+◌, ◌-◌, ◌≤◌, List, [], ◌∷◌, sym, Result, Option, Some, None, refl, ap, subst, inl, inr, MutBor, length, arith, length-append, FitsSigned, All, w16, uint32, int16, nullable, counted, append-nil, length_cause, counted_length, Held, ◌⊕◌, overwritten, more_bytes, Yielded, Error, BindError, Conversion, Serialization, IsNull, Bind, Serves, Served, before_values, BindWhole, BindRefused, Appended, Part, Text, Int16s, Values, joined, part_cause, parts_cause, HeadRefused, ItemsRefused, ValuesRefused}
 use Rattle.pgp_frontend.proofs.Needs.{framed_wants, bind_length, joined_more}
-use Rattle.pgp_base.specs.Held.{Held, ◌⊕◌, overwritten}
-use Rattle.pgp_base.proofs.Parts.{more_bytes}
-use Rattle.pgp_base.specs.Calls.{Yielded}
-use Rattle.pgp_base.specs.declared.error.Error.{Error}
-use Rattle.pgp_base.specs.declared.error.BindError.{BindError}
-use Rattle.pgp_base.specs.declared.error.BindError.TheVariants.{Conversion, Serialization}
-use Rattle.pgp_base.specs.declared.number.IsNull.{IsNull}
-use Rattle.pgp_frontend.specs.ClientMessage.{Bind}
-use Rattle.pgp_frontend.specs.Given.{Serves, Served, before_values, BindWhole, BindRefused, Appended}
-use Rattle.pgp_frontend.specs.Payload.{Part, Text, Int16s, Values, joined, part_cause, parts_cause}
-use Rattle.pgp_frontend.specs.Putting.{HeadRefused, ItemsRefused, ValuesRefused}
 use Rattle.pgp_frontend.proofs.Fields.{cause_more, cause_here, last_none}
 use Rattle.pgp_frontend.proofs.Frames.{frame_room, frame_done, frame_fits, frame_passes, tagged}
 use Rattle.pgp_frontend.proofs.Texts.{part_more}

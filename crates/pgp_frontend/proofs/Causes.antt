@@ -1,14 +1,6 @@
 -- Causes of a message that are those of its parts, and the one that no message has.
-use Rattle.std.proofs.Common.{◌≡◌, ℕ, ◌+◌, ◌≤◌, Bool, true, false, List, [], ◌∷◌, map, take, length, Option, Some, None, refl, sym, ◌∙◌, arith, inl, inr}
-use Rattle.std.specs.Prelude.{nat_le, ◌==◌, if◌then◌else◌}
-use Rattle.std.specs.List.{list_any}
+use Rattle.pgp_frontend.proofs.Common.{◌≡◌, ℕ, ◌+◌, ◌≤◌, Bool, true, false, List, [], ◌∷◌, map, take, length, Option, Some, None, refl, sym, ◌∙◌, arith, inl, inr, nat_le, ◌==◌, if◌then◌else◌, list_any, Cause, either, first, text_cause, length_cause, count_cause, nullable_cause, Error, OutOfMemory, EmbeddedNull, InvalidSize, TooLarge, count_fits, either_first, ClientMessage, Part, Byte, Int16, Int32, Oid, Text, Int16s, Oids, Values, Nullable, Rest, Key, Pairs, pair_cause, part_cause, parts, joined, parts_cause, cause}
 use Rattle.std.proofs.lemmas.Bool.{leb-true, cases_Bool}
-use Rattle.pgp_base.specs.Cause.{Cause, either, first, text_cause, length_cause, count_cause, nullable_cause}
-use Rattle.pgp_base.specs.declared.error.Error.{Error}
-use Rattle.pgp_base.specs.declared.error.Error.TheVariants.{OutOfMemory, EmbeddedNull, InvalidSize, TooLarge}
-use Rattle.pgp_base.proofs.Causes.{count_fits, either_first}
-use Rattle.pgp_frontend.specs.ClientMessage.{ClientMessage}
-use Rattle.pgp_frontend.specs.Payload.{Part, Byte, Int16, Int32, Oid, Text, Int16s, Oids, Values, Nullable, Rest, Key, Pairs, pair_cause, part_cause, parts, joined, parts_cause, cause}
 
 -- a cause of the parts is one of the message
 pub parts_first : (m : ClientMessage) (e : Error) → parts_cause (parts m) ≡ Some e → cause m ≡ Some e

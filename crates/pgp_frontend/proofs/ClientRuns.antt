@@ -1,19 +1,9 @@
 -- A client's bytes are read in one way, and by message more.
-use Rattle.std.proofs.Common.{◌≡◌, ◌≢◌, ℕ, ◌+◌, ◌<◌, ◌≤◌, ◌^◌, Bool, true, false, List, [], ◌∷◌, ◌++◌, length, Option, Some, None, refl, sym, ap, subst, ◌∙◌, append_assoc, arith, inl, inr, ◌⊎◌}
-use Rattle.std.specs.Prelude.{is_some, ◌==◌, ◌||◌, if◌then◌else◌, option_to_list, All, FitsSigned, pos, slice_index}
-use Rattle.std.specs.Int.{w32}
-use Rattle.std.specs.List.{flat_map, AllByRecursion}
-use Rattle.std.proofs.lemmas.List.{append-nil, length-append}
+use Rattle.pgp_frontend.proofs.Common.{◌≡◌, ◌≢◌, ℕ, ◌+◌, ◌<◌, ◌≤◌, ◌^◌, Bool, true, false, List, [], ◌∷◌, ◌++◌, length, Option, Some, None, refl, sym, ap, subst, ◌∙◌, append_assoc, arith, inl, inr, ◌⊎◌, is_some, ◌==◌, ◌||◌, if◌then◌else◌, option_to_list, All, FitsSigned, pos, slice_index, w32, flat_map, AllByRecursion, append-nil, recursion_from_All, uint32, int32, ClientMessage, PasswordMessage, SaslInitialResponse, SaslResponse, Startup, CancelRequest, SslRequest, GssEncRequest, PasswordKind, Opening, tag_of, kind_of, framed, payload, minor_code, bytes_of, cause, IsInRange, IsSpelled, IsNamed, int32_begins}
+use Rattle.std.proofs.lemmas.List.{length-append}
 use Rattle.std.proofs.lemmas.List.Concat.{flat_map-cons}
 use Rattle.std.proofs.lemmas.Grind.{flat_map-append}
-use Rattle.std.proofs.lemmas.List.Elements.{recursion_from_All}
-use Rattle.pgp_base.specs.Wire.{uint32, int32}
-use Rattle.pgp_frontend.specs.ClientMessage.{ClientMessage, PasswordMessage, SaslInitialResponse, SaslResponse, Startup, CancelRequest, SslRequest, GssEncRequest, PasswordKind}
-use Rattle.pgp_frontend.specs.Opening.{Opening}
-use Rattle.pgp_frontend.specs.Payload.{tag_of, kind_of, framed, payload, minor_code, bytes_of, cause, IsInRange}
-use Rattle.pgp_frontend.specs.Reading.{IsSpelled, IsNamed}
 use Rattle.pgp_frontend.proofs.Readings.{frame_read, opening_read, bodies, length_fits, no_minor}
-use Rattle.pgp_base.proofs.Prefixes.{int32_begins}
 use Rattle.pgp_frontend.proofs.Needs.{framed_length, startup_length, minor_fits}
 use Rattle.pgp_frontend.specs.ClientRun.{IsRequest, IsStartup, IsTagged, AreInOrder, MayCome, kinds_of, ClientRun, is_startup, is_opened}
 

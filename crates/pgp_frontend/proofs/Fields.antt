@@ -1,17 +1,7 @@
 -- A front of the fields, and the field after it.
-use Rattle.std.proofs.Common.{◌≡◌, ℕ, ◌+◌, ◌-◌, ◌<◌, List, [], ◌∷◌, ◌++◌, length, map, take, drop, Some, None, sym, ap, ◌∙◌, get_or, refl, arith, ◌≤◌, ◌⊎◌, inl, inr, length-append}
-use Rattle.std.proofs.lemmas.List.{take_more, map-append, take-append-drop, drop_more, take_all}
-use Rattle.pgp_base.proofs.Causes.{first_more, first_here, first-append, either_first}
-use Rattle.pgp_base.proofs.Parts.{more_parts, nothing_more, more_twice}
-use Rattle.pgp_base.specs.Held.{Held, ◌⊕◌}
-use Rattle.pgp_base.specs.Cause.{Cause, first, either, Wants, WantsMemory}
+use Rattle.pgp_frontend.proofs.Common.{◌≡◌, ℕ, ◌+◌, ◌-◌, ◌<◌, List, [], ◌∷◌, ◌++◌, length, map, take, drop, Some, None, sym, ap, ◌∙◌, get_or, refl, arith, ◌≤◌, ◌⊎◌, inl, inr, length-append, take_more, map-append, take-append-drop, drop_more, take_all, first_more, first_here, first-append, either_first, more_parts, nothing_more, more_twice, Held, ◌⊕◌, Cause, first, either, Wants, WantsMemory, wants_more, memory_then, OnOk, IfErr, Ok, Err, Error, Part, spelling, part_cause, parts_cause, joined, part_of, parts_of}
 use Rattle.std.proofs.lemmas.List.Concat.{flat_map-append}
-use Rattle.pgp_base.proofs.Parts.{wants_more}
-use Rattle.pgp_base.proofs.Needs.{memory_then}
-use Rattle.std.specs.Prelude.{OnOk, IfErr, Result, Ok, Err}
-use Rattle.pgp_base.specs.declared.error.Error.{Error}
-use Rattle.pgp_frontend.specs.Payload.{Part, spelling, part_cause, parts_cause, joined}
-use Rattle.pgp_frontend.specs.View.{part_of, parts_of}
+use Rattle.std.specs.Prelude.{Result}
 use Rattle.pgp_frontend.specs.declared.field.Field.{Field}
 
 pub cause_more : (ps : List Part) (p : Part) → parts_cause ps ≡ None → part_cause p ≡ None → parts_cause (ps ++ p ∷ []) ≡ None

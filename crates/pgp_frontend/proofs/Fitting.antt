@@ -1,15 +1,9 @@
 -- What a writer comes to in a window, by the room that is left there.
-use Rattle.std.proofs.Common.{◌≡◌, ◌⊎◌, ℕ, ◌+◌, ◌≤◌, length, Some, None, Result, Ok, Err, refl, sym, ◌∙◌, arith, inl, inr}
-use Rattle.std.specs.Prelude.{IfErr}
+use Rattle.pgp_frontend.proofs.Common.{◌≡◌, ◌⊎◌, ℕ, ◌+◌, ◌≤◌, length, Some, None, Result, refl, sym, ◌∙◌, arith, inl, inr, IfErr, wants_window, Held, ◌⊕◌, Error, OutOfMemory, ClientMessage, bytes_of, cause, WritesMessage}
+use Rattle.std.proofs.Common.{Ok, Err}
 use Rattle.std.specs.Result.{IsOk}
 use Rattle.std.specs.Borrow.{GName}
-use Rattle.pgp_base.proofs.Needs.{wants_window}
-use Rattle.pgp_base.specs.Held.{Held, ◌⊕◌}
 use Rattle.pgp_base.specs.Window.{window_lacks}
-use Rattle.pgp_base.specs.declared.error.Error.{Error}
-use Rattle.pgp_base.specs.declared.error.Error.TheVariants.{OutOfMemory}
-use Rattle.pgp_frontend.specs.ClientMessage.{ClientMessage}
-use Rattle.pgp_frontend.specs.Payload.{bytes_of, cause, WritesMessage}
 
 module _ (m : ClientMessage) (old new : Held (GName × ℕ)) where
   pub too_long : (result : Result (Unit {0}) Error) → WritesMessage m window_lacks old new result → IfErr result (λ e. ((e ≡ OutOfMemory) × window_lacks old (length (bytes_of m))) ⊎ (cause m ≡ Some e))

@@ -1,12 +1,5 @@
 -- A frame whose length is filled in at last.
-use Rattle.std.proofs.Common.{◌≡◌, ℕ, ◌+◌, ◌-◌, ◌≤◌, List, [], ◌∷◌, length, Some, None, sym, ap, ◌∙◌, arith}
-use Rattle.pgp_base.specs.Wire.{uint32}
-use Rattle.pgp_base.specs.Cause.{length_cause}
-use Rattle.pgp_base.proofs.Causes.{either_none, either_first, either_then}
-use Rattle.pgp_base.specs.Held.{Held, ◌⊕◌, overwritten}
-use Rattle.pgp_base.proofs.Parts.{filled4, sized4, more_twice}
-use Rattle.pgp_base.specs.declared.error.Error.{Error}
-use Rattle.pgp_frontend.specs.Payload.{Part, parts_cause, joined, frame_cause, framed}
+use Rattle.pgp_frontend.proofs.Common.{◌≡◌, ℕ, ◌+◌, ◌-◌, ◌≤◌, List, [], ◌∷◌, length, Some, None, sym, ap, ◌∙◌, arith, uint32, length_cause, either_none, either_first, either_then, Held, ◌⊕◌, overwritten, filled4, sized4, more_twice, Error, Part, parts_cause, joined, frame_cause, framed}
 
 -- `a` was held before the frame, `b` with the place of its length, `d` with its parts after that
 module _ {K : Type 0} (ps : List Part) (a b d : Held K) (base : ℕ) (e : b ≡ a ⊕ uint32 0) (f : d ≡ b ⊕ joined ps) (h : base ≡ length a.bytes) where

@@ -1,11 +1,5 @@
 -- A cancel request of equal numbers and keys.
-use Rattle.std.proofs.Common.{◌≡◌, ℕ, ℤ, List, Result, subst}
-use Rattle.std.specs.Int.{w32, to_be_bytes, cast_unsigned}
-use Rattle.pgp_base.specs.Wire.{int32}
-use Rattle.pgp_base.specs.Held.{Held}
-use Rattle.pgp_base.specs.declared.error.Error.{Error}
-use Rattle.pgp_frontend.specs.ClientMessage.{CancelRequest}
-use Rattle.pgp_frontend.specs.Payload.{WritesMessage}
+use Rattle.pgp_frontend.proofs.Common.{◌≡◌, ℕ, ℤ, List, Result, subst, w32, to_be_bytes, cast_unsigned, int32, Held, Error, CancelRequest, WritesMessage}
 
 pub number_key : (z : ℤ) (bytes : List ℕ) → bytes ≡ to_be_bytes w32 (cast_unsigned w32 z) → bytes ≡ int32 z
 unfolding int32

@@ -1,3 +1,4 @@
+mod Common
 pub mod ClientRuns
 pub mod BindLemmas
 pub mod Causes

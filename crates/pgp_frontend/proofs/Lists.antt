@@ -1,22 +1,9 @@
 -- What came from an iterator over a list, and the message of the first items.
-use Rattle.std.proofs.Common.{◌≡◌, ℕ, ◌*◌, ◌≤◌, List, [], ◌∷◌, ◌++◌, map, length, Option, Some, None, refl, sym, ap, subst, ◌∙◌, arith, inl, inr, length-append}
+use Rattle.pgp_frontend.proofs.Common.{◌≡◌, ℕ, ◌*◌, ◌≤◌, List, [], ◌∷◌, ◌++◌, map, length, Option, Some, None, refl, sym, ap, subst, ◌∙◌, arith, inl, inr, length-append, flat_map, map-id, Yielded, Cause, either, text_cause, count_cause, Wants, WantsMemory, Held, oid, Error, either_first, counted_length, length-uint32, wants_more, ClientMessage, Parse, Arrived, ParseWhole, ParseSoFar, Refused, Oids, parts, parts_cause, bytes_of, cause}
 use Rattle.std.specs.Prelude.{◌⊎◌}
 use Rattle.std.specs.Iterator.{Yields, AlwaysYields}
-use Rattle.std.specs.List.{flat_map}
 use Rattle.std.specs.Option.{option_to_list}
 use Rattle.std.proofs.lemmas.Iterator.{YieldsList, items_from_drains}
-use Rattle.std.proofs.lemmas.List.{map-id}
-use Rattle.pgp_base.specs.Calls.{Yielded}
-use Rattle.pgp_base.specs.Cause.{Cause, either, text_cause, count_cause, Wants, WantsMemory}
-use Rattle.pgp_base.specs.Held.{Held}
-use Rattle.pgp_base.specs.Wire.{oid}
-use Rattle.pgp_base.specs.declared.error.Error.{Error}
-use Rattle.pgp_base.proofs.Causes.{either_first}
-use Rattle.pgp_base.proofs.Needs.{counted_length}
-use Rattle.pgp_base.proofs.Parts.{length-uint32, wants_more}
-use Rattle.pgp_frontend.specs.ClientMessage.{ClientMessage, Parse}
-use Rattle.pgp_frontend.specs.Given.{Arrived, ParseWhole, ParseSoFar, Refused}
-use Rattle.pgp_frontend.specs.Payload.{Oids, parts, parts_cause, bytes_of, cause}
 use Rattle.pgp_frontend.proofs.Causes.{parts_first, last_cause, either_more, count_more}
 use Rattle.pgp_frontend.proofs.Needs.{parse_length}
 

@@ -1,15 +1,5 @@
 -- How many bytes messages take, and growths that were refused on the way.
-use Rattle.std.proofs.Common.{◌≡◌, ℕ, ℤ, negsuc, ◌+◌, ◌<◌, ◌≤◌, ◌^◌, List, [], ◌∷◌, ◌++◌, length, Option, Some, None, ap, ◌∙◌, arith, length-append}
-use Rattle.std.specs.Prelude.{FitsSigned}
-use Rattle.std.specs.Int.{w32}
-use Rattle.std.proofs.lemmas.List.{append-nil}
-use Rattle.pgp_base.specs.Wire.{uint32, int16, int32, oid, nullable, counted}
-use Rattle.pgp_base.specs.Cause.{Wants}
-use Rattle.pgp_base.specs.Held.{Held, ◌⊕◌}
-use Rattle.pgp_base.proofs.Needs.{flat_more}
-use Rattle.pgp_base.proofs.Parts.{length-uint16, length-uint32, int16_spelled, int32_spelled, wants_then, more_twice}
-use Rattle.pgp_frontend.specs.ClientMessage.{Bind, Parse, Startup}
-use Rattle.pgp_frontend.specs.Payload.{Part, Int32, Text, Int16s, Oids, Values, Pairs, minor_code, minor_of, spelling, joined, framed, bytes_of}
+use Rattle.pgp_frontend.proofs.Common.{◌≡◌, ℕ, ℤ, negsuc, ◌+◌, ◌<◌, ◌≤◌, ◌^◌, List, [], ◌∷◌, ◌++◌, length, Option, Some, None, ap, ◌∙◌, arith, length-append, FitsSigned, w32, append-nil, uint32, int16, int32, oid, nullable, counted, Wants, Held, ◌⊕◌, flat_more, length-uint16, length-uint32, int16_spelled, int32_spelled, wants_then, more_twice, Bind, Parse, Startup, Part, Int32, Text, Int16s, Oids, Values, Pairs, minor_code, minor_of, spelling, joined, framed, bytes_of}
 use Rattle.pgp_frontend.specs.declared.startup.ProtocolVersion.{ProtocolVersion}
 use Rattle.pgp_frontend.specs.declared.startup.ProtocolVersion.TheVariants.{V3_0, V3_2}
 

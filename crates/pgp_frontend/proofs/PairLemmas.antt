@@ -1,16 +1,5 @@
 -- Names and values, one pair more.
-use Rattle.std.proofs.Common.{◌≡◌, ℕ, ◌+◌, length, length-append, arith, List, [], ◌∷◌, ◌++◌, Some, None, sym, ap, ◌∙◌, map}
-use Rattle.std.specs.List.{flat_map}
-use Rattle.std.proofs.lemmas.List.{map-append}
-use Rattle.pgp_base.specs.Wire.{text}
-use Rattle.pgp_base.specs.Cause.{first, either, text_cause}
-use Rattle.pgp_base.proofs.Causes.{either_none, either_first, either_then, first_more, first_here}
-use Rattle.pgp_base.proofs.Parts.{more_parts, more_twice}
-use Rattle.pgp_base.specs.Held.{Held, ◌⊕◌}
-use Rattle.pgp_base.specs.declared.error.Error.{Error}
-use Rattle.pgp_frontend.specs.Given.{shown_by}
-use Rattle.pgp_base.proofs.Needs.{flat_more}
-use Rattle.pgp_frontend.specs.Payload.{pair, pair_cause, part_cause, Pairs}
+use Rattle.pgp_frontend.proofs.Common.{◌≡◌, ℕ, ◌+◌, length, length-append, arith, List, [], ◌∷◌, ◌++◌, Some, None, sym, ap, ◌∙◌, map, flat_map, map-append, text, first, either, text_cause, either_none, either_first, either_then, first_more, first_here, more_parts, more_twice, Held, ◌⊕◌, Error, shown_by, flat_more, pair, pair_cause, part_cause, Pairs}
 
 causes_more : {T : Type 0} (show : T → List ℕ) (xs : List (T × T)) (x : T × T) → map pair_cause (map (shown_by show) (xs ++ x ∷ [])) ≡ map pair_cause (map (shown_by show) xs) ++ pair_cause (shown_by show x) ∷ []
 causes_more show xs x = ap (map pair_cause) (map-append (shown_by show) xs (x ∷ [])) ∙ map-append pair_cause (map (shown_by show) xs) (shown_by show x ∷ [])

@@ -1,16 +1,6 @@
 -- A payload is read in one way, given the tag and the kind.
-use Rattle.std.proofs.Common.{◌≡◌, ◌≢◌, ℕ, ◌+◌, ◌<◌, ◌^◌, ℤ, List, [], ◌∷◌, ◌++◌, length, Option, Some, None, refl, sym, ap, ◌∙◌, append_assoc, arith, map}
-use Rattle.pgp_frontend.specs.Opening.{Opening}
-use Rattle.std.specs.Prelude.{pos, ◌≤◌, FitsSigned, slice_index_or, ◌==◌, if◌then◌else◌}
-use Rattle.std.specs.Int.{w32}
-use Rattle.std.proofs.lemmas.List.{append-nil}
-use Rattle.pgp_base.specs.Wire.{int32, uint32, frame}
-use Rattle.pgp_base.specs.Cause.{length_cause}
-use Rattle.pgp_base.proofs.Causes.{either_left, either_right, fits_of}
-use Rattle.pgp_base.proofs.Prefixes.{fronts, uint32_begins, int32_begins}
-use Rattle.pgp_frontend.specs.ClientMessage.{ClientMessage, Bind, Close, CopyData, CopyDone, CopyFail, Describe, Execute, Flush, Parse, PasswordMessage, Query, SaslInitialResponse, SaslResponse, Sync, Terminate, Startup, CancelRequest, SslRequest, GssEncRequest, FunctionCall, PasswordKind, Password, Initial, Response}
-use Rattle.pgp_frontend.specs.Payload.{Part, Byte, Int16, Int32, Oid, Text, Int16s, Oids, Values, Nullable, Rest, Key, Pairs, minor_code, spelling, joined, parts, payload, tag_of, kind_of, framed, bytes_of, part_cause, parts_cause, EachInRange}
-use Rattle.pgp_frontend.specs.Reading.{Shape, AByte, AnInt16, AnInt32, AnOid, AText, SomeInt16s, SomeOids, SomeValues, ANullable, AllBytes, AKey, shape, HasNames, HasSpelling, IsNamed, IsSpelled}
+use Rattle.pgp_frontend.proofs.Common.{◌≡◌, ◌≢◌, ℕ, ◌+◌, ◌<◌, ◌^◌, ℤ, List, [], ◌∷◌, ◌++◌, length, Option, Some, None, refl, sym, ap, ◌∙◌, append_assoc, arith, map, Opening, pos, FitsSigned, slice_index_or, ◌==◌, if◌then◌else◌, w32, append-nil, int32, uint32, frame, length_cause, either_left, either_right, fits_of, fronts, uint32_begins, int32_begins, ClientMessage, Bind, Close, CopyData, CopyDone, CopyFail, Describe, Execute, Flush, Parse, PasswordMessage, Query, SaslInitialResponse, SaslResponse, Sync, Terminate, Startup, CancelRequest, SslRequest, GssEncRequest, FunctionCall, PasswordKind, Password, Initial, Response, Part, Byte, Int16, Int32, Oid, Text, Int16s, Oids, Values, Nullable, Rest, Key, Pairs, minor_code, spelling, joined, parts, payload, tag_of, kind_of, framed, bytes_of, part_cause, parts_cause, EachInRange, Shape, AByte, AnInt16, AnInt32, AnOid, AText, SomeInt16s, SomeOids, SomeValues, ANullable, AllBytes, AKey, shape, HasNames, HasSpelling, IsNamed, IsSpelled}
+use Rattle.std.specs.Prelude.{◌≤◌}
 use Rattle.pgp_frontend.proofs.Shapes.{part_begins}
 
 abbrev pub EachHasSpelling : List Part → Type 0

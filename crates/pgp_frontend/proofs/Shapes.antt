@@ -1,15 +1,6 @@
 -- What parts of one shape spell is read in one way.
-use Rattle.std.proofs.Common.{◌≡◌, ◌≢◌, ℕ, ◌<◌, ◌^◌, List, [], ◌∷◌, ◌++◌, length, Option, Some, None, refl, sym, ap, ◌∙◌, append_assoc, suc, zero, arith, map}
-use Rattle.std.specs.Prelude.{All, FitsSigned, take, slice_index_or}
-use Rattle.std.specs.Int.{w16}
-use Rattle.std.specs.List.{flat_map}
-use Rattle.std.proofs.lemmas.List.{take_all}
-use Rattle.pgp_base.specs.Wire.{int16, oid, text, nullable}
-use Rattle.pgp_base.specs.Cause.{text_cause, count_cause, nullable_cause, first}
-use Rattle.pgp_base.proofs.Causes.{either_left, either_right, counts_of}
-use Rattle.pgp_base.proofs.Prefixes.{int16_begins, int32_begins, uint32_begins, text_begins, nullable_begins, counted_begins}
-use Rattle.pgp_frontend.specs.Payload.{Part, Byte, Int16, Int32, Oid, Text, Int16s, Oids, Values, Nullable, Rest, Key, Pairs, spelling, part_cause, pair, pair_cause}
-use Rattle.pgp_frontend.specs.Reading.{AllBytes, AKey, shape, HasSpelling}
+use Rattle.pgp_frontend.proofs.Common.{◌≡◌, ◌≢◌, ℕ, ◌<◌, ◌^◌, List, [], ◌∷◌, ◌++◌, length, Option, Some, None, refl, sym, ap, ◌∙◌, append_assoc, suc, zero, arith, map, All, FitsSigned, slice_index_or, w16, flat_map, take_all, int16, oid, text, nullable, text_cause, count_cause, nullable_cause, first, either_left, either_right, counts_of, int16_begins, int32_begins, uint32_begins, text_begins, nullable_begins, counted_begins, Part, Byte, Int16, Int32, Oid, Text, Int16s, Oids, Values, Nullable, Rest, Key, Pairs, spelling, part_cause, pair, pair_cause, AllBytes, AKey, shape, HasSpelling}
+use Rattle.std.specs.Prelude.{take}
 
 -- each of what has no first cause has none
 firsts : (vs : List (Option (List ℕ))) → first (map nullable_cause vs) ≡ None → All (λ v. nullable_cause v ≡ None) vs

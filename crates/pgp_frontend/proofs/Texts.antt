@@ -1,9 +1,5 @@
 -- The parts of a message, one more.
-use Rattle.std.proofs.Common.{◌≡◌, List, [], ◌∷◌, ◌++◌, sym, ap, ◌∙◌}
-use Rattle.std.proofs.lemmas.List.{append-nil}
-use Rattle.pgp_base.proofs.Parts.{more_parts}
-use Rattle.pgp_base.specs.Held.{Held, ◌⊕◌}
-use Rattle.pgp_frontend.specs.Payload.{Part, spelling, joined}
+use Rattle.pgp_frontend.proofs.Common.{◌≡◌, List, [], ◌∷◌, ◌++◌, sym, ap, ◌∙◌, append-nil, more_parts, Held, ◌⊕◌, Part, spelling, joined}
 
 -- one part more
 pub part_more : {K : Type 0} (ps : List Part) (p : Part) (a b d : Held K) → b ≡ a ⊕ joined ps → d ≡ b ⊕ spelling p → d ≡ a ⊕ joined (ps ++ p ∷ [])

@@ -1,24 +1,7 @@
 -- The values that were made have no cause, and the one after them may.
-use Rattle.std.proofs.Common.{◌≡◌, ℕ, ◌<◌, List, [], ◌∷◌, ◌++◌, Result, Option, Some, None, refl, sym, ap, ◌∙◌, map, take, length, length-append, arith, inl, inr, MutBor, subst}
-use Rattle.std.specs.List.{flat_map}
-use Rattle.std.proofs.lemmas.List.{map-append, take_all, take_at}
-use Rattle.pgp_base.specs.Wire.{nullable, uint16, uint32}
+use Rattle.pgp_frontend.proofs.Common.{◌≡◌, ℕ, ◌<◌, List, [], ◌∷◌, ◌++◌, Result, Option, Some, None, refl, sym, ap, ◌∙◌, map, take, length, length-append, arith, inl, inr, MutBor, subst, flat_map, map-append, take_all, take_at, nullable, uint16, uint32, counted_wants, first, nullable_cause, count_cause, Gives, Runs, Yielded, ValueRefused, either_none, either_first, either_then, first_here, count_fits, count_past, Puts-at, Runs-length, Held, ◌⊕◌, Error, TooLarge, BindError, Conversion, Serialization, IsNull, Serves, part_cause, Values, ValuesRefused}
 use Rattle.std.specs.Prelude.{negsuc}
-use Rattle.pgp_base.proofs.Needs.{counted_wants}
 use Rattle.pgp_frontend.proofs.Needs.{int32_length}
-use Rattle.pgp_base.specs.Cause.{first, nullable_cause, count_cause}
-use Rattle.pgp_base.specs.Calls.{Gives, Runs, Yielded, ValueRefused}
-use Rattle.pgp_base.proofs.Causes.{either_none, either_first, either_then, first_here, count_fits, count_past}
-use Rattle.pgp_base.proofs.Parts.{Puts-at, Runs-length}
-use Rattle.pgp_base.specs.Held.{Held, ◌⊕◌}
-use Rattle.pgp_base.specs.declared.error.Error.{Error}
-use Rattle.pgp_base.specs.declared.error.Error.TheVariants.{TooLarge}
-use Rattle.pgp_base.specs.declared.error.BindError.{BindError}
-use Rattle.pgp_base.specs.declared.error.BindError.TheVariants.{Conversion, Serialization}
-use Rattle.pgp_base.specs.declared.number.IsNull.{IsNull}
-use Rattle.pgp_frontend.specs.Given.{Serves}
-use Rattle.pgp_frontend.specs.Payload.{part_cause, Values}
-use Rattle.pgp_frontend.specs.Putting.{ValuesRefused}
 
 module _ {F T E B K : Type 0} (held : B → Held K) (step : F → T → MutBor B → Result IsNull E → MutBor B → F → Type 0) where
   -- each value that was made fits its field

@@ -1,8 +1,5 @@
 -- What the readers of bodies with lists come to.
-use Rattle.std.proofs.Common.{◌≡◌, ℕ, ℤ, List, [], ◌∷◌, Option, Some, Ok, refl}
-use Rattle.pgp_base.specs.PartReading.{string_at}
-use Rattle.pgp_frontend.specs.ClientMessage.{Bind, Parse}
-use Rattle.pgp_frontend_read.specs.Reading.{parse_of, bind_of, counted_at, type_at, format_at, value_at, ended}
+use Rattle.pgp_frontend_read.proofs.Common.{◌≡◌, ℕ, ℤ, List, [], ◌∷◌, Option, Some, Ok, refl, string_at, Bind, Parse, parse_of, bind_of, counted_at, type_at, format_at, value_at, ended}
 
 pub parse_is : (payload a r b s : List ℕ) (types t : List ℕ) → string_at payload ≡ Some (a, r) → string_at r ≡ Some (b, s) → counted_at type_at s ≡ Ok (types, t) → ended (Parse a b types) t ≡ parse_of payload
 unfolding parse_of

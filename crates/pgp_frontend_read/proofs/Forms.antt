@@ -1,26 +1,6 @@
 -- Messages: what is read from a payload is the message of that payload, and each message is read from its own.
-use Rattle.std.proofs.Common.{◌≡◌, ◌≢◌, ℕ, ◌+◌, ◌-◌, ◌<◌, ◌^◌, true, false, List, [], ◌∷◌, ◌++◌, length, Option, Some, None, Result, Ok, Err, refl, sym, ap, subst, ◌∙◌, arith, inl, inr, FitsSigned}
-use Rattle.std.specs.Prelude.{IfSome, ◌==◌, pos, nat_lt, nat_le}
-use Rattle.std.specs.Int.{w32, from_be_bytes, cast_signed, cast_unsigned}
-use Rattle.std.proofs.lemmas.Bool.{eqb-true, ne_eqb, le-ltb, ltb-false, leb-false, lt-leb}
-use Rattle.std.proofs.lemmas.Int.{to_z_pos, of_z-to_z}
-use Rattle.std.proofs.lemmas.List.{append-nil}
-use Rattle.pgp_base.specs.Wire.{IsBytes, oid, int32, uint32}
-use Rattle.pgp_base.specs.Cause.{length_cause}
-use Rattle.pgp_base.specs.PartReading.{oid_at}
-use Rattle.pgp_base.specs.declared.error.Error.{Error}
-use Rattle.pgp_base.specs.declared.error.Error.TheVariants.{UnknownTag}
-use Rattle.pgp_base.proofs.Causes.{length_fits, either_none}
-use Rattle.pgp_base.proofs.Parts.{int32_spelled}
-use Rattle.pgp_base.proofs.PartLemmas.{oid_number, number_takes, number_again}
-use Rattle.pgp_frontend.specs.ClientMessage.{ClientMessage, Bind, Close, CopyData, CopyDone, CopyFail, Describe, Execute, Flush, Parse, PasswordMessage, Query, SaslInitialResponse, SaslResponse, Sync, Terminate, Startup, CancelRequest, SslRequest, GssEncRequest, FunctionCall, PasswordKind, Password, Initial, Response}
-use Rattle.pgp_frontend.specs.Payload.{Part, Int32, Key, Pairs, joined, parts, payload, tag_of, kind_of, part_cause, parts_cause, EachInRange, HasMinor}
-use Rattle.pgp_frontend.specs.Reading.{Shape, AByte, AnInt16, AnInt32, AnOid, AText, SomeInt16s, SomeOids, SomeValues, ANullable, AKey, SomePairs, IsNamed, IsSpelled}
-use Rattle.pgp_frontend.proofs.Readings.{EachHasSpelling, spelled_parts}
-use Rattle.pgp_frontend_read.specs.Content.{Contents, parts_of}
-use Rattle.pgp_frontend_read.specs.Reading.{contents_at, made, ended, bind_of, close_of, describe_of, execute_of, function_call_of, parse_of, query_of, copy_fail_of, password_of, sasl_initial_of, reported_of, body_of, startup_of, cancel_of, named, by_code, by_front, packet_of}
-use Rattle.pgp_frontend_read.specs.declared.error.ClientError.{ClientError}
-use Rattle.pgp_frontend_read.specs.declared.error.ClientError.TheVariants.{UnknownPacket}
+use Rattle.pgp_frontend_read.proofs.Common.{◌≡◌, ◌≢◌, ℕ, ◌+◌, ◌-◌, ◌<◌, ◌^◌, true, false, List, [], ◌∷◌, ◌++◌, length, Option, Some, None, Result, Ok, Err, refl, sym, ap, subst, ◌∙◌, arith, inl, inr, FitsSigned, IfSome, ◌==◌, nat_lt, nat_le, w32, from_be_bytes, cast_signed, cast_unsigned, eqb-true, ne_eqb, le-ltb, ltb-false, leb-false, lt-leb, to_z_pos, of_z-to_z, append-nil, IsBytes, oid, int32, uint32, length_cause, oid_at, Error, UnknownTag, length_fits, either_none, int32_spelled, oid_number, number_takes, number_again, ClientMessage, Bind, Close, CopyData, CopyDone, CopyFail, Describe, Execute, Flush, Parse, PasswordMessage, Query, SaslInitialResponse, SaslResponse, Sync, Terminate, Startup, CancelRequest, SslRequest, GssEncRequest, FunctionCall, PasswordKind, Password, Initial, Response, Part, Int32, Key, Pairs, joined, parts, payload, tag_of, kind_of, part_cause, parts_cause, EachInRange, HasMinor, Shape, AByte, AnInt16, AnInt32, AnOid, AText, SomeInt16s, SomeOids, SomeValues, ANullable, AKey, SomePairs, IsNamed, IsSpelled, EachHasSpelling, spelled_parts, Contents, parts_of, contents_at, made, ended, bind_of, close_of, describe_of, execute_of, function_call_of, parse_of, query_of, copy_fail_of, password_of, sasl_initial_of, reported_of, body_of, startup_of, cancel_of, named, by_code, by_front, packet_of, ClientError, UnknownPacket}
+use Rattle.std.specs.Prelude.{pos}
 use Rattle.pgp_frontend_read.proofs.Items.{ok, ok_is}
 use Rattle.pgp_frontend_read.proofs.Contents.{contents_found, contents_again, TakesAllLast}
 use Rattle.pgp_frontend_read.proofs.ValueLemmas.{chosen}

@@ -1,14 +1,5 @@
 -- Messages that were read one after the other, written again: the same bytes.
-use Rattle.std.proofs.Common.{◌≡◌, ℕ, List, [], ◌∷◌, ◌++◌, Some, Ok, sym, ap, ◌∙◌, append_assoc}
-use Rattle.std.specs.List.{flat_map}
-use Rattle.pgp_base.specs.Held.{Held, ◌⊕◌}
-use Rattle.pgp_base.proofs.Parts.{nothing_more, more_twice}
-use Rattle.pgp_frontend.specs.ClientMessage.{ClientMessage, PasswordKind}
-use Rattle.pgp_frontend.specs.ClientRun.{ClientRun}
-use Rattle.pgp_frontend.specs.Payload.{bytes_of}
-use Rattle.pgp_frontend_read.specs.Forwards.{Forwards, WritesAll}
-use Rattle.pgp_frontend_read.specs.Reads.{HasRead, kinds_behind}
-use Rattle.pgp_frontend_read.specs.Step.{Unread}
+use Rattle.pgp_frontend_read.proofs.Common.{◌≡◌, ℕ, List, [], ◌∷◌, ◌++◌, Some, Ok, sym, ap, ◌∙◌, append_assoc, flat_map, Held, ◌⊕◌, nothing_more, more_twice, ClientMessage, PasswordKind, ClientRun, bytes_of, Forwards, WritesAll, HasRead, kinds_behind, Unread}
 
 -- ---- what was read
 

@@ -1,15 +1,6 @@
 -- What stands at the front by its length, in the grammar's terms and as the code reads it.
-use Rattle.std.proofs.Common.{◌≡◌, ℕ, ◌+◌, ◌<◌, ◌≤◌, ◌^◌, Bool, true, false, List, [], ◌∷◌, ◌++◌, length, get_or, take, drop, Some, None, refl, sym, ap, ◌∙◌, append_assoc, arith, length-append, length-take, length-drop, inr}
-use Rattle.std.specs.Prelude.{◌⊎◌}
-use Rattle.std.specs.Int.{w32, from_be_bytes}
-use Rattle.std.proofs.lemmas.List.{take-append-drop}
+use Rattle.pgp_frontend_read.proofs.Common.{◌≡◌, ℕ, ◌+◌, ◌<◌, ◌≤◌, ◌^◌, Bool, true, false, List, [], ◌∷◌, ◌++◌, length, get_or, take, drop, Some, None, refl, sym, ap, ◌∙◌, append_assoc, arith, length-append, length-take, length-drop, inr, ◌⊎◌, w32, from_be_bytes, take-append-drop, uint32, IsBytes, length-uint32, fronts, IsBytes-take, IsBytes-drop, framed, place, least, announced, BeginsWithLength, IsLengthFault, IsPartial, IsFront}
 use Rattle.std.proofs.lemmas.Nat.{be_bytes_4}
-use Rattle.pgp_base.specs.Wire.{uint32, IsBytes}
-use Rattle.pgp_base.proofs.Parts.{length-uint32}
-use Rattle.pgp_base.proofs.Prefixes.{fronts}
-use Rattle.pgp_base.proofs.PartLemmas.{IsBytes-take, IsBytes-drop}
-use Rattle.pgp_frontend.specs.Payload.{framed}
-use Rattle.pgp_frontend_read.specs.Step.{place, least, announced, BeginsWithLength, IsLengthFault, IsPartial, IsFront}
 
 pub cells : (b c d e n : ℕ) → IsBytes (b ∷ c ∷ d ∷ e ∷ []) → n ≡ from_be_bytes w32 (b ∷ c ∷ d ∷ e ∷ []) → (uint32 n ≡ b ∷ c ∷ d ∷ e ∷ []) × (n < 2 ^ 32)
 unfolding uint32

@@ -1,19 +1,5 @@
 -- A message's bytes that are handed out: what a step makes of them, and of more after them.
-use Rattle.std.proofs.Common.{◌≡◌, ℕ, ◌+◌, ◌<◌, ◌^◌, Bool, true, false, List, [], ◌∷◌, ◌++◌, length, Option, Some, None, Result, Ok, Err, refl, sym, ap, subst, ◌∙◌, append_assoc, arith, inl, inr, length-append}
-use Rattle.std.specs.Prelude.{◌||◌}
-use Rattle.std.proofs.lemmas.List.{append-nil}
-use Rattle.pgp_base.specs.Wire.{uint32}
-use Rattle.pgp_base.proofs.Parts.{length-uint32}
-use Rattle.pgp_frontend.specs.ClientMessage.{ClientMessage, PasswordKind, Password}
-use Rattle.pgp_frontend.specs.ClientRun.{is_startup}
-use Rattle.pgp_frontend.specs.Payload.{framed, payload, tag_of, bytes_of}
-use Rattle.pgp_frontend.proofs.Readings.{tagged_bodies, tag_in}
-use Rattle.pgp_frontend_read.specs.Step.{Unread, BeginsWithLength, Stands, Refuses, Step}
-use Rattle.pgp_frontend_read.specs.Views.{view, read}
-use Rattle.pgp_frontend_read.specs.Pieces.{IsWhole, HandsOut, step_of}
-use Rattle.pgp_frontend_read.specs.Holding.{HasSize, IsReadAs, IsFrameOf}
-use Rattle.pgp_frontend_read.specs.declared.client_frame.ClientFrame.{ClientFrame}
-use Rattle.pgp_frontend_read.specs.declared.error.ClientError.{ClientError}
+use Rattle.pgp_frontend_read.proofs.Common.{◌≡◌, ℕ, ◌+◌, ◌<◌, ◌^◌, Bool, true, false, List, [], ◌∷◌, ◌++◌, length, Option, Some, None, Result, Ok, Err, refl, sym, ap, subst, ◌∙◌, append_assoc, arith, inl, inr, length-append, ◌||◌, append-nil, uint32, length-uint32, ClientMessage, PasswordKind, Password, is_startup, framed, payload, tag_of, bytes_of, tagged_bodies, tag_in, Unread, BeginsWithLength, Stands, Refuses, Step, view, read, IsWhole, HandsOut, step_of, HasSize, IsReadAs, IsFrameOf, ClientFrame, ClientError}
 use Rattle.pgp_frontend_read.specs.declared.message.ClientMessage as code
 use Rattle.pgp_frontend_read.proofs.Pieces.{took}
 use Rattle.pgp_frontend_read.proofs.Runs.{stands_read}

@@ -1,14 +1,5 @@
 -- The header at the front: the length that stands there, and how many bytes the message has.
-use Rattle.std.proofs.Common.{◌≡◌, ℕ, ◌<◌, ◌≤◌, Bool, true, false, List, ◌++◌, length, take, drop, sym, ap, ◌∙◌, append_assoc, arith, inl, inr, length-append}
-use Rattle.std.proofs.lemmas.Bool.{cases_lt}
-use Rattle.std.proofs.lemmas.List.{take_at, take-append-le, take-append-drop}
-use Rattle.pgp_base.specs.Wire.{uint32}
-use Rattle.pgp_base.proofs.Parts.{length-uint32}
-use Rattle.pgp_base.proofs.Prefixes.{fronts, uint32_begins}
-use Rattle.pgp_frontend_read.specs.Step.{least, BeginsWithLength, IsPartial}
-use Rattle.pgp_frontend_read.specs.Pieces.{IsWithin, limit_of}
-use Rattle.pgp_frontend_read.specs.Holding.{header, HasSize, Fits}
-use Rattle.pgp_frontend_read.specs.declared.limits.Limits.{Limits}
+use Rattle.pgp_frontend_read.proofs.Common.{◌≡◌, ℕ, ◌<◌, ◌≤◌, Bool, true, false, List, ◌++◌, length, take, drop, sym, ap, ◌∙◌, append_assoc, arith, inl, inr, length-append, take_at, take-append-le, take-append-drop, uint32, length-uint32, fronts, uint32_begins, least, BeginsWithLength, IsPartial, IsWithin, limit_of, header, HasSize, Fits, Limits}
 use Rattle.pgp_frontend_read.proofs.Fronts.{behind_length}
 use Rattle.pgp_frontend_read.proofs.Steps.{left}
 
@@ -72,13 +63,6 @@ not_partial opened bytes size h all (inr p) = omega (arith, h.all, all, one_leng
 
 pub partial_cut : (opened : Bool) (bytes : List ℕ) (size : ℕ) → HasSize opened bytes size → length bytes < size → IsPartial opened bytes
 partial_cut opened bytes size h short = inr (record { len = h.len; begins = h.begins; enough = h.enough; fits = h.fits; missing = omega (arith, h.all, short, behind_length opened bytes h.len h.begins) })
-
--- the front of a message, as far as it is held
-pub front_fits : (opened : Bool) (bytes more : List ℕ) (size : ℕ) → HasSize opened (bytes ++ more) size → length bytes ≤ size → Fits opened bytes
-front_fits opened bytes more size h most = elim (cases_lt (header opened) (length bytes)) [
-  | inl long ↦ inr (size, size_front opened bytes more size (omega (arith, long)) h, most)
-  | inr short ↦ inl short
-]
 
 pub held_most : (opened : Bool) (held piece : List ℕ) (size : ℕ) → Fits opened held → HasSize opened (held ++ piece) size → length held ≤ size
 held_most opened held piece size (inl short) h = omega (arith, short, size_least opened (held ++ piece) size h)

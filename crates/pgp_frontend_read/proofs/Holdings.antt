@@ -1,17 +1,5 @@
 -- What a parser holds of a message that comes in pieces, and what a call returns of it.
-use Rattle.std.proofs.Common.{◌≡◌, ◌≢◌, ℕ, ◌+◌, ◌<◌, ◌≤◌, Bool, true, false, List, [], ◌++◌, length, take, drop, Option, Some, None, Result, Ok, Err, refl, sym, ap, subst, ◌∙◌, append_assoc, arith, inl, inr, length-append, length-take}
-use Rattle.std.specs.Prelude.{◌⊎◌, nat_le, IfOk, IfSome}
-use Rattle.std.specs.Result.{IsErrAnd}
-use Rattle.std.proofs.lemmas.Bool.{cases_Bool}
-use Rattle.std.proofs.lemmas.Bool.Decides.{nat_tests}
-use Rattle.std.proofs.lemmas.List.{append-nil, take_all, drop_all, take_at, take-append-le, take-append-drop}
-use Rattle.pgp_base.specs.declared.error.Error.TheVariants.{InvalidLength}
-use Rattle.pgp_frontend_read.specs.Step.{IsPartial, place}
-use Rattle.pgp_frontend_read.specs.Pieces.{Waiting, IsWithin, IsWhole, HandsOut, Parses}
-use Rattle.pgp_frontend_read.specs.Holding.{header, HasSize, IsWanted, wanted, is_whole, Fits, Sizes, Fills, IsLeft, IsFrameOf, Opens, StandsInPiece, TakesOff, Holds, Completes}
-use Rattle.pgp_frontend_read.specs.declared.client_frame.ClientFrame.{ClientFrame}
-use Rattle.pgp_frontend_read.specs.declared.limits.Limits.{Limits}
-use Rattle.pgp_frontend_read.specs.declared.parser_error.ParserError.{ParserError}
+use Rattle.pgp_frontend_read.proofs.Common.{◌≡◌, ◌≢◌, ℕ, ◌+◌, ◌<◌, ◌≤◌, Bool, true, false, List, [], ◌++◌, length, take, drop, Option, Some, None, Result, Ok, Err, refl, sym, ap, subst, ◌∙◌, append_assoc, arith, inl, inr, length-append, length-take, ◌⊎◌, nat_le, IfOk, IfSome, IsErrAnd, cases_Bool, nat_tests, append-nil, take_all, drop_all, take_at, take-append-le, take-append-drop, InvalidLength, IsPartial, place, Waiting, IsWithin, IsWhole, HandsOut, Parses, header, HasSize, IsWanted, wanted, is_whole, Fits, Sizes, Fills, IsLeft, IsFrameOf, Opens, StandsInPiece, TakesOff, Holds, Completes, ClientFrame, Limits, ParserError}
 use Rattle.pgp_frontend_read.specs.declared.parser_error.ParserError.TheVariants.{OutOfMemory}
 use Rattle.pgp_frontend_read.proofs.Fronts.{behind_length}
 use Rattle.pgp_frontend_read.proofs.Handing.{refused_behind, hands_out}
@@ -119,9 +107,6 @@ module _ (lacks : Type 0) (opened : Bool) (held piece : List ℕ) (size : Option
 
     pub completes_refused : (e : ParserError) (back before : List ℕ) → Fits opened held → back ≡ take (length held) new → before ≡ piece → Opens opened new (Err e) → Completes lacks opened held piece (Err e) back before
     completes_refused e back before fits b p y = (b ∙ was_held fits, p, inr (subst (λ l. IsLeft opened l e) x.0 (left_behind opened new rest e y)))
-
-pub completes_lacking : (lacks : Type 0) (opened : Bool) (held piece : List ℕ) (size : Option ℕ) (e : ParserError) (new rest : List ℕ) → Holds lacks size held piece (Err e) new rest → Completes lacks opened held piece (Err e) new rest
-completes_lacking lacks opened held piece size e new rest x = (x.2, x.3, inl (x.0, x.1, x.4))
 
 -- ---- what a call returns
 

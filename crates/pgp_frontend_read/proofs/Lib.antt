@@ -1,3 +1,4 @@
+mod Common
 pub mod Items
 pub mod ValueLemmas
 pub mod Loops

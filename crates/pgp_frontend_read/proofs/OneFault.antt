@@ -1,23 +1,6 @@
 -- A body has one first fault: what the grammar says is what the code reads.
-use Rattle.std.proofs.Common.{◌≡◌, ◌≢◌, ℕ, zero, suc, ◌<◌, ◌≤◌, ◌^◌, Bool, true, false, List, [], ◌∷◌, ◌++◌, length, Option, Some, None, Result, Ok, Err, refl, sym, ap, ◌∙◌, append_assoc, arith, inl, inr, FitsSigned}
-use Rattle.std.specs.Prelude.{◌==◌, ◌⊎◌, nat_lt}
-use Rattle.std.specs.Int.{w16, w32, from_be_bytes, cast_signed}
-use Rattle.std.specs.List.{flat_map, AllByRecursion}
-use Rattle.std.proofs.lemmas.Bool.{ne_eqb, lt-ltb, le-ltb}
+use Rattle.pgp_frontend_read.proofs.Common.{◌≡◌, ◌≢◌, ℕ, zero, suc, ◌<◌, ◌≤◌, ◌^◌, Bool, true, false, List, [], ◌∷◌, ◌++◌, length, Option, Some, None, Result, Ok, Err, refl, sym, ap, ◌∙◌, append_assoc, arith, inl, inr, FitsSigned, ◌==◌, ◌⊎◌, nat_lt, w16, w32, from_be_bytes, cast_signed, flat_map, AllByRecursion, ne_eqb, lt-ltb, le-ltb, oid, int16, int32, uint16, uint32, text, nullable, Cause, ◌>>=◌, front_at, uint16_at, oid_at, string_at, is_marked, marked_run, Error, UnexpectedEof, NotDrained, InvalidValueLength, IsNumber, oid_number, int16_number, int32_number, uint16_number, number_again, short_number, string_none, null_spelled, string_front, pair, key_cause, Shape, AByte, AnInt16, AnInt32, AnOid, AText, SomeInt16s, SomeOids, SomeValues, ANullable, AllBytes, AKey, SomePairs, IsShort, LacksValue, LacksItems, IsPair, IsCutPair, LacksEnd, Lacks, Faulty, items_at, items_on, with_front, counted_at, format_at, type_at, value_at, value_after, pair_at, all_of, pairs_at, unless, key_at, content_at, contents_at, contents_on, before}
 use Rattle.std.proofs.lemmas.List.{length-append}
-use Rattle.pgp_base.specs.Wire.{oid, int16, int32, uint16, uint32, text, nullable}
-use Rattle.pgp_base.specs.Cause.{Cause}
-use Rattle.pgp_base.specs.PartReading.{◌>>=◌, front_at, uint16_at, oid_at, string_at}
-use Rattle.pgp_base.specs.WalkReading.{is_marked, marked_run}
-use Rattle.pgp_base.specs.declared.error.Error.{Error}
-use Rattle.pgp_base.specs.declared.error.Error.TheVariants.{UnexpectedEof, NotDrained, InvalidValueLength}
-use Rattle.pgp_base.proofs.PartLemmas.{IsNumber, oid_number, int16_number, int32_number, uint16_number, number_again, short_number, string_none}
-use Rattle.pgp_base.proofs.Parts.{null_spelled}
-use Rattle.pgp_base.proofs.Strings.{string_front}
-use Rattle.pgp_frontend.specs.Payload.{pair, key_cause}
-use Rattle.pgp_frontend.specs.Reading.{Shape, AByte, AnInt16, AnInt32, AnOid, AText, SomeInt16s, SomeOids, SomeValues, ANullable, AllBytes, AKey, SomePairs}
-use Rattle.pgp_frontend_read.specs.Faults.{IsShort, LacksValue, LacksItems, IsPair, IsCutPair, LacksEnd, Lacks, Faulty}
-use Rattle.pgp_frontend_read.specs.Reading.{items_at, items_on, with_front, counted_at, format_at, type_at, value_at, value_after, pair_at, all_of, pairs_at, unless, key_at, content_at, contents_at, contents_on, before}
 use Rattle.pgp_frontend_read.proofs.Items.{IsItem}
 use Rattle.pgp_frontend_read.proofs.Contents.{content_again, number_item}
 use Rattle.pgp_frontend_read.proofs.PairLemmas.{pair_again, marked_by}

@@ -1,18 +1,7 @@
 -- The names and values of a startup packet.
-use Rattle.std.proofs.Common.{◌≡◌, ◌≢◌, ℕ, zero, suc, ◌<◌, ◌≤◌, false, List, [], ◌∷◌, ◌++◌, length, Option, Some, None, Result, Ok, Err, refl, sym, ap, subst, ◌∙◌, append_assoc, arith}
-use Rattle.std.specs.List.{flat_map, AllByRecursion}
+use Rattle.pgp_frontend_read.proofs.Common.{◌≡◌, ◌≢◌, ℕ, zero, suc, ◌<◌, ◌≤◌, false, List, [], ◌∷◌, ◌++◌, length, Option, Some, None, Result, Ok, Err, refl, sym, ap, subst, ◌∙◌, append_assoc, arith, flat_map, AllByRecursion, text, HasNoZero, string_at, is_marked, marked_run, read_on, drained, Error, NotDrained, UnexpectedEof, string_takes, string_front, string_whole, string_falls, pair, IsPair, pair_at, pairs_at, all_of}
 use Rattle.std.proofs.lemmas.List.{length-append}
-use Rattle.pgp_base.specs.Wire.{text, HasNoZero}
-use Rattle.pgp_base.specs.PartReading.{string_at}
-use Rattle.pgp_base.specs.WalkReading.{is_marked, marked_run, read_on, drained}
-use Rattle.pgp_base.specs.declared.error.Error.{Error}
-use Rattle.pgp_base.specs.declared.error.Error.TheVariants.{NotDrained, UnexpectedEof}
-use Rattle.pgp_base.proofs.Strings.{string_takes, string_front, string_whole}
-use Rattle.pgp_base.proofs.PartLemmas.{string_falls}
 use Rattle.pgp_base.proofs.MarkedLemmas.{Falls}
-use Rattle.pgp_frontend.specs.Payload.{pair}
-use Rattle.pgp_frontend_read.specs.Faults.{IsPair}
-use Rattle.pgp_frontend_read.specs.Reading.{pair_at, pairs_at, all_of}
 use Rattle.pgp_frontend_read.proofs.Items.{ok_is}
 use Rattle.pgp_frontend_read.proofs.ValueLemmas.{bound}
 

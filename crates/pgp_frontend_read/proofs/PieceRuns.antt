@@ -1,18 +1,10 @@
 -- However a client's connection is cut into pieces, the bytes as a whole give the same.
-use Rattle.std.proofs.Common.{◌≡◌, ℕ, false, List, [], ◌∷◌, ◌++◌, Option, Some, None, Result, Ok, Err, refl, sym, ap, subst, ◌∙◌, append_assoc, inl, inr}
-use Rattle.std.specs.List.{flat_map}
-use Rattle.pgp_frontend.specs.ClientMessage.{ClientMessage, PasswordKind}
-use Rattle.pgp_frontend.specs.ClientRun.{ClientRun}
-use Rattle.pgp_frontend_read.specs.Reads.{Reads, HasRead, IsEnd, IsAllRead, next_kind, kinds_behind}
-use Rattle.pgp_frontend_read.specs.Step.{Unread, Step}
-use Rattle.pgp_frontend_read.specs.Pieces.{Waiting, unread}
+use Rattle.pgp_frontend_read.proofs.Common.{◌≡◌, ℕ, false, List, [], ◌∷◌, ◌++◌, Option, Some, None, Result, Ok, Err, refl, sym, ap, subst, ◌∙◌, append_assoc, inl, inr, flat_map, ClientMessage, PasswordKind, ClientRun, Reads, HasRead, IsEnd, IsAllRead, next_kind, kinds_behind, Unread, Step, Waiting, unread, ClientError, append-nil}
 use Rattle.pgp_frontend_read.specs.PieceReads.{Received, Gives, ReadsPiece, ReadsPieces, messages_of, piece_of}
-use Rattle.pgp_frontend_read.specs.declared.error.ClientError.{ClientError}
 use Rattle.pgp_frontend_read.proofs.OneStep.{step_one}
 use Rattle.pgp_frontend_read.proofs.Pieces.{pieces_read}
 use Rattle.pgp_frontend_read.proofs.Runs.{session_read}
 use Rattle.pgp_frontend_read.proofs.Steps.{left}
-use Rattle.std.proofs.lemmas.List.{append-nil}
 
 same_unread : (old new : Waiting) (piece rest : List ℕ) → new ≡ old → rest ≡ piece → unread new rest ≡ unread old piece
 same_unread old new piece rest w p = ap (λ (w : Waiting). unread w rest) w ∙ ap (unread old) p

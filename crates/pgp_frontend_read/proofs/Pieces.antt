@@ -1,10 +1,5 @@
 -- However the bytes are cut, the same messages are read.
-use Rattle.std.proofs.Common.{ℕ, List, [], ◌∷◌, ◌++◌, Option, Result, ap, subst, ◌∙◌, append_assoc}
-use Rattle.pgp_frontend.specs.ClientMessage.{ClientMessage, PasswordKind}
-use Rattle.pgp_frontend.specs.Payload.{bytes_of}
-use Rattle.pgp_frontend_read.specs.Step.{Unread, Takes}
-use Rattle.pgp_frontend_read.specs.Reads.{Reads, HasRead, next_kind, kinds_behind}
-use Rattle.pgp_frontend_read.specs.declared.error.ClientError.{ClientError}
+use Rattle.pgp_frontend_read.proofs.Common.{ℕ, List, [], ◌∷◌, ◌++◌, Option, Result, ap, subst, ◌∙◌, append_assoc, ClientMessage, PasswordKind, bytes_of, Unread, Takes, Reads, HasRead, next_kind, kinds_behind, ClientError}
 use Rattle.pgp_frontend_read.proofs.Steps.{left}
 
 -- what was read, with bytes after it

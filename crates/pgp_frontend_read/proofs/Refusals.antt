@@ -1,14 +1,6 @@
 -- An error stays: whatever comes, no message is read there, and no more bytes are waited for.
-use Rattle.std.proofs.Common.{◌≡◌, ℕ, ◌+◌, ◌<◌, ◌≤◌, ◌^◌, Bool, true, false, List, [], ◌∷◌, ◌++◌, length, Option, Some, None, Result, Ok, Err, refl, sym, ap, subst, ◌∙◌, append_assoc, arith, length-append, inl, inr}
-use Rattle.std.specs.Prelude.{IsErr}
-use Rattle.pgp_base.specs.Wire.{uint32}
-use Rattle.pgp_frontend_read.specs.declared.error.ClientError.{ClientError}
-use Rattle.pgp_base.proofs.Prefixes.{fronts, uint32_begins}
-use Rattle.pgp_frontend.specs.ClientMessage.{ClientMessage, PasswordKind}
-use Rattle.pgp_frontend.specs.Payload.{framed}
-use Rattle.pgp_frontend_read.specs.Step.{Unread, least, BeginsWithLength, IsPartial, Refuses, Step}
+use Rattle.pgp_frontend_read.proofs.Common.{◌≡◌, ℕ, ◌+◌, ◌<◌, ◌≤◌, ◌^◌, Bool, true, false, List, [], ◌∷◌, ◌++◌, length, Option, Some, None, Result, Ok, Err, refl, sym, ap, subst, ◌∙◌, append_assoc, arith, length-append, inl, inr, IsErr, uint32, ClientError, fronts, uint32_begins, ClientMessage, PasswordKind, framed, Unread, least, BeginsWithLength, IsPartial, Refuses, Step, append-nil}
 use Rattle.pgp_frontend_read.proofs.Fronts.{behind_length}
-use Rattle.std.proofs.lemmas.List.{append-nil}
 use Rattle.pgp_frontend_read.proofs.Steps.{left, partial_none}
 
 -- where bytes are missing, the length that stands there reports it

@@ -1,18 +1,6 @@
 -- Parts that are written as the bytes that stand for them: the same frame comes of it.
-use Rattle.std.proofs.Common.{◌≡◌, ℕ, ℤ, ◌+◌, ◌<◌, ◌^◌, List, [], ◌∷◌, ◌++◌, length, Option, Some, None, Result, Ok, Err, refl, sym, ap, subst, ◌∙◌, append_assoc, arith, inl, inr, FitsSigned}
-use Rattle.std.specs.Int.{w16, w32, cast_signed}
-use Rattle.std.proofs.lemmas.Int.{to_z_pos}
-use Rattle.pgp_base.specs.Wire.{int16, int32}
-use Rattle.pgp_base.specs.Held.{Held}
-use Rattle.pgp_base.specs.Cause.{Writes, either, length_cause}
-use Rattle.pgp_base.specs.declared.error.Error.{Error}
-use Rattle.pgp_frontend.specs.ClientMessage.{ClientMessage, Bind, FunctionCall, Parse, Startup, PasswordKind}
-use Rattle.pgp_frontend.specs.Payload.{Part, Rest, Text, Int16, Int16s, Oid, Oids, Values, Pairs, Int32, spelling, part_cause, parts_cause, joined, framed, minor_code, WritesFrame, WritesMessage, bytes_of, cause}
-use Rattle.pgp_frontend.specs.Reading.{HasSpelling}
-use Rattle.pgp_frontend.proofs.Needs.{minor_fits}
+use Rattle.pgp_frontend_read.proofs.Common.{◌≡◌, ℕ, ℤ, ◌+◌, ◌<◌, ◌^◌, List, [], ◌∷◌, ◌++◌, length, Option, Some, None, Result, Ok, Err, refl, sym, ap, subst, ◌∙◌, append_assoc, arith, inl, inr, FitsSigned, w16, w32, cast_signed, to_z_pos, int16, int32, Held, Writes, either, length_cause, Error, ClientMessage, Bind, FunctionCall, Parse, Startup, PasswordKind, Part, Rest, Text, Int16, Int16s, Oid, Oids, Values, Pairs, Int32, spelling, part_cause, parts_cause, joined, framed, minor_code, WritesFrame, WritesMessage, bytes_of, cause, HasSpelling, minor_fits, Appends, Forwards, Step, Unread}
 use Rattle.pgp_frontend_read.proofs.FaultLemmas.{signed_code}
-use Rattle.pgp_frontend_read.specs.Forwards.{Appends, Forwards}
-use Rattle.pgp_frontend_read.specs.Step.{Step, Unread}
 
 -- two lists of parts with the same bytes and the same cause
 record Same (ps qs : List Part) : Type 0 where

@@ -1,20 +1,7 @@
 -- What a server reads step by step.
-use Rattle.std.proofs.Common.{◌≡◌, ℕ, ◌+◌, Bool, true, false, List, [], ◌∷◌, ◌++◌, length, drop, Option, Some, None, Result, Ok, Err, refl, sym, ap, subst, ◌∙◌, append_assoc, arith, length-append, inl, inr}
-use Rattle.std.specs.Prelude.{◌⊎◌, ◌||◌, IfSome, is_some, option_to_list}
-use Rattle.std.specs.List.{flat_map, AllByRecursion}
-use Rattle.std.proofs.lemmas.List.{append-nil, drop_at}
-use Rattle.pgp_base.specs.Wire.{uint32}
-use Rattle.pgp_frontend_read.specs.declared.error.ClientError.{ClientError}
-use Rattle.pgp_base.proofs.Parts.{length-uint32}
-use Rattle.pgp_frontend.specs.ClientMessage.{ClientMessage, Startup, CancelRequest, SslRequest, GssEncRequest, PasswordKind}
+use Rattle.pgp_frontend_read.proofs.Common.{◌≡◌, ℕ, ◌+◌, Bool, true, false, List, [], ◌∷◌, ◌++◌, length, drop, Option, Some, None, Result, Ok, Err, refl, sym, ap, subst, ◌∙◌, append_assoc, arith, length-append, inl, inr, ◌⊎◌, ◌||◌, IfSome, is_some, option_to_list, flat_map, AllByRecursion, append-nil, drop_at, uint32, ClientError, length-uint32, ClientMessage, Startup, CancelRequest, SslRequest, GssEncRequest, PasswordKind, framed, payload, tag_of, kind_of, bytes_of, IsSpelled, frame_read, opening_read, ClientRun, IsRequest, IsStartup, IsTagged, AreInOrder, kinds_of, is_startup, Unread, IsExpected, Stands, Step, Reads, ReadsSession, end_of, IsAllRead, IsEnd, next_kind, kinds_behind}
 use Rattle.pgp_frontend.specs.Opening.{Opening}
-use Rattle.pgp_frontend.specs.Payload.{framed, payload, tag_of, kind_of, bytes_of}
-use Rattle.pgp_frontend.specs.Reading.{IsSpelled}
-use Rattle.pgp_frontend.proofs.Readings.{frame_read, opening_read}
 use Rattle.pgp_frontend.proofs.ClientRuns.{same_tag, kind_there, is_reported}
-use Rattle.pgp_frontend.specs.ClientRun.{ClientRun, IsRequest, IsStartup, IsTagged, AreInOrder, kinds_of, is_startup}
-use Rattle.pgp_frontend_read.specs.Step.{Unread, IsExpected, Stands, Step}
-use Rattle.pgp_frontend_read.specs.Reads.{Reads, ReadsSession, end_of, IsAllRead, IsEnd, next_kind, kinds_behind}
 use Rattle.pgp_frontend_read.proofs.Steps.{partial_none, left}
 
 -- ---- one message stands at the front

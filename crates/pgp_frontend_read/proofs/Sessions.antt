@@ -1,12 +1,5 @@
 -- A chain of steps: one more after the others, and what ends it.
-use Rattle.std.proofs.Common.{ℕ, ◌+◌, ◌<◌, List, [], ◌∷◌, ◌++◌, length, Option, Some, None, Result, Ok, refl, ap, subst, arith, length-append}
-use Rattle.pgp_frontend_read.specs.declared.error.ClientError.{ClientError}
-use Rattle.pgp_base.specs.Wire.{uint32}
-use Rattle.pgp_base.proofs.Parts.{length-uint32}
-use Rattle.pgp_frontend.specs.ClientMessage.{ClientMessage, PasswordKind}
-use Rattle.pgp_frontend.specs.Payload.{framed, tag_of, payload, bytes_of}
-use Rattle.pgp_frontend_read.specs.Step.{Unread, Step, Takes}
-use Rattle.pgp_frontend_read.specs.Reads.{Reads, IsEnd, HasRead, next_kind, kinds_behind}
+use Rattle.pgp_frontend_read.proofs.Common.{ℕ, ◌+◌, ◌<◌, List, [], ◌∷◌, ◌++◌, length, Option, Some, None, Result, Ok, refl, ap, subst, arith, length-append, ClientError, uint32, length-uint32, ClientMessage, PasswordKind, framed, tag_of, payload, bytes_of, Unread, Step, Takes, Reads, IsEnd, HasRead, next_kind, kinds_behind}
 
 pub one_more : (kinds rest : List PasswordKind) (old here new : Unread) (messages : List ClientMessage) (m : ClientMessage) → HasRead kinds old messages rest here → Step (next_kind rest) here (Ok (Some m)) new
     → HasRead kinds old (messages ++ m ∷ []) (kinds_behind m rest) new

@@ -1,20 +1,7 @@
 -- Parts that were read, and nothing after them: their bytes are their spellings.
-use Rattle.std.proofs.Common.{◌≡◌, ℕ, zero, suc, ◌<◌, ◌^◌, List, [], ◌∷◌, ◌++◌, length, Option, Result, Ok, Err, sym, ap, subst, ◌∙◌, arith}
-use Rattle.std.specs.Int.{w16, from_be_bytes, to_be_bytes}
-use Rattle.std.proofs.lemmas.List.{append-nil}
-use Rattle.std.proofs.lemmas.List.Elements.{All-from_recursion}
-use Rattle.std.specs.Prelude.{◌≢◌, slice_index, None}
-use Rattle.pgp_base.specs.Wire.{IsBytes, uint16}
-use Rattle.pgp_base.specs.PartReading.{◌>>=◌}
-use Rattle.pgp_base.specs.declared.error.Error.{Error}
-use Rattle.pgp_base.proofs.PartLemmas.{uint16_number, number_again}
-use Rattle.pgp_frontend.specs.Payload.{Pairs, spelling}
-use Rattle.pgp_frontend.specs.Reading.{Shape, HasSpelling}
-use Rattle.pgp_frontend_read.specs.Content.{Content, part}
-use Rattle.pgp_frontend_read.specs.Reading.{content_at, counted_at, items_at, items_on, pair_at, Left, AreLeft, items_of}
-use Rattle.pgp_base.specs.WalkReading.{marked, marked_run}
+use Rattle.pgp_frontend_read.proofs.Common.{◌≡◌, ℕ, zero, suc, ◌<◌, ◌^◌, List, [], ◌∷◌, ◌++◌, length, Option, Result, Ok, Err, sym, ap, subst, ◌∙◌, arith, w16, from_be_bytes, to_be_bytes, append-nil, All-from_recursion, slice_index, IsBytes, uint16, ◌>>=◌, Error, uint16_number, number_again, Pairs, spelling, Shape, HasSpelling, Content, part, content_at, counted_at, items_at, items_on, pair_at, Left, AreLeft, items_of, marked, marked_run, plain}
+use Rattle.std.specs.Prelude.{◌≢◌, None}
 use Rattle.pgp_base.specs.Walk.{Walk}
-use Rattle.pgp_frontend_read.specs.Whole.{plain}
 use Rattle.pgp_frontend_read.proofs.Contents.{content_found, pairs_none, pairs_named}
 use Rattle.pgp_frontend_read.proofs.Items.{ok_is, with_front_ok}
 use Rattle.pgp_frontend_read.proofs.PairLemmas.{PairsStand, run_found, run_is}

@@ -1,24 +1,6 @@
 -- A step along the bytes, from what stood at their front.
-use Rattle.std.proofs.Common.{◌≡◌, ◌≢◌, ℕ, ◌+◌, ◌<◌, ◌≤◌, ◌^◌, Bool, true, false, List, [], ◌∷◌, ◌++◌, length, Option, Some, None, Ok, Err, refl, sym, ap, subst, ◌∙◌, append_assoc, arith, length-append, inl, inr}
-use Rattle.std.proofs.lemmas.List.{take_at, append-nil}
-use Rattle.pgp_base.specs.Wire.{uint32, int32, IsBytes}
-use Rattle.pgp_base.specs.Cause.{length_cause}
-use Rattle.pgp_base.specs.declared.error.Error.{Error}
-use Rattle.pgp_base.specs.declared.error.Error.TheVariants.{InvalidLength}
-use Rattle.pgp_base.proofs.Causes.{either_right, fits_of}
-use Rattle.pgp_base.proofs.Parts.{length-uint32}
-use Rattle.pgp_base.proofs.PartLemmas.{IsBytes-take}
-use Rattle.pgp_base.proofs.Prefixes.{fronts, uint32_begins}
-use Rattle.pgp_frontend.specs.ClientMessage.{ClientMessage, Startup, CancelRequest, SslRequest, GssEncRequest, PasswordKind}
-use Rattle.pgp_frontend.specs.Payload.{framed, payload, parts, parts_cause, tag_of, bytes_of}
-use Rattle.pgp_frontend.specs.Reading.{IsSpelled}
-use Rattle.pgp_frontend.specs.ClientRun.{is_startup}
-use Rattle.pgp_frontend_read.specs.Reading.{body_of, packet_of}
-use Rattle.pgp_frontend_read.specs.Step.{Unread, IsExpected, Stands, NoneStands, place, least, BeginsWithLength, IsLengthFault, IsPartial, Takes, Refuses, IsFront}
+use Rattle.pgp_frontend_read.proofs.Common.{◌≡◌, ◌≢◌, ℕ, ◌+◌, ◌<◌, ◌≤◌, ◌^◌, Bool, true, false, List, [], ◌∷◌, ◌++◌, length, Option, Some, None, Ok, Err, refl, sym, ap, subst, ◌∙◌, append_assoc, arith, length-append, inl, inr, take_at, append-nil, uint32, int32, IsBytes, length_cause, Error, InvalidLength, either_right, fits_of, length-uint32, IsBytes-take, fronts, uint32_begins, ClientMessage, Startup, CancelRequest, SslRequest, GssEncRequest, PasswordKind, framed, payload, parts, parts_cause, tag_of, bytes_of, IsSpelled, is_startup, body_of, packet_of, Unread, IsExpected, Stands, NoneStands, place, least, BeginsWithLength, IsLengthFault, IsPartial, Takes, Refuses, IsFront, ClientError, Reading, bodies, tagged_bodies, tag_in}
 use Rattle.pgp_frontend_read.proofs.Items.{bytes_behind}
-use Rattle.pgp_frontend_read.specs.declared.error.ClientError.{ClientError}
-use Rattle.pgp_frontend_read.specs.declared.error.ClientError.TheVariants.{Reading}
-use Rattle.pgp_frontend.proofs.Readings.{bodies, tagged_bodies, tag_in}
 use Rattle.pgp_frontend_read.proofs.FaultLemmas.{body_blames, packet_blames}
 use Rattle.pgp_frontend_read.proofs.Forms.{body_found, body_again, packet_found, packet_again}
 

@@ -1,17 +1,6 @@
 -- A value as it stands: a length, and so many bytes, or the mark of a null.
-use Rattle.std.proofs.Common.{◌≡◌, ℕ, ◌<◌, ◌≤◌, ◌^◌, Bool, true, false, List, ◌++◌, length, take, drop, Option, Some, None, Result, Ok, Err, refl, sym, ap, subst, ◌∙◌, append_assoc, arith, length-take, inl, inr}
-use Rattle.std.specs.Prelude.{◌==◌, ◌⊎◌, nat_lt, if◌then◌else◌}
-use Rattle.std.proofs.lemmas.List.{take-append-drop, take_at, drop_at, length-append}
-use Rattle.std.proofs.lemmas.Bool.{ne_eqb, eqb-true, ltb-false, le-ltb}
-use Rattle.pgp_base.specs.Wire.{IsBytes, oid, uint32, nullable}
-use Rattle.pgp_base.specs.Cause.{nullable_cause, length_cause}
-use Rattle.pgp_base.specs.PartReading.{◌>>=◌, oid_at}
-use Rattle.pgp_base.specs.declared.error.Error.{Error}
-use Rattle.pgp_base.proofs.Causes.{length_fits, fits_of}
-use Rattle.pgp_base.proofs.Parts.{null_spelled}
-use Rattle.pgp_base.proofs.PartLemmas.{oid_number, number_takes, number_again}
-use Rattle.std.specs.Int.{w32, from_be_bytes}
-use Rattle.pgp_frontend_read.specs.Reading.{value_at, value_after}
+use Rattle.pgp_frontend_read.proofs.Common.{◌≡◌, ℕ, ◌<◌, ◌≤◌, ◌^◌, Bool, true, false, List, ◌++◌, length, take, drop, Option, Some, None, Result, Ok, Err, refl, sym, ap, subst, ◌∙◌, append_assoc, arith, length-take, inl, inr, ◌==◌, ◌⊎◌, nat_lt, if◌then◌else◌, take-append-drop, take_at, drop_at, ne_eqb, eqb-true, ltb-false, le-ltb, IsBytes, oid, uint32, nullable, nullable_cause, length_cause, ◌>>=◌, oid_at, Error, length_fits, fits_of, null_spelled, oid_number, number_takes, number_again, w32, from_be_bytes, value_at, value_after}
+use Rattle.std.proofs.lemmas.List.{length-append}
 use Rattle.pgp_frontend_read.proofs.Items.{IsItem, ok_is}
 
 -- what was read from an option

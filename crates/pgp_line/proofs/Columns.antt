@@ -1,17 +1,5 @@
 -- Columns of a line.
-use Rattle.std.proofs.Common.{◌≡◌, ℕ, zero, suc, ◌+◌, ◌-◌, false, List, [], ◌∷◌, ◌++◌, length, refl, ap, ◌∙◌, arith, append_assoc}
-use Rattle.std.specs.Prelude.{decimal}
-use Rattle.std.specs.Char.{encode_utf8}
-use Rattle.std.specs.Fmt.{char_count, format_spec, padded_integral, styled_decimal}
-use Rattle.std.specs.List.{repeat}
-use Rattle.std.proofs.lemmas.List.{append-nil, replicate-append-replicate}
-use Rattle.std.proofs.lemmas.Str.{encode_ascii}
-use Rattle.pgp_line.specs.Line.{blanks, right}
-
--- one more
-pub blank_more : (before old new : List ℕ) (n : ℕ) → old ≡ before ++ blanks n → new ≡ old ++ 32 ∷ [] → new ≡ before ++ blanks (n + 1)
-blank_more before old new n so_far grown =
-    grown ∙ ap (λ l. l ++ 32 ∷ []) so_far ∙ append_assoc before (blanks n) (32 ∷ []) ∙ ap (λ l. before ++ l) (replicate-append-replicate n 1 32)
+use Rattle.pgp_line.proofs.Common.{◌≡◌, ℕ, zero, suc, ◌+◌, ◌-◌, false, List, [], ◌∷◌, ◌++◌, length, refl, ap, ◌∙◌, arith, decimal, encode_utf8, char_count, format_spec, padded_integral, styled_decimal, repeat, append-nil, encode_ascii, blanks, right}
 
 -- a fill of blanks
 pub filled : (n : ℕ) → repeat n (encode_utf8 32) ≡ blanks n

@@ -1,20 +1,6 @@
 -- A text a run at a time.
-use Rattle.std.proofs.Common.{◌≡◌, ℕ, zero, suc, ◌+◌, ◌-◌, ◌<◌, ◌≤◌, Bool, true, false, List, [], ◌∷◌, ◌++◌, length, take, drop, get_or, Result, Ok, Err, refl, sym, ap, subst, ◌∙◌, arith, append_assoc, take-append-drop}
-use Rattle.std.specs.Prelude.{◌/◌, ◌%◌, OnOk, ◌==◌, nat_le, nat_lt, if◌then◌else◌}
-use Rattle.std.specs.Char.{encode_utf8}
-use Rattle.std.specs.List.{flat_map, list_all, list_any}
-use Rattle.std.specs.Str.{IsUtf8, IsAscii, IsCharBoundary, chars, is_utf8}
-use Rattle.std.specs.Str.Lossy.{utf8_valid_len, valid_len_up_to}
-use Rattle.std.proofs.lemmas.Bool.{leb-true, le-ltb, lt-ltb, and_from, and_parts}
-use Rattle.std.proofs.lemmas.List.{append-nil, take_more, take_all, drop_all}
-use Rattle.std.proofs.lemmas.List.Concat.{flat_map-cons}
-use Rattle.std.proofs.lemmas.Grind.{flat_map-append}
-use Rattle.std.proofs.lemmas.Str.{IsCharBoundary-from_take, IsUtf8-nil, chars-nil, is_utf8-from_IsUtf8, IsUtf8-from_is_utf8, encode_ascii, IsUtf8-from_ascii, chars-append, chars-IsAscii, chars_past_char, utf8_valid_len-IsUtf8}
+use Rattle.pgp_line.proofs.Common.{◌≡◌, ℕ, zero, suc, ◌+◌, ◌-◌, ◌<◌, ◌≤◌, Bool, true, false, List, [], ◌∷◌, ◌++◌, length, take, drop, get_or, Result, Ok, Err, refl, sym, ap, subst, ◌∙◌, arith, append_assoc, take-append-drop, ◌/◌, ◌%◌, OnOk, ◌==◌, nat_le, nat_lt, if◌then◌else◌, encode_utf8, flat_map, list_all, list_any, IsUtf8, IsAscii, IsCharBoundary, chars, is_utf8, utf8_valid_len, valid_len_up_to, leb-true, le-ltb, lt-ltb, and_from, and_parts, append-nil, take_more, take_all, drop_all, flat_map-cons, flat_map-append, IsCharBoundary-from_take, IsUtf8-nil, chars-nil, is_utf8-from_IsUtf8, IsUtf8-from_is_utf8, encode_ascii, IsUtf8-from_ascii, chars-append, chars-IsAscii, chars_past_char, utf8_valid_len-IsUtf8, Form, Columns, Json, broken, escaped, escaped_at, escaped_char, is_mark, is_printable, is_text, is_visible, unit, units, unprinted, escaped_text, is_plain}
 use Rattle.std.proofs.lemmas.Str.Ascii.{IsAscii-nil, IsAscii-cons}
-use Rattle.pgp_line.specs.declared.style.Form.{Form}
-use Rattle.pgp_line.specs.declared.style.Form.TheVariants.{Columns, Json}
-use Rattle.pgp_line.specs.Quoting.{broken, escaped, escaped_at, escaped_char, is_mark, is_printable, is_text, is_visible, unit, units, unprinted}
-use Rattle.pgp_line.specs.Plain.{escaped_text, is_plain}
 
 -- ---- plain characters
 

@@ -1,19 +1,7 @@
 -- In JSON quoting loses nothing either.
-use Rattle.std.proofs.Common.{◌≡◌, ◌≢◌, ◌⊎◌, ℕ, ◌+◌, ◌-◌, ◌<◌, ◌≤◌, Bool, true, false, List, [], ◌∷◌, ◌++◌, length, take, get_or, drop, Some, None, refl, sym, ap, subst, ◌∙◌, arith, inl, inr, append_assoc}
-use Rattle.std.specs.Prelude.{◌/◌, ◌%◌, ◌&&◌, nat_le, nat_lt, ◌==◌, if◌then◌else◌, codes}
+use Rattle.pgp_line.proofs.Common.{◌≡◌, ◌≢◌, ◌⊎◌, ℕ, ◌+◌, ◌-◌, ◌<◌, ◌≤◌, Bool, true, false, List, [], ◌∷◌, ◌++◌, length, take, get_or, drop, Some, None, refl, sym, ap, subst, ◌∙◌, arith, inl, inr, append_assoc, ◌/◌, ◌%◌, ◌&&◌, nat_le, nat_lt, ◌==◌, if◌then◌else◌, codes, encode_utf8, IsScalar, flat_map, list_any, AllByRecursion, all_scalars, chars, encode_utf8_all, is_utf8, IsUtf8, and_parts, leb-true, le-leb, ltb-true, ltb-false, append-nil, append_cancel_left, append_cancel_right, flat_map-cons, encode_ascii, encodes-chars, scalars-chars, IsUtf8-from_is_utf8, Form, Columns, Json, Value, added, added_by, comma, escaped, escaped_char, hex_byte, is_mark, is_printable, is_text, json_digits, json_hex, json_text, json_value, long, quoted, unit, units, unprinted}
 use lib.Utf8.{scalar as is_scalar}
-use Rattle.std.specs.Char.{encode_utf8, IsScalar}
-use Rattle.std.specs.List.{flat_map, list_any, AllByRecursion}
-use Rattle.std.specs.Str.{all_scalars, chars, encode_utf8_all, is_utf8, IsUtf8}
-use Rattle.std.proofs.lemmas.Bool.{and_parts, leb-true, le-leb, ltb-true, ltb-false}
-use Rattle.std.proofs.lemmas.List.{append-nil, append_cancel_left, append_cancel_right}
-use Rattle.std.proofs.lemmas.List.Concat.{flat_map-cons}
-use Rattle.std.proofs.lemmas.Str.{encode_ascii, encodes-chars, scalars-chars, IsUtf8-from_is_utf8}
-use Rattle.pgp_line.specs.declared.style.Form.{Form}
-use Rattle.pgp_line.specs.declared.style.Form.TheVariants.{Columns, Json}
 use Rattle.pgp_line.specs.declared.style.Style.{Style}
-use Rattle.pgp_line.specs.Line.{Value, added, added_by, comma}
-use Rattle.pgp_line.specs.Quoting.{escaped, escaped_char, hex_byte, is_mark, is_printable, is_text, json_digits, json_hex, json_text, json_value, long, quoted, unit, units, unprinted}
 use Rattle.pgp_line.proofs.Escapes.{whole_text}
 use Rattle.pgp_line.proofs.Quotes.{AreBytes, Mark, Same, digits_all, hex_one, low_mark, mark_by, never_inside, never_shown_null, quoted_tail, short_values, unmarked_all, unmarked_by}
 
@@ -207,9 +195,6 @@ uncut_text limit xs le = ap (λ (b : Bool). text_up_to b limit xs) (le-leb (leng
 uncut_hex : (limit : ℕ) (xs : List ℕ) → length xs ≤ limit → json_hex limit xs ≡ json_digits xs ++ 125 ∷ []
 unfolding json_hex
 uncut_hex limit xs le = ap (λ (b : Bool). hex_up_to b limit xs) (le-leb (length xs) limit le)
-
-hex_first : (xs : List ℕ) → get_or (json_digits xs ++ 125 ∷ []) 0 0 ≡ 123
-hex_first xs = refl
 
 hexes_one : (xs ys : List ℕ) → AreBytes xs → AreBytes ys → json_digits xs ++ 125 ∷ [] ≡ json_digits ys ++ 125 ∷ [] → xs ≡ ys
 hexes_one xs ys a b e =

@@ -1,17 +1,7 @@
 -- A string of JSON is read as the text that it was written of.
-use Rattle.std.proofs.Common.{◌≡◌, ◌≢◌, ◌⊎◌, ℕ, suc, ◌+◌, ◌*◌, ◌<◌, ◌≤◌, Bool, true, false, List, [], ◌∷◌, ◌++◌, length, get_or, Option, Some, None, refl, sym, ap, subst, ◌∙◌, arith, inl, inr, append_assoc}
-use Rattle.std.specs.Prelude.{◌/◌, ◌%◌, ◌&&◌, cond, nat_le, nat_lt, ◌==◌, if◌then◌else◌, option_and_then}
+use Rattle.pgp_line.proofs.Common.{◌≡◌, ◌≢◌, ◌⊎◌, ℕ, suc, ◌+◌, ◌*◌, ◌<◌, ◌≤◌, Bool, true, false, List, [], ◌∷◌, ◌++◌, length, get_or, Option, Some, None, refl, sym, ap, subst, ◌∙◌, arith, inl, inr, append_assoc, ◌/◌, ◌%◌, ◌&&◌, cond, nat_le, nat_lt, ◌==◌, if◌then◌else◌, option_and_then, digit_value, encode_utf8, is_digit, IsScalar, flat_map, AllByRecursion, all_scalars, chars, encode_utf8_all, IsUtf8, and_from, and_parts, eqb-true, false_from_ne_true, leb-true, leb-false, le-leb, lt-ltb, ltb-true, ltb-false, append-nil, flat_map-cons, digit_value-digit_char, encode_ascii, encodes-chars, inside_one, scalars-chars, Json, escaped, escaped_char, hex_digit, is_mark, is_printable, is_visible, quoted, unit, units}
 use lib.Utf8.{scalar as is_scalar}
-use Rattle.std.specs.Char.{digit_value, encode_utf8, is_digit, IsScalar}
-use Rattle.std.specs.List.{flat_map, AllByRecursion}
-use Rattle.std.specs.Str.{all_scalars, chars, encode_utf8_all, IsUtf8}
-use Rattle.std.proofs.lemmas.Bool.{and_from, and_parts, eqb-true, false_from_ne_true, leb-true, leb-false, le-leb, lt-ltb, ltb-true, ltb-false}
-use Rattle.std.proofs.lemmas.List.{append-nil}
-use Rattle.std.proofs.lemmas.List.Concat.{flat_map-cons}
-use Rattle.std.proofs.lemmas.Str.{digit_value-digit_char, encode_ascii, encodes-chars, inside_one, scalars-chars}
 use Rattle.json.specs.Text.{content, plain, after_high, code_unit, short_escape, is_high_surrogate, is_low_surrogate, surrogate_pair, prepend}
-use Rattle.pgp_line.specs.declared.style.Form.TheVariants.{Json}
-use Rattle.pgp_line.specs.Quoting.{escaped, escaped_char, hex_digit, is_mark, is_printable, is_visible, quoted, unit, units}
 use Rattle.pgp_line.proofs.Escapes.{whole_text}
 use Rattle.pgp_line.proofs.JsonQuotes.{Bounded, bounded, high_of, low_of, small_pair}
 use Rattle.pgp_line.proofs.Quotes.{Mark, mark_by, never_inside, quoted_tail, unmarked_by}

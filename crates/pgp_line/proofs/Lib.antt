@@ -1,3 +1,4 @@
+mod Common
 pub mod Parts
 pub mod Columns
 pub mod Escapes

@@ -1,20 +1,8 @@
 -- Quoting loses nothing.
-use Rattle.std.proofs.Common.{◌≡◌, ◌≢◌, ◌⊎◌, ℕ, suc, ◌+◌, ◌<◌, ◌≤◌, Bool, true, false, List, [], ◌∷◌, ◌++◌, length, take, drop, get_or, Some, None, refl, sym, ap, subst, ◌∙◌, arith, inl, inr, append_assoc}
-use Rattle.std.specs.Prelude.{◌/◌, ◌%◌, ◌||◌, nat_le, ◌==◌, if◌then◌else◌, codes, decimal}
-use Rattle.std.specs.Char.{encode_utf8}
-use Rattle.std.specs.List.{flat_map, AllByRecursion}
-use Rattle.std.specs.Str.{chars, encode_utf8_all, IsUtf8}
-use Rattle.std.specs.Str.Lossy.{utf8_valid_len}
+use Rattle.pgp_line.proofs.Common.{◌≡◌, ◌≢◌, ◌⊎◌, ℕ, suc, ◌+◌, ◌<◌, ◌≤◌, Bool, true, false, List, [], ◌∷◌, ◌++◌, length, take, drop, get_or, Some, None, refl, sym, ap, subst, ◌∙◌, arith, inl, inr, append_assoc, ◌/◌, ◌%◌, ◌||◌, nat_le, ◌==◌, if◌then◌else◌, codes, decimal, encode_utf8, flat_map, AllByRecursion, chars, encode_utf8_all, IsUtf8, utf8_valid_len, eqb-true, eqb-false, leb-true, leb-false, le-leb, append-nil, flat_map-cons, encode_ascii, encodes-chars, inside_one, digits, hex_digit, hex_byte, hex_escape, is_mark, is_printable, is_text, is_visible, escaped_byte, escaped_char, escaped, quoted, unprinted, value, up_to, Form, Columns, Value, shown}
 use Rattle.std.proofs.Math.ListN.{get_or-append}
-use Rattle.std.proofs.lemmas.Bool.{eqb-true, eqb-false, leb-true, leb-false, le-leb}
-use Rattle.std.proofs.lemmas.List.{append-nil, take-append-drop}
-use Rattle.std.proofs.lemmas.List.Concat.{flat_map-cons}
-use Rattle.std.proofs.lemmas.Str.{encode_ascii, encodes-chars, inside_one}
-use Rattle.pgp_line.specs.Quoting.{digits, hex_digit, hex_byte, hex_escape, is_mark, is_printable, is_text, is_visible, escaped_byte, escaped_char, escaped, quoted, unprinted, value, up_to}
+use Rattle.std.proofs.lemmas.List.{take-append-drop}
 use Rattle.pgp_line.proofs.Escapes.{front_utf8}
-use Rattle.pgp_line.specs.declared.style.Form.{Form}
-use Rattle.pgp_line.specs.declared.style.Form.TheVariants.{Columns}
-use Rattle.pgp_line.specs.Line.{Value, shown}
 
 -- ---- hex digits
 

@@ -1,14 +1,7 @@
 -- What reading a body from the left returns is the one result that the grammar allows.
-use Rattle.std.specs.Prelude.{◌≤◌, ◌<◌, length, nat_lt, if◌then◌else◌}
-use Rattle.std.proofs.Common.{◌≡◌, ◌≢◌, ℕ, ℤ, Bool, true, false, pos, negsuc, arith, length-append, List, [], ◌∷◌, ◌++◌, Result, Ok, Err, refl, sym, ap, subst, ◌∙◌}
-use Rattle.std.proofs.lemmas.List.{append-nil}
-use Rattle.std.proofs.lemmas.Bool.{le-ltb}
-use Rattle.pgp_base.specs.declared.error.Error.{Error}
+use Rattle.pgp_message.proofs.Common.{nat_lt, if◌then◌else◌, ◌≡◌, ◌≢◌, ℕ, ℤ, Bool, true, false, pos, negsuc, arith, length-append, List, [], ◌∷◌, ◌++◌, Result, Ok, Err, refl, sym, ap, subst, ◌∙◌, append-nil, le-ltb, Error, int32, text, HasNoZero, IsBytes, KeyData, CountedBytes, Negotiation, CopyFormats, Request, AuthenticationOk, AuthenticationKerberosV5, AuthenticationCleartextPassword, AuthenticationMd5Password, AuthenticationScmCredential, AuthenticationGss, AuthenticationGssContinue, AuthenticationSspi, AuthenticationSasl, AuthenticationSaslContinue, AuthenticationSaslFinal, Message, ParseComplete, BindComplete, CloseComplete, NotificationResponse, CommandComplete, DataRow, ErrorResponse, CopyInResponse, CopyOutResponse, EmptyQueryResponse, BackendKeyData, NegotiateProtocolVersion, NoticeResponse, Authentication, ParameterStatus, RowDescription, ReadyForQuery, CopyDone, CopyData, NoData, PortalSuspended, ParameterDescription, tag_of, counted_bytes, copy_formats, payload_of, Fits, Spells, IsUnknownCode, HasNegativeCount, Body, ended, made, byte_of, string_of, setting_of, notification_of, key_of, key_data_of, negotiation_of, counted_of, copy_of, request_of, bare_of, body_of}
+use Rattle.std.specs.Prelude.{◌≤◌, ◌<◌, length}
 use Rattle.pgp_base.specs.declared.error.Error.TheVariants as errors
-use Rattle.pgp_base.specs.Wire.{int32, text, HasNoZero, IsBytes}
-use Rattle.pgp_message.specs.Parts.{KeyData, CountedBytes, Negotiation, CopyFormats}
-use Rattle.pgp_message.specs.BackendMessage.{Request, AuthenticationOk, AuthenticationKerberosV5, AuthenticationCleartextPassword, AuthenticationMd5Password, AuthenticationScmCredential, AuthenticationGss, AuthenticationGssContinue, AuthenticationSspi, AuthenticationSasl, AuthenticationSaslContinue, AuthenticationSaslFinal, Message, ParseComplete, BindComplete, CloseComplete, NotificationResponse, CommandComplete, DataRow, ErrorResponse, CopyInResponse, CopyOutResponse, EmptyQueryResponse, BackendKeyData, NegotiateProtocolVersion, NoticeResponse, Authentication, ParameterStatus, RowDescription, ReadyForQuery, CopyDone, CopyData, NoData, PortalSuspended, ParameterDescription, tag_of, counted_bytes, copy_formats, payload_of, Fits, Spells, IsUnknownCode, HasNegativeCount, Body}
-use Rattle.pgp_message.specs.Reading.{ended, made, byte_of, string_of, setting_of, notification_of, key_of, key_data_of, negotiation_of, counted_of, copy_of, request_of, bare_of, body_of}
 use Rattle.pgp_message.proofs.Families.{Reads, string_again, setting_again, notification_again, key_data_again, key_whole, negotiation_again, negative_again, NegotiationReads, negotiation_reads, counted_again, copy_again, byte_again, string_reads, setting_reads, setting_parts, SettingFits, notification_reads, notification_parts, NotificationFits, key_data_reads, key_parts, KeyFits, counted_reads, CountFits, copy_reads, CopyFits, byte_reads}
 use Rattle.pgp_message.proofs.Keys.{key_cut, negotiation_cut}
 use Rattle.pgp_message.proofs.Requests.{pick, RequestFits, after_request, made_ended, request_again, request_whole, RequestReads, request_reads, unknown_again}

@@ -1,12 +1,7 @@
 -- The column of a row that a walk reaches.
-use Rattle.std.proofs.Common.{◌≡◌, ℕ, zero, suc, ◌≤◌, List, [], ◌∷◌, length, Option, Some, None, Result, Ok, sym, ap, subst}
-use Rattle.std.specs.List.{slice_get, AllByRecursion}
+use Rattle.pgp_message.proofs.Common.{◌≡◌, ℕ, zero, suc, ◌≤◌, List, [], ◌∷◌, length, Option, Some, None, Result, Ok, sym, ap, subst, slice_get, AllByRecursion, Range, Error, CountedBytes, HasPlaces, HasColumn, IsPlaceIn, or_end, place_at, value_at}
 use Rattle.std.specs.Option.{option_map}
 use Rattle.std.specs.Result.{result_map_both}
-use Rattle.std.specs.declared.ops.Range.{Range}
-use Rattle.pgp_base.specs.declared.error.Error.{Error}
-use Rattle.pgp_message.specs.Parts.{CountedBytes}
-use Rattle.pgp_message.specs.Table.{HasPlaces, HasColumn, IsPlaceIn, or_end, place_at, value_at}
 use Rattle.pgp_message.proofs.TableLemmas.{places_in}
 
 -- a place of all of them

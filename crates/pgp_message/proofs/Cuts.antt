@@ -1,12 +1,5 @@
 -- A frame cut from the front of the bytes.
-use Rattle.std.proofs.Common.{◌≡◌, ℕ, zero, suc, ◌+◌, ◌<◌, ◌≤◌, ◌^◌, List, [], ◌∷◌, ◌++◌, length, get_or, take, drop, refl, sym, ap, ◌∙◌, arith}
-use Rattle.std.specs.Int.{w32, from_be_bytes}
-use Rattle.std.proofs.lemmas.List.{take-append-drop, length-take}
-use Rattle.std.proofs.lemmas.Nat.{be_bytes_4}
-use Rattle.pgp_base.specs.Wire.{uint32, IsBytes}
-use Rattle.pgp_base.proofs.PartLemmas.{IsBytes-take, IsBytes-drop}
-use Rattle.pgp_message.specs.FrontReading.{Front, IsFront, announced}
-use Rattle.pgp_message.specs.Stream.{frame_bytes}
+use Rattle.pgp_message.proofs.Common.{◌≡◌, ℕ, zero, suc, ◌+◌, ◌<◌, ◌≤◌, ◌^◌, List, [], ◌∷◌, ◌++◌, length, get_or, take, drop, refl, sym, ap, ◌∙◌, arith, w32, from_be_bytes, take-append-drop, length-take, be_bytes_4, uint32, IsBytes, IsBytes-take, IsBytes-drop, Front, IsFront, announced, frame_bytes}
 
 -- the front of n + 1 bytes
 abbrev pub front_of : List ℕ → ℕ → Front

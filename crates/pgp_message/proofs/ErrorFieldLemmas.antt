@@ -1,17 +1,5 @@
 -- The fields of an error are read as they are spelled.
-use Rattle.std.proofs.Common.{◌≡◌, ℕ, ◌<◌, List, [], ◌∷◌, ◌++◌, length, Result, Ok, Err, refl, sym, ap, subst, arith, inl, inr}
-use Rattle.pgp_base.specs.declared.error.Error.{Error}
-use Rattle.pgp_base.specs.declared.error.Error.TheVariants.{UnexpectedEof}
-use Rattle.pgp_base.specs.Wire.{text}
-use Rattle.pgp_base.specs.Wire.{IsBytes}
-use Rattle.pgp_base.specs.Grammar.{StandsAt, IsReader}
-use Rattle.pgp_base.specs.PartReading.{string_at}
-use Rattle.pgp_base.proofs.CountedLemmas.{ok_is, differ}
-use Rattle.pgp_base.proofs.Binds.{err_is, bind_ok, bind_err}
-use Rattle.pgp_base.proofs.Strings.{string_takes, string_front, string_whole}
-use Rattle.pgp_base.proofs.PartLemmas.{no_string, string_none, string_falls}
-use Rattle.pgp_message.specs.Items.{ErrorPart, ErrorFieldSpelled, ErrorFieldRefused}
-use Rattle.pgp_message.specs.ItemReading.{error_field_at}
+use Rattle.pgp_message.proofs.Common.{◌≡◌, ℕ, ◌<◌, List, [], ◌∷◌, ◌++◌, length, Result, Ok, Err, refl, sym, ap, subst, arith, inl, inr, Error, UnexpectedEof, text, IsBytes, StandsAt, IsReader, string_at, ok_is, differ, err_is, bind_ok, bind_err, string_takes, string_front, string_whole, no_string, string_none, string_falls, ErrorPart, ErrorFieldSpelled, ErrorFieldRefused, error_field_at}
 
 abbrev with_value : ℕ → List ℕ × List ℕ → Result (ErrorPart × List ℕ) Error
 with_value code s = Ok (record { code = code; value = s.0 }, s.1)

@@ -1,18 +1,7 @@
 -- The families of bodies: what was spelled is read again, and what is read was spelled so.
-use Rattle.std.proofs.Common.{◌≡◌, ℕ, ℤ, Bool, true, false, pos, negsuc, suc, ◌<◌, ◌≤◌, ◌^◌, List, [], ◌∷◌, ◌++◌, length, Option, Some, None, Result, Ok, Err, refl, sym, ap, ◌∙◌, append_assoc, arith, FitsSigned}
-use Rattle.std.specs.Int.{w16, w32, from_be_bytes, cast_signed}
-use Rattle.std.specs.Prelude.{nat_lt, if◌then◌else◌, take, drop}
-use Rattle.std.proofs.lemmas.List.{append-nil, length-take, take-append-drop}
-use Rattle.std.proofs.lemmas.Bool.{ltb-false, ltb-true, le-ltb}
-use Rattle.pgp_base.specs.declared.error.Error.{Error}
+use Rattle.pgp_message.proofs.Common.{◌≡◌, ℕ, ℤ, Bool, true, false, pos, negsuc, suc, ◌<◌, ◌≤◌, ◌^◌, List, [], ◌∷◌, ◌++◌, length, Option, Some, None, Result, Ok, Err, refl, sym, ap, ◌∙◌, append_assoc, arith, FitsSigned, w16, w32, from_be_bytes, cast_signed, nat_lt, if◌then◌else◌, append-nil, length-take, take-append-drop, ltb-false, ltb-true, le-ltb, Error, int32, uint16, uint32, oid, text, HasNoZero, IsBytes, ◌>>=◌, front_at, uint16_at, oid_at, int32_at, string_at, string_takes, string_front, string_whole, front_takes, front_again, TakesNumber, number_takes, number_again, oid_number, int32_number, uint16_number, Notification, KeyData, Setting, CountedBytes, Negotiation, CopyFormats, counted_bytes, copy_formats, ended, byte_of, string_of, setting_of, notification_of, key_of, key_data_of, options_of, negotiation_of, counted_of, copy_of, salt_of}
+use Rattle.std.specs.Prelude.{take, drop}
 use Rattle.pgp_base.specs.declared.error.Error.TheVariants as errors
-use Rattle.pgp_base.specs.Wire.{int32, uint16, uint32, oid, text, HasNoZero, IsBytes}
-use Rattle.pgp_base.specs.PartReading.{◌>>=◌, front_at, uint16_at, oid_at, int32_at, string_at}
-use Rattle.pgp_base.proofs.Strings.{string_takes, string_front, string_whole}
-use Rattle.pgp_base.proofs.PartLemmas.{front_takes, front_again, TakesNumber, number_takes, number_again, oid_number, int32_number, uint16_number}
-use Rattle.pgp_message.specs.Parts.{Notification, KeyData, Setting, CountedBytes, Negotiation, CopyFormats}
-use Rattle.pgp_message.specs.BackendMessage.{counted_bytes, copy_formats}
-use Rattle.pgp_message.specs.Reading.{ended, byte_of, string_of, setting_of, notification_of, key_of, key_data_of, options_of, negotiation_of, counted_of, copy_of, salt_of}
 
 -- Numbers at the front.
 

@@ -1,17 +1,5 @@
 -- The columns of a row are read as they are spelled.
-use Rattle.std.proofs.Common.{◌≡◌, ℕ, ℤ, ◌+◌, ◌<◌, ◌^◌, List, [], ◌∷◌, ◌++◌, length, Some, Result, Ok, Err, refl, sym, ap, subst, ◌∙◌, append_assoc, arith, inl, inr, length-append, FitsSigned}
-use Rattle.std.specs.Int.{w16, w32, from_be_bytes, cast_signed}
-use Rattle.pgp_base.specs.declared.error.Error.{Error}
-use Rattle.pgp_base.specs.declared.error.Error.TheVariants.{UnexpectedEof, NotUtf8}
-use Rattle.pgp_base.specs.Wire.{int16, int32, oid, text}
-use Rattle.pgp_base.specs.Wire.{IsBytes}
-use Rattle.pgp_base.specs.Grammar.{StandsAt, IsReader}
-use Rattle.pgp_base.specs.PartReading.{◌>>=◌, oid_at, int16_at, int32_at, text_at}
-use Rattle.pgp_base.proofs.CountedLemmas.{ok_is, differ, IsBytes-after}
-use Rattle.pgp_base.proofs.Binds.{err, err_is, bind_ok, bind_err}
-use Rattle.pgp_base.proofs.PartLemmas.{oid_number, int16_number, int32_number, number_takes, number_again, number_short, front_falls}
-use Rattle.pgp_message.specs.Items.{TextRefused, FieldPart, numbers_of, NumbersFit, FieldSpelled, FieldRefused}
-use Rattle.pgp_message.specs.ItemReading.{numbers_at, numbers_after, field_at}
+use Rattle.pgp_message.proofs.Common.{◌≡◌, ℕ, ℤ, ◌+◌, ◌<◌, ◌^◌, List, [], ◌∷◌, ◌++◌, length, Some, Result, Ok, Err, refl, sym, ap, subst, ◌∙◌, append_assoc, arith, inl, inr, length-append, FitsSigned, w16, w32, from_be_bytes, cast_signed, Error, UnexpectedEof, NotUtf8, int16, int32, oid, text, IsBytes, StandsAt, IsReader, ◌>>=◌, oid_at, int16_at, int32_at, text_at, ok_is, differ, IsBytes-after, err, err_is, bind_ok, bind_err, oid_number, int16_number, int32_number, number_takes, number_again, number_short, front_falls, TextRefused, FieldPart, numbers_of, NumbersFit, FieldSpelled, FieldRefused, numbers_at, numbers_after, field_at}
 use Rattle.pgp_message.proofs.TextLemmas.{text_reader, text_is_refused, text_refuses}
 
 abbrev oid_value : List ℕ → ℕ

@@ -1,19 +1,6 @@
 -- Frames that are found at the front of bytes, and read there.
-use Rattle.std.proofs.Common.{◌≡◌, ℕ, ◌+◌, ◌-◌, ◌^◌, ◌<◌, ◌≤◌, min, List, [], ◌∷◌, ◌++◌, length, get_or, take, drop, Option, Some, None, Result, refl, sym, ap, subst, ◌∙◌, append_assoc, arith}
-use Rattle.std.specs.Prelude.{IfSome}
-use Rattle.std.specs.List.{flat_map, AllByRecursion}
-use Rattle.std.proofs.Math.Seq.{take-append_seam, drop-append_seam}
-use Rattle.std.proofs.lemmas.List.{append-nil, drop-drop, length-append, length-drop, length-take}
-use Rattle.std.proofs.lemmas.List.Concat.{flat_map-cons}
-use Rattle.pgp_base.specs.Wire.{IsBytes}
-use Rattle.pgp_base.specs.declared.error.Error.{Error}
-use Rattle.pgp_message.specs.BackendMessage.{Message}
-use Rattle.pgp_message.specs.Found.{Found, FindsFrames, FindsAll, AreFrames, TakesEach, TakesSome}
-use Rattle.pgp_message.specs.FrameSteps.{TakesOnto}
-use Rattle.pgp_message.specs.FrontReading.{Front, IsFront, announced, front_frame}
-use Rattle.pgp_message.specs.Reading.{body_of}
-use Rattle.pgp_message.specs.Remembered.{Memory, header_of, count_of}
-use Rattle.pgp_message.specs.Stream.{Frame, frame_bytes, IsFrame, IsEnding, Frames, BeginsWithFrame, TakesFrame}
+use Rattle.pgp_message.proofs.Common.{◌≡◌, ℕ, ◌+◌, ◌-◌, ◌^◌, ◌<◌, ◌≤◌, min, List, [], ◌∷◌, ◌++◌, length, get_or, take, drop, Option, Some, None, Result, refl, sym, ap, subst, ◌∙◌, append_assoc, arith, IfSome, flat_map, AllByRecursion, take-append_seam, drop-append_seam, append-nil, drop-drop, length-take, flat_map-cons, IsBytes, Error, Message, Found, FindsFrames, FindsAll, AreFrames, TakesEach, TakesSome, TakesOnto, Front, IsFront, announced, front_frame, body_of, Memory, header_of, count_of, Frame, frame_bytes, IsFrame, IsEnding, Frames, BeginsWithFrame, TakesFrame}
+use Rattle.std.proofs.lemmas.List.{length-append}
 use Rattle.pgp_message.proofs.Cuts.{cut, found}
 use Rattle.pgp_message.proofs.Runs.{each_push, pushed, front_is_one, frames_none, frames_next, announced_frame, length-frame}
 use Rattle.pgp_message.proofs.Steps.{takes, payload_of_front}
@@ -162,10 +149,6 @@ pub taking_all : (all now : List ℕ) (n left : ℕ) (before mid : List (Result 
 taking_all all now n left before mid t empty =
     let none = no_frames now left t.behind empty in
     record { more = t.more; grown = t.grown; frames = subst (λ l. Frames all t.more l) none.0 t.frames; count = omega (arith, t.count, none.1) }
-
--- the frame that stands further on ends within the bytes
-pub ends_within : (f : Front) (bytes : List ℕ) (at : ℕ) → IsFront f (drop at bytes) → at + f.total ≤ length bytes
-ends_within f bytes at front = omega (arith, front.least, front.most, length-drop at bytes)
 
 -- its payload, as it is sliced
 pub payload_at : (bytes all : List ℕ) (at t : ℕ) → 5 ≤ t → bytes ≡ all → take (at + t - (at + 5)) (drop (at + 5) bytes) ≡ drop 5 (take t (drop at all))

@@ -1,16 +1,7 @@
 -- The front of the bytes in the grammar's terms and as the code reads it.
-use Rattle.std.proofs.Common.{◌≡◌, ℕ, ℤ, zero, suc, ◌+◌, ◌<◌, ◌≤◌, ◌^◌, List, [], ◌∷◌, ◌++◌, length, get_or, drop, refl, sym, ap, subst, ◌∙◌, arith, inl, inr, append_assoc}
-use Rattle.std.specs.Prelude.{◌⊎◌, true, false, not, ◌<ℤ◌, ◌≤ℤ◌}
-use Rattle.std.specs.Int.Signed.{lt_z, lt_z_yes, lt_z_no}
+use Rattle.pgp_message.proofs.Common.{◌≡◌, ℕ, ℤ, zero, suc, ◌+◌, ◌<◌, ◌≤◌, ◌^◌, List, [], ◌∷◌, ◌++◌, length, get_or, drop, refl, sym, ap, subst, ◌∙◌, arith, inl, inr, append_assoc, ◌⊎◌, not, ◌<ℤ◌, ◌≤ℤ◌, lt_z, lt_z_yes, lt_z_no, w32, cast_signed, cases_lt, from_be_bytes-to_be_bytes_4, uint32, int32, IsBytes, int32_number, announced, HeaderPart, IsHeader, BeginsWithHeader, IsPartial, IsLengthFault}
+use Rattle.std.specs.Prelude.{true, false}
 use Rattle.std.proofs.Math.Dec.{T}
-use Rattle.std.specs.Int.{w32, cast_signed}
-use Rattle.std.proofs.lemmas.Bool.{cases_lt}
-use Rattle.std.proofs.lemmas.Nat.{from_be_bytes-to_be_bytes_4}
-use Rattle.pgp_base.specs.Wire.{uint32, int32, IsBytes}
-use Rattle.pgp_base.proofs.PartLemmas.{int32_number}
-use Rattle.pgp_message.specs.FrontReading.{announced}
-use Rattle.pgp_message.specs.Header.{HeaderPart, IsHeader}
-use Rattle.pgp_message.specs.Stream.{BeginsWithHeader, IsPartial, IsLengthFault}
 use Rattle.pgp_message.proofs.Cuts.{cells}
 
 pub announced_small : (bytes : List ℕ) → IsBytes bytes → announced bytes < 2 ^ 32

@@ -1,16 +1,8 @@
 -- The header at the front of the bytes, and what is remembered of it.
-use Rattle.std.proofs.Common.{◌≡◌, ℕ, ◌<◌, ◌≤◌, List, [], ◌∷◌, ◌++◌, length, get_or, Option, Some, None, Result, Ok, Err, refl, sym, ap, subst, ◌∙◌, arith}
-use Rattle.std.specs.Prelude.{IfSome, MatchResult, IsOkAnd}
-use Rattle.std.specs.Int.{w32, from_be_bytes}
-use Rattle.pgp_base.specs.declared.error.Error.{Error}
+use Rattle.pgp_message.proofs.Common.{◌≡◌, ℕ, ◌<◌, ◌≤◌, List, [], ◌∷◌, ◌++◌, length, get_or, Option, Some, None, Result, Ok, Err, refl, sym, ap, subst, ◌∙◌, arith, IfSome, MatchResult, IsOkAnd, w32, from_be_bytes, Error, Message, Body, announced, Front, IsFront, front_frame, BeginsWithHeader, body_of, header_of, Memory, headers_after, header_after, memory_after, seen, parsed}
 use Rattle.pgp_base.specs.declared.error.Error.TheVariants as errors
 use Rattle.pgp_message.specs.declared.message as code
-use Rattle.pgp_message.specs.BackendMessage.{Message, Body}
-use Rattle.pgp_message.specs.FrontReading.{announced, Front, IsFront, front_frame}
-use Rattle.pgp_message.specs.Stream.{BeginsWithHeader, Step}
-use Rattle.pgp_message.specs.Reading.{body_of}
-use Rattle.pgp_message.specs.Remembered.{header_of, Memory, Fits, headers_after, header_after, memory_after}
-use Rattle.pgp_message.specs.Views.{seen, parsed}
+use Rattle.pgp_message.specs.Remembered.{Fits}
 use Rattle.pgp_message.proofs.Bodies.{body_is}
 use Rattle.pgp_message.proofs.Fronts.{header_announced, header_length}
 
@@ -76,14 +68,6 @@ itself (Some header) = refl
 -- the header of the bytes fits them
 pub fits_itself : (bytes : List ℕ) (n : ℕ) → Fits (record { header = header_of bytes; headers = n }) bytes
 fits_itself bytes n = itself (header_of bytes)
-
--- what is remembered fits what a step leaves
-pub fits_after : (lacks : Type 0) (old new : List ℕ) (memory : Memory) (answer : Result (Option Message) Error) → Step lacks old answer new → Fits (memory_after memory old answer) new
-fits_after lacks old new memory (Ok None) step = subst (λ (l : List ℕ). IfSome (header_of old) (λ header. header_of l ≡ Some header)) (sym step.1) (itself (header_of old))
-fits_after lacks old new memory (Ok (Some m)) step = tt
-fits_after lacks old new memory (Err errors.InvalidLength) step = subst (λ (l : List ℕ). IfSome (header_of old) (λ header. header_of l ≡ Some header)) (sym step.1) (itself (header_of old))
-fits_after lacks old new memory (Err errors.OutOfMemory) step = subst (λ (l : List ℕ). IfSome (header_of old) (λ header. header_of l ≡ Some header)) (sym step.2) (itself (header_of old))
-fits_after lacks old new memory (Err e) step = tt
 
 -- bytes that come after it change no header
 pub header_stays : (bytes more : List ℕ) (header : ℕ × ℕ) → header_of bytes ≡ Some header → header_of (bytes ++ more) ≡ Some header

@@ -1,16 +1,6 @@
 -- A key as a number, and an answer about versions.
-use Rattle.std.proofs.Common.{◌≡◌, ℕ, ℤ, pos, negsuc, ◌<◌, ◌≤◌, List, [], ◌∷◌, ◌++◌, length, take, drop, Option, Some, None, Ok, Err, to_z, of_z, refl, sym, ap, ◌∙◌, arith, true, length-append}
-use Rattle.std.specs.Int.{w32, from_be_bytes, cast_signed}
-use Rattle.std.proofs.lemmas.List.{append-nil, drop_at, length-take}
-use Rattle.std.proofs.lemmas.Bool.{lt-ltb}
-use Rattle.std.specs.Prelude.{nat_lt}
-use Rattle.std.proofs.lemmas.Int.{to_z-of_z}
-use Rattle.pgp_base.specs.Wire.{int32, IsBytes}
-use Rattle.pgp_base.specs.PartReading.{◌>>=◌, int32_at}
-use Rattle.pgp_base.proofs.PartLemmas.{front_takes}
-use Rattle.pgp_base.specs.declared.error.Error.{Error}
-use Rattle.pgp_base.specs.declared.error.Error.TheVariants.{UnexpectedEof, InvalidCount}
-use Rattle.pgp_message.specs.Reading.{key_of, key_data_of, count_of, count_at, options_of, negotiation_of}
+use Rattle.pgp_message.proofs.Common.{◌≡◌, ℕ, ℤ, pos, negsuc, ◌<◌, ◌≤◌, List, [], ◌∷◌, ◌++◌, length, take, drop, Option, Some, None, Ok, Err, to_z, of_z, refl, sym, ap, ◌∙◌, arith, true, length-append, w32, from_be_bytes, cast_signed, append-nil, drop_at, length-take, lt-ltb, nat_lt, to_z-of_z, int32, IsBytes, ◌>>=◌, int32_at, front_takes, Error, UnexpectedEof, InvalidCount, key_of, key_data_of, count_at, options_of, negotiation_of}
+use Rattle.pgp_message.specs.Reading.{count_of}
 use Rattle.pgp_message.proofs.Families.{int32_takes}
 
 nothing : (rest : List ℕ) → length rest < 1 → rest ≡ []

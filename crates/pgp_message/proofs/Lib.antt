@@ -1,3 +1,4 @@
+mod Common
 pub mod TextBodies
 pub mod Cuts
 pub mod Fronts

@@ -1,16 +1,5 @@
 -- The numbers of a list are read as they are spelled.
-use Rattle.std.proofs.Common.{◌≡◌, ℕ, ◌<◌, ◌^◌, List, ◌++◌, length, Ok, Err, Result, refl, sym, ap, subst, arith, inl, inr}
-use Rattle.std.specs.Int.{w16, w32, from_be_bytes}
-use Rattle.pgp_base.specs.declared.error.Error.{Error}
-use Rattle.pgp_base.specs.declared.error.Error.TheVariants.{UnexpectedEof}
-use Rattle.pgp_base.specs.Wire.{uint16, oid, IsBytes}
-use Rattle.pgp_base.specs.Grammar.{StandsAt, IsReader}
-use Rattle.pgp_base.specs.PartReading.{uint16_at, oid_at}
-use Rattle.pgp_base.proofs.CountedLemmas.{ok_is, differ}
-use Rattle.pgp_base.proofs.Binds.{bind_ok, bind_err}
-use Rattle.pgp_base.proofs.PartLemmas.{number_takes, number_again, number_short, short_number, uint16_number, oid_number}
-use Rattle.pgp_message.specs.Items.{FormatSpelled, FormatRefused, TypeSpelled, TypeRefused}
-use Rattle.pgp_message.specs.ItemReading.{format_at, type_at}
+use Rattle.pgp_message.proofs.Common.{◌≡◌, ℕ, ◌<◌, ◌^◌, List, ◌++◌, length, Ok, Err, Result, refl, sym, ap, subst, arith, inl, inr, w16, w32, from_be_bytes, Error, UnexpectedEof, uint16, oid, IsBytes, StandsAt, IsReader, uint16_at, oid_at, ok_is, differ, bind_ok, bind_err, number_takes, number_again, number_short, short_number, uint16_number, oid_number, FormatSpelled, FormatRefused, TypeSpelled, TypeRefused, format_at, type_at}
 
 abbrev IsFormat : ℕ → Type 0
 IsFormat n = n < 2 ^ 16

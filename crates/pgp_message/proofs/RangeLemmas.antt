@@ -1,20 +1,5 @@
 -- The values of a row are read as they are spelled.
-use Rattle.std.proofs.Common.{◌≡◌, ℕ, ℤ, pos, negsuc, ◌+◌, ◌<◌, ◌≤◌, false, ltb, List, ◌++◌, length, take, drop, Option, Some, None, Ok, Err, refl, sym, ap, subst, ◌∙◌, append_assoc, arith, inl, inr, FitsSigned, length-append}
-use Rattle.std.specs.Int.{w32, from_be_bytes, cast_signed}
-use Rattle.std.specs.declared.ops.Range.{Range}
-use Rattle.std.proofs.lemmas.Bool.{ltb-false, ltb-true, le-ltb, lt-ltb}
-use Rattle.std.proofs.lemmas.List.{drop_at, take-append-drop, length-take, length-drop}
-use Rattle.pgp_base.specs.declared.error.Error.{Error}
-use Rattle.pgp_base.specs.declared.error.Error.TheVariants.{UnexpectedEof}
-use Rattle.pgp_base.specs.Wire.{int32}
-use Rattle.pgp_base.specs.Wire.{IsBytes}
-use Rattle.pgp_base.specs.Grammar.{StandsAt, IsReader}
-use Rattle.pgp_base.specs.PartReading.{int32_at}
-use Rattle.pgp_base.proofs.CountedLemmas.{ok_is, differ}
-use Rattle.pgp_base.proofs.Binds.{bind_ok, bind_err, guard_ok, guard_err}
-use Rattle.pgp_base.proofs.PartLemmas.{int32_number, number_takes, number_again, number_short, short_number, front_falls}
-use Rattle.pgp_message.specs.Items.{RangeSpelled, RangeRefused}
-use Rattle.pgp_message.specs.ItemReading.{range_after, range_at}
+use Rattle.pgp_message.proofs.Common.{◌≡◌, ℕ, ℤ, pos, negsuc, ◌+◌, ◌<◌, ◌≤◌, false, ltb, List, ◌++◌, length, take, drop, Option, Some, None, Ok, Err, refl, sym, ap, subst, ◌∙◌, append_assoc, arith, inl, inr, FitsSigned, length-append, w32, from_be_bytes, cast_signed, Range, ltb-false, ltb-true, le-ltb, lt-ltb, drop_at, take-append-drop, length-take, Error, UnexpectedEof, int32, IsBytes, StandsAt, IsReader, int32_at, ok_is, differ, bind_ok, bind_err, guard_ok, guard_err, int32_number, number_takes, number_again, number_short, short_number, RangeSpelled, RangeRefused, range_after, range_at}
 
 abbrev int32_value : List ℕ → ℤ
 int32_value l = cast_signed w32 (from_be_bytes w32 l)
@@ -95,16 +80,3 @@ range_some place (Some r) front s = omega (arith, ap length s.parts, length-appe
 
 pub range_reader : IsReader RangeSpelled RangeRefused range_at
 range_reader = record { found = range_found; again = range_again; refused = range_refused; refuses = range_refuses; some = range_some; own = λ bytes h. h }
-
-after_falls : (place : ℕ) (len : ℤ) (rest : List ℕ) (x : Option (Range ℕ)) (after : List ℕ) → range_after place len rest ≡ Ok (x, after) → length after ≤ length rest
-after_falls place (negsuc k) rest x after e = omega (arith, ap (λ p. length p.1) (ok_is (None, rest) (x, after) e))
-after_falls place (pos n) rest x after e =
-    let r : Range ℕ = record { start = place + 4; end = place + 4 + n } in
-    let g = guard_ok (ltb (length rest) n) UnexpectedEof (Some r, drop n rest) (x, after) e in
-    omega (arith, ap (λ p. length p.1) g.1, length-drop n rest)
-
-pub range_falls : (place : ℕ) (bytes : List ℕ) (x : Option (Range ℕ)) (after : List ℕ) → range_at place bytes ≡ Ok (x, after) → length after < length bytes
-unfolding range_at
-range_falls place bytes x after e =
-    let w = bind_ok (int32_at bytes) (λ len. range_after place len.0 len.1) (x, after) e in
-    omega (arith, front_falls 4 int32_value bytes w.0 w.1, after_falls place w.0.0 w.0.1 x after w.2)

@@ -1,16 +1,5 @@
 -- Strings, and columns whose names need not be text, are read as they are spelled.
-use Rattle.std.proofs.Common.{◌≡◌, ℕ, ◌<◌, List, [], ◌∷◌, ◌++◌, length, Some, Result, Ok, Err, refl, sym, ap, subst, ◌∙◌, append_assoc, arith, inl, inr, length-append}
-use Rattle.pgp_base.specs.declared.error.Error.{Error}
-use Rattle.pgp_base.specs.declared.error.Error.TheVariants.{UnexpectedEof}
-use Rattle.pgp_base.specs.Wire.{IsBytes, text}
-use Rattle.pgp_base.specs.Grammar.{StandsAt, IsReader}
-use Rattle.pgp_base.specs.PartReading.{string_at}
-use Rattle.pgp_base.proofs.Binds.{bind_ok, bind_err}
-use Rattle.pgp_base.proofs.CountedLemmas.{IsBytes-after, ok_is, differ}
-use Rattle.pgp_base.proofs.PartLemmas.{no_string, string_none, string_falls}
-use Rattle.pgp_base.proofs.Strings.{string_takes, string_front, string_whole}
-use Rattle.pgp_message.specs.Items.{FieldPart, numbers_of, StringSpelled, StringRefused, RawFieldSpelled, RawFieldRefused}
-use Rattle.pgp_message.specs.ItemReading.{numbers_behind, raw_field_at, raw_string_at, whole_string}
+use Rattle.pgp_message.proofs.Common.{◌≡◌, ℕ, ◌<◌, List, [], ◌∷◌, ◌++◌, length, Some, Result, Ok, Err, refl, sym, ap, subst, ◌∙◌, append_assoc, arith, inl, inr, length-append, Error, UnexpectedEof, IsBytes, text, StandsAt, IsReader, string_at, bind_ok, bind_err, IsBytes-after, ok_is, differ, no_string, string_none, string_falls, string_takes, string_front, string_whole, FieldPart, numbers_of, StringSpelled, StringRefused, RawFieldSpelled, RawFieldRefused, numbers_behind, raw_field_at, raw_string_at, whole_string}
 use Rattle.pgp_message.proofs.FieldLemmas.{numbers_found, numbers_again, numbers_refused, short_numbers}
 
 -- ---- strings

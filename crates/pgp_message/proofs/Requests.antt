@@ -1,17 +1,8 @@
 -- Requests for authentication: reading by the code is what the grammar says.
-use Rattle.std.proofs.Common.{◌≡◌, ◌≢◌, ℕ, ℤ, pos, ◌<◌, ◌^◌, Bool, true, false, cond, eqb, List, [], ◌∷◌, ◌++◌, length, Option, Some, None, Result, Ok, Err, refl, sym, ap, ◌∙◌, append_assoc, arith, FitsSigned, lit<}
-use Rattle.std.specs.Int.{w32, cast_signed, cast_unsigned}
-use Rattle.std.proofs.lemmas.Bool.{eqb-true, eqb-false}
-use Rattle.std.proofs.lemmas.List.{append-nil}
-use Rattle.std.proofs.lemmas.Int.{of_z-to_z, to_z-of_z}
+use Rattle.pgp_message.proofs.Common.{◌≡◌, ◌≢◌, ℕ, ℤ, pos, ◌<◌, ◌^◌, Bool, true, false, cond, eqb, List, [], ◌∷◌, ◌++◌, length, Option, Some, None, Result, Ok, Err, refl, sym, ap, ◌∙◌, append_assoc, arith, FitsSigned, lit<, w32, cast_signed, cast_unsigned, eqb-true, eqb-false, append-nil, of_z-to_z, to_z-of_z, Error, int32, uint32, IsBytes, ◌>>=◌, oid_at, Request, AuthenticationOk, AuthenticationKerberosV5, AuthenticationCleartextPassword, AuthenticationMd5Password, AuthenticationScmCredential, AuthenticationGss, AuthenticationGssContinue, AuthenticationSspi, AuthenticationSasl, AuthenticationSaslContinue, AuthenticationSaslFinal, code_of, details_of, ended, made, salt_of, bare_request, by_code, request_of}
 use mir.Facts.{Fits-of_z}
 use borrow.Author.Gap.{read_sfits}
-use Rattle.pgp_base.specs.declared.error.Error.{Error}
 use Rattle.pgp_base.specs.declared.error.Error.TheVariants as errors
-use Rattle.pgp_base.specs.Wire.{int32, uint32, IsBytes}
-use Rattle.pgp_base.specs.PartReading.{◌>>=◌, oid_at}
-use Rattle.pgp_message.specs.BackendMessage.{Request, AuthenticationOk, AuthenticationKerberosV5, AuthenticationCleartextPassword, AuthenticationMd5Password, AuthenticationScmCredential, AuthenticationGss, AuthenticationGssContinue, AuthenticationSspi, AuthenticationSasl, AuthenticationSaslContinue, AuthenticationSaslFinal, code_of, details_of}
-use Rattle.pgp_message.specs.Reading.{ended, made, salt_of, bare_request, by_code, request_of}
 use Rattle.pgp_message.proofs.Families.{code_again, code_takes, salt_again, salt_reads, Holds, Reads}
 
 -- a test of a number decides

@@ -1,13 +1,6 @@
 -- The row at the front of a stream: where it stands, and where none does.
-use Rattle.std.proofs.Common.{◌≡◌, ℕ, Bool, List, take, drop, Result, Ok, Err, sym, ap, subst, ◌∙◌}
-use Rattle.pgp_base.specs.Wire.{IsBytes}
-use Rattle.pgp_base.specs.declared.error.Error.{Error}
+use Rattle.pgp_message.proofs.Common.{◌≡◌, ℕ, Bool, List, take, drop, Result, Ok, Err, sym, ap, subst, ◌∙◌, IsBytes, Error, Message, DataRow, CountedBytes, Front, IsFront, front_frame, Finds, body_of, Frame, IsEnding, IsLengthFault, TakesFrame}
 use Rattle.pgp_base.specs.declared.error.Error.TheVariants as errors
-use Rattle.pgp_message.specs.BackendMessage.{Message, DataRow}
-use Rattle.pgp_message.specs.Parts.{CountedBytes}
-use Rattle.pgp_message.specs.FrontReading.{Front, IsFront, front_frame, Finds}
-use Rattle.pgp_message.specs.Reading.{body_of}
-use Rattle.pgp_message.specs.Stream.{Frame, IsEnding, IsLengthFault, TakesFrame}
 use Rattle.pgp_message.proofs.Bodies.{Found, found_body, one_body}
 use Rattle.pgp_message.proofs.Runs.{front_is_one, no_ending}
 use Rattle.pgp_message.proofs.Steps.{takes}

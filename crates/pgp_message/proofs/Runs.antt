@@ -1,17 +1,7 @@
 -- Streams: how they grow by a frame, and that they are read in one way.
-use Rattle.std.proofs.Common.{◌≡◌, ℕ, zero, suc, ◌+◌, ◌≤◌, Bool, true, false, List, [], ◌∷◌, ◌++◌, length, get_or, drop, Result, refl, sym, ap, subst, ◌∙◌, arith, append_assoc, inl, inr}
-use Rattle.std.specs.List.{flat_map, AllByRecursion}
-use Rattle.std.proofs.lemmas.List.{append-nil, length-append, length-drop, get_or-drop}
-use Rattle.std.proofs.lemmas.Bool.{cases_lt}
-use Rattle.std.proofs.lemmas.List.Concat.{flat_map-cons}
+use Rattle.pgp_message.proofs.Common.{◌≡◌, ℕ, zero, suc, ◌+◌, ◌≤◌, Bool, true, false, List, [], ◌∷◌, ◌++◌, length, get_or, drop, Result, refl, sym, ap, subst, ◌∙◌, arith, append_assoc, inl, inr, flat_map, AllByRecursion, append-nil, length-drop, get_or-drop, cases_lt, flat_map-cons, from_be_bytes-to_be_bytes_4, uint32, IsBytes, Error, Message, Body, IsFront, front_frame, announced, Frame, frame_bytes, IsFrame, IsPartial, IsEnding, IsLengthFault, Bodies, Frames, BackendRun, TakesFrame, body_of}
+use Rattle.std.proofs.lemmas.List.{length-append}
 use Rattle.std.proofs.lemmas.Grind.{flat_map-append}
-use Rattle.std.proofs.lemmas.Nat.{from_be_bytes-to_be_bytes_4}
-use Rattle.pgp_base.specs.Wire.{uint32, IsBytes}
-use Rattle.pgp_base.specs.declared.error.Error.{Error}
-use Rattle.pgp_message.specs.BackendMessage.{Message, Body}
-use Rattle.pgp_message.specs.FrontReading.{IsFront, front_frame, announced}
-use Rattle.pgp_message.specs.Stream.{Frame, frame_bytes, IsFrame, IsPartial, IsEnding, IsLengthFault, Bodies, Frames, BackendRun, TakesFrame}
-use Rattle.pgp_message.specs.Reading.{body_of}
 use Rattle.pgp_message.proofs.Cuts.{cut, front_of}
 use Rattle.pgp_message.proofs.Fronts.{announced_small, partial_is, fault_is, partial_there, fault_there, fault_stays}
 use Rattle.pgp_message.proofs.Steps.{takes}

@@ -1,15 +1,9 @@
 -- A step along a stream: a frame that was cut, and what its body says.
-use Rattle.std.proofs.Common.{◌≡◌, ℕ, ◌-◌, ◌≤◌, List, ◌++◌, take, drop, Option, Some, Result, Ok, Err, refl, sym, ap, ◌∙◌, subst}
-use Rattle.std.specs.Prelude.{◌≢◌, MatchResult, IsOkAnd}
+use Rattle.pgp_message.proofs.Common.{◌≡◌, ℕ, ◌-◌, ◌≤◌, List, ◌++◌, take, drop, Option, Some, Result, Ok, Err, refl, sym, ap, ◌∙◌, subst, MatchResult, IsOkAnd, Error, Message, Front, IsFront, front_frame, Frame, frame_bytes, IsFrame, BeginsWithKept, KeepsBytes, TakesFrame, Step, body_of, view, seen, parsed}
+use Rattle.std.specs.Prelude.{◌≢◌}
 use Rattle.bytes.proofs.Ranges.{drop-take_less}
-use Rattle.pgp_base.specs.declared.error.Error.{Error}
 use Rattle.pgp_base.specs.declared.error.Error.TheVariants as errors
 use Rattle.pgp_message.specs.declared.message as code
-use Rattle.pgp_message.specs.BackendMessage.{Message}
-use Rattle.pgp_message.specs.FrontReading.{Front, IsFront, front_frame}
-use Rattle.pgp_message.specs.Stream.{Frame, frame_bytes, IsFrame, BeginsWithKept, KeepsBytes, TakesFrame, Step}
-use Rattle.pgp_message.specs.Reading.{body_of}
-use Rattle.pgp_message.specs.Views.{view, seen, parsed}
 use Rattle.pgp_message.proofs.Bodies.{body_is}
 
 pub takes : (old new : List ℕ) (f : Frame) → old ≡ frame_bytes f ++ new → IsFrame f → TakesFrame old (body_of f.tag f.payload) new

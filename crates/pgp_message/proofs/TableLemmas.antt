@@ -1,16 +1,7 @@
 -- The places of a row lie in its bytes.
-use Rattle.std.proofs.Common.{◌≡◌, ℕ, pos, ◌+◌, ◌≤◌, List, [], ◌∷◌, length, Option, Some, None, Err, sym, ap, subst, arith, inl, inr, length-append}
-use Rattle.std.specs.List.{concat, AllByRecursion}
-use Rattle.std.specs.declared.ops.Range.{Range}
-use Rattle.std.proofs.lemmas.List.{map-id}
-use Rattle.pgp_base.specs.declared.error.Error.{Error}
-use Rattle.pgp_base.specs.Wire.{int32}
+use Rattle.pgp_message.proofs.Common.{◌≡◌, ℕ, pos, ◌+◌, ◌≤◌, List, [], ◌∷◌, length, Option, Some, None, sym, ap, subst, arith, length-append, concat, AllByRecursion, Range, map-id, Error, int32, int32_number, CountedBytes, RangeSpelled, HasPlaces, IsPlaceIn}
 use Rattle.pgp_base.specs.Items.{Spellings}
-use Rattle.pgp_base.specs.Walk.{Walk, CollectsFrom, RefusesFrom}
-use Rattle.pgp_base.proofs.PartLemmas.{int32_number}
-use Rattle.pgp_message.specs.Parts.{CountedBytes}
-use Rattle.pgp_message.specs.Items.{RangeSpelled}
-use Rattle.pgp_message.specs.Table.{HasPlaces, Tabulates, IsPlaceIn}
+use Rattle.pgp_base.specs.Walk.{Walk, CollectsFrom}
 
 place_in : (place n : ℕ) (x : Option (Range ℕ)) (front : List ℕ) → RangeSpelled place x front → place + length front ≤ n → IsPlaceIn n x
 place_in place n None front s le = tt
@@ -36,8 +27,3 @@ pub collected_places : (row : CountedBytes) (walk : Walk (Option (Range ℕ))) (
 collected_places row walk xs has all =
     let same : walk.items ≡ xs = subst (λ (l : List (Option (Range ℕ))). walk.items ≡ l) (map-id xs) (sym all.items) in
     subst (λ (l : List (Option (Range ℕ))). HasPlaces row l None) same (subst (λ (e : Option Error). HasPlaces row walk.items e) all.end has)
-
--- the error of a walk is the row's
-pub refused_places : (lacks : Type 0) (row : CountedBytes) (walk : Walk (Option (Range ℕ))) (e : Error) → HasPlaces row walk.items walk.end → RefusesFrom lacks walk e → Tabulates row lacks (Err e)
-refused_places lacks row walk e has (inr end) = inr (walk.items, subst (λ (d : Option Error). HasPlaces row walk.items d) end has)
-refused_places lacks row walk e has (inl memory) = inl memory

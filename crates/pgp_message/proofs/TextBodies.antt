@@ -1,15 +1,6 @@
 -- Bodies whose texts are cut from their bytes.
-use Rattle.std.proofs.Common.{◌≡◌, ℕ, ℤ, ◌+◌, ◌-◌, ◌≤◌, ◌<◌, List, [], ◌∷◌, ◌++◌, length, take, drop, Some, Err, refl, sym, ap, ◌∙◌, arith, append_assoc}
-use Rattle.std.proofs.lemmas.List.{length-append, length-take, take_at, drop_at, nil_from_length}
-use Rattle.std.proofs.Math.Seq.{drop-append-add}
-use Rattle.std.specs.Int.{w32, from_be_bytes, cast_signed}
-use Rattle.pgp_base.specs.declared.error.Error.TheVariants.{NotDrained}
-use Rattle.pgp_base.specs.PartReading.{int32_at, string_at}
-use Rattle.pgp_base.proofs.CountedLemmas.{ok}
-use Rattle.pgp_base.proofs.PartLemmas.{front_takes}
-use Rattle.pgp_base.proofs.Strings.{string_takes, first_text, after_text}
-use Rattle.pgp_message.specs.Parts.{Notification, Setting}
-use Rattle.pgp_message.specs.Reading.{string_of, setting_of, notification_of}
+use Rattle.pgp_message.proofs.Common.{◌≡◌, ℕ, ℤ, ◌+◌, ◌-◌, ◌≤◌, ◌<◌, List, [], ◌∷◌, ◌++◌, length, take, drop, Some, Err, refl, sym, ap, ◌∙◌, arith, append_assoc, length-take, take_at, drop_at, nil_from_length, drop-append-add, w32, from_be_bytes, cast_signed, NotDrained, int32_at, string_at, ok, front_takes, string_takes, first_text, after_text, Notification, Setting, string_of, setting_of, notification_of}
+use Rattle.std.proofs.lemmas.List.{length-append}
 
 -- the text is the front of the bytes
 text_is : (bytes text rest : List ℕ) → string_at bytes ≡ Some (text, rest) → take (length text) bytes ≡ text

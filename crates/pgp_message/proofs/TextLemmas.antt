@@ -1,14 +1,5 @@
 -- Texts are read as they are spelled.
-use Rattle.std.proofs.Common.{◌≡◌, ℕ, ◌<◌, List, [], ◌∷◌, ◌++◌, length, Ok, Err, refl, ap, subst, arith, length-append}
-use Rattle.pgp_base.specs.declared.error.Error.{Error}
-use Rattle.pgp_base.specs.declared.error.Error.TheVariants.{UnexpectedEof, NotUtf8}
-use Rattle.pgp_base.specs.Wire.{text}
-use Rattle.pgp_base.specs.Wire.{IsBytes}
-use Rattle.pgp_base.specs.Grammar.{StandsAt, IsReader}
-use Rattle.pgp_base.specs.PartReading.{text_at}
-use Rattle.pgp_base.proofs.Strings.{string_front, string_whole}
-use Rattle.pgp_base.proofs.PartLemmas.{TextFound, text_found, text_read, text_refused, text_cut, string_none, text_falls}
-use Rattle.pgp_message.specs.Items.{TextSpelled, TextRefused}
+use Rattle.pgp_message.proofs.Common.{◌≡◌, ℕ, ◌<◌, List, [], ◌∷◌, ◌++◌, length, Ok, Err, refl, ap, subst, arith, length-append, Error, UnexpectedEof, NotUtf8, text, IsBytes, StandsAt, IsReader, text_at, string_front, string_whole, TextFound, text_found, text_read, text_refused, text_cut, string_none, text_falls, TextSpelled, TextRefused}
 
 found : (place : ℕ) (bytes : List ℕ) (x : List ℕ) (after : List ℕ) → IsBytes bytes → text_at bytes ≡ Ok (x, after) → StandsAt TextSpelled place bytes x after
 found place bytes x after h e =

@@ -1,30 +1,11 @@
 -- Lists whose items come from an iterator.
-use Rattle.std.proofs.Common.{◌≡◌, ℕ, ◌+◌, List, [], ◌∷◌, ◌++◌, length, map, Option, Some, None, Result, Ok, Err, refl, sym, ap, ◌∙◌, subst, arith, inl, inr, length-append, true, false, ◌<◌, ◌^◌}
-use Rattle.std.specs.Prelude.{◌⊎◌, pos, OnOk}
-use Rattle.std.specs.Int.{w32, cast_unsigned}
-use Rattle.std.specs.List.{flat_map}
+use Rattle.pgp_message_write.proofs.Common.{◌≡◌, ℕ, ◌+◌, List, [], ◌∷◌, ◌++◌, length, map, Option, Some, None, Ok, Err, refl, sym, ap, ◌∙◌, subst, arith, inl, inr, length-append, true, false, ◌<◌, ◌^◌, ◌⊎◌, OnOk, w32, cast_unsigned, flat_map, append-nil, length-map, flat_map-append, flat_map-map, uint16, uint32, int32, frame, Cause, either, count_cause, length_cause, Wants, WantsMemory, Held, ◌⊕◌, Leaves, Error, either_then, memory_then, int32_spelled, length-uint16, length-uint32, Part, Byte, Rest, joined, parts_cause, frame_cause, framed, PutsParts, PartsRefused, framed_length, int32_length, tagged_length, Message, tag_of, number_cause, uncounted, items_cause, Arrived, SoFarRefused, GivenRefused, WritesBytes, WritesGiven, counted_list, wide_list, marked_list, parts, bytes_of}
+use Rattle.std.proofs.Common.{Result}
+use Rattle.std.specs.Prelude.{pos}
 use Rattle.std.specs.Result.{IsErr, IsErrAnd}
 use Rattle.std.proofs.lemmas.Int.{of_z-to_z, to_z_pos}
-use Rattle.std.proofs.lemmas.List.{append-nil, length-map}
-use Rattle.std.proofs.lemmas.List.Concat.{flat_map-append}
-use Rattle.std.proofs.lemmas.List.Folds.{flat_map-map}
-use Rattle.pgp_base.specs.Wire.{uint16, uint32, int32, frame}
-use Rattle.pgp_base.specs.Cause.{Cause, either, count_cause, length_cause, Wants, WantsMemory}
-use Rattle.pgp_base.specs.Held.{Held, ◌⊕◌, Leaves}
-use Rattle.pgp_base.specs.declared.error.Error.{Error}
-use Rattle.pgp_base.proofs.Causes.{either_then}
-use Rattle.pgp_base.proofs.Needs.{memory_then}
-use Rattle.pgp_base.proofs.Parts.{int32_spelled, length-uint16, length-uint32}
-use Rattle.pgp_frontend.specs.Payload.{Part, Byte, Rest, joined, parts_cause, frame_cause, framed}
-use Rattle.pgp_frontend.specs.Putting.{PutsParts, PartsRefused}
-use Rattle.pgp_frontend.proofs.Needs.{framed_length, int32_length, tagged_length}
-use Rattle.pgp_message.specs.BackendMessage.{Message, tag_of}
 use Rattle.pgp_message_write.specs.declared.list_message_of.Ending.{Ending}
 use Rattle.pgp_message_write.specs.declared.list_message_of.Ending.TheVariants.{Count, WideCount, Zero}
-use Rattle.pgp_message_write.specs.Ending.{number_cause}
-use Rattle.pgp_message_write.specs.Given.{uncounted, items_cause, Arrived, SoFarRefused, GivenRefused, WritesBytes, WritesGiven}
-use Rattle.pgp_message_write.specs.Lists.{counted_list, wide_list, marked_list}
-use Rattle.pgp_message_write.specs.Reply.{parts, bytes_of}
 use Rattle.pgp_message_write.proofs.Lists.{cause_before, cause_behind, joined-append, puts_then, refused_behind}
 
 -- one item more, at the end

@@ -1,3 +1,4 @@
+mod Common
 pub mod GivenLists
 pub mod Lists
 pub mod Payloads

@@ -1,16 +1,5 @@
 -- Parts after parts, and a front of a list's items with the item after it.
-use Rattle.std.proofs.Common.{◌≡◌, ℕ, ◌+◌, ◌<◌, List, [], ◌∷◌, ◌++◌, length, map, take, drop, Some, None, sym, ap, ◌∙◌, get_or, arith, inl, inr, length-append, subst}
-use Rattle.std.specs.List.{flat_map}
-use Rattle.std.proofs.lemmas.List.{take_more, map-append, append-nil, take-append-drop, drop_more}
-use Rattle.std.proofs.lemmas.List.Concat.{flat_map-append}
-use Rattle.pgp_base.specs.Cause.{first}
-use Rattle.pgp_base.specs.Held.{Held, ◌⊕◌}
-use Rattle.pgp_base.specs.declared.error.Error.{Error}
-use Rattle.pgp_base.proofs.Causes.{first-append, either_first, either_then}
-use Rattle.pgp_base.proofs.Needs.{memory_more, memory_then}
-use Rattle.pgp_base.proofs.Parts.{more_twice}
-use Rattle.pgp_frontend.specs.Payload.{Part, spelling, part_cause, parts_cause, joined}
-use Rattle.pgp_frontend.specs.Putting.{PutsParts, PartsRefused}
+use Rattle.pgp_message_write.proofs.Common.{◌≡◌, ℕ, ◌+◌, ◌<◌, List, [], ◌∷◌, ◌++◌, length, map, take, drop, Some, None, sym, ap, ◌∙◌, get_or, arith, inl, inr, length-append, subst, flat_map, take_more, map-append, append-nil, take-append-drop, drop_more, flat_map-append, first, Held, ◌⊕◌, Error, first-append, either_first, either_then, memory_more, memory_then, more_twice, Part, spelling, part_cause, parts_cause, joined, PutsParts, PartsRefused}
 
 pub joined-append : (ps qs : List Part) → joined (ps ++ qs) ≡ joined ps ++ joined qs
 joined-append ps qs = flat_map-append spelling ps qs

@@ -1,15 +1,9 @@
 -- A message that has no cause is read from its parts.
-use Rattle.std.proofs.Common.{◌≡◌, ℕ, ◌+◌, ◌≤◌, List, [], ◌∷◌, ◌++◌, length, None, Some, refl, sym, ap, ◌∙◌, append-nil, append_assoc, pos, inl, inr}
-use Rattle.std.specs.Prelude.{nat_le, if◌then◌else◌}
+use Rattle.pgp_message_write.proofs.Common.{◌≡◌, ℕ, ◌+◌, ◌≤◌, List, [], ◌∷◌, ◌++◌, length, None, Some, refl, sym, ap, ◌∙◌, append_assoc, pos, inl, inr, nat_le, if◌then◌else◌, int32, uint16, text, text_cause, length_cause, either_left, either_right, Request, Message, tag_of, payload_of, code_of, details_of, Fits, Spells, AuthenticationOk, AuthenticationKerberosV5, AuthenticationCleartextPassword, AuthenticationMd5Password, AuthenticationScmCredential, AuthenticationGss, AuthenticationGssContinue, AuthenticationSspi, AuthenticationSasl, AuthenticationSaslContinue, AuthenticationSaslFinal, ParseComplete, BindComplete, CloseComplete, NotificationResponse, CommandComplete, DataRow, ErrorResponse, CopyInResponse, CopyOutResponse, EmptyQueryResponse, BackendKeyData, NegotiateProtocolVersion, NoticeResponse, Authentication, ParameterStatus, RowDescription, ReadyForQuery, CopyDone, CopyData, NoData, PortalSuspended, ParameterDescription, joined, parts_cause, key_cause, parts, cause, IsInRange}
+use Rattle.std.proofs.Common.{append-nil}
 use Rattle.std.proofs.lemmas.Bool.{leb-true, cases_Bool}
-use Rattle.pgp_base.specs.Wire.{int32, uint16, text}
 use Rattle.pgp_base.specs.declared.error.Error.TheVariants.{InvalidSize}
-use Rattle.pgp_base.specs.Cause.{text_cause, length_cause}
-use Rattle.pgp_base.proofs.Causes.{either_left, either_right}
 use Rattle.pgp_base.proofs.Spellings.{without_zero}
-use Rattle.pgp_message.specs.BackendMessage.{Request, Message, tag_of, payload_of, code_of, details_of, Fits, Spells, AuthenticationOk, AuthenticationKerberosV5, AuthenticationCleartextPassword, AuthenticationMd5Password, AuthenticationScmCredential, AuthenticationGss, AuthenticationGssContinue, AuthenticationSspi, AuthenticationSasl, AuthenticationSaslContinue, AuthenticationSaslFinal, ParseComplete, BindComplete, CloseComplete, NotificationResponse, CommandComplete, DataRow, ErrorResponse, CopyInResponse, CopyOutResponse, EmptyQueryResponse, BackendKeyData, NegotiateProtocolVersion, NoticeResponse, Authentication, ParameterStatus, RowDescription, ReadyForQuery, CopyDone, CopyData, NoData, PortalSuspended, ParameterDescription}
-use Rattle.pgp_frontend.specs.Payload.{joined, parts_cause, key_cause}
-use Rattle.pgp_message_write.specs.Reply.{parts, cause, IsInRange}
 
 -- a key that has no cause has 4 to 256 bytes
 key_fits : (n : ℕ) → key_cause n ≡ None → (4 ≤ n) × (n ≤ 256)

@@ -1,18 +1,11 @@
 -- Lists that were written are read.
-use Rattle.std.proofs.Common.{◌≡◌, ℕ, ◌+◌, ◌-◌, ◌<◌, ◌^◌, List, [], ◌∷◌, ◌++◌, length, map, take, drop, Option, Some, None, refl, sym, ap, ◌∙◌, append-nil, append_assoc, length-append, pos, arith}
-use Rattle.std.specs.Prelude.{negsuc, suc}
-use Rattle.std.specs.List.{flat_map, concat, AllByRecursion, slice_range}
+use Rattle.pgp_message_write.proofs.Common.{◌≡◌, ℕ, ◌+◌, ◌-◌, ◌<◌, ◌^◌, List, [], ◌∷◌, ◌++◌, length, map, take, drop, Option, Some, None, refl, sym, ap, ◌∙◌, append_assoc, length-append, pos, arith, negsuc, suc, flat_map, concat, AllByRecursion, slice_range, HasNoZero, int16, int32, uint32, oid, text, Error, Part, joined, column_parts, field_parts, format_parts, text_parts, type_parts, value_parts, IsRowValue, IsColumn, IsOption, IsMechanism, fields_of, names_of, int32_spelled, length-uint32}
+use Rattle.std.proofs.Common.{append-nil}
 use Rattle.std.specs.declared.ops.Range.{Range}
 use Rattle.pgp_base.specs.Items.{Spellings, CountedItems, MarkedItems, Unmarked}
-use Rattle.pgp_base.specs.Wire.{HasNoZero, int16, int32, uint32, oid, text}
-use Rattle.pgp_base.specs.declared.error.Error.{Error}
-use Rattle.pgp_frontend.specs.Payload.{Part, joined}
 use Rattle.pgp_message.specs.Items.{ErrorPart, ErrorFieldSpelled, ErrorFieldRefused, FieldPart, FieldSpelled, FieldRefused, FormatSpelled, FormatRefused, RangeSpelled, RangeRefused, TextSpelled, TextRefused, TypeSpelled, TypeRefused}
 use Rattle.pgp_message.specs.Table.{value_at}
-use Rattle.pgp_message_write.specs.Lists.{column_parts, field_parts, format_parts, text_parts, type_parts, value_parts}
-use Rattle.pgp_message_write.specs.Reply.{IsRowValue, IsColumn, IsOption, IsMechanism, fields_of, names_of}
 use Rattle.std.proofs.Math.Seq.{drop-append-add, drop-append_seam, take-append_seam}
-use Rattle.pgp_base.proofs.Parts.{int32_spelled, length-uint32}
 use Rattle.pgp_message_write.proofs.Lists.{joined-append}
 
 -- what each item is spelled as

@@ -1,14 +1,8 @@
 -- Replies on a stream.
-use Rattle.std.proofs.Common.{◌≡◌, ℕ, ◌+◌, ◌<◌, false, List, [], ◌∷◌, ◌++◌, length, map, refl, sym, ap, ◌∙◌, append-nil, arith, inl}
-use Rattle.std.specs.Prelude.{Result, Ok}
-use Rattle.std.specs.List.{flat_map, AllByRecursion}
-use Rattle.pgp_base.specs.Cause.{length_cause}
-use Rattle.pgp_base.proofs.Causes.{either_right, fits_of}
-use Rattle.pgp_base.specs.declared.error.Error.{Error}
-use Rattle.pgp_message.specs.BackendMessage.{Message, tag_of, ParseComplete, BindComplete, CloseComplete, NotificationResponse, CommandComplete, DataRow, ErrorResponse, CopyInResponse, CopyOutResponse, EmptyQueryResponse, BackendKeyData, NegotiateProtocolVersion, NoticeResponse, Authentication, ParameterStatus, RowDescription, ReadyForQuery, CopyDone, CopyData, NoData, PortalSuspended, ParameterDescription}
+use Rattle.pgp_message_write.proofs.Common.{◌≡◌, ℕ, ◌+◌, ◌<◌, false, List, [], ◌∷◌, ◌++◌, length, map, refl, sym, ap, ◌∙◌, arith, inl, Result, flat_map, AllByRecursion, length_cause, either_right, fits_of, Error, Message, tag_of, ParseComplete, BindComplete, CloseComplete, NotificationResponse, CommandComplete, DataRow, ErrorResponse, CopyInResponse, CopyOutResponse, EmptyQueryResponse, BackendKeyData, NegotiateProtocolVersion, NoticeResponse, Authentication, ParameterStatus, RowDescription, ReadyForQuery, CopyDone, CopyData, NoData, PortalSuspended, ParameterDescription, joined, parts_cause, parts, bytes_of, IsReply}
+use Rattle.std.proofs.Common.{append-nil}
+use Rattle.std.specs.Prelude.{Ok}
 use Rattle.pgp_message.specs.Stream.{Frame, frame_bytes, IsFrame, Bodies, BackendRun, TakesFrame}
-use Rattle.pgp_frontend.specs.Payload.{joined, parts_cause}
-use Rattle.pgp_message_write.specs.Reply.{parts, bytes_of, IsReply}
 use Rattle.pgp_message_write.proofs.Payloads.{read_back, payload_is}
 
 tag_fits : (m : Message) → tag_of m < 256

@@ -1,18 +1,5 @@
 -- What the writer of a list appends is the message of its items.
-use Rattle.std.proofs.Common.{◌≡◌, ℕ, List, [], ◌∷◌, ◌++◌, length, map, Some, None, sym, ap, ◌∙◌, subst}
-use Rattle.std.specs.Prelude.{Result}
-use Rattle.std.specs.List.{flat_map}
-use Rattle.std.proofs.lemmas.List.{append-nil, length-map}
-use Rattle.std.proofs.lemmas.List.Folds.{flat_map-map}
-use Rattle.pgp_base.specs.Wire.{uint16, frame}
-use Rattle.pgp_base.specs.Cause.{Cause, count_cause, Writes}
-use Rattle.pgp_base.specs.Held.{Held}
-use Rattle.pgp_base.specs.declared.error.Error.{Error}
-use Rattle.pgp_base.proofs.Causes.{either_then}
-use Rattle.pgp_frontend.specs.Payload.{Part, Byte, Rest, joined, frame_cause, WritesFrame}
-use Rattle.pgp_message.specs.BackendMessage.{Message, tag_of}
-use Rattle.pgp_message_write.specs.Lists.{with_list}
-use Rattle.pgp_message_write.specs.Reply.{parts, bytes_of, WritesList}
+use Rattle.pgp_message_write.proofs.Common.{◌≡◌, ℕ, List, [], ◌∷◌, ◌++◌, length, map, Some, None, sym, ap, ◌∙◌, subst, Result, flat_map, append-nil, length-map, flat_map-map, uint16, frame, Cause, count_cause, Writes, Held, Error, either_then, Part, Byte, Rest, joined, frame_cause, WritesFrame, Message, tag_of, with_list, parts, bytes_of, WritesList}
 use Rattle.pgp_message_write.proofs.Lists.{joined-append}
 
 -- the parts ps, which are spelled as the message is, were written

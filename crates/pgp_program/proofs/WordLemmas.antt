@@ -1,7 +1,6 @@
 -- One word more, after those that stand.
-use Rattle.std.proofs.Common.{◌≡◌, ℕ, suc, ◌+◌, List, [], ◌∷◌, ◌++◌, length, length-append, subst, sym, ap, ◌∙◌, arith}
+use Rattle.pgp_program.proofs.Common.{◌≡◌, ℕ, suc, ◌+◌, List, [], ◌∷◌, ◌++◌, length, length-append, subst, sym, ap, ◌∙◌, arith, TextsFrom}
 use Rattle.std.specs.Str.{IsUtf8}
-use Rattle.pgp_program.specs.Words.{TextsFrom}
 
 module _ (Stands : ℕ → List ℕ → Type 0) where
   texts_more : (place at : ℕ) (words : List (List ℕ)) (word : List ℕ) → TextsFrom Stands place words → at ≡ place + length words → Stands at word → IsUtf8 word → TextsFrom Stands place (words ++ word ∷ [])

@@ -1,17 +1,10 @@
 -- Texts of ASCII are prepared as they are, or rejected.
-use Rattle.std.proofs.Common.{◌≡◌, ℕ, ◌<◌, ◌≤◌, true, false, cond, List, [], ◌∷◌, refl, ap, ◌∙◌, arith, encode_utf8_all, inl, inr}
+use Rattle.pgp_saslprep.proofs.Common.{◌≡◌, ℕ, ◌<◌, ◌≤◌, true, false, cond, List, [], ◌∷◌, refl, ap, ◌∙◌, arith, encode_utf8_all, inl, inr, IsAscii, cases_Bool, or_left, or_from, not_from_false, and_right, and_left, lt-leb, chars-IsAscii, encodes-IsAscii, Nfkc, Range, in_table, ranges_rise, a_1, b_1, c_1_2, c_2_1, c_2_2, c_3, c_4, c_5, c_6, c_7, c_8, c_9, d_1, mapped_char, mapped_text, has, is_prohibited, is_one_way, is_refused, prepared_text, prepared_bytes}
 use Rattle.std.specs.Prelude.{Some, None, option_map, unwrap_or, All}
-use Rattle.std.specs.Str.{IsAscii}
-use Rattle.std.proofs.lemmas.Bool.{cases_Bool, or_left, or_from, not_from_false, and_right, and_left, lt-leb}
 use Rattle.std.proofs.lemmas.List.Elements.{All-head, All-tail, All-weaker}
 use Rattle.std.proofs.lemmas.List.Folds.{list_any_none}
-use Rattle.std.proofs.lemmas.Str.{chars-IsAscii, encodes-IsAscii}
 use Rattle.std.proofs.lemmas.Str.Ascii.{All-from_ascii, IsAscii-from_all}
-use Rattle.unicode_normalization.specs.Forms.{Nfkc}
 use Rattle.unicode_normalization.proofs.FormsLemmas.{normalize-ascii}
-use Rattle.pgp_saslprep.specs.Table.{Range, in_table, ranges_rise}
-use Rattle.pgp_saslprep.specs.Tables.{a_1, b_1, c_1_2, c_2_1, c_2_2, c_3, c_4, c_5, c_6, c_7, c_8, c_9, d_1}
-use Rattle.pgp_saslprep.specs.SaslPrep.{mapped_char, mapped_text, has, is_prohibited, is_one_way, is_refused, prepared_text, prepared_bytes}
 use Rattle.pgp_saslprep.proofs.Halving.{below}
 
 abbrev pub IsPlain : ℕ → Type 0

@@ -1,7 +1,5 @@
 -- The last character.
-use Rattle.std.proofs.Common.{◌≡◌, ℕ, List, [], ◌∷◌, ◌++◌, refl}
-use Rattle.pgp_saslprep.specs.Table.{Range, in_table}
-use Rattle.pgp_saslprep.specs.SaslPrep.{ends}
+use Rattle.pgp_saslprep.proofs.Common.{◌≡◌, ℕ, List, [], ◌∷◌, ◌++◌, refl, Range, in_table, ends}
 
 pub ends_push : (table : List Range) (text : List ℕ) (c : ℕ) → ends table (text ++ c ∷ []) ≡ in_table table c
 unfolding ends

@@ -1,7 +1,5 @@
 -- A table that is halved.
-use Rattle.std.proofs.Common.{◌≡◌, ℕ, zero, suc, ◌+◌, ◌<◌, ◌≤◌, true, false, ◌&&◌, nat_le, List, [], ◌∷◌, length, drop, get_or, refl, sym, ap, ◌∙◌, arith, add-one, le_of_suc-le-suc, not-suc-le-zero, drop_of_length-le}
-use Rattle.std.proofs.lemmas.Bool.{and_parts, and_from, and_left, and_right, or_right, leb-true, le-leb, lt-leb}
-use Rattle.pgp_saslprep.specs.Table.{Range, in_table, ranges_rise}
+use Rattle.pgp_saslprep.proofs.Common.{◌≡◌, ℕ, zero, suc, ◌+◌, ◌<◌, ◌≤◌, true, false, ◌&&◌, nat_le, List, [], ◌∷◌, length, drop, get_or, refl, sym, ap, ◌∙◌, arith, add-one, le_of_suc-le-suc, not-suc-le-zero, drop_of_length-le, and_parts, and_from, and_left, and_right, or_right, leb-true, le-leb, lt-leb, Range, in_table, ranges_rise}
 
 pub record Parts (n : ℕ) (r : Range) (rs : List Range) : Type 0 where
   pub from : n ≤ r.0

@@ -1,3 +1,4 @@
+mod Common
 pub mod Ascii
 pub mod Ends
 pub mod Halving

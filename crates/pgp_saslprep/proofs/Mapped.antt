@@ -1,9 +1,6 @@
 -- What one character is mapped to, as bytes.
-use Rattle.std.proofs.Common.{◌≡◌, ℕ, true, false, [], ◌∷◌, refl, encode_utf8_all, append-nil}
+use Rattle.pgp_saslprep.proofs.Common.{◌≡◌, ℕ, true, false, [], ◌∷◌, refl, encode_utf8_all, append-nil, in_table, b_1, c_1_2, mapped_char, mapped_text}
 use Rattle.std.specs.Char.{encode_utf8}
-use Rattle.pgp_saslprep.specs.Table.{in_table}
-use Rattle.pgp_saslprep.specs.Tables.{b_1, c_1_2}
-use Rattle.pgp_saslprep.specs.SaslPrep.{mapped_char, mapped_text}
 
 pub as_space : (c : ℕ) → in_table c_1_2 c ≡ true → encode_utf8_all (mapped_text (c ∷ [])) ≡ encode_utf8 32
 unfolding mapped_char encode_utf8

@@ -1,10 +1,6 @@
 -- What the steps of the preparation come to, as characters and as bytes.
-use Rattle.std.proofs.Common.{◌≡◌, ℕ, Bool, true, false, List, Option, Some, None, refl, sym, ap, ◌∙◌, encode_utf8_all, chars}
-use Rattle.std.specs.Str.{IsUtf8}
-use Rattle.std.proofs.lemmas.Str.{chars_from_encodes}
-use Rattle.unicode_normalization.specs.Forms.{nfkc}
-use Rattle.pgp_saslprep.specs.Tables.{a_1}
-use Rattle.pgp_saslprep.specs.SaslPrep.{mapped_text, has, is_refused, prepared_text, prepared_bytes}
+use Rattle.pgp_saslprep.proofs.Common.{◌≡◌, ℕ, Bool, true, false, List, Option, Some, refl, sym, ap, ◌∙◌, encode_utf8_all, chars, IsUtf8, chars_from_encodes, nfkc, a_1, mapped_text, has, is_refused, prepared_text, prepared_bytes}
+use Rattle.std.proofs.Common.{None}
 
 module _ (text mapped : List ℕ) (mapped_utf8 : IsUtf8 mapped) (m : mapped ≡ encode_utf8_all (mapped_text (chars text))) where
   mapped_chars : chars mapped ≡ mapped_text (chars text)

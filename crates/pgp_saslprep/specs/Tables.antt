@@ -1,5 +1,5 @@
 -- The tables of RFC 3454, appendices A to D, as inclusive ranges of code points, in order.
--- Written by scripts/saslprep_tables from Python's `stringprep`. Do not edit.
+-- Written by tools/saslprep_tables from Python's `stringprep`. Do not edit.
 use Rattle.std.specs.Prelude.{List, [], ◌∷◌}
 use Rattle.pgp_saslprep.specs.Table.{Range}
 

@@ -1,23 +1,5 @@
 -- By which way a client is logged in, and what it wrote for that.
-use Rattle.std.proofs.Common.{◌≡◌, ℕ, true, false, List, [], ◌∷◌, ◌++◌, Option, Some, None, refl, sym, ap, subst, ◌∙◌, inl, inr}
-use Rattle.std.specs.Prelude.{option_to_list}
-use Rattle.std.specs.List.{AllByRecursion}
-use Rattle.std.proofs.lemmas.Bool.{cond-true, cond-false}
-use Rattle.std.proofs.lemmas.List.{append-nil}
-use Rattle.std.proofs.lemmas.List.Elements.{filter-append}
-use Rattle.pgp_auth.specs.Md5Text.{md5_answer}
-use Rattle.pgp_auth.specs.ScramClient.{Client, Answers, Completes, message_of}
-use Rattle.pgp_client.specs.Taking.{taken}
-use Rattle.pgp_client.specs.Talk.{Talk}
-use Rattle.pgp_client.specs.Telling.{Turn}
-use Rattle.pgp_frontend.specs.ClientMessage.{ClientMessage, PasswordMessage, SaslInitialResponse, SaslResponse}
-use Rattle.pgp_frontend.proofs.ClientRuns.{each_push}
-use Rattle.pgp_message.specs.BackendMessage.{Message, Authentication, AuthenticationOk, AuthenticationCleartextPassword, AuthenticationMd5Password, AuthenticationSasl, AuthenticationSaslContinue, AuthenticationSaslFinal}
-use Rattle.pgp_session.specs.Login.{Asking, Cleartext, Md5, Sasl, First, Final, Welcome, Login, LogsOn, NothingAsked, ByCleartext, ByMd5, ScramBegins, ScramGoesOn, ScramEnds, Welcomed, Trusted, Ways, asking}
-use Rattle.pgp_session.specs.ScramLogin.{Offers, ReceivedAmong, NoneWanted, OneReceived, OtherReceived, initial, offer, first_text, final_text, welcome}
-use Rattle.pgp_session.specs.Session.{Admitted, ByNone, ByPassword, ByHash, BySignature, IsAllowed, Plays, Begins, Writes, Hears, asks_hash, asks_password, is_secret, secrets_of}
-use Rattle.pgp_session.specs.declared.scram_login.LoginPhase.{LoginPhase}
-use Rattle.pgp_session.specs.declared.scram_login.LoginPhase.TheVariants.{AwaitsOffer, AwaitsFirst, AwaitsFinal, AwaitsOk, Done, Over}
+use Rattle.pgp_session.proofs.Common.{◌≡◌, ℕ, true, false, List, [], ◌∷◌, ◌++◌, Option, Some, None, refl, sym, ap, subst, ◌∙◌, inl, inr, option_to_list, AllByRecursion, cond-true, cond-false, append-nil, filter-append, md5_answer, Client, Answers, Completes, message_of, taken, Talk, Turn, ClientMessage, PasswordMessage, SaslInitialResponse, SaslResponse, each_push, Message, Authentication, AuthenticationOk, AuthenticationCleartextPassword, AuthenticationMd5Password, AuthenticationSasl, AuthenticationSaslContinue, AuthenticationSaslFinal, Asking, Cleartext, Md5, Sasl, First, Final, Welcome, Login, LogsOn, NothingAsked, ByCleartext, ByMd5, ScramBegins, ScramGoesOn, ScramEnds, Welcomed, Trusted, Ways, asking, Offers, ReceivedAmong, NoneWanted, OneReceived, OtherReceived, initial, offer, first_text, final_text, welcome, Admitted, ByNone, ByPassword, ByHash, BySignature, IsAllowed, Plays, Begins, Writes, Hears, asks_hash, asks_password, is_secret, secrets_of, LoginPhase, AwaitsOffer, AwaitsFirst, AwaitsFinal, AwaitsOk, Done, Over}
 
 IsAskedBy : Message → Asking → Type 0
 IsAskedBy m Cleartext = m ≡ asks_password

@@ -1,10 +1,6 @@
 -- A Bind that was written in a buffer that had the bytes to send.
-use Rattle.std.proofs.Common.{◌≡◌, ℕ, List, ◌++◌, None, ap, ◌∙◌}
-use Rattle.pgp_base.specs.Held.{Held, ◌⊕◌, Leaves, lengthened}
-use Rattle.pgp_frontend.specs.ClientMessage.{ClientMessage}
-use Rattle.pgp_frontend.specs.Payload.{IsInRange, bytes_of, cause}
+use Rattle.pgp_session.proofs.Common.{◌≡◌, ℕ, List, ◌++◌, None, ap, ◌∙◌, Held, ◌⊕◌, Leaves, lengthened, ClientMessage, IsInRange, bytes_of, cause, Added}
 use Rattle.pgp_session.specs.ConnectionBind.{Has}
-use Rattle.pgp_session.specs.Login.{Added}
 
 longer : {K : Type 0} (a b : Held K) (z : List ℕ) → b ≡ a ⊕ z → b.bytes ≡ a.bytes ++ z
 unfolding lengthened

@@ -1,13 +1,5 @@
 -- What a connection keeps while bytes of a message are missing.
-use Rattle.std.proofs.Common.{◌≡◌, ◌⊎◌, inl, inr, ℕ, ◌+◌, ◌≤◌, List, ◌∷◌, ◌++◌, length, Some, false, sym, ap, ◌∙◌, arith}
-use Rattle.std.specs.Prelude.{nat_lt}
-use Rattle.std.proofs.lemmas.Bool.Decides.{nat_tests}
-use Rattle.std.proofs.lemmas.List.{length-append}
-use Rattle.pgp_base.specs.Wire.{uint32}
-use Rattle.pgp_base.proofs.Parts.{length-uint32}
-use Rattle.pgp_message.specs.Remembered.{header_of}
-use Rattle.pgp_message.specs.Stream.{BeginsWithHeader, IsPartial}
-use Rattle.pgp_session.specs.Connection.{is_longer, longer}
+use Rattle.pgp_session.proofs.Common.{◌≡◌, ◌⊎◌, inl, inr, ℕ, ◌+◌, ◌≤◌, List, ◌∷◌, ◌++◌, length, Some, false, sym, ap, ◌∙◌, arith, nat_lt, nat_tests, length-append, uint32, length-uint32, header_of, BeginsWithHeader, IsPartial, is_longer, longer}
 
 -- a test that failed
 within : (limit len : ℕ) → nat_lt limit len ≡ false → len ≤ limit

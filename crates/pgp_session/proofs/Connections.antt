@@ -1,47 +1,16 @@
 -- What the calls of a connection come to.
-use Rattle.std.proofs.Common.{◌≡◌, ℕ, ◌-◌, ◌<◌, ◌≤◌, List, [], ◌∷◌, ◌++◌, length, get_or, Option, Some, None, Result, Ok, Err, refl, sym, ap, ap₂, subst, ◌∙◌, arith, inl, inr, Bool, true, false, not}
-use Rattle.std.specs.Prelude.{OnOk, IfErr, drop, take, ◌&&◌, ◌≢◌}
+use Rattle.pgp_session.proofs.Common.{◌≡◌, ℕ, ◌-◌, ◌≤◌, List, [], ◌∷◌, ◌++◌, length, get_or, Option, Some, None, Result, Ok, Err, refl, sym, ap, ap₂, subst, ◌∙◌, arith, inl, inr, Bool, true, false, not, OnOk, IfErr, ◌&&◌, WantsMemory, Error, Talk, Takes, taken, Event, Part, ClientMessage, bytes_of, cause, IsInRange, header_of, BeginsWithKept, IsLengthFault, IsPartial, Step, TakesFrame, parsed, view, InvalidLength, OutOfMemory, kind_of, request_of, awaits_data, is_copying, Request, Advances, Comes, IsNone, IsUnfit, Nexts, Notes, SendsGiven, Sent, Shown, Stops, Took, asked_of, is_bulk, is_end, in_phase, is_logged_in, is_part, is_longer, limit_of, may_ask, may_send, moved, next_name, noted, said, with_incoming, with_login, with_out, ConnectionError, ConnectionPhase, Started, Reads, Client, Added, AnswersFirst, Asking, CountsFirst, AsksCleartext, AsksMd5, AsksSasl, Cleartext, Final, First, HearsDue, Login, Md5, Nothing, NothingAsked, Other, Puts, Sasl, VerifiesFinal, Welcome, WelcomesAt, asking, is_due, LoginPhase, AwaitsOffer, HasRoom, Said, heard, most, setting_in, CopyData, DataRow}
+use Rattle.std.specs.Prelude.{drop, take, ◌≢◌}
 use Rattle.std.specs.Int.{w32, from_be_bytes}
-use Rattle.pgp_base.specs.Cause.{WantsMemory}
-use Rattle.pgp_base.specs.declared.error.Error.{Error}
-use Rattle.pgp_client.specs.Talk.{Talk}
-use Rattle.pgp_client.specs.Taking.{Takes, taken}
-use Rattle.pgp_client.specs.declared.event.Event.{Event}
-use Rattle.pgp_client.specs.declared.event.Event.TheVariants.{Part}
 use Rattle.pgp_client.specs.declared.event.Refusal.{Refusal}
-use Rattle.pgp_frontend.specs.ClientMessage.{ClientMessage}
-use Rattle.pgp_frontend.specs.Payload.{bytes_of, cause, IsInRange}
-use Rattle.pgp_message.specs.Remembered.{header_of}
-use Rattle.pgp_message.specs.Stream.{BeginsWithKept, IsLengthFault, IsPartial, Step, TakesFrame}
-use Rattle.pgp_message.specs.Views.{parsed, view}
 use Rattle.pgp_message.specs.declared.message.Message.{Message}
-use Rattle.pgp_base.specs.declared.error.Error.TheVariants.{InvalidLength, OutOfMemory}
-use Rattle.pgp_client.specs.Kinds.{kind_of, request_of}
-use Rattle.pgp_client.specs.Taking.{awaits_data, is_copying}
-use Rattle.pgp_client.specs.declared.request.Request.{Request}
-use Rattle.pgp_session.specs.Connection.{Advances, Comes, Hears, IsNone, IsUnfit, Nexts, Notes, SendsGiven, Sent, Shown, Stops, Took, asked_of, is_bulk, is_end, in_phase, is_logged_in, is_part, is_longer, limit_of, may_ask, may_send, moved, next_name, noted, said, with_incoming, with_login, with_out}
-use Rattle.pgp_session.specs.declared.connection_error.ConnectionError.{ConnectionError}
+use Rattle.pgp_session.specs.Connection.{Hears}
 use Rattle.pgp_session.specs.declared.connection_error.ConnectionError.TheVariants.{Malformed, OutOfMemory as OutOfMemoryThere}
-use Rattle.pgp_session.specs.declared.connection.ConnectionPhase.{ConnectionPhase}
 use Rattle.pgp_client.specs.declared.stage.Stage.TheVariants.{Over as NothingMore}
-use Rattle.pgp_session.specs.declared.connection.ConnectionPhase.TheVariants.{Over, Started}
-use Rattle.pgp_session.specs.Incoming.{Reads}
+use Rattle.pgp_session.specs.declared.connection.ConnectionPhase.TheVariants.{Over}
 use Rattle.pgp_session.proofs.Incomings.{frame_there, rest_there}
-use Rattle.pgp_auth.specs.ScramClient.{Client}
 use Rattle.pgp_session.specs.Login as login
-use Rattle.pgp_session.specs.Login.{Added, AnswersFirst, Asking, CountsFirst, AsksCleartext, AsksMd5, AsksSasl, Cleartext, Final, First, HearsDue, Login, Md5, Nothing, NothingAsked, Other, Puts, Sasl, VerifiesFinal, Welcome, WelcomesAt, asking, is_due}
-use Rattle.pgp_session.specs.declared.scram_login.LoginPhase.{LoginPhase}
-use Rattle.pgp_session.specs.declared.scram_login.LoginPhase.TheVariants.{AwaitsOffer}
-use Rattle.pgp_session.specs.Settings.{HasRoom, Said, heard, most, setting_in}
-use Rattle.pgp_message.specs.BackendMessage.{Message as Meant, CopyData, DataRow}
-
-pub short_longer : (limit : ℕ) (bytes : List ℕ) → length bytes < 5 → false ≡ is_longer limit bytes
-short_longer limit [] short = refl
-short_longer limit (a ∷ []) short = refl
-short_longer limit (a ∷ b ∷ []) short = refl
-short_longer limit (a ∷ b ∷ c ∷ []) short = refl
-short_longer limit (a ∷ b ∷ c ∷ d ∷ []) short = refl
-short_longer limit (a ∷ b ∷ c ∷ d ∷ e ∷ rest) short = absurd (omega (arith, short))
+use Rattle.pgp_message.specs.BackendMessage.{Message as Meant}
 
 pub announced : (bytes : List ℕ) → 5 ≤ length bytes → header_of bytes ≡ Some (get_or bytes 0 0, from_be_bytes w32 (get_or bytes 1 0 ∷ get_or bytes 2 0 ∷ get_or bytes 3 0 ∷ get_or bytes 4 0 ∷ []))
 announced [] long = absurd (omega (arith, long))

@@ -1,17 +1,10 @@
 -- The frame of a message that is taken in place.
-use Rattle.std.proofs.Common.{◌≡◌, ℕ, ◌-◌, ◌≤◌, List, [], ◌∷◌, ◌++◌, length, take, drop, Option, Some, None, Result, Ok, Err, refl, sym, ap, subst, ◌∙◌, arith, true, false}
-use Rattle.std.specs.Prelude.{option_map}
-use Rattle.std.proofs.lemmas.List.{append-nil, length-append}
-use Rattle.pgp_base.specs.declared.error.Error.{Error}
+use Rattle.pgp_session.proofs.Common.{◌≡◌, ℕ, ◌-◌, List, [], ◌∷◌, ◌++◌, length, take, drop, Option, Some, None, Result, Ok, Err, refl, sym, ap, subst, ◌∙◌, arith, true, false, option_map, append-nil, length-append, Error, Message, Frame, IsLengthFault, IsPartial, Step, TakesFrame, frame_bytes, parsed, view, HasFrame, Reads}
 use Rattle.pgp_base.specs.declared.error.Error.TheVariants as errors
-use Rattle.pgp_message.specs.BackendMessage.{Message}
 use Rattle.pgp_message.specs.Reading.{body_of}
-use Rattle.pgp_message.specs.Stream.{Frame, IsLengthFault, IsPartial, Step, TakesFrame, frame_bytes}
-use Rattle.pgp_message.specs.Views.{parsed, view}
 use Rattle.pgp_message.specs.declared.message as code
 use Rattle.pgp_message.proofs.Bodies.{one_body}
 use Rattle.pgp_message.proofs.Runs.{front_is_one, length-frame, no_ending}
-use Rattle.pgp_session.specs.Incoming.{HasFrame, Reads}
 
 take_front : (xs ys : List ℕ) → take (length xs) (xs ++ ys) ≡ xs
 take_front [] ys = refl
@@ -44,9 +37,6 @@ frame_there all rest m t = record { first = t.first; whole = front_taken all (fr
 
 pub rest_there : (all rest : List ℕ) (r : Result Message Error) → TakesFrame all r rest → drop (length all - length rest) all ≡ rest
 rest_there all rest r t = front_left all (frame_bytes t.first) rest t.whole
-
-pub rest_within : (all rest : List ℕ) (r : Result Message Error) → TakesFrame all r rest → length rest ≤ length all
-rest_within all rest r t = omega (arith, ap length t.whole, length-append (frame_bytes t.first) rest)
 
 -- ---- a frame that is read again
 

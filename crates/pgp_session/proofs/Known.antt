@@ -1,11 +1,6 @@
 -- What is known of a log-in stays known with each step.
-use Rattle.std.proofs.Common.{◌≡◌, ℕ, List, Option, Some, None, Result, Ok, Err, [], ◌∷◌, ◌++◌, refl, sym, subst}
-use Rattle.pgp_base.specs.Held.{Held}
-use Rattle.pgp_auth.specs.ScramClient.{Client, Answers}
-use Rattle.pgp_message.specs.BackendMessage.{Message, Authentication, AuthenticationOk, AuthenticationSasl, AuthenticationSaslContinue, AuthenticationSaslFinal}
-use Rattle.pgp_session.specs.ScramLogin.{Offers, Said, Notice, Failure, Offer, First, Final, Welcome, ReceivedAmong, OneReceived, OtherReceived, NoneWanted, offer, first_text, final_text, welcome, says, if_due, Knows, Shown, HearsOffer, HearsFirst, HearsFinal, Hears, StepsOn, Steps}
-use Rattle.pgp_session.specs.declared.scram_login.LoginPhase.{LoginPhase}
-use Rattle.pgp_session.specs.declared.scram_login.LoginPhase.TheVariants.{AwaitsOffer, AwaitsFirst, AwaitsFinal, AwaitsOk, Done, Over}
+use Rattle.pgp_session.proofs.Common.{◌≡◌, ℕ, List, Option, Some, None, Result, Ok, Err, [], ◌∷◌, ◌++◌, refl, sym, subst, Held, Client, Answers, Message, Authentication, AuthenticationOk, AuthenticationSasl, AuthenticationSaslContinue, AuthenticationSaslFinal, Offers, Notice, Failure, Offer, ReceivedAmong, OneReceived, OtherReceived, NoneWanted, offer, first_text, final_text, welcome, says, if_due, Knows, HearsOffer, HearsFirst, HearsFinal, StepsOn, Steps, LoginPhase, AwaitsOffer, AwaitsFirst, AwaitsFinal, AwaitsOk, Done, Over}
+use Rattle.pgp_session.specs.ScramLogin.{Said, First, Final, Welcome, Shown, Hears}
 use Rattle.pgp_session.specs.declared.scram_login.LoginEvent.{LoginEvent}
 use Rattle.pgp_session.specs.declared.scram_login.LoginEvent.TheVariants.{Noted, Refused, Began, Replied, Verified, Admitted}
 use Rattle.pgp_session.specs.declared.scram_login.LoginFault.{LoginFault}

@@ -1,15 +1,7 @@
 -- What is known of a session that a pooler may lend.
-use Rattle.std.proofs.Common.{◌≡◌, ◌⊎◌, ℕ, Bool, List, [], ◌∷◌, ◌++◌, Option, None, Ok, refl, sym, ap, ◌∙◌, ◌||◌, false, true}
-use Rattle.pgp_client.specs.Kinds.{kind_of}
-use Rattle.pgp_client.specs.Taking.{is_idle, taken}
-use Rattle.pgp_client.specs.Talk.{Talk}
-use Rattle.pgp_client.specs.declared.event.Event.{Event}
-use Rattle.pgp_client.specs.declared.event.Event.TheVariants.{Aside, Ended}
+use Rattle.pgp_session.proofs.Common.{◌≡◌, ◌⊎◌, ℕ, Bool, List, [], ◌∷◌, ◌++◌, Option, None, Ok, refl, sym, ap, ◌∙◌, ◌||◌, false, true, kind_of, is_idle, taken, Talk, Event, Aside, Ended, ClientMessage, Message, newer, status}
 use Rattle.pgp_client.specs.declared.kind.Kind.{Kind}
-use Rattle.pgp_frontend.specs.ClientMessage.{ClientMessage}
-use Rattle.pgp_message.specs.BackendMessage.{Message}
 use Rattle.pgp_session.specs.Pooler.{AndReceived, AndResult, AndSent, CanBeLent, IsQuiet, Nothing, Saw, Shown, last_status, leaves, left_after, waits, waits_after}
-use Rattle.pgp_session.specs.ServerState.{newer, status}
 
 waits_more : (before : Bool) (sent : List ClientMessage) (m : ClientMessage) → waits_after before (sent ++ m ∷ []) ≡ waits (waits_after before sent) m
 waits_more before [] m = refl

@@ -1,7 +1,9 @@
+mod Common
 pub mod Lent
 pub mod Known
 pub mod Listed
 pub mod Mechanisms
+pub mod Naming
 pub mod Proxied
 pub mod Replies
 pub mod Reported

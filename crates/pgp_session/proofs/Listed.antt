@@ -1,9 +1,7 @@
 -- Whether a text is one of a list's.
-use Rattle.std.proofs.Common.{◌≡◌, ℕ, zero, suc, Bool, true, false, List, [], ◌∷◌, map, refl, arith, inl, inr}
+use Rattle.pgp_session.proofs.Common.{◌≡◌, ℕ, zero, suc, Bool, true, false, List, [], ◌∷◌, map, refl, arith, inl, inr, Bor, list_any, cases_Bool}
 use Rattle.std.specs.Bool.{Decides}
-use Rattle.std.specs.Borrow.{Bor}
-use Rattle.std.specs.List.{list_any, Contains}
-use Rattle.std.proofs.lemmas.Bool.{cases_Bool}
+use Rattle.std.specs.List.{Contains}
 
 not_both : (b : Bool) → b ≡ true → b ≡ false → ⊥
 not_both true e f = cc

@@ -1,20 +1,8 @@
 -- What a log-in took, as a relation.
-use Rattle.std.proofs.Common.{◌≡◌, ℕ, Bool, true, false, List, Option, Some, None, Result, Ok, Err, refl, sym, ap, subst, inl, inr}
-use Rattle.std.specs.Prelude.{◌⊎◌, ◌<◌, ◌++◌, length}
-use Rattle.pgp_base.specs.Cause.{Wants}
-use Rattle.pgp_base.specs.Held.{Held, ◌⊕◌, items_held, lengthened}
-use Rattle.pgp_base.specs.declared.error.Error.{Error}
-use Rattle.pgp_base.specs.declared.error.Error.TheVariants.{OutOfMemory}
-use Rattle.pgp_frontend.specs.Payload.{WritesMessage, bytes_of, cause}
-use Rattle.pgp_frontend.specs.ClientMessage.{ClientMessage, PasswordMessage, SaslResponse}
-use Rattle.pgp_auth.specs.Md5Text.{md5_answer}
-use Rattle.pgp_auth.specs.ScramClient.{Client}
+use Rattle.pgp_session.proofs.Common.{◌≡◌, ℕ, Bool, true, false, List, Option, Some, None, Result, Ok, Err, refl, sym, ap, subst, inl, inr, ◌<◌, Wants, Held, ◌⊕◌, items_held, lengthened, Error, OutOfMemory, WritesMessage, bytes_of, cause, ClientMessage, PasswordMessage, SaslResponse, md5_answer, Client, initial, AddsReply, Asking, Nothing, Cleartext, Md5, Sasl, First, Final, Welcome, Other, AnswersFirst, AsksCleartext, CountsFirst, AsksMd5, AsksSasl, HearsDue, LoggedOn, Login, LogsOn, Puts, RepliesFirst, NothingAsked, ByCleartext, ByMd5, ScramBegins, ScramGoesOn, ScramEnds, Welcomed, Trusted, VerifiesFinal, WelcomesAt, goes_on, is_due, ConnectionError, LoginPhase, AwaitsOffer, AwaitsFirst, AwaitsFinal, AwaitsOk, Done, Over}
+use Rattle.std.specs.Prelude.{◌⊎◌, ◌++◌, length}
 use Rattle.pgp_auth.specs.ScramRefusal.{AsksFewer}
-use Rattle.pgp_session.specs.ScramLogin.{initial}
-use Rattle.pgp_session.specs.Login.{AddsReply, Asking, Nothing, Cleartext, Md5, Sasl, First, Final, Welcome, Other, AnswersFirst, AsksCleartext, CountsFirst, AsksMd5, AsksSasl, Hears, HearsDue, LoggedOn, Login, LogsOn, Puts, RepliesFirst, Unsent, NothingAsked, ByCleartext, ByMd5, ScramBegins, ScramGoesOn, ScramEnds, Welcomed, Trusted, VerifiesFinal, WelcomesAt, goes_on, in_phase, is_due}
-use Rattle.pgp_session.specs.declared.connection_error.ConnectionError.{ConnectionError}
-use Rattle.pgp_session.specs.declared.scram_login.LoginPhase.{LoginPhase}
-use Rattle.pgp_session.specs.declared.scram_login.LoginPhase.TheVariants.{AwaitsOffer, AwaitsFirst, AwaitsFinal, AwaitsOk, Done, Over}
+use Rattle.pgp_session.specs.Login.{Hears, Unsent, in_phase}
 
 -- ---- writing
 

@@ -1,9 +1,5 @@
 -- A name among the items of a walk.
-use Rattle.std.proofs.Common.{◌≡◌, ℕ, zero, suc, Bool, true, false, List, [], ◌∷◌, ◌++◌, Some, None, Contains, refl, sym, ap, subst, ◌∙◌, inl, inr, arith, append_assoc}
-use Rattle.std.proofs.lemmas.List.{append-nil}
-use Rattle.std.proofs.lemmas.List.Elements.{Contains-append_left, Contains-append_right, Contains-append_cases}
-use Rattle.pgp_base.specs.declared.error.Error.{Error}
-use Rattle.pgp_base.specs.Walk.{Walk, TakesItem, IsFinished, IsRefused}
+use Rattle.pgp_session.proofs.Common.{◌≡◌, ℕ, zero, suc, Bool, true, false, List, [], ◌∷◌, ◌++◌, Some, None, Contains, refl, sym, ap, subst, ◌∙◌, inl, inr, arith, append_assoc, append-nil, Contains-append_left, Contains-append_right, Contains-append_cases, Error, Walk, TakesItem, IsFinished, IsRefused}
 
 -- these items came, and among them the name was found or wasn't
 pub record HasSought (name : List ℕ) (from : Walk (List ℕ)) (found : Bool) (now : Walk (List ℕ)) : Type 0 where

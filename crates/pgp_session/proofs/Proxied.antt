@@ -1,15 +1,7 @@
 -- Calls of a proxy, one after the other.
-use Rattle.std.proofs.Common.{◌≡◌, ℕ, List, [], ◌∷◌, ◌++◌, Some, Ok, sym, ap, ◌∙◌, append_assoc}
-use Rattle.std.specs.Borrow.{Bor}
-use Rattle.std.specs.List.{flat_map}
-use Rattle.pgp_base.specs.Held.{Held, ◌⊕◌}
-use Rattle.pgp_base.proofs.Parts.{nothing_more}
-use Rattle.pgp_frontend.specs.ClientMessage.{ClientMessage, PasswordKind}
-use Rattle.pgp_frontend.specs.Payload.{bytes_of}
+use Rattle.pgp_session.proofs.Common.{◌≡◌, ℕ, List, [], ◌∷◌, ◌++◌, Some, Ok, sym, ap, ◌∙◌, append_assoc, Bor, flat_map, Held, ◌⊕◌, nothing_more, ClientMessage, PasswordKind, bytes_of, Unread, Call, ProxiesAll, PassesOn, NoneReceived, NoneRead, OneRead, Went, Stayed, Proxies, all_forwarded}
 use Rattle.pgp_frontend_read.specs.Forwards.{Forwards}
-use Rattle.pgp_frontend_read.specs.Step.{Unread}
 use Rattle.pgp_frontend_read.proofs.ForwardRuns.{written_then}
-use Rattle.pgp_session.specs.Proxy.{Call, ProxiesAll, PassesOn, NoneReceived, NoneRead, OneRead, Went, Stayed, Proxies, all_forwarded}
 use Rattle.pgp_session.specs.declared.proxy.Passed.{Passed}
 use Rattle.pgp_session.specs.declared.proxy.Passed.TheVariants.{Forwarded, HeldBack}
 

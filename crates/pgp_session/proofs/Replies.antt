@@ -1,13 +1,9 @@
 -- What a server answers, in one message or two.
-use Rattle.std.proofs.Common.{◌≡◌, ◌⊎◌, ℕ, ◌≤◌, List, ◌++◌, length, take, Result, Ok, Err, Some, None, true, false, refl, subst, ap, ◌∙◌, length-append, arith, inl, inr}
+use Rattle.pgp_session.proofs.Common.{◌≡◌, ◌⊎◌, ℕ, ◌≤◌, List, ◌++◌, length, take, Result, Ok, Err, Some, None, true, false, refl, subst, ap, ◌∙◌, arith, inl, inr, Cause, Wants, WantsMemory, Held, ◌⊕◌, int32, Error, cut_back, front_left, front_then, more_twice, wants_more, wants_then, admission}
+use Rattle.std.proofs.Common.{length-append}
 use Rattle.std.specs.Result.{IsErr, IsErrAnd}
-use Rattle.pgp_base.specs.Cause.{Cause, Wants, WantsMemory, Writes}
-use Rattle.pgp_base.specs.Held.{Held, ◌⊕◌}
-use Rattle.pgp_base.specs.Wire.{int32}
-use Rattle.pgp_base.specs.declared.error.Error.{Error}
-use Rattle.pgp_base.proofs.Parts.{cut_back, front_left, front_then, more_twice, wants_more, wants_then}
+use Rattle.pgp_base.specs.Cause.{Writes}
 use Rattle.pgp_message_write.specs.Reply.{bytes_of, cause}
-use Rattle.pgp_session.specs.Serving.{admission}
 
 admission_fits : cause admission ≡ None
 unfolding int32

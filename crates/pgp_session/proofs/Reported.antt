@@ -1,14 +1,8 @@
 -- Where the setting of a name stands, and what is known of its value.
-use Rattle.std.proofs.Common.{◌≡◌, ℕ, zero, suc, ◌+◌, ◌<◌, Bool, true, false, List, [], ◌∷◌, ◌++◌, length, get_or, take, drop, Option, Some, None, refl, sym, ap, arith, ◌∙◌, inl, inr}
-use Rattle.std.specs.Prelude.{◌&&◌, not, if◌then◌else◌}
-use Rattle.std.specs.List.{list_all}
-use Rattle.std.specs.Str.{bytes_eq}
-use Rattle.std.proofs.lemmas.Bool.{cases_Bool}
-use Rattle.pgp_message.specs.BackendMessage.{Message}
-use Rattle.pgp_message.specs.Parts.{Setting}
-use Rattle.std.proofs.lemmas.Slice.Eq.{bytes_eq-Decides}
-use Rattle.pgp_session.specs.ServerState.{newer, noted, state_after}
-use Rattle.pgp_session.specs.Settings.{Said, StandsAt, heard, last_after, replaced, reported, said_after, setting_in, settled, value_of}
+use Rattle.pgp_session.proofs.Common.{◌≡◌, ℕ, zero, suc, ◌+◌, Bool, true, false, List, [], ◌∷◌, ◌++◌, length, get_or, take, drop, Option, Some, None, refl, sym, ap, arith, ◌∙◌, inl, inr, ◌&&◌, if◌then◌else◌, list_all, bytes_eq, cases_Bool, Message, Setting, bytes_eq-Decides, newer, state_after, Said, StandsAt, heard, last_after, replaced, reported, said_after, setting_in, settled, value_of}
+use Rattle.std.proofs.Common.{◌<◌}
+use Rattle.std.specs.Prelude.{not}
+use Rattle.pgp_session.specs.ServerState.{noted}
 use Rattle.pgp_session.specs.declared.server_state.ServerState.{ServerState}
 
 -- of another name

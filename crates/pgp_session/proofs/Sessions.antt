@@ -1,36 +1,18 @@
 -- What is known of a connection, after each call, and what follows from it.
-use Rattle.std.proofs.Common.{◌≡◌, ◌≢◌, ℕ, Bool, true, false, List, [], ◌∷◌, ◌++◌, take, drop, map, Option, Some, None, Result, Ok, refl, sym, ap, subst, ◌∙◌, append_assoc, inl, inr}
-use Rattle.std.specs.Prelude.{option_to_list, if◌then◌else◌, ◌&&◌}
-use Rattle.std.specs.List.{flat_map}
-use Rattle.std.proofs.lemmas.List.{append-nil, take-append-drop}
+use Rattle.pgp_session.proofs.Common.{◌≡◌, ◌≢◌, ℕ, Bool, true, false, List, [], ◌∷◌, ◌++◌, take, drop, map, Option, Some, None, Result, Ok, refl, sym, ap, subst, ◌∙◌, append_assoc, inl, inr, option_to_list, if◌then◌else◌, ◌&&◌, flat_map, append-nil, take-append-drop, Error, kind_of, request_of, awaits_data, is_copying, taken, Talk, Turn, Asks, asked_in, observed_in, reported_in, start, Event, Ended, Request, ClientMessage, CancelRequest, GssEncRequest, PasswordMessage, SaslInitialResponse, SaslResponse, SslRequest, Startup, Terminate, bytes_of, tag_of, run_more, opened_more, nothing, Message, Frames, TakesFrame, HasStarted, Sent, Shown, Took, Wrote, asked_of, begun, in_phase, is_end, is_logged_in, logged_in_at, may_send, with_incoming, Added, AddsReply, Asking, Login, LogsOn, ByCleartext, ByMd5, ScramBegins, ScramGoesOn, Ways, asking, Follows, History, IsOpenedAt, Known, Plays, Begins, Writes, Hears, and_fed, and_observed, and_sent, and_wrote, good, is_secret, requests_in, requests_of, turns_of, Said, heard, nothing_said, value_of, ConnectionPhase, Encrypting, Started, LoginPhase}
 use Rattle.std.proofs.lemmas.List.Concat.{flat_map-cons}
 use Rattle.std.proofs.lemmas.Grind.{flat_map-append}
-use Rattle.pgp_base.specs.declared.error.Error.{Error}
 use Rattle.pgp_client.specs.Flow.{Belong}
 use Rattle.pgp_client.specs.InTurns.{BelongInTurns}
-use Rattle.pgp_client.specs.Kinds.{kind_of, request_of}
-use Rattle.pgp_client.specs.Taking.{awaits_data, is_copying, taken}
-use Rattle.pgp_client.specs.Talk.{Talk}
-use Rattle.pgp_client.specs.Telling.{Turn, Asks, Hears as HearsTurn, Follows as FollowsTurns, asked_in, observed_in, reported_in, start}
-use Rattle.pgp_client.specs.declared.event.Event.{Event}
-use Rattle.pgp_client.specs.declared.event.Event.TheVariants.{Ended}
+use Rattle.pgp_client.specs.Telling.{Hears as HearsTurn, Follows as FollowsTurns}
 use Rattle.pgp_client.specs.declared.request.Asked.{Asked}
-use Rattle.pgp_client.specs.declared.request.Request.{Request}
-use Rattle.pgp_frontend.specs.ClientMessage.{ClientMessage, CancelRequest, GssEncRequest, PasswordMessage, SaslInitialResponse, SaslResponse, SslRequest, Startup, Terminate}
 use Rattle.pgp_frontend.specs.Reading.{IsNamed}
 use Rattle.pgp_frontend.specs.ClientRun.{ClientRun, MayCome, is_opened, is_startup, kinds_of}
-use Rattle.pgp_frontend.specs.Payload.{bytes_of, tag_of}
-use Rattle.pgp_frontend.proofs.ClientRuns.{run_more, opened_more, nothing}
-use Rattle.pgp_message.specs.BackendMessage.{Message}
-use Rattle.pgp_message.specs.Stream.{Frames, TakesFrame}
-use Rattle.pgp_session.specs.Connection.{HasStarted, Sent, Shown, Took, Wrote, asked_of, begun, in_phase, is_end, is_logged_in, logged_in_at, may_send, with_incoming}
-use Rattle.pgp_session.specs.Login.{Added, AddsReply, Asking, Login, LogsOn, ByCleartext, ByMd5, ScramBegins, ScramGoesOn, Ways, asking}
-use Rattle.pgp_session.specs.Session.{Follows, History, IsOpenedAt, Known, Plays, Begins, Writes, Hears, and_fed, and_observed, and_sent, and_wrote, good, is_secret, nothing as no_history, requests_in, requests_of, turns_of}
-use Rattle.pgp_session.specs.Settings.{Said, heard, nothing_said, value_of}
+use Rattle.pgp_session.specs.Session.{nothing as no_history}
+use Rattle.pgp_session.proofs.Naming.{named_all, named_heard, named_next, named_same, named_still}
 use Rattle.pgp_session.proofs.Reported.{said_more, states_follow, values_follow}
-use Rattle.pgp_session.specs.declared.connection.ConnectionPhase.{ConnectionPhase}
-use Rattle.pgp_session.specs.declared.connection.ConnectionPhase.TheVariants.{Opening, Encrypting, Started, Over as OverPhase}
-use Rattle.pgp_session.specs.declared.scram_login.LoginPhase.{LoginPhase}
+use Rattle.pgp_session.specs.Session.{AreNamed}
+use Rattle.pgp_session.specs.declared.connection.ConnectionPhase.TheVariants.{Opening, Over as OverPhase}
 use Rattle.pgp_session.proofs.Admissions.{plays_admitted, plays_allowed}
 
 -- ---- one message more
@@ -46,8 +28,9 @@ run_one l m sent out grown run may added =
 pub wrote : (ways : Ways) (h : History) (old new : Shown) (m : ClientMessage) (name : ℕ) → MayCome m (is_opened h.written) → is_secret m ≡ false
     → IsOpenedAt new.phase (is_opened (h.written ++ m ∷ [])) → Added m old.out new.out
     → new.incoming ≡ old.incoming → new.talk ≡ asked_of (request_of m) name old.talk → new.login ≡ old.login → new.server ≡ old.server
+    → AreNamed (h.turns ++ turns_of (request_of m) name) new.names (h.written ++ m ∷ [])
     → Known ways h old → Known ways (and_wrote m name h) new
-wrote ways h old new m name may plain opened added incoming talk login server k = record {
+wrote ways h old new m name may plain opened added incoming talk login server named k = record {
   run = run_one h.written m h.sent old.out new.out k.run may added;
   opened = opened;
   read = subst (λ b. Frames h.received (good h.observed) b) (sym incoming) k.read;
@@ -56,11 +39,12 @@ wrote ways h old new m name may plain opened added incoming talk login server k 
       (subst (λ (l : Login). Plays ways (h.written ++ m ∷ []) h.observed (h.turns ++ turns_of (request_of m) name) (asked_of (request_of m) name old.talk) l) (sym login)
       (Writes m name plain k.plays));
   server = server ∙ k.server;
+  named = named;
 }
 
-pub sent_some : (ways : Ways) (h : History) (old new : Shown) (n : ℕ) → new.phase ≡ old.phase → new.out ≡ drop n old.out → new.incoming ≡ old.incoming → new.talk ≡ old.talk → new.login ≡ old.login → new.server ≡ old.server
+pub sent_some : (ways : Ways) (h : History) (old new : Shown) (n : ℕ) → new.phase ≡ old.phase → new.out ≡ drop n old.out → new.incoming ≡ old.incoming → new.talk ≡ old.talk → new.login ≡ old.login → new.server ≡ old.server → new.names ≡ old.names
     → Known ways h old → Known ways (and_sent n old h) new
-sent_some ways h old new n phase out incoming talk login server k =
+sent_some ways h old new n phase out incoming talk login server names k =
     let bytes : h.sent ++ old.out ≡ (h.sent ++ take n old.out) ++ new.out =
     ap (λ b. h.sent ++ b) (sym (take-append-drop n old.out)) ∙ sym (append_assoc h.sent (take n old.out) (drop n old.out)) ∙ ap (λ b. (h.sent ++ take n old.out) ++ b) (sym out) in
     record {
@@ -69,13 +53,14 @@ sent_some ways h old new n phase out incoming talk login server k =
       read = subst (λ b. Frames h.received (good h.observed) b) (sym incoming) k.read;
       plays = subst (λ (t : Talk). Plays ways h.written h.observed h.turns t new.login) (sym talk) (subst (λ (l : Login). Plays ways h.written h.observed h.turns old.talk l) (sym login) k.plays);
       server = server ∙ k.server;
+      named = named_same h.turns old.names new.names h.written names k.named;
     }
 
-pub fed_some : (ways : Ways) (h : History) (old new : Shown) (piece : List ℕ) → new.phase ≡ old.phase → new.out ≡ old.out → new.incoming ≡ old.incoming ++ piece → new.talk ≡ old.talk → new.login ≡ old.login → new.server ≡ old.server
+pub fed_some : (ways : Ways) (h : History) (old new : Shown) (piece : List ℕ) → new.phase ≡ old.phase → new.out ≡ old.out → new.incoming ≡ old.incoming ++ piece → new.talk ≡ old.talk → new.login ≡ old.login → new.server ≡ old.server → new.names ≡ old.names
     → ((bytes : List ℕ) → Frames bytes [] bytes)
     → ((bytes more rest left : List ℕ) (first second : List (Result Message Error)) → Frames bytes first rest → Frames (rest ++ more) second left → Frames (bytes ++ more) (first ++ second) left)
     → Known ways h old → Known ways (and_fed piece h) new
-fed_some ways h old new piece phase out incoming talk login server none go k =
+fed_some ways h old new piece phase out incoming talk login server names none go k =
     let frames : Frames (h.received ++ piece) (good h.observed ++ []) (old.incoming ++ piece) = go h.received piece old.incoming (old.incoming ++ piece) (good h.observed) [] k.read (none (old.incoming ++ piece)) in
     record {
       run = subst (λ b. ClientRun (flat_map kinds_of h.written) h.written (h.sent ++ b)) (sym out) k.run;
@@ -83,6 +68,7 @@ fed_some ways h old new piece phase out incoming talk login server none go k =
       read = subst (λ b. Frames (h.received ++ piece) (good h.observed) b) (sym incoming) (subst (λ r. Frames (h.received ++ piece) r (old.incoming ++ piece)) (append-nil (good h.observed)) frames);
       plays = subst (λ (t : Talk). Plays ways h.written h.observed h.turns t new.login) (sym talk) (subst (λ (l : Login). Plays ways h.written h.observed h.turns old.talk l) (sym login) k.plays);
       server = server ∙ k.server;
+      named = named_same h.turns old.names new.names h.written names k.named;
     }
 
 good_more : (ms : List Message) (m : Message) → good ms ++ Ok m ∷ [] ≡ good (ms ++ m ∷ [])
@@ -140,6 +126,7 @@ observed_one ways h old new rest m e phase frame took next k =
             (subst (λ r. Frames h.received r rest) (good_more h.observed m) (next h.received old.incoming rest (good h.observed) (Ok m) k.read frame));
         plays = Hears m e took.taken took.goes_on logged.logs k.plays;
         server = ap (λ (c : Shown). c.server) took.is ∙ ap (heard m) k.server ∙ sym (said_more nothing_said h.observed m);
+        named = named_heard h.turns (kind_of m) e old.names new.names h.written logged.reply (ap (λ (c : Shown). c.names) took.is) k.named;
       },
     )
 
@@ -218,6 +205,7 @@ pub follows : (ways : Ways) (h : History) (now : Shown) → ((turns : List Turn)
     → Known ways h now → Follows ways h now
 follows ways h now belongs timely single k = record {
   asked = plays_asked ways k.plays;
+  named = named_all h.turns now.names h.written k.named;
   observed = plays_observed ways k.plays;
   belong = belongs h.turns (plays_follow ways k.plays);
   in_turns = timely h.turns (plays_follow ways k.plays);
@@ -260,7 +248,8 @@ sends ways h old new m name s k =
     let opened : is_opened h.written ≡ true = at_started old.phase (is_opened h.written) phase k.opened in
     wrote ways h old new m name (tagged_may h.written m opened (may_tagged (is_copying old.talk) (awaits_data old.talk) m may)) (may_open (is_copying old.talk) (awaits_data old.talk) m may)
     (subst (λ (p : ConnectionPhase). IsOpenedAt p (is_opened (h.written ++ m ∷ []))) (sym (ap (λ (c : Shown). c.phase) s.is ∙ phase)) (opened_still h.written m opened))
-    s.added (ap (λ (c : Shown). c.incoming) s.is) (ap (λ (c : Shown). c.talk) s.is ∙ ap (λ n. asked_of (request_of m) n old.talk) (sym s.named)) (ap (λ (c : Shown). c.login) s.is) (ap (λ (c : Shown). c.server) s.is) k
+    s.added (ap (λ (c : Shown). c.incoming) s.is) (ap (λ (c : Shown). c.talk) s.is ∙ ap (λ n. asked_of (request_of m) n old.talk) (sym s.named)) (ap (λ (c : Shown). c.login) s.is) (ap (λ (c : Shown). c.server) s.is)
+    (named_next h.turns old.names new.names name h.written m s.named (ap (λ (c : Shown). c.names) s.is) k.named) k
 
 at_opening : (p : ConnectionPhase) (b : Bool) → p ≡ Opening → IsOpenedAt p b → b ≡ false
 at_opening p b e opened = subst (λ (q : ConnectionPhase). IsOpenedAt q b) e opened
@@ -275,30 +264,33 @@ starts ways h old new parameters name named s k =
     let closed : is_opened h.written ≡ false = at_opening old.phase (is_opened h.written) s.phase k.opened in
     wrote ways h old new m name (subst (λ (b : Bool). MayCome m b) (sym closed) (inl tt, named)) refl
     (subst (λ (p : ConnectionPhase). IsOpenedAt p (is_opened (h.written ++ m ∷ []))) (sym (ap (λ (c : Shown). c.phase) s.is)) (opened_by h.written m refl))
-    s.added (ap (λ (c : Shown). c.incoming) s.is) (ap (λ (c : Shown). c.talk) s.is ∙ ap (λ n. asked_of (request_of m) n old.talk) (sym s.named)) (ap (λ (c : Shown). c.login) s.is) (ap (λ (c : Shown). c.server) s.is) k
+    s.added (ap (λ (c : Shown). c.incoming) s.is) (ap (λ (c : Shown). c.talk) s.is ∙ ap (λ n. asked_of (request_of m) n old.talk) (sym s.named)) (ap (λ (c : Shown). c.login) s.is) (ap (λ (c : Shown). c.server) s.is)
+    (named_next h.turns old.names new.names name h.written m s.named (ap (λ (c : Shown). c.names) s.is) k.named) k
 
 pub asks_encryption : (ways : Ways) (h : History) (old new : Shown) → Wrote Opening Encrypting SslRequest old new → Known ways h old → Known ways (and_wrote SslRequest 0 h) new
 asks_encryption ways h old new s k =
     let closed : is_opened h.written ≡ false = at_opening old.phase (is_opened h.written) s.phase k.opened in
     wrote ways h old new SslRequest 0 (subst (λ (b : Bool). MayCome SslRequest b) (sym closed) (inr tt, tt)) refl
     (subst (λ (p : ConnectionPhase). IsOpenedAt p (is_opened (h.written ++ SslRequest ∷ []))) (sym (ap (λ (c : Shown). c.phase) s.is)) (opened_more h.written SslRequest ∙ closed))
-    s.added (ap (λ (c : Shown). c.incoming) s.is) (ap (λ (c : Shown). c.talk) s.is) (ap (λ (c : Shown). c.login) s.is) (ap (λ (c : Shown). c.server) s.is) k
+    s.added (ap (λ (c : Shown). c.incoming) s.is) (ap (λ (c : Shown). c.talk) s.is) (ap (λ (c : Shown). c.login) s.is) (ap (λ (c : Shown). c.server) s.is)
+    (named_still h.turns old.names new.names 0 h.written SslRequest refl (ap (λ (c : Shown). c.names) s.is) k.named) k
 
 pub ends : (ways : Ways) (h : History) (old new : Shown) → Wrote Started OverPhase Terminate old new → Known ways h old → Known ways (and_wrote Terminate 0 h) new
 ends ways h old new s k =
     let opened : is_opened h.written ≡ true = at_started old.phase (is_opened h.written) s.phase k.opened in
     wrote ways h old new Terminate 0 (tagged_may h.written Terminate opened (λ none. cc)) refl
     (subst (λ (p : ConnectionPhase). IsOpenedAt p (is_opened (h.written ++ Terminate ∷ []))) (sym (ap (λ (c : Shown). c.phase) s.is)) tt)
-    s.added (ap (λ (c : Shown). c.incoming) s.is) (ap (λ (c : Shown). c.talk) s.is) (ap (λ (c : Shown). c.login) s.is) (ap (λ (c : Shown). c.server) s.is) k
+    s.added (ap (λ (c : Shown). c.incoming) s.is) (ap (λ (c : Shown). c.talk) s.is) (ap (λ (c : Shown). c.login) s.is) (ap (λ (c : Shown). c.server) s.is)
+    (named_still h.turns old.names new.names 0 h.written Terminate refl (ap (λ (c : Shown). c.names) s.is) k.named) k
 
 at_encrypting : (p : ConnectionPhase) (b : Bool) → p ≡ Encrypting → IsOpenedAt p b → b ≡ false
 at_encrypting p b e opened = subst (λ (q : ConnectionPhase). IsOpenedAt q b) e opened
 
 pub answered : (ways : Ways) (h : History) (old : Shown) → old.phase ≡ Encrypting → Known ways h old → Known ways h (in_phase Opening old)
-answered ways h old phase k = record { run = k.run; opened = at_encrypting old.phase (is_opened h.written) phase k.opened; read = k.read; plays = k.plays; server = k.server }
+answered ways h old phase k = record { run = k.run; opened = at_encrypting old.phase (is_opened h.written) phase k.opened; read = k.read; plays = k.plays; server = k.server; named = k.named }
 
 pub stopped : (ways : Ways) (h : History) (old : Shown) → Known ways h old → Known ways h (in_phase OverPhase old)
-stopped ways h old k = record { run = k.run; opened = tt; read = k.read; plays = k.plays; server = k.server }
+stopped ways h old k = record { run = k.run; opened = tt; read = k.read; plays = k.plays; server = k.server; named = k.named }
 
 pub begins : (ways : Ways) (limit : ℕ) → ((bytes : List ℕ) → Frames bytes [] bytes) → Known ways no_history (begun ways limit)
-begins ways limit none = record { run = nothing; opened = refl; read = none []; plays = Begins; server = refl }
+begins ways limit none = record { run = nothing; opened = refl; read = none []; plays = Begins; server = refl; named = λ small. (omega arith, omega arith) }

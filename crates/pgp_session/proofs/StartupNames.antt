@@ -1,8 +1,5 @@
 -- The names of a startup packet, one more with each step.
-use Rattle.std.proofs.Common.{◌≡◌, ◌≢◌, ℕ, List, [], ◌∷◌, ◌++◌, Option, Some, None, refl, sym, ap, subst, ◌∙◌, inl, inr, append_assoc}
-use Rattle.std.proofs.lemmas.List.{append-nil}
-use Rattle.pgp_base.specs.Walk.{Walk, TakesItem}
-use Rattle.pgp_session.specs.Serving.{NamesLast, NoneStands, OneStands, OtherStands, IsNewer}
+use Rattle.pgp_session.proofs.Common.{◌≡◌, ◌≢◌, ℕ, List, [], ◌∷◌, ◌++◌, Option, Some, None, refl, sym, ap, subst, ◌∙◌, inl, inr, append_assoc, append-nil, Walk, TakesItem, NamesLast, NoneStands, OneStands, OtherStands, IsNewer}
 
 -- these pairs came, and the last of them with this name is that
 pub record HasNamed (key : List ℕ) (from now : Walk (List ℕ × List ℕ)) (last : Option (List ℕ)) : Type 0 where

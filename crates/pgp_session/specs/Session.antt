@@ -1,6 +1,6 @@
 -- What is known of a connection after any calls.
 -- PostgreSQL manual, "Message Flow"; "SASL Authentication"; RFC 5802, RFC 7677.
-use Rattle.std.specs.Prelude.{◌≡◌, ◌⊎◌, ℕ, Bool, true, false, List, [], ◌∷◌, ◌++◌, take, map, option_to_list, Option, Some, None, Result, Ok}
+use Rattle.std.specs.Prelude.{◌≡◌, ◌⊎◌, ◌+◌, ◌<◌, ◌≤◌, ◌^◌, ℕ, Bool, true, false, List, [], ◌∷◌, ◌++◌, length, take, map, option_to_list, Option, Some, None, Result, Ok}
 use Rattle.std.specs.List.{flat_map, filter, AllByRecursion}
 use Rattle.pgp_base.specs.declared.error.Error.{Error}
 use Rattle.pgp_auth.specs.Md5Text.{md5_answer}
@@ -10,7 +10,7 @@ use Rattle.pgp_client.specs.InTurns.{BelongInTurns}
 use Rattle.pgp_client.specs.Kinds.{kind_of, request_of}
 use Rattle.pgp_client.specs.Taking.{taken}
 use Rattle.pgp_client.specs.Talk.{Talk}
-use Rattle.pgp_client.specs.Telling.{Turn, Asks, Hears as HearsTurn, asked_in, observed_in, reported_in, start}
+use Rattle.pgp_client.specs.Telling.{Turn, Asks, Hears as HearsTurn, asked_in, names as names_of, observed_in, reported_in, start}
 use Rattle.pgp_client.specs.declared.event.Event.{Event}
 use Rattle.pgp_client.specs.declared.request.Asked.{Asked}
 use Rattle.pgp_client.specs.declared.request.Request.{Request}
@@ -74,6 +74,15 @@ IsOpenedAt Over opened = Unit {0}
 abbrev pub good : List Message → List (Result Message Error)
 good ms = map (λ (m : Message). Ok m) ms
 
+-- these numbers rise from this one on, each above the one before, and stay below that one
+abbrev pub Rises : ℕ → List ℕ → ℕ → Type 0
+Rises low [] high = low ≤ high
+Rises low (n ∷ ns) high = (low ≤ n) × Rises (n + 1) ns high
+
+-- The names that were given so far rise, and the next one is above them.
+abbrev pub AreNamed : List Turn → ℕ → List ClientMessage → Type 0
+AreNamed turns next written = length written < 2 ^ 64 → Rises 0 (names_of (asked_in turns)) next × (next ≤ length written)
+
 -- What was written is what was sent and what is to be sent; what was heard are the first messages of what came, and the rest is kept.
 pub record Known (ways : Ways) (h : History) (now : Shown) : Type 0 where
   pub run : ClientRun (flat_map kinds_of h.written) h.written (h.sent ++ now.out)
@@ -81,6 +90,7 @@ pub record Known (ways : Ways) (h : History) (now : Shown) : Type 0 where
   pub read : Frames h.received (good h.observed) now.incoming
   pub plays : Plays ways h.written h.observed h.turns now.talk now.login
   pub server : now.server ≡ said_after nothing_said h.observed
+  pub named : AreNamed h.turns now.names h.written
 
 abbrev pub and_sent : ℕ → Shown → History → History
 and_sent n old h = record { sent = h.sent ++ take n old.out; written = h.written; received = h.received; observed = h.observed; turns = h.turns }
@@ -143,11 +153,13 @@ IsAllowed ways (SaslInitialResponse mechanism response) = (x : Client) × (ways.
 IsAllowed ways (SaslResponse text) = (x : Client) × (ways.scram ≡ Some x) × (first : List ℕ) × (y : Client) × Answers x first y × (message_of y.state ≡ Some text)
 IsAllowed ways m = Unit {0}
 
--- What is known says of a session: the requests that were asked are those of the messages written; each message belongs to the request that was reported, and to
+-- What is known says of a session: the requests that were asked are those of the messages written, no two under one name while fewer than 2^64 messages were
+-- written; each message belongs to the request that was reported, and to
 -- no other, since a server passes over no Sync that is asked after it told that a copy failed; no password is given away but by an admitted way; a client is
 -- logged in by one such way alone; and the status, the key and each setting are the server's last.
 pub record Follows (ways : Ways) (h : History) (now : Shown) : Type 0 where
   pub asked : requests_in (asked_in h.turns) ≡ requests_of h.written
+  pub named : length h.written < 2 ^ 64 → Rises 0 (names_of (asked_in h.turns)) (2 ^ 64)
   pub observed : observed_in h.turns ≡ map kind_of h.observed
   pub belong : Belong (asked_in h.turns) (observed_in h.turns) (reported_in h.turns)
   pub in_turns : BelongInTurns h.turns (reported_in h.turns)

@@ -1,21 +1,10 @@
 -- What a writer did, as what the stream's call did.
-use Rattle.std.proofs.Common.{◌≡◌, ℕ, Bool, true, false, List, [], ◌∷◌, ◌++◌, ℤ, None, Result, Ok, Err, refl, sym, ap, subst, ◌∙◌, inl, inr}
-use Rattle.std.specs.Prelude.{◌⊎◌, is_some, if◌then◌else◌}
-use Rattle.pgp_base.specs.Held.{Held, ◌⊕◌, lengthened, Leaves}
-use Rattle.pgp_base.specs.declared.error.Error.{Error}
-use Rattle.pgp_frontend.specs.ClientMessage.{ClientMessage, CancelRequest, FunctionCall, GssEncRequest, SaslInitialResponse, Startup, PasswordKind, IsOurs}
-use Rattle.pgp_frontend.specs.Payload.{tag_of, bytes_of, cause, IsInRange, WritesMessage}
-use Rattle.pgp_frontend.specs.Reading.{IsNamed}
-use Rattle.pgp_frontend.specs.ClientRun.{ClientRun, IsStartup, IsRequest, MayCome, kinds_of, is_startup, is_opened}
-use Rattle.pgp_stream.specs.ClientStream.{Sent, IsAdded, IsLeft, AddsMessage, Reads}
+use Rattle.pgp_stream.proofs.Common.{◌≡◌, ℕ, Bool, true, false, List, [], ◌∷◌, ◌++◌, ℤ, None, Result, Ok, Err, refl, sym, ap, subst, ◌∙◌, inl, inr, ◌⊎◌, is_some, if◌then◌else◌, Held, ◌⊕◌, lengthened, Leaves, Error, ClientMessage, CancelRequest, FunctionCall, GssEncRequest, SaslInitialResponse, Startup, PasswordKind, IsOurs, tag_of, bytes_of, cause, IsInRange, WritesMessage, IsNamed, ClientRun, IsStartup, IsRequest, MayCome, kinds_of, is_startup, is_opened, Sent, IsAdded, IsLeft, AddsMessage, Reads}
 use Rattle.pgp_frontend.proofs.ClientRuns.{each_push, run_more, one_phase, opened_more, nothing}
 
 -- nothing was sent
 pub reads_nothing : (bytes : List ℕ) → bytes ≡ [] → Reads bytes false
 reads_nothing bytes e = ([], [], record { run = subst (λ b. ClientRun [] [] b) (sym e) nothing; ours = tt; opens = refl })
-
-pub runs_nothing : (bytes : List ℕ) → bytes ≡ [] → ClientRun [] [] bytes
-runs_nothing bytes e = subst (λ b. ClientRun [] [] b) (sym e) nothing
 
 -- the phase of any reading
 pub phase : (bytes : List ℕ) (o : Bool) → Reads bytes o → (kinds : List PasswordKind) (l : List ClientMessage) → ClientRun kinds l bytes → o ≡ is_opened l

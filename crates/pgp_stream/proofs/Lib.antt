@@ -1,3 +1,4 @@
+mod Common
 pub mod Pieces
 pub mod Readings
 pub mod Additions

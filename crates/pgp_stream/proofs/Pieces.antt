@@ -1,22 +1,12 @@
 -- A stream that goes on by a frame, or by a piece.
-use Rattle.std.proofs.Common.{◌≡◌, ℕ, ◌+◌, ◌<◌, ◌≤◌, Bool, true, false, List, [], ◌∷◌, ◌++◌, length, take, drop, get_or, Option, Some, Result, refl, sym, ap, subst, ◌∙◌, append_assoc, arith}
-use Rattle.std.specs.Prelude.{IfSome}
-use Rattle.std.specs.List.{flat_map}
-use Rattle.std.proofs.Math.Seq.{take-length}
-use Rattle.std.proofs.lemmas.List.{take_more, take-append-drop, append-nil, length-append, length-drop}
-use Rattle.pgp_base.specs.declared.error.Error.{Error}
-use Rattle.pgp_message.specs.BackendMessage.{Message}
+use Rattle.pgp_stream.proofs.Common.{◌≡◌, ℕ, ◌+◌, ◌<◌, ◌≤◌, Bool, true, false, List, [], ◌∷◌, ◌++◌, length, take, drop, get_or, Option, Some, Result, refl, sym, ap, subst, ◌∙◌, append_assoc, arith, IfSome, flat_map, take-length, take_more, take-append-drop, append-nil, length-drop, Error, Message, uint32, Memory, Fits, header_of, headers_read, Found, FindsAll, TakesEach, TakesSome, Reading, GoesOn, Fails, Takes, TakesAll, Moves, TakesPart, kept_or_piece}
+use Rattle.std.proofs.lemmas.List.{length-append}
 use Rattle.std.proofs.lemmas.List.Concat.{flat_map-cons}
 use Rattle.std.proofs.lemmas.Grind.{flat_map-append}
-use Rattle.pgp_base.specs.Wire.{uint32}
-use Rattle.pgp_message.specs.Remembered.{Memory, Fits, header_of, headers_read}
-use Rattle.pgp_message.specs.Found.{Found, FindsAll, TakesEach, TakesSome}
 use Rattle.pgp_message.specs.Stream.{frame_bytes, Frames, IsEnding, BackendRun}
 use Rattle.pgp_message.proofs.Fronts.{fault_stays}
 use Rattle.pgp_message.proofs.Headers.{fits_grows, fits_itself, header_of_long, header_stays}
 use Rattle.pgp_message.proofs.Runs.{frames_join}
-use Rattle.pgp_stream.specs.ServerStream.{Reading, GoesOn, Fails}
-use Rattle.pgp_stream.specs.ServerSteps.{Takes, TakesAll, Moves, TakesPart, kept_or_piece}
 
 -- where a length fault stopped it a header stands there
 pub stopped_long : (stopped : Bool) (rest : List ℕ) → IsEnding stopped rest → stopped ≡ true → 5 ≤ length rest
@@ -183,11 +173,6 @@ next_kept (b ∷ old) piece h = refl
 pub next_piece : (old piece : List ℕ) → length old ≡ 0 → kept_or_piece old piece ≡ piece
 next_piece [] piece h = refl
 next_piece (b ∷ old) piece h = absurd (omega (arith, h))
-
--- what is remembered of no bytes fits all
-pub fits_next : (m : Memory) (old piece : List ℕ) → Fits m old → Fits m (kept_or_piece old piece)
-fits_next m [] piece fits = fits_grows m [] piece fits
-fits_next m (b ∷ old) piece fits = fits
 
 pub some_of_next : (old piece : List ℕ) (before after : List (Result Message Error)) → TakesSome (kept_or_piece old piece) before after → TakesSome (old ++ piece) before after
 some_of_next [] piece before after some = some

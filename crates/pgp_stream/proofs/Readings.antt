@@ -1,9 +1,5 @@
 -- What was read, and a piece more.
-use Rattle.std.proofs.Common.{ℕ, List, ◌++◌, length, length-append, Result, sym, ap, ◌∙◌}
-use Rattle.pgp_base.specs.declared.error.Error.{Error}
-use Rattle.pgp_message.specs.BackendMessage.{Message}
-use Rattle.pgp_message.specs.Remembered.{header_of, headers_read}
-use Rattle.pgp_stream.specs.ServerStream.{Reading, HasRead, GoesOn}
+use Rattle.pgp_stream.proofs.Common.{ℕ, List, ◌++◌, length, length-append, Result, sym, ap, ◌∙◌, Error, Message, header_of, headers_read, Reading, HasRead, GoesOn}
 
 pub has_read_more : (piece : List ℕ) (old new : Reading) → GoesOn piece old new → (bytes : List ℕ) (taken : List (Result Message Error)) → HasRead bytes taken old → HasRead (bytes ++ piece) taken new
 has_read_more piece old new on bytes taken h = record {

@@ -1,21 +1,11 @@
 -- The pairs of a startup packet, as an iterator gave them.
-use Rattle.std.proofs.Common.{◌≡◌, ℕ, zero, suc, ◌+◌, ◌≤◌, List, [], ◌∷◌, ◌++◌, length, take, map, Option, Some, None, refl, sym, ap, ◌∙◌, ◌⊎◌, Bor, inl, inr, arith, length-append}
-use Rattle.std.specs.List.{flat_map}
+use Rattle.pgp_stream.proofs.Common.{◌≡◌, ℕ, zero, suc, ◌+◌, ◌≤◌, List, [], ◌∷◌, ◌++◌, length, take, map, Option, Some, None, refl, sym, ap, ◌∙◌, Bor, inl, inr, arith, length-append, flat_map, take_more, append-nil, take-length, YieldsList, YieldsList-so_far, YieldsList-turn, YieldsList-end, Wants, first, Held, Error, Startup, Arrived, shown, shown_pairs, Part, Int32, minor_code, minor_of, pair, pair_cause, parts_cause, bytes_of, cause}
+use Rattle.std.proofs.Common.{◌⊎◌}
 use Rattle.std.specs.Iterator.{YieldsThen}
-use Rattle.std.proofs.lemmas.List.{take_more, append-nil}
-use Rattle.std.proofs.Math.Seq.{take-length}
 use Rattle.std.specs.Option.{option_to_list}
-use Rattle.std.proofs.lemmas.Iterator.{YieldsList}
-use Rattle.std.proofs.lemmas.Iterator.Consumers.{YieldsList-so_far, YieldsList-turn, YieldsList-end}
 use Rattle.pgp_base.specs.Calls.{Yielded}
-use Rattle.pgp_base.specs.Cause.{Wants, first}
-use Rattle.pgp_base.specs.Held.{Held}
-use Rattle.pgp_base.specs.declared.error.Error.{Error}
-use Rattle.pgp_frontend.specs.ClientMessage.{Startup}
-use Rattle.pgp_frontend.specs.Given.{Arrived, shown, shown_pairs}
 use Rattle.pgp_frontend.specs.declared.startup.ProtocolVersion.{ProtocolVersion}
 use Rattle.pgp_frontend.specs.declared.startup.ProtocolVersion.TheVariants.{V3_0, V3_2}
-use Rattle.pgp_frontend.specs.Payload.{Part, Int32, minor_code, minor_of, pair, pair_cause, parts_cause, bytes_of, cause}
 use Rattle.pgp_base.proofs.Parts.{wants_more}
 use Rattle.pgp_frontend.proofs.Causes.{either_more, last_cause, refused_pairs}
 use Rattle.pgp_frontend.proofs.Needs.{startup_length}

@@ -1,13 +1,5 @@
 -- Bytes below 128 are text, and a text may be cut after them.
-use Rattle.std.proofs.Common.{◌≡◌, ◌≢◌, ℕ, ◌+◌, ◌^◌, ◌-◌, ◌%◌, ◌≤◌, leb, leb-false, cond, List, length, get_or, take, drop, replicate, map, IsUtf8, sym, ap, subst, ◌∙◌, inl, inr, arith, take-append-drop, length-take, w8}
-use Rattle.std.specs.Str.{IsAscii}
-use Rattle.std.specs.Simd.Lanes.{zip2, mask_l, chunk, top}
-use Rattle.std.proofs.lemmas.Bool.{cases_lt}
-use Rattle.std.proofs.lemmas.List.{get_or_past, get_or-take}
-use Rattle.std.proofs.lemmas.Simd.{bitmask_splat, zip2_splat, zip2_splat_left, length-chunk, none_from_empty_mask, trailing_mask_l, run_in_chunk_le, run_in_chunk_fails}
-use Rattle.std.proofs.lemmas.Str.{IsUtf8-append, IsUtf8-drop, IsUtf8-from_ascii, IsCharBoundary-from_take}
-use lib.Count.{count_trailing_zeros}
-use Rattle.pgp_text.specs.Ascii.{AreAscii}
+use Rattle.pgp_text.proofs.Common.{◌≡◌, ◌≢◌, ℕ, ◌+◌, ◌^◌, ◌-◌, ◌%◌, ◌≤◌, leb, leb-false, cond, List, length, get_or, take, drop, replicate, map, IsUtf8, sym, ap, subst, ◌∙◌, inl, inr, arith, take-append-drop, length-take, w8, IsAscii, zip2, mask_l, chunk, top, cases_lt, get_or_past, get_or-take, bitmask_splat, zip2_splat, zip2_splat_left, length-chunk, none_from_empty_mask, trailing_mask_l, run_in_chunk_le, run_in_chunk_fails, IsUtf8-append, IsUtf8-drop, IsUtf8-from_ascii, IsCharBoundary-from_take, count_trailing_zeros, AreAscii}
 
 -- a look at n lanes: which of them are at least 128
 module _ (bytes : List ℕ) (at n : ℕ) (room : at + n ≤ length bytes) (short : n ≤ 64) where

@@ -1,10 +1,6 @@
 -- Bytes by a row of the table are a character, and where no row fits, none begins there.
-use Rattle.std.proofs.Common.{◌≡◌, ℕ, ◌+◌, ◌-◌, ◌*◌, ◌/◌, ◌≤◌, ◌<◌, ◌⊎◌, true, List, [], ◌∷◌, ◌++◌, length, get_or, take, drop, IsUtf8, sym, ap, subst, ◌∙◌, inl, inr, arith, lt-ltb, le-ltb, le-leb, length-drop, take-add}
-use Rattle.std.specs.Str.{StartsWithNoChar}
-use Rattle.std.proofs.lemmas.Bool.{cases_lt, and_parts}
-use Rattle.std.proofs.lemmas.Str.{encode_ascii, IsUtf8-append, IsUtf8-encode, IsUtf8-drop, IsCharBoundary-from_take}
+use Rattle.pgp_text.proofs.Common.{◌≡◌, ℕ, ◌+◌, ◌-◌, ◌*◌, ◌/◌, ◌≤◌, ◌<◌, ◌⊎◌, true, List, [], ◌∷◌, ◌++◌, length, get_or, take, drop, IsUtf8, sym, ap, subst, ◌∙◌, inl, inr, arith, lt-ltb, le-ltb, le-leb, length-drop, take-add, StartsWithNoChar, cases_lt, and_parts, encode_ascii, IsUtf8-append, IsUtf8-encode, IsUtf8-drop, IsCharBoundary-from_take, AreAscii}
 use lib.Utf8.{scalar, scalars, encode, encodes, next, low_scalar, scalar_cases}
-use Rattle.pgp_text.specs.Ascii.{AreAscii}
 use Rattle.pgp_text.specs.Characters.{AreTwo, AreThree, AreFour, BeginsText}
 use Rattle.pgp_text.proofs.AsciiLemmas.{front_is_text}
 

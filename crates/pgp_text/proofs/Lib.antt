@@ -1,3 +1,4 @@
+mod Common
 pub mod AsciiLemmas
 pub mod ZeroLemmas
 pub mod CharacterLemmas

@@ -1,27 +1,7 @@
 -- Each list of bytes has one reading as an array, and what is written for an array is read as that array.
-use Rattle.std.proofs.Common.{◌≡◌, ℕ, ℤ, zero, suc, pos, ◌+◌, ◌*◌, ◌<◌, ◌≤◌, Bool, true, false, List, [], ◌∷◌, ◌++◌, length, map, Option, Some, None, Result, Ok, Err, refl, sym, ap, subst, ◌∙◌, append_assoc, arith, inl, inr, ◌⊎◌, FitsSigned, length-append}
-use Rattle.std.specs.Prelude.{All, not}
-use Rattle.std.specs.Int.{w32, cast_signed, cast_unsigned}
-use Rattle.std.specs.List.{flat_map, concat}
-use Rattle.std.proofs.Math.Dec.{eqb}
-use Rattle.std.proofs.lemmas.Bool.{eqb-true}
-use Rattle.std.proofs.lemmas.Int.{to_z-of_z}
-use Rattle.pgp_base.specs.declared.error.Error.{Error}
-use Rattle.pgp_base.specs.declared.error.Error.TheVariants.{InvalidValueLength}
-use Rattle.pgp_base.specs.Cause.{first, length_cause, nullable_cause}
-use Rattle.pgp_base.specs.Wire.{uint32, int32, oid as oid_bytes, IsBytes, nullable as nullable_bytes}
-use Rattle.pgp_base.specs.Items.{Spellings}
-use Rattle.pgp_base.specs.Walk.{Walk}
-use Rattle.pgp_base.specs.WalkReading.{counted}
-use Rattle.pgp_base.proofs.CountedLemmas.{counted_one, not_more_items, ok}
-use Rattle.pgp_base.proofs.Causes.{either_left, either_right}
-use Rattle.pgp_base.proofs.Parts.{int32_spelled, length-uint32}
-use Rattle.pgp_types.specs.declared.array.ArrayDimension.{ArrayDimension}
-use Rattle.pgp_types.specs.Format.{IsSound}
-use Rattle.pgp_types.specs.Part.{Begins, nullable, IsWalk}
-use Rattle.pgp_types.specs.PartReading.{Reader, and_then}
-use Rattle.pgp_types.specs.Array.{Array, IsDimension, dimension_bytes, has_null, flag_of, array_bytes, array_cause, Product, elements_of, head, dimension, Extent, Front, IsFlag, ArrayRead, ArrayReads, IsArray, array_seen, array, finished}
-use Rattle.pgp_types.specs.ArrayReading.{head_at, dimension_at, element_at}
+use Rattle.pgp_types.proofs.Common.{◌≡◌, ℕ, ℤ, zero, suc, pos, ◌+◌, ◌*◌, ◌<◌, ◌≤◌, Bool, true, false, List, [], ◌∷◌, ◌++◌, length, map, Option, Some, None, Result, Ok, Err, refl, sym, ap, subst, ◌∙◌, append_assoc, arith, inl, inr, ◌⊎◌, FitsSigned, length-append, All, not, w32, cast_signed, cast_unsigned, flat_map, concat, eqb, eqb-true, to_z-of_z, Error, InvalidValueLength, first, length_cause, nullable_cause, uint32, int32, IsBytes, Spellings, Walk, counted, counted_one, not_more_items, ok, either_left, either_right, int32_spelled, length-uint32, ArrayDimension, IsSound, Begins, IsWalk, Reader, and_then, Array, IsDimension, dimension_bytes, has_null, flag_of, array_bytes, array_cause, Product, elements_of, head, dimension, Extent, Front, IsFlag, ArrayRead, ArrayReads, IsArray, array_seen, array, finished, head_at, dimension_at, element_at}
+use Rattle.pgp_base.specs.Wire.{oid as oid_bytes, nullable as nullable_bytes}
+use Rattle.pgp_types.specs.Part.{nullable}
 use Rattle.pgp_types.proofs.PartLemmas.{begins_read, int32_pos}
 use Rattle.pgp_types.proofs.ArrayLemmas.{head_is, dimension_is, of, all_head, all_tail, is_next, next_spelled, extent_none, extent_more, next_bytes, extent_bytes, behind_bytes, element_reader, element_walk, is_set, set_is}
 

@@ -1,27 +1,7 @@
 -- The parts of an array are read as they are spelled.
-use Rattle.std.proofs.Common.{◌≡◌, ◌≢◌, ℕ, ℤ, suc, pos, negsuc, ◌+◌, ◌-◌, ◌*◌, ◌<◌, ◌≤◌, ◌^◌, Bool, true, false, List, [], ◌∷◌, ◌++◌, length, take, Option, Some, None, Result, Ok, Err, refl, sym, ap, subst, ◌∙◌, append_assoc, arith, inl, inr, ◌⊎◌, FitsSigned, length-append}
-use Rattle.std.specs.Prelude.{All, nat_le, IsErrAnd, not}
-use Rattle.std.proofs.Math.Dec.{eqb}
-use Rattle.std.proofs.Math.Seq.{take-append_seam}
-use Rattle.std.specs.Int.{w32, from_be_bytes, cast_signed, cast_unsigned}
-use Rattle.std.specs.List.{flat_map}
-use Rattle.std.proofs.lemmas.Bool.{le-leb, leb-true, eqb-true, eq-eqb}
-use Rattle.std.proofs.lemmas.Int.{to_z-of_z}
-use Rattle.std.proofs.lemmas.List.Elements.{All-push}
-use Rattle.pgp_base.specs.declared.error.Error.{Error}
-use Rattle.pgp_base.specs.declared.error.Error.TheVariants.{UnexpectedEof, NotDrained, InvalidCount, InvalidValueLength, InvalidDimension, TooManyElements}
-use Rattle.pgp_base.specs.Wire.{int32, uint32, IsBytes}
-use Rattle.pgp_base.specs.Grammar.{IsReader}
-use Rattle.pgp_base.specs.WalkReading.{counted, counted_run}
-use Rattle.pgp_base.proofs.CountedLemmas.{counted_whole, ok_is, differ, IsBytes-after}
-use Rattle.pgp_base.proofs.Causes.{fits_of, length_fits}
-use Rattle.pgp_base.proofs.PartLemmas.{int32_number, number_again}
-use Rattle.pgp_base.proofs.Parts.{flat_snoc, length-uint32}
-use Rattle.pgp_types.specs.declared.array.ArrayDimension.{ArrayDimension}
-use Rattle.pgp_types.specs.Part.{Part, Begins, nullable, IsWalk}
-use Rattle.pgp_types.specs.PartReading.{Reader}
-use Rattle.pgp_types.specs.Array.{IsDimension, dimension_bytes, Product, elements_of, head, dimension, Extent, Front, IsFlag, ArrayRead, ArrayReads, finished}
-use Rattle.pgp_types.specs.ArrayReading.{head_at, dimension_at, product_of, product_at, each_at, element_at}
+use Rattle.pgp_types.proofs.Common.{◌≡◌, ◌≢◌, ℕ, ℤ, suc, pos, negsuc, ◌+◌, ◌-◌, ◌*◌, ◌<◌, ◌≤◌, ◌^◌, Bool, true, false, List, [], ◌∷◌, ◌++◌, length, take, Option, Some, None, Result, Ok, Err, refl, sym, ap, subst, ◌∙◌, append_assoc, arith, inl, inr, ◌⊎◌, FitsSigned, length-append, All, nat_le, not, eqb, take-append_seam, w32, from_be_bytes, cast_signed, cast_unsigned, flat_map, le-leb, leb-true, eqb-true, eq-eqb, to_z-of_z, All-push, Error, UnexpectedEof, NotDrained, InvalidCount, InvalidValueLength, InvalidDimension, TooManyElements, int32, uint32, IsBytes, IsReader, counted, counted_run, counted_whole, ok_is, differ, IsBytes-after, fits_of, length_fits, int32_number, number_again, flat_snoc, length-uint32, ArrayDimension, Part, Begins, IsWalk, Reader, IsDimension, dimension_bytes, Product, elements_of, head, dimension, Extent, Front, IsFlag, ArrayRead, ArrayReads, finished, head_at, dimension_at, product_of, product_at, each_at, element_at}
+use Rattle.std.specs.Prelude.{IsErrAnd}
+use Rattle.pgp_types.specs.Part.{nullable}
 use Rattle.pgp_types.proofs.Numbers.{int32_spelling, uint32_spelling}
 use Rattle.pgp_types.proofs.PartLemmas.{IsPart, IsTest, natural_part, nullable_part, fixed_is, only_part, then_part, not_passed, and_then_ok, and_then_err, int32_pos, rest_bytes}
 

@@ -1,18 +1,5 @@
 -- What the writer of an array leaves.
-use Rattle.std.proofs.Common.{◌≡◌, ℕ, ◌+◌, ◌≤◌, Bool, true, false, List, [], ◌∷◌, ◌++◌, map, length, Result, Option, Some, None, MutBor, refl, sym, ap, subst, ◌∙◌, arith, length-append, ℤ, ◌*◌}
-use Rattle.std.specs.Int.{w32, cast_unsigned, from_bool}
-use Rattle.std.specs.List.{flat_map}
-use Rattle.pgp_base.specs.declared.number.IsNull.{IsNull}
-use Rattle.pgp_base.specs.declared.number.IsNull.TheVariants.{Yes, No}
-use Rattle.pgp_base.specs.declared.error.BindError.{BindError}
-use Rattle.pgp_base.specs.Wire.{uint32, int32, oid, nullable}
-use Rattle.pgp_base.specs.Cause.{first, length_cause, nullable_cause}
-use Rattle.pgp_base.specs.Held.{Held, ◌⊕◌, overwritten}
-use Rattle.pgp_base.specs.Calls.{null_of, Gives, Runs, ValueRefused}
-use Rattle.pgp_base.proofs.Causes.{either_none}
-use Rattle.pgp_base.proofs.Parts.{more_twice, more_bytes, int32_spelled, length-uint32, sized4, filled4}
-use Rattle.pgp_types.specs.declared.array.ArrayDimension.{ArrayDimension}
-use Rattle.pgp_types.specs.Array.{Array, has_null, flag_of, dimension_bytes, array_bytes, array_cause}
+use Rattle.pgp_types.proofs.Common.{◌≡◌, ℕ, ◌+◌, ◌≤◌, Bool, true, false, List, [], ◌∷◌, ◌++◌, map, length, Result, Option, Some, None, MutBor, refl, sym, ap, subst, ◌∙◌, arith, length-append, ℤ, ◌*◌, w32, cast_unsigned, from_bool, flat_map, IsNull, Yes, No, BindError, uint32, int32, oid, nullable, first, length_cause, nullable_cause, Held, ◌⊕◌, overwritten, null_of, Gives, Runs, ValueRefused, either_none, more_twice, more_bytes, int32_spelled, length-uint32, sized4, filled4, ArrayDimension, Array, has_null, flag_of, dimension_bytes, array_bytes, array_cause}
 use Rattle.pgp_types.specs.ArrayWriting.{before_elements, Made, MadeUpTo}
 
 pub dimension_put : {K : Type 0} (a b d : Held K) (x : ArrayDimension) → b ≡ a ⊕ uint32 (cast_unsigned w32 x.len) → d ≡ b ⊕ uint32 (cast_unsigned w32 x.lower_bound)

@@ -1,9 +1,5 @@
 -- Points and boxes as spellings: two numbers, and two points.
-use Rattle.std.proofs.Common.{◌≡◌, ℕ, ◌+◌, List, ◌++◌, length, take, drop, refl, sym, ap, ◌∙◌, subst, arith, w64, length-append, length-drop}
-use Rattle.std.proofs.lemmas.List.{length-take-le, take-append-drop}
-use Rattle.std.proofs.Math.Seq.{take-append_seam, drop-append_seam}
-use Rattle.std.specs.Int.{from_be_bytes}
-use Rattle.pgp_types.specs.Geometry.{Point, Box, IsPoint, IsBox, point_bytes, box_bytes}
+use Rattle.pgp_types.proofs.Common.{◌≡◌, ℕ, ◌+◌, List, ◌++◌, length, take, drop, refl, sym, ap, ◌∙◌, subst, arith, w64, length-append, length-drop, length-take-le, take-append-drop, take-append_seam, drop-append_seam, from_be_bytes, Point, Box, IsPoint, IsBox, point_bytes, box_bytes}
 use Rattle.pgp_types.proofs.Spelling.{IsSpelling, bytes_take, bytes_drop}
 use Rattle.pgp_types.proofs.Numbers.{uint64_spelling}
 

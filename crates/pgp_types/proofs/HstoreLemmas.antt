@@ -1,24 +1,7 @@
 -- Lists of keys and values: what is read is the one reading.
-use Rattle.std.proofs.Common.{◌≡◌, inl, inr, ℕ, ◌<◌, ◌≤◌, true, List, [], ◌∷◌, ◌++◌, map, length, Option, Some, None, Result, Ok, Err, refl, sym, ap, ◌∙◌, arith, length-append, Bor}
-use Rattle.std.specs.List.{flat_map, AllByRecursion}
-use Rattle.std.specs.Str.{IsUtf8, is_utf8}
-use Rattle.std.proofs.lemmas.List.{length-map, map-append}
-use Rattle.std.proofs.lemmas.Str.{IsUtf8-from_is_utf8, is_utf8-from_IsUtf8}
-use Rattle.pgp_base.specs.declared.error.Error.{Error}
-use Rattle.pgp_base.specs.declared.error.Error.TheVariants.{UnexpectedEof, NotDrained, InvalidCount, InvalidKeyLength, InvalidValueLength, NotUtf8, TooLarge}
-use Rattle.pgp_base.specs.Cause.{first, length_cause, nullable_cause}
-use Rattle.pgp_base.specs.Held.{Held, ◌⊕◌}
-use Rattle.pgp_base.specs.Walk.{Walk}
-use Rattle.pgp_base.specs.WalkReading.{counted}
-use Rattle.pgp_base.specs.Wire.{IsBytes, uint32, nullable as nullable_bytes}
-use Rattle.pgp_base.proofs.Causes.{length_fits, length_past, either_left, either_right, either_none, either_first, either_then, first_more, first_here}
-use Rattle.pgp_base.proofs.CountedLemmas.{ok, ok_is, differ}
-use Rattle.pgp_base.proofs.Binds.{err_is}
-use Rattle.pgp_base.proofs.Parts.{length-uint32, more_parts, more_twice}
-use Rattle.pgp_types.specs.Format.{IsSound}
-use Rattle.pgp_types.specs.Hstore.{Entry, IsTextOrNull, IsEntry, entry_bytes, entry_cause, entry, entry_count, HstoreReads, hstore, shown_entry, shown_entries}
-use Rattle.pgp_types.specs.Part.{NullableSpelled, NaturalRefused, sized, nullable}
-use Rattle.pgp_types.specs.PartReading.{natural_at, sized_at, nullable_at, is_text_or_null, key_at, entry_value_at, entry_at}
+use Rattle.pgp_types.proofs.Common.{◌≡◌, inl, inr, ℕ, ◌<◌, ◌≤◌, true, List, [], ◌∷◌, ◌++◌, map, length, Option, Some, None, Result, Ok, Err, refl, sym, ap, ◌∙◌, arith, length-append, Bor, flat_map, AllByRecursion, IsUtf8, is_utf8, length-map, map-append, IsUtf8-from_is_utf8, is_utf8-from_IsUtf8, Error, UnexpectedEof, NotDrained, InvalidCount, InvalidKeyLength, InvalidValueLength, NotUtf8, TooLarge, first, length_cause, nullable_cause, Held, ◌⊕◌, Walk, counted, IsBytes, uint32, length_fits, length_past, either_left, either_right, either_none, either_first, either_then, first_more, first_here, ok, ok_is, differ, err_is, length-uint32, more_parts, more_twice, IsSound, Entry, IsTextOrNull, IsEntry, entry_bytes, entry_cause, entry, entry_count, HstoreReads, hstore, shown_entry, shown_entries, NullableSpelled, NaturalRefused, sized, natural_at, sized_at, nullable_at, is_text_or_null, key_at, entry_value_at, entry_at}
+use Rattle.pgp_base.specs.Wire.{nullable as nullable_bytes}
+use Rattle.pgp_types.specs.Part.{nullable}
 use Rattle.pgp_types.proofs.PartLemmas.{IsPart, IsTest, begins_read, rest_bytes, natural_part, sized_part, nullable_part, only_part, then_part, utf8_test, not_passed}
 use Rattle.pgp_types.proofs.WalkLemmas.{IsItem, walk_meets, walk_few, walk_is, walk_back}
 

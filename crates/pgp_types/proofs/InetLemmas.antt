@@ -1,16 +1,8 @@
 -- What the reading of an inet comes to.
-use Rattle.std.proofs.Common.{◌≡◌, ◌≢◌, ℕ, zero, suc, ◌+◌, ◌-◌, ◌*◌, ◌/◌, ◌%◌, ◌<◌, ◌≤◌, ◌^◌, ◌⊎◌, inl, inr, List, [], ◌∷◌, length, get_or, take, drop, Result, Ok, Err, refl, sym, ap, ◌∙◌, subst, arith}
-use Rattle.std.proofs.Math.Seq.{take-length}
-use Rattle.std.proofs.lemmas.Bool.{cases_order}
-use Rattle.std.specs.Prelude.{slice_index}
+use Rattle.pgp_types.proofs.Common.{◌≡◌, ◌≢◌, ℕ, zero, suc, ◌+◌, ◌-◌, ◌*◌, ◌/◌, ◌%◌, ◌<◌, ◌≤◌, ◌^◌, ◌⊎◌, inl, inr, List, [], ◌∷◌, length, get_or, take, drop, Result, Ok, Err, refl, sym, ap, ◌∙◌, subst, arith, take-length, cases_order, slice_index, Error, UnexpectedEof, NotDrained, InvalidFamily, InvalidNetmask, InvalidAddressLength, IsBytes, FixedRefused, IsBlock, IsSound, Inet, Family, ipv4, ipv6, family_number, address_size, family_of, octets, Parts, joined, parts_of, IsInet, AddressRefused, PartsRefused, InetReads, inet}
 use Rattle.std.specs.declared.net.ip_addr.IpAddr.{IpAddr}
 use Rattle.std.specs.declared.net.ip_addr.IpAddr.TheVariants.{V4, V6}
 use Rattle.std.specs.Net.Addr.{ipv4_octets, ipv6_segments, ipv6_octets, segments_of, octets_of, IsV4And, IsV6And, MatchIp, IsIpv4Addr, IsIpv6Addr}
-use Rattle.pgp_base.specs.declared.error.Error.{Error}
-use Rattle.pgp_base.specs.declared.error.Error.TheVariants.{UnexpectedEof, NotDrained, InvalidFamily, InvalidNetmask, InvalidAddressLength}
-use Rattle.pgp_base.specs.Wire.{IsBytes}
-use Rattle.pgp_types.specs.Format.{FixedRefused, IsBlock, IsSound}
-use Rattle.pgp_types.specs.Network.{Inet, Family, ipv4, ipv6, family_number, address_size, family_of, octets, Parts, joined, parts_of, IsInet, AddressRefused, PartsRefused, InetReads, inet}
 use Rattle.pgp_types.proofs.Spelling.{bytes_take, bytes_drop, one_refusal, not_refused}
 
 -- the parts of bytes that have the four numbers

@@ -1,3 +1,4 @@
+mod Common
 pub mod Spelling
 pub mod Numbers
 pub mod InetLemmas

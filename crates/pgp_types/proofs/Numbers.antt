@@ -1,12 +1,8 @@
 -- The numbers of the wire and their spellings.
-use Rattle.std.proofs.Common.{◌≡◌, ℕ, ◌<◌, ◌^◌, List, [], ◌∷◌, length, refl, sym, ap, ◌∙◌, arith, ℤ, FitsSigned, w8, w16, w32, w64}
+use Rattle.pgp_types.proofs.Common.{◌≡◌, ℕ, ◌<◌, ◌^◌, List, [], ◌∷◌, length, refl, sym, ap, ◌∙◌, arith, ℤ, FitsSigned, w8, w16, w64, of_z-to_z, to_z-of_z, Width, to_be_bytes, from_be_bytes, cast_signed, cast_unsigned, slice_index, IsBytes, int16, int32, int64, uint32, uint64, char_byte}
+use Rattle.std.proofs.Common.{w32}
 use Rattle.std.proofs.Math.Facts.{Fits-of_z, Fits-of_lt, sfits_to_z}
 use Rattle.std.proofs.lemmas.Nat.{be_bytes_2, be_bytes_4, be_bytes_8, from_be_bytes-to_be_bytes_2, from_be_bytes-to_be_bytes_4, from_be_bytes-to_be_bytes_8}
-use Rattle.std.proofs.lemmas.Int.{of_z-to_z, to_z-of_z}
-use Rattle.std.specs.Int.{Width, to_be_bytes, from_be_bytes, cast_signed, cast_unsigned}
-use Rattle.std.specs.Prelude.{slice_index}
-use Rattle.pgp_base.specs.Wire.{IsBytes, int16, int32, int64, uint32, uint64}
-use Rattle.pgp_types.specs.Scalar.{char_byte}
 use Rattle.pgp_types.proofs.Spelling.{IsSpelling, gives}
 use mir.Val.{bits}
 

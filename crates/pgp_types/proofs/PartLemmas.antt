@@ -1,21 +1,6 @@
 -- What reads a part reads what its grammar says.
-use Rattle.std.proofs.Common.{◌≡◌, ℕ, ℤ, pos, negsuc, ◌<◌, ◌≤◌, Bool, true, false, cond, ltb, List, ◌++◌, length, take, drop, Option, Some, None, Result, Ok, Err, refl, sym, ap, subst, ◌∙◌, append_assoc, arith, inl, inr, ◌⊎◌, FitsSigned, length-append}
-use Rattle.std.specs.Int.{w32, from_be_bytes, cast_signed}
-use Rattle.std.specs.Str.{IsUtf8, is_utf8}
-use Rattle.std.proofs.lemmas.Str.{IsUtf8-from_is_utf8, is_utf8-from_IsUtf8}
-use Rattle.std.proofs.lemmas.Bool.{ltb-false, ltb-true, le-ltb, lt-ltb}
-use Rattle.std.proofs.lemmas.List.{take_at, drop_at, take-append-drop, length-take}
-use Rattle.pgp_base.specs.declared.error.Error.{Error}
-use Rattle.pgp_base.specs.Cause.{length_cause}
-use Rattle.pgp_base.specs.Wire.{int32, uint32, IsBytes}
-use Rattle.pgp_base.specs.PartReading.{int32_at, front_at}
-use Rattle.pgp_base.proofs.Causes.{length_fits, fits_of}
-use Rattle.pgp_base.proofs.CountedLemmas.{ok, ok_is, differ, IsBytes-after}
-use Rattle.pgp_base.proofs.Binds.{err, err_is, bind_ok, bind_err, guard_ok, guard_err}
-use Rattle.pgp_base.proofs.PartLemmas.{int32_number, number_takes, number_again, number_short, short_number, front_takes, front_again}
-use Rattle.pgp_base.proofs.Parts.{int32_spelled}
-use Rattle.pgp_types.specs.Part.{Part, Begins, IsNegative, IsShort, NullableSpelled, fixed_part, natural, sized, nullable, only, ◌then◌}
-use Rattle.pgp_types.specs.PartReading.{Reader, and_then, fixed_at, natural_of, natural_at, split_at, sized_at, nullable_of, nullable_at, tested, only_at, paired, then_at}
+use Rattle.pgp_types.proofs.Common.{◌≡◌, ℕ, ℤ, pos, negsuc, ◌<◌, ◌≤◌, Bool, true, false, cond, ltb, List, ◌++◌, length, take, drop, Option, Some, None, Result, Ok, Err, refl, sym, ap, subst, ◌∙◌, append_assoc, arith, inl, inr, ◌⊎◌, FitsSigned, length-append, w32, from_be_bytes, cast_signed, IsUtf8, is_utf8, IsUtf8-from_is_utf8, is_utf8-from_IsUtf8, ltb-false, ltb-true, le-ltb, lt-ltb, take_at, drop_at, take-append-drop, length-take, Error, length_cause, int32, uint32, IsBytes, int32_at, front_at, length_fits, fits_of, ok, ok_is, differ, IsBytes-after, err, err_is, bind_ok, bind_err, guard_ok, guard_err, int32_number, number_takes, number_again, number_short, short_number, front_takes, front_again, int32_spelled, Part, Begins, IsNegative, IsShort, NullableSpelled, fixed_part, natural, sized, only, ◌then◌, Reader, and_then, fixed_at, natural_of, natural_at, split_at, sized_at, nullable_of, nullable_at, tested, only_at, paired, then_at}
+use Rattle.pgp_types.specs.Part.{nullable}
 use Rattle.pgp_types.proofs.Spelling.{IsSpelling, bytes_take}
 
 pub record IsPart {V : Type 0} (p : Part V) (read : Reader V) : Type 0 where

@@ -1,22 +1,5 @@
 -- Paths: what is read is the one reading.
-use Rattle.std.proofs.Common.{◌≡◌, ◌≢◌, ℕ, zero, suc, ◌≤◌, Bool, true, false, List, [], ◌∷◌, ◌++◌, map, length, Some, None, Result, Ok, Err, refl, sym, ap, subst, ◌∙◌, arith, length-append, append_assoc}
-use Rattle.std.specs.List.{flat_map, AllByRecursion}
-use Rattle.std.proofs.lemmas.Bool.{ne_eqb}
-use Rattle.std.proofs.lemmas.List.{length-map}
-use Rattle.pgp_base.specs.declared.error.Error.{Error}
-use Rattle.pgp_base.specs.declared.error.Error.TheVariants.{UnexpectedEof, NotDrained, InvalidCount, TooLarge}
-use Rattle.pgp_base.specs.Cause.{length_cause}
-use Rattle.pgp_base.specs.WalkReading.{counted}
-use Rattle.pgp_base.specs.Wire.{IsBytes, uint32}
-use Rattle.pgp_base.proofs.Causes.{length_fits, length_past}
-use Rattle.pgp_base.proofs.CountedLemmas.{ok, ok_is, differ}
-use Rattle.pgp_base.proofs.Binds.{err_is}
-use Rattle.pgp_types.specs.Format.{IsSound}
-use Rattle.pgp_types.specs.Geometry.{Point, IsPoint, point_bytes}
-use Rattle.pgp_types.specs.Part.{Begins, IsWalk}
-use Rattle.pgp_types.specs.PartReading.{is_set, flag_at, natural_at, point_at, then_at}
-use Rattle.pgp_types.specs.Path.{Path, WalkedPath, flag, header, point_part, path_bytes, PathReads, path, point_at_xy, path_of}
-use Rattle.pgp_types.specs.Scalar.{bool_bytes, BoolReads}
+use Rattle.pgp_types.proofs.Common.{◌≡◌, ◌≢◌, ℕ, zero, suc, ◌≤◌, Bool, true, false, List, [], ◌∷◌, ◌++◌, map, length, Some, None, Result, Ok, Err, refl, sym, ap, subst, ◌∙◌, arith, length-append, append_assoc, flat_map, AllByRecursion, ne_eqb, length-map, Error, UnexpectedEof, NotDrained, InvalidCount, TooLarge, length_cause, counted, IsBytes, uint32, length_fits, length_past, ok, ok_is, differ, err_is, IsSound, Point, IsPoint, point_bytes, Begins, IsWalk, is_set, flag_at, natural_at, point_at, then_at, Path, WalkedPath, flag, header, point_part, path_bytes, PathReads, path, point_at_xy, path_of, bool_bytes, BoolReads}
 use Rattle.pgp_types.proofs.GeometryLemmas.{point_spelling}
 use Rattle.pgp_types.proofs.PartLemmas.{IsPart, begins_read, rest_bytes, natural_part, then_part, fixed_is}
 use Rattle.pgp_types.proofs.WalkLemmas.{IsItem, walk_meets, walk_few, walk_is, walk_back}

@@ -1,20 +1,9 @@
 -- What the writer of a range comes to in a window, by the room that is left there.
-use Rattle.std.proofs.Common.{◌≡◌, ℕ, ◌+◌, [], ◌∷◌, length, Some, None, Result, Ok, Err, MutBor, refl, ap, subst, ◌∙◌, arith, inl, inr, length-append}
+use Rattle.pgp_types.proofs.Common.{◌≡◌, ℕ, ◌+◌, [], ◌∷◌, length, Some, None, Result, Ok, Err, MutBor, refl, ap, subst, ◌∙◌, arith, inl, inr, length-append, IsNull, OutOfMemory, TooLarge, BindError, nat_le, if◌then◌else◌, Cause, length_cause, Held, ◌⊕◌, wants_window, more_bytes, more_kept, RangeBound, Inclusive, Exclusive, Unbounded, Side, side_bytes, side_cause, side_of, LowerMade, RangeStops, RangeWritten}
 use Rattle.std.specs.Borrow.{GName}
-use Rattle.pgp_base.specs.declared.number.IsNull.{IsNull}
-use Rattle.pgp_base.specs.declared.error.Error.TheVariants.{OutOfMemory, TooLarge}
-use Rattle.pgp_base.specs.declared.error.BindError.{BindError}
 use Rattle.pgp_base.specs.declared.error.BindError.TheVariants.{Serialization}
-use Rattle.std.specs.Prelude.{Bool, true, false, nat_le, if◌then◌else◌}
-use Rattle.pgp_base.specs.Cause.{Cause, length_cause}
-use Rattle.pgp_base.specs.Held.{Held, ◌⊕◌}
+use Rattle.std.specs.Prelude.{Bool, true, false}
 use Rattle.pgp_base.specs.Window.{window_lacks}
-use Rattle.pgp_base.proofs.Needs.{wants_window}
-use Rattle.pgp_base.proofs.Parts.{more_bytes, more_kept}
-use Rattle.pgp_types.specs.declared.range.RangeBound.{RangeBound}
-use Rattle.pgp_types.specs.declared.range.RangeBound.TheVariants.{Inclusive, Exclusive, Unbounded}
-use Rattle.pgp_types.specs.Range.{Side, side_bytes, side_cause}
-use Rattle.pgp_types.specs.RangeWriting.{side_of, LowerMade, RangeStops, RangeWritten}
 use Rattle.pgp_types.specs.RangeRoom.{LacksRange}
 
 -- no side has lack of memory as its cause

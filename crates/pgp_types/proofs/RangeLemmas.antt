@@ -1,21 +1,7 @@
 -- Ranges: what is read is the one reading.
-use Rattle.std.proofs.Common.{◌≡◌, ◌≢◌, inl, inr, ℕ, suc, ◌+◌, Bool, true, false, cond, List, [], ◌∷◌, ◌++◌, Option, None, Result, Ok, Err, refl, sym, ap, subst, ◌∙◌, arith}
-use Rattle.std.specs.Prelude.{bit_and, nat_eq}
-use Rattle.std.proofs.lemmas.Bool.{ne_eqb, eqb-true, eqb-false}
-use Rattle.std.proofs.lemmas.List.{append-nil}
-use Rattle.pgp_base.specs.declared.error.Error.{Error}
-use Rattle.pgp_base.specs.declared.error.Error.TheVariants.{NotDrained, InvalidValueLength}
-use Rattle.pgp_base.specs.PartReading.{Answers}
-use Rattle.pgp_base.specs.Wire.{IsBytes}
-use Rattle.pgp_base.proofs.Causes.{either_left, either_right}
-use Rattle.pgp_base.proofs.CountedLemmas.{ok, ok_is, differ}
-use Rattle.pgp_base.proofs.Binds.{err}
-use Rattle.pgp_types.specs.declared.range.RangeBound.TheVariants.{Inclusive, Exclusive, Unbounded}
+use Rattle.pgp_types.proofs.Common.{◌≡◌, ◌≢◌, inl, inr, ℕ, suc, ◌+◌, Bool, true, false, cond, List, [], ◌∷◌, ◌++◌, Option, None, Result, Ok, Err, refl, sym, ap, subst, ◌∙◌, arith, bit_and, nat_eq, ne_eqb, eqb-true, eqb-false, append-nil, Error, NotDrained, InvalidValueLength, Answers, IsBytes, either_left, either_right, ok, ok_is, differ, err, Inclusive, Exclusive, Unbounded, IsSound, ReadsBy, Begins, NullableSpelled, and_then, then_at, nullable_at, Side, Range, empty, between, Bits, lower_bits, upper_bits, SideSpelled, side, sides, RangeReads, side_bit, side_bytes, side_cause, range_bytes, range_cause, range}
 use Rattle.pgp_types.specs.declared.range.Range.{Range as Seen}
-use Rattle.pgp_types.specs.Format.{IsSound, ReadsBy}
-use Rattle.pgp_types.specs.Part.{Begins, NullableSpelled, nullable}
-use Rattle.pgp_types.specs.PartReading.{and_then, then_at, nullable_at}
-use Rattle.pgp_types.specs.Range.{Side, Range, empty, between, Bits, lower_bits, upper_bits, SideSpelled, side, sides, RangeReads, side_bit, side_bytes, side_cause, range_bytes, range_cause, range}
+use Rattle.pgp_types.specs.Part.{nullable}
 use Rattle.pgp_types.specs.RangeReading.{bounded, side_at, empty_at, between_at, tagged_at, range_at, shown_range}
 use Rattle.pgp_types.proofs.HstoreLemmas.{value_spelled}
 use Rattle.pgp_types.proofs.PartLemmas.{IsPart, and_then_ok, and_then_err, nullable_part, then_part}

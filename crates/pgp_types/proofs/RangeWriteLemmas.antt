@@ -1,22 +1,5 @@
 -- What the writer of a range leaves.
-use Rattle.std.proofs.Common.{◌≡◌, ◌⊎◌, ℕ, ◌+◌, ◌-◌, List, [], ◌∷◌, ◌++◌, length, take, drop, Some, None, Result, Ok, Err, MutBor, IfOk, OnOk, ◌≤◌, refl, sym, ap, subst, ◌∙◌, append_assoc, length-append, arith, inl, inr}
-use Rattle.std.specs.Prelude.{bit_or, IfErr}
-use Rattle.std.proofs.lemmas.List.{append-nil, drop-drop}
-use Rattle.std.proofs.Math.Seq.{take-append_seam, drop-append_seam, drop-nil}
-use Rattle.pgp_base.specs.declared.error.Error.{Error}
-use Rattle.pgp_base.specs.declared.error.BindError.{BindError}
-use Rattle.pgp_base.specs.declared.number.IsNull.{IsNull}
-use Rattle.pgp_base.specs.declared.number.IsNull.TheVariants.{Yes, No}
-use Rattle.pgp_base.specs.Calls.{Adds, value_of, length_of}
-use Rattle.pgp_base.specs.Cause.{length_cause, nullable_cause, Wants, WantsMemory}
-use Rattle.pgp_base.specs.Held.{Held, ◌⊕◌, lengthened, inserted, overwritten, IsFrontOf, StaysBehind}
-use Rattle.pgp_base.specs.Wire.{uint32, nullable}
-use Rattle.pgp_base.proofs.Parts.{null_spelled, nothing_more, more_bytes}
-use Rattle.pgp_base.proofs.Needs.{nullable_least, sized_length, memory_then}
-use Rattle.pgp_types.specs.declared.range.RangeBound.{RangeBound}
-use Rattle.pgp_types.specs.declared.range.RangeBound.TheVariants.{Inclusive, Exclusive, Unbounded}
-use Rattle.pgp_types.specs.Range.{Side, between, lower_bits, upper_bits, side_bit, side_bytes, side_cause, range_bytes}
-use Rattle.pgp_types.specs.RangeWriting.{KeepsBound, IsNullBound, side_of, cut_of, Extends, Makes, SideStops}
+use Rattle.pgp_types.proofs.Common.{◌≡◌, ◌⊎◌, ℕ, ◌+◌, ◌-◌, List, [], ◌∷◌, ◌++◌, length, take, drop, Some, None, Result, Ok, Err, MutBor, IfOk, OnOk, ◌≤◌, refl, sym, ap, subst, ◌∙◌, append_assoc, length-append, arith, inl, inr, bit_or, IfErr, append-nil, drop-drop, take-append_seam, drop-append_seam, drop-nil, Error, BindError, IsNull, Yes, No, Adds, value_of, length_of, length_cause, nullable_cause, Wants, WantsMemory, Held, ◌⊕◌, lengthened, inserted, overwritten, IsFrontOf, StaysBehind, uint32, nullable, null_spelled, nothing_more, more_bytes, nullable_least, sized_length, memory_then, RangeBound, Inclusive, Exclusive, Unbounded, Side, between, lower_bits, upper_bits, side_bit, side_bytes, side_cause, range_bytes, KeepsBound, IsNullBound, side_of, cut_of, Extends, Makes, SideStops}
 use Rattle.pgp_types.specs.RangeSteps.{IsValueBehind, IsSideBehind}
 
 on_ok_map : (r : Result (Unit {0}) Error) (P Q : Type 0) → (P → Q) → OnOk r P → OnOk r Q

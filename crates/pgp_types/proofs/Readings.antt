@@ -1,13 +1,5 @@
 -- Values of any length: each list of bytes has one reading.
-use Rattle.std.proofs.Common.{◌≡◌, ◌≢◌, ℕ, zero, suc, ◌<◌, ◌⊎◌, inl, inr, Bool, true, false, List, [], ◌∷◌, length, Result, Ok, Err, refl, sym, ap, ◌∙◌, arith}
-use Rattle.std.proofs.lemmas.Bool.{cases_order}
-use Rattle.std.proofs.lemmas.Str.{IsUtf8-from_is_utf8, is_utf8-from_IsUtf8}
-use Rattle.std.specs.Str.{IsUtf8, is_utf8}
-use Rattle.pgp_base.specs.declared.error.Error.{Error}
-use Rattle.pgp_base.specs.declared.error.Error.TheVariants.{InvalidSize, NotUtf8, InvalidVersion}
-use Rattle.pgp_base.specs.Wire.{IsBytes}
-use Rattle.pgp_types.specs.Format.{IsSound, WholeReads, AllRead, whole, all_bytes}
-use Rattle.pgp_types.specs.Scalar.{BoolReads, bool}
+use Rattle.pgp_types.proofs.Common.{◌≡◌, ◌≢◌, ℕ, zero, suc, ◌<◌, ◌⊎◌, inl, inr, Bool, true, false, List, [], ◌∷◌, length, Result, Ok, Err, refl, sym, ap, ◌∙◌, arith, cases_order, IsUtf8-from_is_utf8, is_utf8-from_IsUtf8, IsUtf8, is_utf8, Error, InvalidSize, NotUtf8, InvalidVersion, IsBytes, IsSound, WholeReads, AllRead, whole, all_bytes, BoolReads, bool}
 use Rattle.pgp_types.specs.Text.{TextReads, LabelReads, text, label}
 
 -- bool

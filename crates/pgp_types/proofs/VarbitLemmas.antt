@@ -1,16 +1,5 @@
 -- Bit strings: what is read is the one reading.
-use Rattle.std.proofs.Common.{◌≡◌, ◌⊎◌, inl, inr, ℕ, ◌<◌, List, length, Result, Ok, Err, refl, sym, ap, ◌∙◌, arith}
-use Rattle.std.proofs.lemmas.Bool.{cases_order}
-use Rattle.std.specs.Int.{div_ceil}
-use Rattle.pgp_base.specs.declared.error.Error.{Error}
-use Rattle.pgp_base.specs.declared.error.Error.TheVariants.{InvalidBitLength, InvalidSize}
-use Rattle.pgp_base.specs.Wire.{IsBytes, uint32}
-use Rattle.pgp_base.proofs.CountedLemmas.{ok, ok_is, differ}
-use Rattle.pgp_base.proofs.Binds.{err_is}
-use Rattle.pgp_types.specs.Format.{IsSound}
-use Rattle.pgp_types.specs.Part.{Begins}
-use Rattle.pgp_types.specs.PartReading.{natural_at}
-use Rattle.pgp_types.specs.Varbit.{Varbit, bit_count, VarbitReads, varbit}
+use Rattle.pgp_types.proofs.Common.{◌≡◌, ◌⊎◌, inl, inr, ℕ, ◌<◌, List, length, Result, Ok, Err, refl, sym, ap, ◌∙◌, arith, cases_order, div_ceil, Error, InvalidBitLength, InvalidSize, IsBytes, uint32, ok, ok_is, differ, err_is, IsSound, Begins, natural_at, Varbit, bit_count, VarbitReads, varbit}
 use Rattle.pgp_types.proofs.PartLemmas.{natural_part, begins_read}
 
 same_front : (bytes : List ℕ) (m n : ℕ) (x y : List ℕ) → Begins bit_count bytes m x → Begins bit_count bytes n y → (m ≡ n) × (x ≡ y)

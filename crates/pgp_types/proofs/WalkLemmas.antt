@@ -1,17 +1,6 @@
 -- Walks over counted parts: what is read is the one walk that the grammar allows.
-use Rattle.std.proofs.Common.{◌≡◌, ℕ, ◌+◌, ◌<◌, ◌≤◌, List, [], ◌∷◌, ◌++◌, map, length, Option, Some, None, refl, sym, ap, ◌∙◌}
-use Rattle.std.proofs.lemmas.List.{append-nil}
-use Rattle.std.specs.List.{concat, flat_map, AllByRecursion}
-use Rattle.pgp_base.specs.declared.error.Error.{Error}
-use Rattle.pgp_base.specs.declared.error.Error.TheVariants.{NotDrained}
-use Rattle.pgp_base.specs.Grammar.{IsReader}
-use Rattle.pgp_base.specs.Items.{Spellings}
-use Rattle.pgp_base.specs.Walk.{Walk}
-use Rattle.pgp_base.specs.WalkReading.{counted, counted_run}
-use Rattle.pgp_base.specs.Wire.{IsBytes}
-use Rattle.pgp_base.proofs.CountedLemmas.{counted_whole, counted_few, counted_one}
-use Rattle.pgp_types.specs.Part.{Part, IsWalk, finished}
-use Rattle.pgp_types.specs.PartReading.{Reader}
+use Rattle.pgp_types.proofs.Common.{◌≡◌, ℕ, ◌+◌, ◌<◌, ◌≤◌, List, [], ◌∷◌, ◌++◌, map, length, Option, Some, None, refl, sym, ap, ◌∙◌, append-nil, concat, flat_map, AllByRecursion, Error, NotDrained, IsReader, Spellings, Walk, counted, counted_run, IsBytes, counted_whole, counted_few, counted_one, Part, IsWalk, Reader}
+use Rattle.pgp_types.specs.Part.{finished}
 use Rattle.pgp_types.proofs.PartLemmas.{IsPart}
 
 -- a part that takes bytes, and is never rejected as not drained

@@ -1,33 +1,8 @@
 -- Messages after those that a server read, and the binding among them.
-use Rattle.std.proofs.Common.{◌≡◌, ℕ, ℤ, pos, true, false, List, [], ◌∷◌, ◌++◌, length, Option, Some, None, Result, Ok, Err, MutBor, refl, sym, ap, subst, ◌∙◌, append_assoc, inl, inr, arith, if◌then◌else◌}
-use Rattle.std.specs.List.{flat_map, AllByRecursion}
-use Rattle.std.specs.Option.{option_to_list}
-use Rattle.std.proofs.lemmas.List.{append-nil}
-use Rattle.std.proofs.lemmas.Grind.{flat_map-append}
-use Rattle.pgp_base.specs.Calls.{value_of}
-use Rattle.pgp_base.proofs.Needs.{sized_wants}
-use Rattle.pgp_base.proofs.Parts.{more_bytes}
-use Rattle.pgp_base.specs.Held.{Held, ◌⊕◌, lengthened}
-use Rattle.pgp_base.specs.Wire.{uint32}
-use Rattle.pgp_base.specs.declared.error.Error.{Error}
-use Rattle.pgp_base.specs.declared.error.BindError.{BindError}
-use Rattle.pgp_base.specs.declared.error.BindError.TheVariants.{Conversion, Serialization}
-use Rattle.pgp_base.specs.declared.number.IsNull.{IsNull}
-use Rattle.pgp_frontend.specs.ClientMessage.{ClientMessage, Parse}
-use Rattle.pgp_frontend.specs.Payload.{Oids, bytes_of, parts, parts_cause, cause}
-use Rattle.pgp_base.proofs.Causes.{either_first}
-use Rattle.pgp_base.specs.Cause.{Wants}
+use Rattle.pgp_uses.proofs.Common.{◌≡◌, ℕ, ℤ, pos, true, false, List, [], ◌∷◌, ◌++◌, length, Option, Some, None, Result, Ok, Err, MutBor, refl, sym, ap, subst, ◌∙◌, append_assoc, inl, inr, arith, if◌then◌else◌, flat_map, AllByRecursion, option_to_list, append-nil, flat_map-append, value_of, sized_wants, more_bytes, Held, ◌⊕◌, lengthened, uint32, Error, BindError, Conversion, Serialization, IsNull, ClientMessage, Parse, Oids, bytes_of, parts, parts_cause, cause, either_first, Wants, PutsOne, OneWants, names_first, one_whole, one_refused, null_wants, value_wants, Arrived, Serves, before_values, BindWhole, BindRefused, Refused, ParseWhole, ParseSoFar, int4, ClientRun, kinds_of, is_startup, Sent, IsAdded, IsLeft, Adds, RefusesMessage, AreAdded, Blames, Stops, AddsAll, NamedBinds, BindsNamed, named, named_bound, Serializes}
 use Rattle.std.specs.Result.{IsErrAnd}
-use Rattle.postgres_protocol.specs.OneValue.{PutsOne, OneWants}
-use Rattle.postgres_protocol.proofs.BindLemmas.{names_first, one_whole, one_refused, null_wants, value_wants}
 use Rattle.pgp_uses.specs.declared.session.AskError.{AskError}
 use Rattle.pgp_uses.specs.declared.session.AskError.TheVariants.{Binding}
-use Rattle.pgp_frontend.specs.Given.{Arrived, Serves, before_values, BindWhole, BindRefused, Refused, ParseWhole, ParseSoFar}
-use Rattle.pgp_types.specs.Scalar.{int4}
-use Rattle.pgp_frontend.specs.ClientRun.{ClientRun, kinds_of, is_startup}
-use Rattle.pgp_stream.specs.ClientStream.{Sent, IsAdded, IsLeft, Adds, RefusesMessage}
-use Rattle.pgp_uses.specs.Asking.{AreAdded, Blames, Stops, AddsAll, NamedBinds, BindsNamed, named, named_bound}
-use Rattle.pgp_uses.specs.Values.{Serializes}
 use Rattle.pgp_uses.proofs.Bound.{written, refused}
 
 still_kept : {K : Type 0} (a b : Held K) (z : List ℕ) → b ≡ a ⊕ z → b.kept ≡ a.kept

@@ -1,49 +1,25 @@
 -- A client's core and a server's core, turn by turn.
-use Rattle.std.proofs.Common.{◌≡◌, ℕ, List, [], ◌∷◌, ◌++◌, length, Option, Some, None, Result, Ok, Err, refl, sym, ap, subst, ◌∙◌, arith, inl, inr, false, append_assoc, Contains}
-use Rattle.std.specs.Prelude.{◌⊎◌, ◌≢◌}
-use Rattle.std.specs.Char.{encode_utf8}
-use Rattle.std.specs.List.{AllByRecursion}
+use Rattle.pgp_uses.proofs.Common.{◌≡◌, ℕ, List, [], ◌∷◌, ◌++◌, length, Option, Some, None, Result, Ok, Err, refl, sym, ap, subst, ◌∙◌, arith, inl, inr, false, append_assoc, Contains, ◌⊎◌, ◌≢◌, encode_utf8, AllByRecursion, append-nil, Wants, WantsMemory, Held, ◌⊕◌, MarkedItems, HasNoZero, IsBytes, int32, Error, Client, Answers, UpdateRefused, message_of, refusal, Meeting, Server, Challenges, Admits, first_memory, finish_never_refused, last_is, message_is, signature_never_refused, text_is, update_memory_met, ClientMessage, SaslInitialResponse, joined, Message, tag_of, TextSpelled, TextRefused, Frames, TakesFrame, IsInRange, IsMechanism, IsReply, names_of, AreRead, Facing, IsClientsWant, IsServersWant, LogsIn, IsAdded, RefusesMessage, Offers, initial, mechanism_by, mechanism_of, observed, Comes, Outcome, Challenge, Denied, Signed, IsAdmitted, IsChallenged, IsNoFinal, IsNoFirst, admission, cause_of, challenge, due, final_message, first_message, kind_in, scram, scram_offer, signature, spelled, LoginPhase, Serving, ServingPhase}
 use Rattle.std.specs.Str.{IsUtf8}
-use Rattle.std.proofs.lemmas.List.{append-nil}
-use Rattle.pgp_base.specs.Cause.{Wants, WantsMemory}
-use Rattle.pgp_base.specs.Held.{Held, ◌⊕◌}
-use Rattle.pgp_base.specs.Items.{MarkedItems}
-use Rattle.pgp_base.specs.Wire.{HasNoZero, IsBytes, int32}
-use Rattle.pgp_base.specs.declared.error.Error.{Error}
-use Rattle.pgp_auth.specs.ScramClient.{Client, Answers, UpdateRefused, first_text as text_of, message_of}
-use Rattle.pgp_auth.specs.ScramErrorView.{refusal}
-use Rattle.pgp_auth.specs.ScramMeeting.{Meeting}
-use Rattle.pgp_auth.specs.ScramServing.{Server, Challenges, Admits}
+use Rattle.pgp_auth.specs.ScramClient.{first_text as text_of}
 use Rattle.pgp_auth.specs.ScramServing as server
 use Rattle.pgp_auth.specs.Verifier.{verifier}
-use Rattle.pgp_auth.proofs.EndsMeet.{first_memory, finish_never_refused, last_is, message_is, signature_never_refused, text_is, update_memory_met}
-use Rattle.pgp_frontend.specs.ClientMessage.{ClientMessage, SaslInitialResponse}
-use Rattle.pgp_frontend.specs.Payload.{joined}
 use Rattle.pgp_frontend_read.proofs.Items.{bytes_behind}
 use Rattle.pgp_frontend_read.proofs.Steps.{frame_payload}
-use Rattle.pgp_message.specs.BackendMessage.{Message, tag_of}
-use Rattle.pgp_message.specs.Items.{TextSpelled, TextRefused}
-use Rattle.pgp_message.specs.Stream.{Frames, TakesFrame}
-use Rattle.pgp_message_write.specs.Reply.{IsInRange, IsMechanism, IsReply, bytes_of, cause, names_of, parts}
-use Rattle.pgp_uses.specs.BothEnds.{AreRead, Facing, IsClientsWant, IsServersWant, LogsIn}
-use Rattle.pgp_stream.specs.ClientStream.{IsAdded, RefusesMessage}
+use Rattle.pgp_message_write.specs.Reply.{bytes_of, cause, parts}
 use Rattle.pgp_session.specs.ScramLogin as login
-use Rattle.pgp_session.specs.ScramLogin.{Offers, Shown, initial, mechanism_by, mechanism_of, observed}
+use Rattle.pgp_session.specs.ScramLogin.{Shown}
 use Rattle.pgp_session.specs.Serving as serving
-use Rattle.pgp_session.specs.Serving.{Comes, Outcome, Challenge, Denied, Signed, IsAdmitted, IsChallenged, IsNoFinal, IsNoFirst, admission, cause_of, challenge, due, final_message, first_message, kind_in, scram, scram_offer, signature, spelled}
 use Rattle.pgp_session.specs.declared.scram_login.LoginEvent.{LoginEvent}
 use Rattle.pgp_session.specs.declared.scram_login.LoginEvent.TheVariants.{Began, Replied, Verified, Admitted}
 use Rattle.pgp_session.specs.declared.scram_login.LoginFault.{LoginFault}
 use Rattle.pgp_session.specs.declared.scram_login.LoginFault.TheVariants.{NotOffered, Unsent, Scram}
-use Rattle.pgp_session.specs.declared.scram_login.LoginPhase.{LoginPhase}
 use Rattle.pgp_session.specs.declared.scram_login.LoginPhase.TheVariants as client_phases
 use Rattle.pgp_session.specs.declared.serving.Denial.TheVariants.{WrongPassword, Violation}
 use Rattle.pgp_session.specs.declared.serving.Method.{Method}
 use Rattle.pgp_session.specs.declared.serving.Method.TheVariants as methods
-use Rattle.pgp_session.specs.declared.serving.Serving.{Serving}
 use Rattle.pgp_session.specs.declared.serving.ServingEvent.{ServingEvent}
 use Rattle.pgp_session.specs.declared.serving.ServingEvent.TheVariants.{Challenged, LoggedIn}
-use Rattle.pgp_session.specs.declared.serving.ServingPhase.{ServingPhase}
 use Rattle.pgp_session.specs.declared.serving.ServingPhase.TheVariants.{AwaitsFirst, AwaitsFinal, Open}
 
 -- ---- who faces whom

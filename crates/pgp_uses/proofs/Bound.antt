@@ -1,23 +1,5 @@
 -- The message of one value that `parameter` wrote.
-use Rattle.std.proofs.Common.{◌≡◌, ℕ, List, pos, [], ◌∷◌, length, Option, Some, None, option_map, Result, Ok, Err, MutBor, refl, sym, ap, subst, ◌∙◌, inl, inr, arith}
-use Rattle.pgp_base.specs.declared.error.Error.{Error}
-use Rattle.pgp_base.specs.declared.error.BindError.{BindError}
-use Rattle.pgp_base.specs.declared.error.BindError.TheVariants.{Conversion, Serialization}
-use Rattle.pgp_base.specs.declared.number.IsNull.{IsNull}
-use Rattle.pgp_base.specs.declared.number.IsNull.TheVariants.{Yes, No}
-use Rattle.pgp_base.specs.Wire.{uint32}
-use Rattle.pgp_base.specs.Calls.{value_of, KeepsValue}
-use Rattle.pgp_base.specs.Cause.{Wants}
-use Rattle.pgp_base.specs.Held.{Held, ◌⊕◌}
-use Rattle.pgp_base.proofs.Needs.{sized_wants}
-use Rattle.pgp_base.proofs.Parts.{front_left}
-use Rattle.pgp_frontend.specs.Payload.{bytes_of, cause}
-use Rattle.pgp_frontend.specs.Given.{before_values}
-use Rattle.pgp_types.specs.Format.{Plain}
-use Rattle.postgres_protocol.specs.OneValue.{unnamed, PutsOne, OneWants, OneBinds, BindsOne}
-use Rattle.postgres_protocol.proofs.BindLemmas.{value_wants, null_wants}
-use Rattle.postgres_protocol.proofs.StepLemmas.{same_more}
-use Rattle.pgp_uses.specs.Values.{BindsValue, BoundWants, HasSpelling, RefusesValue, Serializes, bound}
+use Rattle.pgp_uses.proofs.Common.{◌≡◌, ℕ, List, pos, [], ◌∷◌, length, Option, Some, None, option_map, Result, Ok, Err, MutBor, refl, sym, ap, subst, ◌∙◌, inl, inr, arith, Error, BindError, Conversion, Serialization, IsNull, Yes, No, uint32, value_of, KeepsValue, Wants, Held, ◌⊕◌, sized_wants, front_left, bytes_of, cause, before_values, Plain, unnamed, PutsOne, OneWants, OneBinds, BindsOne, value_wants, null_wants, same_more, BindsValue, BoundWants, HasSpelling, RefusesValue, Serializes, bound}
 
 module _ {V K : Type 0} (f : Plain V) (lacks : Held K → ℕ → Type 0) where
   -- the value after `here` is what the format writes

@@ -1,17 +1,10 @@
 -- What a connection's next message is.
-use Rattle.std.proofs.Common.{◌≡◌, ℕ, Bool, true, false, List, Option, Some, None, Ok, sym, subst}
-use Rattle.std.specs.Prelude.{◌⊎◌}
-use Rattle.pgp_client.specs.declared.event.Event.{Event}
-use Rattle.pgp_message.specs.BackendMessage.{Message, DataRow, ErrorResponse}
+use Rattle.pgp_uses.proofs.Common.{◌≡◌, ℕ, Bool, true, false, List, Option, Some, None, Ok, sym, subst, ◌⊎◌, Event, Message, DataRow, ErrorResponse, view, IsSo, received_as, row_if, is_part, IsPartial, TakesFrame, IsCut, Nexts, Shown, nexted, Took, TookEnd, with_incoming, ConnectionError}
 use Rattle.pgp_message.specs.Parts.{CountedBytes}
-use Rattle.pgp_message.specs.Views.{view}
 use Rattle.pgp_message.specs.declared.message as code
-use Rattle.pgp_uses.specs.Client.{IsSo, received_as, row_if, is_part}
 use Rattle.pgp_uses.specs.declared.client.Received.{Received}
 use Rattle.pgp_uses.specs.declared.client.Received.TheVariants as received
-use Rattle.pgp_message.specs.Stream.{IsPartial, TakesFrame}
-use Rattle.pgp_session.specs.Connection.{Comes, IsCut, Nexts, Shown, nexted, Took, TookEnd, with_incoming}
-use Rattle.pgp_session.specs.declared.connection_error.ConnectionError.{ConnectionError}
+use Rattle.pgp_session.specs.Connection.{Comes}
 
 pub none_comes : {A : Type 0} (lacks : Type 0) (old new : Shown) → Nexts {A = A} lacks old new (Ok None) → IsPartial old.incoming × (new ≡ old)
 none_comes lacks old new (IsCut phase limit partial same) = (partial, same)

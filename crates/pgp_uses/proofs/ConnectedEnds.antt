@@ -1,45 +1,23 @@
 -- A client's connection and a server's core, turn by turn.
-use Rattle.std.proofs.Common.{◌≡◌, ℕ, Bool, List, [], ◌∷◌, ◌++◌, Option, Some, None, Result, Ok, Err, refl, sym, ap, subst, ◌∙◌, inl, inr, true, false, max, ◌≤◌, arith}
-use Rattle.std.specs.Prelude.{◌⊎◌}
-use Rattle.std.specs.List.{AllByRecursion}
-use Rattle.pgp_base.specs.Held.{Held}
-use Rattle.pgp_base.specs.Items.{MarkedItems}
-use Rattle.pgp_base.specs.declared.error.Error.{Error}
-use Rattle.pgp_auth.specs.ScramClient.{Client, Answers, first_text as text_of, message_of}
-use Rattle.pgp_auth.specs.ScramErrorView.{refusal}
-use Rattle.pgp_auth.specs.ScramMeeting.{Meeting}
-use Rattle.pgp_auth.specs.ScramServing.{Server, Challenges, Admits}
+use Rattle.pgp_uses.proofs.Common.{◌≡◌, ℕ, Bool, List, [], ◌∷◌, ◌++◌, Option, Some, None, Result, Ok, Err, refl, sym, ap, subst, ◌∙◌, inl, inr, true, false, max, ◌≤◌, arith, ◌⊎◌, AllByRecursion, Held, MarkedItems, Error, Client, Answers, message_of, refusal, Meeting, Server, Challenges, Admits, answer_meets, last_is, message_is, signature_never_refused, text_is, update_memory_met, Event, ClientMessage, Message, TextSpelled, TextRefused, Frames, TakesFrame, IsMechanism, IsReply, names_of, ConnectionLogsIn, Facing, HasStarted, IsConnectionsWant, Hears, IsUnfit, Shown, is_early, is_end, is_logged_in, lacks_status, logged_in_at, Offers, initial, mechanism_of, admission, challenge, final_message, first_message, kind_in, scram, scram_offer, signature, ConnectionError, LoginPhase, Serving, ServingPhase}
+use Rattle.pgp_auth.specs.ScramClient.{first_text as text_of}
 use Rattle.pgp_auth.proofs.FirstTexts.{one_count}
-use Rattle.pgp_auth.proofs.EndsMeet.{answer_meets, last_is, message_is, signature_never_refused, text_is, update_memory_met}
 use Rattle.pgp_client.specs.Kinds.{kind_of}
 use Rattle.pgp_client.specs.Taking.{asked, taken}
 use Rattle.pgp_client.specs.Talk.{Talk}
 use Rattle.pgp_client.specs.Telling.{start as unasked}
-use Rattle.pgp_client.specs.declared.event.Event.{Event}
 use Rattle.pgp_client.specs.declared.event.Event.TheVariants.{Part}
 use Rattle.pgp_client.specs.declared.event.Refusal.{Refusal}
 use Rattle.pgp_client.specs.declared.request.Request.TheVariants.{Startup}
 use Rattle.pgp_client.specs.declared.stage.Stage.TheVariants.{Authenticating, Starting}
-use Rattle.pgp_frontend.specs.ClientMessage.{ClientMessage}
-use Rattle.pgp_message.specs.BackendMessage.{Message}
-use Rattle.pgp_message.specs.Items.{TextSpelled, TextRefused}
-use Rattle.pgp_message.specs.Stream.{Frames, TakesFrame}
-use Rattle.pgp_message_write.specs.Reply.{IsMechanism, IsReply, bytes_of, names_of}
-use Rattle.pgp_uses.specs.BothEnds.{ConnectionLogsIn, Facing, HasStarted, IsConnectionsWant}
-use Rattle.pgp_session.specs.Connection.{Hears, IsUnfit, Shown, is_early, is_end, is_logged_in, lacks_status, logged_in_at}
+use Rattle.pgp_message_write.specs.Reply.{bytes_of}
 use Rattle.pgp_session.specs.Login.{Added, AddsReply, Asking, Sasl, First, Final, Welcome, LoggedOn, Login, LogsOn, ScramBegins, ScramGoesOn, ScramEnds, Welcomed, Trusted, asking, goes_on, in_phase, Unsent}
 use Rattle.pgp_session.specs.Login as login
-use Rattle.pgp_session.specs.ScramLogin.{Offers, initial, mechanism_of}
-use Rattle.pgp_session.specs.Serving.{admission, challenge, final_message, first_message, kind_in, scram, scram_offer, signature}
 use Rattle.pgp_session.specs.Settings.{IsUnkept, most, setting_in}
 use Rattle.pgp_session.specs.declared.connection.ConnectionPhase.{ConnectionPhase}
 use Rattle.pgp_session.specs.declared.connection.ConnectionPhase.TheVariants.{Started}
-use Rattle.pgp_session.specs.declared.connection_error.ConnectionError.{ConnectionError}
 use Rattle.pgp_session.specs.declared.connection_error.ConnectionError.TheVariants.{Scram, Unwritten}
-use Rattle.pgp_session.specs.declared.scram_login.LoginPhase.{LoginPhase}
 use Rattle.pgp_session.specs.declared.scram_login.LoginPhase.TheVariants.{AwaitsOffer, AwaitsFirst, AwaitsFinal, AwaitsOk, Done}
-use Rattle.pgp_session.specs.declared.serving.Serving.{Serving}
-use Rattle.pgp_session.specs.declared.serving.ServingPhase.{ServingPhase}
 use Rattle.pgp_uses.proofs.BothEnds.{admission_spelled, count_met, meeting_of, offer_spelled, offers_scram, on_left, one_read, server_of, takes_final, takes_first, two_read, unbound_first}
 
 -- ---- where a connection is

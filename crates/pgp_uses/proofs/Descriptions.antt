@@ -1,14 +1,7 @@
 -- Steps along a stream up to its first description of a row.
-use Rattle.std.proofs.Common.{◌≡◌, ℕ, List, [], ◌∷◌, ◌++◌, map, Option, Some, None, Result, Ok, Err, subst, sym}
-use Rattle.std.specs.List.{AllByRecursion}
-use Rattle.pgp_base.specs.declared.error.Error.{Error}
+use Rattle.pgp_uses.proofs.Common.{◌≡◌, ℕ, List, [], ◌∷◌, ◌++◌, map, Option, Some, None, Result, Ok, Err, subst, sym, AllByRecursion, Error, Walk, FieldPart, Message, RowDescription, TakesFrame, Step, IsOther, Passed, Columns, FirstColumns, HasNames, HasBroken}
 use Rattle.pgp_base.specs.declared.error.Error.TheVariants as errors
-use Rattle.pgp_base.specs.Walk.{Walk}
-use Rattle.pgp_message.specs.Items.{FieldPart}
-use Rattle.pgp_message.specs.BackendMessage.{Message, RowDescription}
-use Rattle.pgp_message.specs.Stream.{TakesFrame, Step}
 use Rattle.pgp_message.proofs.Runs.{frames_next}
-use Rattle.pgp_uses.specs.Columns.{IsOther, Passed, Columns, FirstColumns, HasNames, HasBroken}
 
 others_push : (results : List (Result Message Error)) (r : Result Message Error) → AllByRecursion IsOther results → IsOther r → AllByRecursion IsOther (results ++ r ∷ [])
 others_push [] r all one = (one, tt)

@@ -1,11 +1,5 @@
 -- The elements of an array that were read, one after another.
-use Rattle.std.proofs.Common.{◌≡◌, ℕ, List, [], ◌∷◌, ◌++◌, Option, None, Ok, Err, refl, sym, ap, subst, ◌∙◌, append_assoc}
-use Rattle.std.specs.List.{AllZip}
-use Rattle.std.proofs.lemmas.List.{append-nil}
-use Rattle.pgp_base.specs.declared.error.Error.{Error}
-use Rattle.pgp_base.specs.Walk.{Walk, TakesItem, IsFinished, IsRefused}
-use Rattle.pgp_types.specs.Format.{Format}
-use Rattle.pgp_uses.specs.Arrays.{ReadsElement, ReadsElements, RefusesElement, RefusesEnd}
+use Rattle.pgp_uses.proofs.Common.{◌≡◌, ℕ, List, [], ◌∷◌, ◌++◌, Option, None, Ok, Err, refl, sym, ap, subst, ◌∙◌, append_assoc, AllZip, append-nil, Error, Walk, TakesItem, IsFinished, IsRefused, Format, ReadsElement, ReadsElements, RefusesElement, RefusesEnd}
 
 zip_push : {A B : Type 0} (R : A → B → Type 0) (xs : List A) (ys : List B) (x : A) (y : B) → AllZip R xs ys → R x y → AllZip R (xs ++ x ∷ []) (ys ++ y ∷ [])
 zip_push R [] [] x y all one = (one, tt)

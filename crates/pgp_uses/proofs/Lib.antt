@@ -1,3 +1,4 @@
+mod Common
 pub mod Asking
 pub mod Bound
 pub mod Descriptions

@@ -1,33 +1,9 @@
 -- An array whose elements a format writes, alone and as the value of a message.
-use Rattle.std.proofs.Common.{◌≡◌, ℕ, ℤ, ◌+◌, ◌*◌, ◌≤◌, List, [], ◌∷◌, ◌++◌, map, length, length-append, Option, Some, None, option_map, Result, Ok, Err, Bor, MutBor, refl, sym, ap, ◌∙◌, inl, inr, arith}
-use Rattle.pgp_base.specs.declared.error.Error.{Error}
-use Rattle.pgp_base.specs.declared.error.BindError.{BindError}
-use Rattle.pgp_base.specs.declared.error.BindError.TheVariants.{Conversion, Serialization}
-use Rattle.pgp_base.specs.declared.number.IsNull.{IsNull}
-use Rattle.pgp_base.specs.declared.number.IsNull.TheVariants.{Yes, No}
-use Rattle.pgp_base.specs.Wire.{int32, uint32, nullable}
-use Rattle.std.specs.List.{flat_map}
-use Rattle.std.specs.Option.{option_to_list}
-use Rattle.std.proofs.lemmas.List.{map-append}
+use Rattle.pgp_uses.proofs.Common.{◌≡◌, ℕ, ℤ, ◌+◌, ◌*◌, ◌≤◌, List, [], ◌∷◌, ◌++◌, map, length, length-append, Option, Some, None, option_map, Result, Ok, Err, Bor, MutBor, refl, sym, ap, ◌∙◌, inl, inr, arith, Error, BindError, Conversion, Serialization, IsNull, Yes, No, int32, uint32, nullable, flat_map, option_to_list, map-append, Wants, WantsMemory, length_cause, Held, ◌⊕◌, value_of, KeepsValue, Puts, Gives, Runs, SoFar, flat_more, nullable_least, sized_wants, wants_more, int32_number, ArrayDimension, Array, array_bytes, Plain, int4, BindsOne, array_length, head_wants, element_wants, BindsInt4s, PutsInt4s, int4_array, refusal_of, BindsValue, Serializes}
 use Rattle.std.proofs.lemmas.List.Concat.{flat_map-append}
-use Rattle.pgp_base.specs.Cause.{Wants, WantsMemory, length_cause}
-use Rattle.pgp_base.specs.Held.{Held, ◌⊕◌}
-use Rattle.pgp_base.specs.Calls.{value_of, KeepsValue, Puts, Gives, Runs, SoFar}
-use Rattle.pgp_base.proofs.Needs.{flat_more, nullable_least, sized_wants}
-use Rattle.pgp_base.proofs.Parts.{wants_more}
-use Rattle.pgp_base.proofs.PartLemmas.{int32_number}
-use Rattle.pgp_types.specs.declared.array.ArrayDimension.{ArrayDimension}
-use Rattle.pgp_types.specs.Array.{Array, array_bytes}
 use Rattle.pgp_types.specs.ArrayWriting.{before_elements, ArrayWritten, ArrayRefused}
-use Rattle.pgp_types.specs.Format.{Plain}
-use Rattle.pgp_types.specs.Scalar.{int4}
 use Rattle.postgres_protocol.specs.ArraySteps.{array_of}
-use Rattle.postgres_protocol.specs.OneValue.{BindsOne}
 use Rattle.pgp_frontend.proofs.Needs.{null_length}
-use Rattle.postgres_protocol.proofs.StepLemmas.{array_length, head_wants, element_wants}
-use Rattle.pgp_uses.specs.Arrays.{BindsInt4s, PutsInt4s, int4_array}
-use Rattle.pgp_uses.specs.Server.{refusal_of}
-use Rattle.pgp_uses.specs.Values.{BindsValue, Serializes}
 use Rattle.pgp_uses.proofs.Bound.{written, keeps_value, binds_value}
 
 same_array : (xs ds : List ArrayDimension) (m n : ℕ) (vs ws : List (Option (List ℕ))) → xs ≡ ds → m ≡ n → vs ≡ ws

@@ -1,16 +1,10 @@
 -- A frame at the front, by its header.
-use Rattle.std.proofs.Common.{◌≡◌, ℕ, ℤ, pos, negsuc, ◌+◌, ◌≤◌, ◌≤ℤ◌, List, ◌∷◌, ◌++◌, length, take, drop, refl, sym, ap, subst, ◌∙◌, arith, inl, inr}
+use Rattle.pgp_uses.proofs.Common.{◌≡◌, ℕ, ℤ, pos, negsuc, ◌+◌, ◌≤◌, ◌≤ℤ◌, List, ◌∷◌, ◌++◌, length, take, drop, refl, sym, ap, subst, ◌∙◌, arith, inl, inr, length-take, length-take-le, length-drop, take-append_seam, nat_abs, Held, ◌⊕◌, uint32, IsBytes, Frame, frame_bytes, BeginsWithHeader}
 use Rattle.std.proofs.Math.Dec.{T}
 use Rattle.std.proofs.lemmas.Bool.Decides.{leb_tells}
-use Rattle.std.proofs.lemmas.List.{length-take, length-take-le, length-drop}
-use Rattle.std.proofs.Math.Seq.{take-append_seam}
-use Rattle.std.proofs.Math.IntN.{nat_abs}
-use Rattle.pgp_base.specs.Held.{Held, ◌⊕◌}
-use Rattle.pgp_base.specs.Wire.{uint32, IsBytes}
 use Rattle.pgp_types.proofs.PartLemmas.{int32_pos}
 use Rattle.pgp_message.specs.FrontReading.{front_frame, announced}
 use Rattle.pgp_message.specs.Header.{HeaderPart, IsHeader}
-use Rattle.pgp_message.specs.Stream.{Frame, frame_bytes, BeginsWithHeader}
 use Rattle.pgp_message.proofs.Cuts.{cut, front_of}
 use Rattle.pgp_message.proofs.Fronts.{header_announced}
 use Rattle.pgp_uses.specs.Filter.{PassesFrame, LacksFrame}

@@ -1,15 +1,8 @@
 -- Places grow by a frame.
-use Rattle.std.proofs.Common.{◌≡◌, ℕ, ◌+◌, ◌-◌, ◌<◌, List, [], ◌∷◌, ◌++◌, length, drop, Result, Bool, refl, sym, ap, subst, ◌∙◌, arith, append_assoc}
-use Rattle.std.specs.List.{flat_map, AllByRecursion}
+use Rattle.pgp_uses.proofs.Common.{◌≡◌, ℕ, ◌+◌, ◌-◌, ◌<◌, List, [], ◌∷◌, ◌++◌, length, drop, Result, Bool, refl, sym, ap, subst, ◌∙◌, arith, append_assoc, flat_map, AllByRecursion, append-nil, drop-append_seam, flat_map-append, uint32, Error, Message, Body, Frame, frame_bytes, IsFrame, IsEnding, Bodies, Frames, TakesFrame}
 use Rattle.std.specs.declared.ops.Range.{Range}
-use Rattle.std.proofs.lemmas.List.{append-nil, length-append}
-use Rattle.std.proofs.Math.Seq.{drop-append_seam}
+use Rattle.std.proofs.lemmas.List.{length-append}
 use Rattle.std.proofs.lemmas.List.Concat.{flat_map-cons}
-use Rattle.std.proofs.lemmas.Grind.{flat_map-append}
-use Rattle.pgp_base.specs.Wire.{uint32}
-use Rattle.pgp_base.specs.declared.error.Error.{Error}
-use Rattle.pgp_message.specs.BackendMessage.{Message, Body}
-use Rattle.pgp_message.specs.Stream.{Frame, frame_bytes, IsFrame, IsEnding, Bodies, Frames, TakesFrame}
 use Rattle.pgp_uses.specs.Recorder.{places_of, IsRecording}
 
 abbrev pub place : ℕ → ℕ → Range ℕ

@@ -1,16 +1,5 @@
 -- A frame whose body a closure wrote.
-use Rattle.std.proofs.Common.{◌≡◌, ℕ, ◌+◌, ◌≤◌, List, [], ◌∷◌, length, Some, Result, Ok, Err, sym, ap, ◌∙◌, inl, inr, arith, length-append, MutBor}
-use Rattle.std.specs.Prelude.{◌⊎◌}
-use Rattle.std.proofs.lemmas.List.{append_cancel_left}
-use Rattle.pgp_base.specs.Calls.{Appends, BodyRefused, WritesBody}
-use Rattle.pgp_base.specs.Cause.{Wants, WantsMemory, length_cause}
-use Rattle.pgp_base.specs.declared.error.Error.{Error}
-use Rattle.pgp_base.specs.declared.error.BindError.{BindError}
-use Rattle.pgp_base.specs.declared.error.BindError.TheVariants.{Conversion, Serialization}
-use Rattle.pgp_base.specs.Held.{Held, ◌⊕◌}
-use Rattle.pgp_base.specs.Wire.{frame, uint32}
-use Rattle.pgp_base.proofs.Parts.{length-uint32, more_bytes, more_twice, wants_more, wants_then}
-use Rattle.pgp_uses.specs.Server.{refusal_of}
+use Rattle.pgp_uses.proofs.Common.{◌≡◌, ℕ, ◌+◌, ◌≤◌, List, [], ◌∷◌, length, Some, Result, Ok, Err, sym, ap, ◌∙◌, inl, inr, arith, length-append, MutBor, ◌⊎◌, append_cancel_left, Appends, BodyRefused, WritesBody, Wants, WantsMemory, length_cause, Error, BindError, Conversion, Serialization, Held, ◌⊕◌, frame, uint32, length-uint32, more_bytes, more_twice, wants_more, wants_then, refusal_of}
 
 -- the closure appends q where it succeeds
 module _ {F E B K : Type 0} (held : B → Held K) (post : F → MutBor B → Result (Unit {0}) E → MutBor B → Type 0) (f : F) (q : List ℕ) (law : (b d : MutBor B) → post f b (Ok tt) d → held d.now ≡ held b.now ⊕ q) where

@@ -1,36 +1,15 @@
 -- A value of each format has one text.
-use Rattle.std.proofs.Common.{◌≡◌, ℕ, ℤ, false, List, Option, Some, None, Ok, Err, refl, sym, ap, ◌∙◌, subst}
-use Rattle.std.specs.Prelude.{IfOk, IsErr}
-use Rattle.std.proofs.lemmas.Bool.{false≢true}
+use Rattle.pgp_value_text.proofs.Common.{◌≡◌, ℕ, ℤ, false, List, Option, Some, None, Ok, Err, refl, sym, ap, ◌∙◌, subst, IfOk, IsErr, false≢true, decimal, signed_decimal, hyphenated_text, lower, bool, bytea, char, int2, int4, int8, oid, lsn, time, fixed_sound, int8_spelling, int16_spelling, int32_spelling, int64_spelling, uint32_spelling, uint64_spelling, numeric_text, date_value, timestamp_value, xid8, interval, timetz, Moment, PosInfinity, NegInfinity, Value, interval_sound, timetz_sound, date_value_sound, timestamp_value_sound, span_text, ShowsDay, ShowsInstant, ShowsMoment, ShowsTime, one_date, one_instant, one_time, bool_text, char_text, hex_text, lsn_text, zone_of, As, is_float, IsShown, IsShownIn, ShowsNumeric, ShowsTimeTz}
 use Rattle.std.specs.Int.{w8, cast_unsigned}
-use Rattle.std.specs.Fmt.{decimal, signed_decimal}
-use Rattle.uuid.specs.Text.{hyphenated_text, lower}
 use Rattle.pgp_types.specs.Network.{uuid}
-use Rattle.pgp_types.specs.Scalar.{bool, bytea, char, int2, int4, int8, oid, lsn}
 use Rattle.pgp_types.specs.Text.{text}
-use Rattle.pgp_types.specs.Time.{time}
-use Rattle.pgp_types.proofs.Spelling.{fixed_sound}
-use Rattle.pgp_types.proofs.Numbers.{int8_spelling, int16_spelling, int32_spelling, int64_spelling, uint32_spelling, uint64_spelling}
 use Rattle.pgp_types.proofs.Readings.{all_sound, bool_sound, label_sound, text_sound, whole_sound}
 use Rattle.pgp_values.specs.declared.formats.BinaryFormat.{BinaryFormat}
 use Rattle.pgp_values.specs.declared.formats.BinaryFormat.TheVariants.{Bool as BoolFormat, Bytea as BytesFormat, Char as CharFormat, Date, Float4, Float8, Int2, Int4, Int8, Interval, Jsonb, Jsonpath, Lsn, Numeric, Oid, Text as TextFormat, Time, Timestamp, Timetz, Uuid, Xid8}
 use Rattle.pgp_values.specs.Decimal.{NumericReads}
-use Rattle.pgp_values.specs.DecimalText.{numeric_text}
-use Rattle.pgp_values.specs.Moment.{date_value, timestamp_value}
-use Rattle.pgp_values.specs.System.{xid8}
 use Rattle.pgp_values.specs.Text.{jsonb, jsonpath}
-use Rattle.pgp_values.specs.Time.{interval, timetz}
 use Rattle.pgp_values.specs.declared.error.NumericError.{NumericError}
-use Rattle.pgp_values.specs.declared.moment.Moment.{Moment}
-use Rattle.pgp_values.specs.declared.moment.Moment.TheVariants.{PosInfinity, NegInfinity, Value}
 use Rattle.pgp_values.proofs.DecimalLemmas.{one_numeric}
-use Rattle.pgp_values.proofs.Fixed.{interval_sound, timetz_sound}
-use Rattle.pgp_values.proofs.MomentLemmas.{date_value_sound, timestamp_value_sound}
-use Rattle.pgp_calendar.specs.Span.{span_text}
-use Rattle.pgp_calendar.specs.Text.{ShowsDay, ShowsInstant, ShowsMoment, ShowsTime}
-use Rattle.pgp_calendar.proofs.Uniqueness.{one_date, one_instant, one_time}
-use Rattle.pgp_value_text.specs.ValueText.{bool_text, char_text, hex_text, lsn_text, zone_of, As, is_float, IsShown, IsShownIn, ShowsNumeric}
-use Rattle.pgp_value_text.specs.Zone.{ShowsTimeTz}
 use Rattle.pgp_value_text.proofs.Texts.{one_as, one_shown}
 use Rattle.pgp_value_text.proofs.Zones.{one_zoned}
 

@@ -1,10 +1,7 @@
 -- What is read is shown as its value, and what isn't read isn't shown.
-use Rattle.std.proofs.Common.{◌≡◌, ℕ, List, Bool, true, false, Result, Ok, Err, refl, sym, ◌∙◌, subst}
-use Rattle.std.specs.Prelude.{IsErr, IfOk}
-use Rattle.std.proofs.lemmas.Bool.{false≢true}
+use Rattle.pgp_value_text.proofs.Common.{◌≡◌, ℕ, List, Bool, true, false, Result, Ok, Err, refl, sym, ◌∙◌, subst, IsErr, IfOk, false≢true, Shows, As, Tells}
 use Rattle.pgp_base.specs.declared.error.Error.{Error}
 use Rattle.pgp_types.specs.Format.{Plain, IsSound}
-use Rattle.pgp_value_text.specs.ValueText.{Shows, As, Tells}
 
 module _ {V : Type 0} (f : Plain V) (sound : IsSound f) (shown : V → List ℕ → Type 0) where
   same_value : (bytes : List ℕ) (v w : V) → f.Reads bytes (Ok v) → f.Reads bytes (Ok w) → v ≡ w

@@ -1,19 +1,11 @@
 -- What writers of days and times wrote.
-use Rattle.std.proofs.Common.{◌≡◌, ℕ, ℤ, ◌<◌, List, Bool, Result, Ok, Err, sym, ap, subst, arith, inl, inr}
-use Rattle.std.specs.Prelude.{[], ◌++◌, codes, nat_eq, if◌then◌else◌}
-use Rattle.std.proofs.lemmas.Bool.{false≢true}
+use Rattle.pgp_value_text.proofs.Common.{◌≡◌, ℕ, ℤ, ◌<◌, List, Bool, Result, Ok, Err, sym, ap, subst, arith, inl, inr, [], ◌++◌, codes, nat_eq, if◌then◌else◌, false≢true, IsEpochDay, IsCivilNanos, Moment, PosInfinity, NegInfinity, Value, day_1970, nanos_1970, WritesText, ShowsDay, ShowsInstant, ShowsMoment, ShowsTime, IsShownTime, HasText, Tells, zone_of}
 use Rattle.jiff_core.proofs.SignedLemmas.{signed_arith}
-use Rattle.jiff.specs.Words.{IsEpochDay, IsCivilNanos}
 use Rattle.jiff.proofs.Family.{epoch_day_range, civil_nanos_range, time_nanos_bound}
 use Rattle.pgp_base.specs.Held.{items_held, ◌⊕◌, lengthened}
-use Rattle.pgp_values.specs.declared.moment.Moment.{Moment}
-use Rattle.pgp_values.specs.declared.moment.Moment.TheVariants.{PosInfinity, NegInfinity, Value}
 use Rattle.pgp_calendar.specs.declared.error.TextError.{TextError}
 use Rattle.pgp_calendar.specs.declared.error.TextError.TheVariants.{OutOfMemory, OutOfRange}
-use Rattle.pgp_calendar.specs.Numbers.{day_1970, nanos_1970}
-use Rattle.pgp_calendar.specs.Text.{WritesText, ShowsDay, ShowsInstant, ShowsMoment, ShowsTime, IsShownTime, HasText}
 use Rattle.pgp_value_text.specs.Told.{Told}
-use Rattle.pgp_value_text.specs.ValueText.{Tells, zone_of}
 
 -- the bytes that a buffer holds after those that it held
 pub lengthened_items : (old new t : List ℕ) → items_held new ≡ items_held old ⊕ t → new ≡ old ++ t

@@ -1,13 +1,7 @@
 -- A time with its zone.
-use Rattle.std.proofs.Common.{◌≡◌, ℕ, ◌<◌, List, Bool, true, false, Result, Ok, Err, refl, sym, ap, ◌∙◌, subst}
-use Rattle.std.specs.Prelude.{◌++◌, IfOk, IsErr, unsigned_abs}
-use Rattle.std.proofs.lemmas.Bool.{false≢true}
+use Rattle.pgp_value_text.proofs.Common.{◌≡◌, ℕ, ◌<◌, List, Bool, true, false, Result, Ok, Err, refl, sym, ap, ◌∙◌, subst, ◌++◌, IfOk, IsErr, unsigned_abs, false≢true, ShowsTime, one_time, Tells, zone_text, ShowsTimeTz}
 use Rattle.std.proofs.lemmas.List.{append_assoc}
 use Rattle.pgp_values.specs.declared.time.TimeTz.{TimeTz}
-use Rattle.pgp_calendar.specs.Text.{ShowsTime}
-use Rattle.pgp_calendar.proofs.Uniqueness.{one_time}
-use Rattle.pgp_value_text.specs.ValueText.{Tells}
-use Rattle.pgp_value_text.specs.Zone.{zone_text, ShowsTimeTz}
 
 module _ {E : Type 0} (lacks : Type 0) (old mid : List ℕ) (v : TimeTz) where
   -- a time that isn't shown isn't shown with a zone

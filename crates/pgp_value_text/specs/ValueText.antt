@@ -25,7 +25,7 @@ use Rattle.pgp_values.specs.Text.{jsonb, jsonpath}
 use Rattle.pgp_values.specs.Time.{interval, timetz}
 use Rattle.pgp_calendar.specs.Span.{span_text}
 use Rattle.pgp_calendar.specs.Text.{ShowsDay, ShowsInstant, ShowsMoment, ShowsTime}
-use Rattle.pgp_value_text.specs.Float.{ShowsFloat}
+use Rattle.pgp_value_text.specs.Float.{ShowsDouble, ShowsSingle}
 use Rattle.pgp_value_text.specs.Zone.{ShowsTimeTz}
 
 -- the bytes are read as a value that is shown so
@@ -70,8 +70,8 @@ IsShown BoolFormat type_oid = Shows bool (As bool_text)
 IsShown BytesFormat type_oid = λ bytes text. (type_oid ≡ 17) × Shows bytea (As hex_text) bytes text
 IsShown CharFormat type_oid = Shows char (As (λ z. char_text (cast_unsigned w8 z)))
 IsShown Date type_oid = Shows date_value (ShowsMoment ShowsDay)
-IsShown Float4 type_oid = Shows float4 (λ bits. ShowsFloat binary32 (from_bits binary32 bits))
-IsShown Float8 type_oid = Shows float8 (λ bits. ShowsFloat binary64 (from_bits binary64 bits))
+IsShown Float4 type_oid = Shows float4 (λ bits. ShowsSingle (from_bits binary32 bits))
+IsShown Float8 type_oid = Shows float8 (λ bits. ShowsDouble (from_bits binary64 bits))
 IsShown Int2 type_oid = Shows int2 (As signed_decimal)
 IsShown Int4 type_oid = Shows int4 (As signed_decimal)
 IsShown Int8 type_oid = Shows int8 (As signed_decimal)

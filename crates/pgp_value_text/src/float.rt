@@ -3,7 +3,7 @@
 ghost use Rattle.std.specs.Prelude.{◌≡◌, false, from_bits, is_nan};
 ghost use Rattle.std.specs.Float.{binary32, binary64};
 ghost use Rattle.pgp_types.specs.Scalar.{float4, float8};
-ghost use Rattle.pgp_value_text.specs.Float.{ShowsFloat};
+ghost use Rattle.pgp_value_text.specs.Float.{ShowsDouble, ShowsSingle};
 ghost use Rattle.pgp_value_text.specs.ValueText.{Shows, Tells};
 
 use crate::put::put;
@@ -16,7 +16,7 @@ use std::alloc::AllocError;
 // Adds the text of a number of 64 bits.
 fn put_double<A: Memory>(x: f64, text: &mut BytesMut<A>) -> Result<bool, AllocError>
     requires { is_nan x ≡ false }
-    ensures { Tells (ShowsFloat binary64 x) A.Lacks text.old.items text.new.items result }
+    ensures { Tells (ShowsDouble x) A.Lacks text.old.items text.new.items result }
 {
     if x.is_finite() {
         put(Buffer::new().format_finite_with_plus(x), text)
@@ -29,7 +29,7 @@ fn put_double<A: Memory>(x: f64, text: &mut BytesMut<A>) -> Result<bool, AllocEr
 
 // Adds the text of 64 bits, which may be no number's.
 fn put_double_bits<A: Memory>(bits: u64, text: &mut BytesMut<A>) -> Result<bool, AllocError>
-    ensures { Tells (ShowsFloat binary64 (from_bits binary64 bits)) A.Lacks text.old.items text.new.items result }
+    ensures { Tells (ShowsDouble (from_bits binary64 bits)) A.Lacks text.old.items text.new.items result }
 {
     if bits % 0x8000_0000_0000_0000 > 0x7ff0_0000_0000_0000 {
         put("NaN", text)
@@ -43,7 +43,7 @@ pub(crate) fn put_float8<A: Memory>(
     bytes: &[u8],
     text: &mut BytesMut<A>,
 ) -> Result<bool, AllocError>
-    ensures { Tells (Shows float8 (λ bits. ShowsFloat binary64 (from_bits binary64 bits)) bytes.now) A.Lacks text.old.items text.new.items result }
+    ensures { Tells (Shows float8 (λ bits. ShowsDouble (from_bits binary64 bits)) bytes.now) A.Lacks text.old.items text.new.items result }
 {
     match float8_from_sql(bytes) {
         Ok(bits) => put_double_bits(bits, text),
@@ -54,7 +54,7 @@ pub(crate) fn put_float8<A: Memory>(
 // Adds the text of a number of 32 bits.
 fn put_single<A: Memory>(x: f32, text: &mut BytesMut<A>) -> Result<bool, AllocError>
     requires { is_nan x ≡ false }
-    ensures { Tells (ShowsFloat binary32 x) A.Lacks text.old.items text.new.items result }
+    ensures { Tells (ShowsSingle x) A.Lacks text.old.items text.new.items result }
 {
     if x.is_finite() {
         put(Buffer::new().format_finite_with_plus(x), text)
@@ -67,7 +67,7 @@ fn put_single<A: Memory>(x: f32, text: &mut BytesMut<A>) -> Result<bool, AllocEr
 
 // Adds the text of 32 bits, which may be no number's.
 fn put_single_bits<A: Memory>(bits: u32, text: &mut BytesMut<A>) -> Result<bool, AllocError>
-    ensures { Tells (ShowsFloat binary32 (from_bits binary32 bits)) A.Lacks text.old.items text.new.items result }
+    ensures { Tells (ShowsSingle (from_bits binary32 bits)) A.Lacks text.old.items text.new.items result }
 {
     if bits % 0x8000_0000 > 0x7f80_0000 {
         put("NaN", text)
@@ -81,7 +81,7 @@ pub(crate) fn put_float4<A: Memory>(
     bytes: &[u8],
     text: &mut BytesMut<A>,
 ) -> Result<bool, AllocError>
-    ensures { Tells (Shows float4 (λ bits. ShowsFloat binary32 (from_bits binary32 bits)) bytes.now) A.Lacks text.old.items text.new.items result }
+    ensures { Tells (Shows float4 (λ bits. ShowsSingle (from_bits binary32 bits)) bytes.now) A.Lacks text.old.items text.new.items result }
 {
     match float4_from_sql(bytes) {
         Ok(bits) => put_single_bits(bits, text),

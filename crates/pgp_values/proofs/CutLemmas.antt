@@ -1,10 +1,5 @@
 -- The text of a number with hidden places is the number cut off.
-use Rattle.std.proofs.Common.{◌≡◌, ℕ, zero, suc, ℤ, pos, negsuc, ◌+◌, ◌*◌, ◌<◌, ◌≤◌, ◌^◌, List, ◌∷◌, ◌++◌, length, sym, ap, ◌∙◌, arith}
-use Rattle.std.proofs.Math.Nat.{mul-le-mul}
-use Rattle.std.proofs.lemmas.Nat.{pow-add}
-use Rattle.pgp_values.specs.Amount.{spelled, before_point, behind_by, IsCut}
-use Rattle.pgp_values.specs.Decimal.{Decimal, IsDigits}
-use Rattle.pgp_values.specs.DecimalText.{decimal_at, run, whole_places, whole_digits, behind_point}
+use Rattle.pgp_values.proofs.Common.{◌≡◌, ℕ, zero, suc, ℤ, pos, negsuc, ◌+◌, ◌*◌, ◌<◌, ◌≤◌, ◌^◌, List, ◌∷◌, ◌++◌, length, sym, ap, ◌∙◌, arith, mul-le-mul, pow-add, spelled, before_point, behind_by, IsCut, Decimal, IsDigits, decimal_at, run, whole_places, whole_digits, behind_point}
 use Rattle.pgp_values.proofs.AmountLemmas.{run_split, run_shift, spelled_append, spelled_behind, places_spell, whole_is, behind_zero, behind_digit}
 use Rattle.pgp_values.proofs.RoundLemmas.{at_small, behind_small}
 use Rattle.pgp_values.proofs.TextLemmas.{run_length}

@@ -1,7 +1,5 @@
 -- A table that is halved.
-use Rattle.std.proofs.Common.{◌≡◌, ℕ, zero, suc, ◌+◌, ◌<◌, ◌≤◌, true, false, nat_le, eqb, List, [], ◌∷◌, length, drop, get_or, Some, None, refl, sym, ap, ◌∙◌, arith, add-one, le_of_suc-le-suc, not-suc-le-zero, drop_of_length-le}
-use Rattle.std.proofs.lemmas.Bool.{and_parts, leb-true}
-use Rattle.pgp_values.specs.FormatTable.{Entry, format_in, rises}
+use Rattle.pgp_values.proofs.Common.{◌≡◌, ℕ, zero, suc, ◌+◌, ◌<◌, ◌≤◌, true, false, nat_le, eqb, List, [], ◌∷◌, length, drop, get_or, Some, None, refl, sym, ap, ◌∙◌, arith, add-one, le_of_suc-le-suc, not-suc-le-zero, drop_of_length-le, and_parts, leb-true, Entry, format_in, rises}
 
 record Parts (n : ℕ) (f : Entry) (fs : List Entry) : Type 0 where
   pub from : n ≤ f.0

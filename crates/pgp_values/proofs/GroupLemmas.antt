@@ -1,19 +1,5 @@
 -- What is written of a number that a text says is the same number, and where there is none, no numeric is.
-use Rattle.std.proofs.Common.{◌≡◌, ◌≢◌, ◌⊎◌, inl, inr, ℕ, zero, suc, ℤ, pos, negsuc, ◌+◌, ◌-◌, ◌*◌, ◌/◌, ◌<◌, ◌≤◌, ◌^◌, Bool, true, false, cond, ltb, List, [], ◌∷◌, ◌++◌, length, map, take, drop, get_or, add-one, refl, sym, ap, ◌∙◌, arith, FitsSigned, w16, length-append, append_assoc}
-use Rattle.std.proofs.Math.Nat.{mul_assoc, pow-le-pow_right, one-le-pow, mul-le-mul, mul-lt-mul_of_pos_right}
-use Rattle.std.proofs.Math.Seq.{take-suc}
-use Rattle.std.proofs.lemmas.Bool.{lt-ltb, le-ltb, ltb-false, cases_order, cases_lt}
-use Rattle.std.proofs.lemmas.List.{get_or_past, length-map, map-append, take_all, take-append-drop}
-use Rattle.std.proofs.lemmas.Nat.{pow-add}
-use Rattle.std.specs.Int.{cast_unsigned}
-use Rattle.pgp_base.specs.Wire.{int16, uint16}
-use Rattle.pgp_base.proofs.Parts.{length-uint16, int16_spelled}
-use Rattle.pgp_values.specs.Amount.{spelled, before_point, behind_by}
-use Rattle.pgp_values.specs.Decimal.{Decimal, laid_out, IsDecimal, IsDigits, HasNoZeroEnds, last_of}
-use Rattle.pgp_values.specs.DecimalText.{run}
-use Rattle.pgp_values.specs.DecimalWriting.{Reported, reported_by, places_of, raised, lowered, digit_value, IsNumberOf}
-use Rattle.pgp_values.specs.NumberGroups.{power_digit, group_value, group_down, IsWeight, IsPastWeights, NoneFrom, NoneTo}
-use Rattle.pgp_values.specs.NumberMeaning.{IsValueOf}
+use Rattle.pgp_values.proofs.Common.{◌≡◌, ◌≢◌, ◌⊎◌, inl, inr, ℕ, zero, suc, ℤ, pos, negsuc, ◌+◌, ◌-◌, ◌*◌, ◌/◌, ◌<◌, ◌≤◌, ◌^◌, Bool, true, false, cond, ltb, List, [], ◌∷◌, ◌++◌, length, map, take, drop, get_or, add-one, refl, sym, ap, ◌∙◌, arith, FitsSigned, w16, length-append, append_assoc, mul_assoc, pow-le-pow_right, one-le-pow, mul-le-mul, mul-lt-mul_of_pos_right, take-suc, lt-ltb, le-ltb, ltb-false, cases_order, cases_lt, get_or_past, length-map, map-append, take-append-drop, pow-add, cast_unsigned, int16, uint16, length-uint16, int16_spelled, spelled, before_point, behind_by, Decimal, laid_out, IsDecimal, IsDigits, HasNoZeroEnds, last_of, run, Reported, reported_by, places_of, raised, lowered, digit_value, IsNumberOf, power_digit, group_value, group_down, IsWeight, IsPastWeights, NoneFrom, NoneTo, IsValueOf}
 use Rattle.pgp_values.proofs.AmountLemmas.{run_split, run_shift, spelled_append, spelled_more, spelled_behind, spelled_zeros, power_four}
 use Rattle.pgp_values.proofs.TextLemmas.{run_length}
 
@@ -284,9 +270,6 @@ module _ (negative : Bool) (whole fraction : List ℕ) (divided : Bool) (exponen
 
 -- What no numeric holds.
 
-pub scale_past : (t : Reported) (places : ℕ) → places ≡ places_of t → 16383 < places → (d : Decimal) → IsDecimal d → IsNumberOf t d → ⊥
-scale_past t places is past d fits n = omega (arith, n.scale, fits.scale)
-
 -- digits spell at least what the first that isn't 0 counts, and less than one more of as many
 pub spelled_least : (ds : List ℕ) (i : ℕ) → i < length ds → get_or ds i 0 ≢ 0 → 10 ^ (length ds - 1 - i) ≤ spelled 10 ds
 spelled_least [] i lt some = absurd (omega arith)
@@ -350,12 +333,6 @@ spelled_next bs i lt =
     let xs = map digit_value (take i bs) in
     let more : map digit_value (take (suc i) bs) ≡ xs ++ d ∷ [] = ap (map digit_value) (take-suc bs i 0 lt) ∙ map-append digit_value (take i bs) (get_or bs i 0 ∷ []) in
     rw add-one (ap (spelled 10) more ∙ (spelled_append 10 xs (d ∷ []) ∙ omega arith))
-
-pub front_rest : (xs : List ℕ) (x : ℕ) → 1 ≤ length xs → get_or xs 0 0 ≡ x → xs ≡ x ∷ take (length xs - 1) (drop 1 xs)
-front_rest [] x h e = absurd (omega arith)
-front_rest (a ∷ rest) x h e =
-    let n : length (a ∷ rest) - 1 ≡ length rest = omega arith in
-    ap (λ (y : ℕ). y ∷ rest) e ∙ sym (ap (λ k. x ∷ take k rest) n ∙ ap (λ l. x ∷ l) (take_all (length rest) rest (omega arith)))
 
 -- digits spell no more than they do with others after them
 pub spelled_take : (bs : List ℕ) (n : ℕ) → spelled 10 (map digit_value (take n bs)) ≤ spelled 10 (map digit_value bs)

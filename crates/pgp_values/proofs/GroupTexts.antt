@@ -1,9 +1,5 @@
 -- The text of digits to the base 10,000, as it grows by four letters at a time.
-use Rattle.std.proofs.Common.{◌≡◌, ◌≢◌, ◌⊎◌, ℕ, suc, ◌+◌, ◌-◌, ◌*◌, ◌/◌, ◌%◌, ◌<◌, ◌≤◌, List, ◌++◌, length, map, get_or, refl, sym, ap, ◌∙◌, arith}
-use Rattle.std.proofs.lemmas.List.{map-append}
-use Rattle.pgp_base.specs.Held.{Held, ◌⊕◌}
-use Rattle.pgp_base.proofs.Parts.{more_twice}
-use Rattle.pgp_values.specs.DecimalText.{decimal_in, decimal_at, run, letter, stripped, whole_places}
+use Rattle.pgp_values.proofs.Common.{◌≡◌, ◌≢◌, ◌⊎◌, ℕ, suc, ◌+◌, ◌-◌, ◌*◌, ◌/◌, ◌%◌, ◌<◌, ◌≤◌, List, ◌++◌, length, map, get_or, refl, sym, ap, ◌∙◌, arith, map-append, Held, ◌⊕◌, more_twice, decimal_in, decimal_at, run, letter, stripped, whole_places}
 use Rattle.pgp_values.proofs.AmountLemmas.{run_split}
 use Rattle.pgp_values.proofs.TextLemmas.{letters_length, stripped_run}
 

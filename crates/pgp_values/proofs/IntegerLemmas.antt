@@ -1,19 +1,7 @@
 -- Which integer a decimal number is.
-use Rattle.std.proofs.Common.{◌≡◌, ◌≢◌, ◌⊎◌, inl, inr, ℕ, zero, suc, ℤ, pos, negsuc, ◌+◌, ◌-◌, ◌*◌, ◌/◌, ◌%◌, ◌<◌, ◌≤◌, ◌^◌, Bool, true, false, List, [], ◌∷◌, ◌++◌, map, length, drop, set, get_or, refl, sym, ap, subst, ◌∙◌, arith, drop_of_length-le, w64, FitsSigned, Err}
-use Rattle.std.specs.Int.{w128}
-use Rattle.std.proofs.Math.Nat.{mul_assoc, mul_comm, mul-le-mul, one-le-pow, pow-le-pow_right, div-add-mod, mod-lt, div-lt_iff_lt-mul}
-use Rattle.std.proofs.lemmas.Bool.{cases_lt, le-ltb}
-use Rattle.std.proofs.lemmas.List.{get_or_past, length-map, length-drop, length-set, append-nil, drop-set}
-use Rattle.std.proofs.lemmas.Nat.{pow-add}
+use Rattle.pgp_values.proofs.Common.{◌≡◌, ◌≢◌, ◌⊎◌, inl, inr, ℕ, zero, suc, ℤ, pos, negsuc, ◌+◌, ◌-◌, ◌*◌, ◌/◌, ◌%◌, ◌<◌, ◌≤◌, ◌^◌, Bool, true, false, List, [], ◌∷◌, ◌++◌, map, length, drop, set, get_or, refl, sym, ap, subst, ◌∙◌, arith, drop_of_length-le, w64, FitsSigned, Err, w128, mul_assoc, mul_comm, mul-le-mul, one-le-pow, pow-le-pow_right, div-add-mod, mod-lt, div-lt_iff_lt-mul, cases_lt, le-ltb, get_or_past, length-map, length-drop, length-set, append-nil, drop-set, pow-add, spelled, before_point, behind_by, Decimal, Numeric, finite, nan, plus_infinity, minus_infinity, IsDigits, IsDecimal, digit_value, reported_by, IsNumberOf, run, with_sign, IsMagnitude, IsInteger, IsIntegerOf, ReadsInteger, digit_in, whole_value, HasDigitFrom, IsValueOf}
 use Rattle.pgp_values.specs.declared.integer.IntegerError.{IntegerError}
 use Rattle.pgp_values.specs.declared.integer.IntegerError.TheVariants.{NotFinite, Fraction, OutOfRange}
-use Rattle.pgp_values.specs.Amount.{spelled, before_point, behind_by}
-use Rattle.pgp_values.specs.Decimal.{Decimal, Numeric, finite, nan, plus_infinity, minus_infinity, IsDigits, IsDecimal}
-use Rattle.pgp_values.specs.DecimalWriting.{digit_value, reported_by, IsNumberOf}
-use Rattle.pgp_values.specs.DecimalText.{run}
-use Rattle.pgp_values.specs.Integer.{with_sign, IsMagnitude, IsInteger, IsIntegerOf, ReadsInteger}
-use Rattle.pgp_values.specs.IntegerReading.{digit_in, whole_value, HasDigitFrom}
-use Rattle.pgp_values.specs.NumberMeaning.{IsValueOf}
 use Rattle.pgp_values.proofs.AmountLemmas.{distrib, run_split, spelled_append, power_four}
 use Rattle.pgp_values.proofs.GroupLemmas.{list_run, values_small}
 use Rattle.pgp_values.proofs.OnceLemmas.{times_same}

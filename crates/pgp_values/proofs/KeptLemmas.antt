@@ -1,14 +1,5 @@
 -- A value that a text or an integer means is in the form that a server keeps: no place after those that are shown has a digit.
-use Rattle.std.proofs.Common.{◌≡◌, inl, inr, ℕ, suc, ℤ, ◌+◌, ◌-◌, ◌*◌, ◌<◌, ◌≤◌, ◌^◌, true, false, List, [], ◌∷◌, ◌++◌, length, sym, ap, ◌∙◌, arith, append_assoc}
-use Rattle.std.proofs.Math.Nat.{one-le-pow, le_of_mul-le-mul_right, lt_of_mul-lt-mul_right}
-use Rattle.std.proofs.lemmas.Nat.{pow-add}
-use Rattle.pgp_values.specs.Amount.{spelled, before_point, behind_by, IsShown, IsCut}
-use Rattle.pgp_values.specs.Decimal.{Decimal, Numeric, IsDigits}
-use Rattle.pgp_values.specs.DecimalText.{run, whole_digits, behind_point, text_digits}
-use Rattle.pgp_values.specs.DecimalWriting.{Reported, raised, lowered}
-use Rattle.pgp_values.specs.Integer.{IsIntegerOf, IntegerMeans}
-use Rattle.pgp_values.specs.NumberMeaning.{IsValueOf, IsKept, TellsOrNames, TextMeans}
-use Rattle.pgp_values.specs.NumberText.{SpecialText}
+use Rattle.pgp_values.proofs.Common.{◌≡◌, inl, inr, ℕ, suc, ℤ, ◌+◌, ◌-◌, ◌*◌, ◌<◌, ◌≤◌, ◌^◌, true, false, List, [], ◌∷◌, ◌++◌, length, sym, ap, ◌∙◌, arith, append_assoc, one-le-pow, le_of_mul-le-mul_right, lt_of_mul-lt-mul_right, pow-add, spelled, before_point, behind_by, IsShown, IsCut, Decimal, Numeric, IsDigits, run, whole_digits, behind_point, text_digits, Reported, raised, lowered, IsIntegerOf, IntegerMeans, IsValueOf, IsKept, TellsOrNames, TextMeans, SpecialText}
 use Rattle.pgp_values.proofs.AmountLemmas.{run_split, spelled_append}
 use Rattle.pgp_values.proofs.CutLemmas.{number_cut}
 use Rattle.pgp_values.proofs.OnceLemmas.{times_same}

@@ -1,27 +1,9 @@
 -- Lexemes and their places: what reads one reads what its grammar says.
-use Rattle.std.proofs.Common.{◌≡◌, inl, inr, ℕ, ◌+◌, ◌<◌, ◌≤◌, ◌^◌, ltb, false, List, [], ◌∷◌, ◌++◌, length, take, drop, None, Ok, Err, refl, sym, ap, subst, ◌∙◌, arith, append_assoc, length-append}
-use Rattle.std.specs.List.{flat_map}
+use Rattle.pgp_values.proofs.Common.{◌≡◌, inl, inr, ℕ, ◌+◌, ◌<◌, ◌≤◌, ◌^◌, ltb, false, List, [], ◌∷◌, ◌++◌, length, take, drop, None, Ok, Err, refl, sym, ap, subst, ◌∙◌, arith, append_assoc, length-append, flat_map, ltb-false, ltb-true, le-ltb, lt-ltb, take_at, drop_at, take-append-drop, length-take, Error, UnexpectedEof, NotUtf8, NotDrained, string_at, text_at, IsBytes, uint16, text, text_cause, count_cause, guard_ok, guard_err, either_left, either_right, counts_of, without_zero, IsSound, Part, Begins, fixed_part, only, IsPart, and_then_ok, and_then_err, rest_bytes, then_part, fixed_is, bytes_take, IsItem, pairs, uint16_at, places_at, lexeme_at, string_part, places_part, lexeme, tsvector}
 use Rattle.std.specs.Str.{IsUtf8}
-use Rattle.std.proofs.lemmas.Bool.{ltb-false, ltb-true, le-ltb, lt-ltb}
-use Rattle.std.proofs.lemmas.List.{take_at, drop_at, take-append-drop, length-take}
-use Rattle.pgp_base.specs.declared.error.Error.{Error}
-use Rattle.pgp_base.specs.declared.error.Error.TheVariants.{UnexpectedEof, NotUtf8, NotDrained}
-use Rattle.pgp_base.specs.PartReading.{string_at, text_at}
-use Rattle.pgp_base.specs.Wire.{IsBytes, uint16, text}
-use Rattle.pgp_base.specs.Cause.{text_cause, count_cause}
-use Rattle.pgp_base.proofs.Binds.{guard_ok, guard_err}
-use Rattle.pgp_base.proofs.Causes.{either_left, either_right, counts_of}
 use Rattle.pgp_base.proofs.PartLemmas.{TextFound, text_found, text_read, text_refused, text_cut, string_none}
-use Rattle.pgp_base.proofs.Spellings.{without_zero}
 use Rattle.pgp_base.proofs.Strings.{string_front}
-use Rattle.pgp_types.specs.Format.{IsSound}
-use Rattle.pgp_types.specs.Part.{Part, Begins, fixed_part, only}
-use Rattle.pgp_types.proofs.PartLemmas.{IsPart, and_then_ok, and_then_err, rest_bytes, then_part, fixed_is}
-use Rattle.pgp_types.proofs.Spelling.{bytes_take}
-use Rattle.pgp_types.proofs.WalkLemmas.{IsItem}
-use Rattle.pgp_values.specs.DecimalReading.{pairs, uint16_at}
-use Rattle.pgp_values.specs.ListReading.{places_of, places_at, lexeme_at}
-use Rattle.pgp_values.specs.Tsvector.{string_part, places_part, lexeme, tsvector}
+use Rattle.pgp_values.specs.ListReading.{places_of}
 use Rattle.pgp_values.proofs.ListLemmas.{list_sound}
 use Rattle.pgp_values.proofs.Numbers.{uint16_spelling}
 use Rattle.pgp_values.proofs.Pairs.{pairs_half, pairs_small, pairs_spelled, pairs_again, digits_length}

@@ -1,19 +1,7 @@
 -- What the text without its blanks says is what the text says.
-use Rattle.std.proofs.Common.{◌≡◌, ◌≢◌, ◌⊎◌, inl, inr, ℕ, ◌<◌, ◌≤◌, Bool, true, false, List, [], ◌∷◌, ◌++◌, length, map, None, Result, Ok, Err, refl, sym, ap, subst, ◌∙◌, arith}
-use Rattle.std.proofs.lemmas.Bool.{lt-ltb}
-use Rattle.std.proofs.lemmas.List.{append-nil}
-use Rattle.std.specs.List.{AllByRecursion}
+use Rattle.pgp_values.proofs.Common.{◌≡◌, ◌≢◌, ◌⊎◌, inl, inr, ℕ, ◌<◌, ◌≤◌, Bool, true, false, List, [], ◌∷◌, ◌++◌, length, map, None, Result, Ok, Err, refl, sym, ap, subst, ◌∙◌, arith, lt-ltb, append-nil, AllByRecursion, Held, left_same, NumericError, InvalidText, OutOfRange, Decimal, IsDecimal, Numeric, finite, Reported, reported_by, IsNumberOf, limit, IsValueOf, NumberMeans, NumberRefused, TextMeans, TextRefused, WritesMeant, IsBlank, IsDigit, NumberText, IsBlanked, Spells, Tells, Names, lower, nan_word, inf_word, infinity_word, SpecialText, NotAt, NotEnd, Trimmed, IsSign, Special, WrittenRefused}
 use Rattle.std.specs.Result.{IsErr, IsErrAnd}
-use Rattle.pgp_base.specs.Held.{Held}
-use Rattle.pgp_base.proofs.Parts.{left_same}
-use Rattle.pgp_values.specs.declared.error.NumericError.{NumericError}
-use Rattle.pgp_values.specs.declared.error.NumericError.TheVariants.{InvalidText, OutOfRange}
-use Rattle.pgp_values.specs.Decimal.{Decimal, IsDecimal, Numeric, finite}
-use Rattle.pgp_values.specs.DecimalWriting.{Reported, reported_by, IsNumberOf}
-use Rattle.pgp_values.specs.NumberMeaning.{limit, IsValueOf, NumberMeans, NumberRefused, TextMeans, TextRefused, WritesMeant}
-use Rattle.pgp_values.specs.NumberText.{IsBlank, IsDigit, NumberText, IsBlanked, Spells, Tells, Names, lower, nan_word, inf_word, infinity_word, infinity_of, SpecialText}
-use Rattle.pgp_values.specs.NumberScan.{NotAt, NotEnd, Trimmed, IsSign, SignFront, Special, WrittenRefused}
-use Rattle.pgp_values.proofs.ScanLemmas.{heads, tails, munch, munch_back, not_at_append, end_append, not_at_of, end_of, digit_no_blank, sign_once, sign_no_blank, number_begins}
+use Rattle.pgp_values.proofs.ScanLemmas.{heads, tails, munch, munch_back, not_at_append, end_append, not_at_of, end_of, digit_no_blank, sign_no_blank, number_begins}
 
 -- texts that end with no blank
 
@@ -128,18 +116,6 @@ special_begins bytes v (inr w) = rw w.4 (sign_no_blank w.0 w.1 w.3 w.2 (word_beg
 pub special_ends : (bytes : List ℕ) (v : Numeric) → SpecialText bytes v → Ends bytes
 special_ends bytes v (inl w) = word_ends bytes (nan_is bytes w.0)
 special_ends bytes v (inr w) = rw w.4 (ends_append w.1 w.3 (word_ends w.3 (inf_is w.3 w.5)))
-
-pub special_none : (bytes : List ℕ) (m : Bool) (rest : List ℕ) → (map lower bytes ≡ nan_word → ⊥) → SignFront bytes m rest → (map lower rest ≡ inf_word → ⊥) → (map lower rest ≡ infinity_word → ⊥) → (v : Numeric) → SpecialText bytes v → ⊥
-special_none bytes m rest never s no_inf no_infinity v (inl w) = never w.0
-special_none bytes m rest never s no_inf no_infinity v (inr w) =
-    let one = sign_once bytes w.0 m w.3 rest (record { sign = w.1; signed = w.2; stops = λ _. word_no_sign w.3 (inf_is w.3 w.5); all = w.4 }) s in
-    elim w.5 [
-      | inl e ↦ no_inf (ap (map lower) (sym one.1) ∙ e)
-      | inr e ↦ no_infinity (ap (map lower) (sym one.1) ∙ e)
-    ]
-
-pub special_word : (bytes : List ℕ) (m : Bool) (rest : List ℕ) (v : Numeric) → SignFront bytes m rest → (map lower rest ≡ inf_word) ⊎ (map lower rest ≡ infinity_word) → v ≡ infinity_of m → SpecialText bytes v
-special_word bytes m rest v s word is = inr (m, s.sign, s.signed, rest, s.all, word, is)
 
 -- what a text is without its blanks
 

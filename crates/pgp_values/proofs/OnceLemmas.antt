@@ -1,12 +1,5 @@
 -- A number in the form that a server keeps is the only one that is the same number.
-use Rattle.std.proofs.Common.{◌≡◌, ◌≢◌, ◌⊎◌, inl, inr, ℕ, suc, ℤ, pos, negsuc, ◌+◌, ◌-◌, ◌*◌, ◌<◌, ◌≤◌, ◌^◌, Bool, false, List, [], ◌∷◌, length, refl, sym, ap, ◌∙◌, arith}
-use Rattle.std.proofs.Math.Nat.{mul_assoc, mul_comm, pow-le-pow_right, one-le-pow, mul-le-mul, le_of_mul-le-mul_right}
-use Rattle.std.proofs.lemmas.Bool.{cases_order}
-use Rattle.std.proofs.lemmas.Nat.{pow-add}
-use Rattle.pgp_values.specs.Amount.{spelled, before_point, behind_by}
-use Rattle.pgp_values.specs.Decimal.{Decimal, IsDigits, HasNoZeroEnds, last_of}
-use Rattle.pgp_values.specs.DecimalWriting.{Reported, raised, lowered}
-use Rattle.pgp_values.specs.NumberMeaning.{IsValueOf}
+use Rattle.pgp_values.proofs.Common.{◌≡◌, ◌≢◌, ◌⊎◌, inl, inr, ℕ, suc, ℤ, pos, negsuc, ◌+◌, ◌-◌, ◌*◌, ◌<◌, ◌≤◌, ◌^◌, Bool, false, List, [], ◌∷◌, length, refl, sym, ap, ◌∙◌, arith, mul_assoc, mul_comm, pow-le-pow_right, one-le-pow, mul-le-mul, le_of_mul-le-mul_right, cases_order, pow-add, spelled, before_point, behind_by, Decimal, IsDigits, HasNoZeroEnds, last_of, Reported, raised, lowered, IsValueOf}
 use Rattle.pgp_values.proofs.AmountLemmas.{power_four}
 use Rattle.pgp_values.proofs.GroupLemmas.{spelled_most}
 

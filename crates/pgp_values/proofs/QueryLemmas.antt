@@ -1,22 +1,6 @@
 -- Items of what texts are searched for: what reads one reads what its grammar says.
-use Rattle.std.proofs.Common.{◌≡◌, ◌≢◌, ◌⊎◌, inl, inr, ℕ, ◌<◌, ◌^◌, Bool, true, false, eqb, not, List, [], ◌∷◌, ◌++◌, length, None, Ok, Err, refl, sym, ap, subst, ◌∙◌, arith}
-use Rattle.std.proofs.lemmas.Bool.{cases_eq}
-use Rattle.pgp_base.specs.declared.error.Error.{Error}
-use Rattle.pgp_base.specs.declared.error.Error.TheVariants.{UnexpectedEof, NotUtf8, NotDrained, UnknownTag}
-use Rattle.pgp_base.specs.PartReading.{text_at}
-use Rattle.pgp_base.specs.Wire.{IsBytes, uint16, text}
-use Rattle.pgp_base.proofs.Binds.{err_is}
-use Rattle.pgp_base.proofs.CountedLemmas.{differ, ok_is, IsBytes-after}
-use Rattle.pgp_base.proofs.Spellings.{without_zero}
-use Rattle.pgp_types.specs.Array.{flag_of}
-use Rattle.pgp_types.specs.Format.{IsSound}
-use Rattle.pgp_types.specs.Part.{Part, Begins}
-use Rattle.pgp_types.specs.PartReading.{is_set}
-use Rattle.pgp_types.proofs.PartLemmas.{and_then_ok, and_then_err}
-use Rattle.pgp_types.proofs.WalkLemmas.{IsItem}
-use Rattle.pgp_values.specs.DecimalReading.{uint16_at}
+use Rattle.pgp_values.proofs.Common.{◌≡◌, ◌≢◌, ◌⊎◌, inl, inr, ℕ, ◌<◌, ◌^◌, Bool, true, false, eqb, not, List, [], ◌∷◌, ◌++◌, length, None, Ok, Err, refl, sym, ap, subst, ◌∙◌, arith, cases_eq, Error, UnexpectedEof, NotUtf8, NotDrained, UnknownTag, text_at, IsBytes, uint16, text, err_is, differ, ok_is, IsBytes-after, without_zero, flag_of, IsSound, Part, Begins, is_set, and_then_ok, and_then_err, IsItem, uint16_at, QueryItem, operand, negation, conjunction, disjunction, phrase, query_bytes, IsQueryItem, query_cause, text_part, IsSet, QuerySpelled, OperandRefused, IsOperator, OperatorRefused, QueryRefused, query_item, tsquery}
 use Rattle.pgp_values.specs.QueryReading.{operand_of, operand_at, phrase_of, phrase_at, operator_of, operator_at, query_of, query_at}
-use Rattle.pgp_values.specs.Tsquery.{QueryItem, operand, negation, conjunction, disjunction, phrase, query_bytes, IsQueryItem, query_cause, text_part, IsSet, QuerySpelled, OperandRefused, IsOperator, OperatorRefused, QueryRefused, query_item, tsquery}
 use Rattle.pgp_values.proofs.LexemeLemmas.{text_is, count_is}
 use Rattle.pgp_values.proofs.ListLemmas.{list_sound}
 

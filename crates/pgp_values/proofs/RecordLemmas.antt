@@ -1,14 +1,7 @@
 -- Records whose values a serializer made.
-use Rattle.std.proofs.Common.{◌≡◌, ℕ, ◌≤◌, List, [], ◌∷◌, map, length, None, MutBor, Result, refl, subst, arith}
+use Rattle.pgp_values.proofs.Common.{◌≡◌, ℕ, ◌≤◌, List, [], ◌∷◌, map, length, None, MutBor, Result, refl, subst, arith, first, length_cause, Held, ◌⊕◌, Runs, either_none, length_fits, Runs-length, Field, field, composite, MakesField, FieldRefused}
 use Rattle.pgp_base.specs.declared.error.BindError.{BindError}
 use Rattle.pgp_base.specs.declared.number.IsNull.{IsNull}
-use Rattle.pgp_base.specs.Cause.{first, length_cause}
-use Rattle.pgp_base.specs.Held.{Held, ◌⊕◌}
-use Rattle.pgp_base.specs.Calls.{Runs}
-use Rattle.pgp_base.proofs.Causes.{either_none, length_fits}
-use Rattle.pgp_base.proofs.Parts.{Runs-length}
-use Rattle.pgp_values.specs.Record.{Field, field, composite}
-use Rattle.pgp_values.specs.RecordWriting.{MakesField, FieldRefused}
 
 module _ {F T E B K : Type 0} (held : B → Held K) (step : F → T → MutBor B → Result IsNull E → MutBor B → F → Type 0) where
   fields_fit : (here : Held K) (f : F) (xs : List (ℕ × T)) (vs : List Field) (t : F) → Runs (MakesField held step) field.written here f xs vs t → first (map field.cause vs) ≡ None

@@ -1,17 +1,5 @@
 -- A text means one value, and the text of a value that a server keeps means that value.
-use Rattle.std.proofs.Common.{◌≡◌, ◌≢◌, ◌⊎◌, inl, inr, ℕ, zero, suc, ℤ, pos, negsuc, ◌+◌, ◌-◌, ◌*◌, ◌/◌, ◌%◌, ◌<◌, ◌≤◌, ◌^◌, Bool, true, false, cond, ltb, List, [], ◌∷◌, ◌++◌, length, map, get_or, refl, sym, ap, subst, ◌∙◌, arith, append_assoc, FitsSigned, w16, length-append}
-use Rattle.std.proofs.lemmas.Bool.{ne_eqb, lt-ltb, le-ltb}
-use Rattle.std.proofs.lemmas.List.{append-nil, length-map, map-append}
-use Rattle.std.specs.List.{AllByRecursion}
-use Rattle.pgp_values.specs.declared.error.NumericError.{NumericError}
-use Rattle.pgp_values.specs.declared.error.NumericError.TheVariants.{InvalidText, OutOfRange}
-use Rattle.pgp_values.specs.Amount.{spelled, IsShown, before_point, behind_by}
-use Rattle.pgp_values.specs.Decimal.{Decimal, Numeric, finite, nan, plus_infinity, minus_infinity, IsDecimal, IsDigits, IsCanonical}
-use Rattle.pgp_values.specs.DecimalText.{decimal_in, decimal_at, run, stripped, whole_places, whole_digits, behind_point, fraction_digits, text_digits, has_digit, shown_sign, letter, sign_text, fraction_text, decimal_text, numeric_text}
-use Rattle.pgp_values.specs.DecimalWriting.{Reported, reported_by, digit_value, IsNumberOf}
-use Rattle.pgp_values.specs.NumberMeaning.{IsValueOf, IsKept, IsPast, TellsOrNames, TextMeans, TextRefused}
-use Rattle.pgp_values.specs.NumberText.{IsBlank, IsDigit, SignText, PointText, MarkedText, ExponentText, NumberText, IsBlanked, Spells, Tells, Names, lower, inf_word, infinity_word, nan_word, infinity_of, SpecialText}
-use Rattle.pgp_values.specs.NumberScan.{NotAt, Front, Trimmed, SignFront, PointFront}
+use Rattle.pgp_values.proofs.Common.{◌≡◌, ◌≢◌, ◌⊎◌, inl, inr, ℕ, zero, suc, ℤ, pos, negsuc, ◌+◌, ◌-◌, ◌*◌, ◌/◌, ◌%◌, ◌<◌, ◌≤◌, ◌^◌, Bool, true, false, cond, ltb, List, [], ◌∷◌, ◌++◌, length, map, get_or, refl, sym, ap, subst, ◌∙◌, arith, append_assoc, FitsSigned, w16, length-append, ne_eqb, lt-ltb, le-ltb, append-nil, length-map, map-append, AllByRecursion, NumericError, InvalidText, OutOfRange, spelled, IsShown, before_point, behind_by, Decimal, Numeric, finite, nan, plus_infinity, minus_infinity, IsDecimal, IsDigits, IsCanonical, decimal_in, decimal_at, run, stripped, whole_places, whole_digits, behind_point, fraction_digits, text_digits, has_digit, shown_sign, letter, sign_text, fraction_text, decimal_text, numeric_text, Reported, reported_by, digit_value, IsNumberOf, IsValueOf, IsKept, IsPast, TellsOrNames, TextMeans, TextRefused, IsBlank, IsDigit, SignText, PointText, MarkedText, ExponentText, NumberText, IsBlanked, Spells, Tells, Names, lower, inf_word, infinity_word, nan_word, infinity_of, SpecialText, NotAt, Front, Trimmed, SignFront, PointFront}
 use Rattle.pgp_values.proofs.AmountLemmas.{same_number}
 use Rattle.pgp_values.proofs.MeaningLemmas.{Ends, ends_number, begins_number, special_begins, special_ends, same_inside, IsLetter, IsWord, inf_is, nan_is, word_no_sign}
 use Rattle.pgp_values.proofs.OnceLemmas.{number_one, no_amount}

@@ -1,11 +1,5 @@
 -- Two calls in a row, of which the second's answer is handed on: what it says of what stood there before the first.
-use Rattle.std.proofs.Common.{◌≡◌, ℕ, ◌+◌, ◌≤◌, List, ◌++◌, length, Result, Ok, Err, Some, None, OnOk, OnErr, ◌∙◌, ap, inl, inr, ◌⊎◌}
-use Rattle.std.specs.Prelude.{IfErr}
-use Rattle.pgp_base.specs.declared.error.Error.{Error}
-use Rattle.pgp_base.specs.Cause.{Cause, Wants, WantsMemory, Writes}
-use Rattle.pgp_base.specs.Held.{Held, ◌⊕◌, IsFrontOf}
-use Rattle.pgp_base.proofs.Parts.{front_then, more_twice, wants_then}
-use Rattle.pgp_types.proofs.Appending.{only_memory}
+use Rattle.pgp_values.proofs.Common.{◌≡◌, ℕ, ◌+◌, ◌≤◌, List, ◌++◌, length, Result, Ok, Err, Some, None, OnOk, ◌∙◌, ap, inl, inr, ◌⊎◌, IfErr, Error, Cause, Wants, WantsMemory, Writes, Held, ◌⊕◌, more_twice, wants_then, only_memory}
 
 -- the first appended p, and the second q
 pub both_held : {K : Type 0} (a b d : Held K) (p q : List ℕ) → b ≡ a ⊕ p → d ≡ b ⊕ q → d ≡ a ⊕ (p ++ q)
@@ -14,10 +8,6 @@ both_held a b d p q e f = f ∙ (ap (λ h. h ⊕ q) e ∙ more_twice a p q)
 pub ok_behind : {K : Type 0} (r : Result (Unit {0}) Error) (a b d : Held K) (p q all : List ℕ) → b ≡ a ⊕ p → p ++ q ≡ all → OnOk r (d ≡ b ⊕ q) → OnOk r (d ≡ a ⊕ all)
 ok_behind (Ok x) a b d p q all e same f = both_held a b d p q e f ∙ ap (λ l. a ⊕ l) same
 ok_behind (Err x) a b d p q all e same f = tt
-
-pub err_behind : {K : Type 0} (r : Result (Unit {0}) Error) (a b d : Held K) (p : List ℕ) → b ≡ a ⊕ p → OnErr r (IsFrontOf b d) → OnErr r (IsFrontOf a d)
-err_behind (Ok x) a b d p e f = tt
-err_behind (Err x) a b d p e f = front_then a b d p e f
 
 pub why_behind : {K : Type 0} (lacks : Held K → ℕ → Type 0) (r : Result (Unit {0}) Error) (a b : Held K) (p : List ℕ) (n m : ℕ) → b ≡ a ⊕ p → length p + n ≤ m
     → IfErr r (WantsMemory (Wants lacks b n)) → IfErr r (WantsMemory (Wants lacks a m))

@@ -1,15 +1,6 @@
 -- The parts of a number's text stand in it in one way.
-use Rattle.std.proofs.Common.{◌≡◌, ◌≢◌, ◌⊎◌, inl, inr, ℕ, zero, suc, ◌+◌, ◌<◌, ◌≤◌, Bool, true, false, List, [], ◌∷◌, ◌++◌, length, map, take, drop, get_or, Result, Ok, Err, refl, sym, ap, subst, ◌∙◌, arith}
-use Rattle.std.proofs.lemmas.List.{append-nil, nil_from_length}
+use Rattle.pgp_values.proofs.Common.{◌≡◌, ◌≢◌, ◌⊎◌, inl, inr, ℕ, zero, suc, ◌+◌, ◌<◌, ◌≤◌, Bool, true, false, List, [], ◌∷◌, ◌++◌, length, map, take, drop, get_or, Result, Ok, Err, refl, sym, ap, subst, ◌∙◌, arith, append-nil, nil_from_length, AllByRecursion, IfErr, NumericError, InvalidText, OutOfRange, spelled, digit_value, IsBlank, IsDigit, SignText, PointText, MarkedText, RaisedText, ExponentText, NumberText, NotAt, NotEnd, Front, IsSign, SignFront, PointFront, MarkedRefused, RaisedRefused, ExponentRefused, WrittenRefused}
 use Rattle.std.specs.Bool.{◌==◌}
-use Rattle.std.specs.List.{AllByRecursion}
-use Rattle.std.specs.Prelude.{IfErr}
-use Rattle.pgp_values.specs.declared.error.NumericError.{NumericError}
-use Rattle.pgp_values.specs.declared.error.NumericError.TheVariants.{InvalidText, OutOfRange}
-use Rattle.pgp_values.specs.Amount.{spelled}
-use Rattle.pgp_values.specs.DecimalWriting.{digit_value}
-use Rattle.pgp_values.specs.NumberText.{IsBlank, IsDigit, SignText, PointText, MarkedText, RaisedText, ExponentText, NumberText}
-use Rattle.pgp_values.specs.NumberScan.{NotAt, NotEnd, Front, IsSign, SignFront, PointFront, MarkedRefused, RaisedRefused, ExponentRefused, WrittenRefused}
 
 pub heads : (a b : ℕ) (x y : List ℕ) → a ∷ x ≡ b ∷ y → a ≡ b
 heads a b x y e = ap (λ (l : List ℕ). get_or l 0 0) e
@@ -195,15 +186,6 @@ module _ (letter : ℕ) (bytes rest before inside : List ℕ) (is : (letter ≡ 
 pub raised_at_err : {X : Type 0} (r : Result X NumericError) (letter : ℕ) (bytes rest before inside : List ℕ) → (letter ≡ 101) ⊎ (letter ≡ 69) → bytes ≡ letter ∷ rest → Front IsBlank rest before inside → IfErr r (MarkedRefused inside) → IfErr r (RaisedRefused bytes)
 raised_at_err (Ok x) letter bytes rest before inside is e f h = tt
 raised_at_err (Err error) letter bytes rest before inside is e f h = raised_refused letter bytes rest before inside is e f error h
-
-pub not_raised : (bytes : List ℕ) → NotAt (λ b. b ≡ 101) bytes → NotAt (λ b. b ≡ 69) bytes → (d : Bool) (x : ℕ) → RaisedText d x bytes → ⊥
-not_raised [] a b d x r = let e : [] ≡ r.letter ∷ (r.blanks ++ r.marked) = r.all in cc
-not_raised (c ∷ bytes) a b d x r =
-    let same = heads c r.letter bytes (r.blanks ++ r.marked) r.all in
-    elim r.is [
-      | inl e ↦ a (same ∙ e)
-      | inr e ↦ b (same ∙ e)
-    ]
 
 pub exponent_refused : (bytes : List ℕ) (e : NumericError) → length bytes ≢ 0 → RaisedRefused bytes e → ExponentRefused bytes e
 exponent_refused bytes InvalidText some never = λ d x r. elim r [ inl n ↦ some (ap length n.0) | inr w ↦ never d x w ]

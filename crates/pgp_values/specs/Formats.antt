@@ -1,5 +1,5 @@
 -- The types that each server has by a number of its own, and the codec that reads and writes each in its binary format: `pg_type` of PostgreSQL 15, by its
--- `typsend`. Written by `scripts/live_types --write`.
+-- `typsend`. Written by `live/types --write`.
 use Rattle.std.specs.Prelude.{ℕ, List, [], ◌∷◌}
 use Rattle.pgp_values.specs.declared.formats.BinaryFormat.{BinaryFormat}
 use Rattle.pgp_values.specs.declared.formats.BinaryFormat.TheVariants.{Array, Bool, Box, Bytea, Char, Cidr, Circle, Date, Float4, Float8, Inet, Int2, Int4, Int8, Interval, Jsonb, Jsonpath, Line, Lseg, Lsn, Macaddr, Macaddr8, Money, Multirange, Numeric, Oid, Path, Point, Polygon, Range, Record, Snapshot, Text, Tid, Time, Timestamp, Timetz, Tsquery, Tsvector, Uuid, Varbit, Xid8}

@@ -1,17 +1,9 @@
 -- The lines so far, and those of a piece more.
-use Rattle.std.proofs.Common.{◌≡◌, ℕ, ◌+◌, ◌<◌, Bool, false, List, [], ◌∷◌, ◌++◌, length, take, get_or, map, Option, Result, refl, sym, ap, ◌∙◌}
-use Rattle.std.specs.List.{flat_map}
-use Rattle.std.specs.Io.KnownBytes.{Consumes, Keeps, IsAtEnd}
-use Rattle.std.specs.Prelude.{IfSome}
-use Rattle.std.proofs.KnownBytes.{Consumes-nil, Consumes-trans, Consumes-kept, Consumes-whole}
-use Rattle.std.proofs.lemmas.List.{append-nil, take_more, map_push}
+use Rattle.pgp_wire.proofs.Common.{◌≡◌, ℕ, ◌+◌, ◌<◌, Bool, false, List, [], ◌∷◌, ◌++◌, length, take, get_or, map, Option, Result, refl, sym, ap, ◌∙◌, flat_map, Consumes, Keeps, IsAtEnd, IfSome, Consumes-nil, Consumes-trans, Consumes-kept, Consumes-whole, append-nil, take_more, map_push, Error, Reading, HasRead, BackendOutput, line_of, last_line}
 use Rattle.std.proofs.lemmas.List.Concat.{flat_map-cons}
 use Rattle.std.proofs.lemmas.Grind.{flat_map-append}
-use Rattle.pgp_base.specs.declared.error.Error.{Error}
 use Rattle.pgp_message.specs.BackendMessage.{Message}
-use Rattle.pgp_stream.specs.ServerStream.{Reading, HasRead}
 use Rattle.pgp_stream.proofs.Readings.{has_read_more}
-use Rattle.pgp_wire.specs.Output.{BackendOutput, line_of, last_line}
 use Rattle.pgp_wire.specs.Listing.{ListsPiece}
 
 -- one result more, of those that view sees

@@ -1,12 +1,6 @@
 -- No line asks for a message whose cause is lack of memory.
-use Rattle.std.proofs.Common.{◌≡◌, ℕ, Bool, true, false, ◌+◌, List, [], ◌∷◌, map, length, Some, None}
-use Rattle.std.specs.Prelude.{if◌then◌else◌, nat_le, ◌==◌}
-use Rattle.std.specs.List.{list_any}
+use Rattle.pgp_wire.proofs.Common.{◌≡◌, ℕ, Bool, true, false, ◌+◌, List, [], ◌∷◌, map, length, Some, None, if◌then◌else◌, nat_le, ◌==◌, list_any, OutOfMemory, EmbeddedNull, TooLarge, ClientMessage, Startup, SslRequest, Sync, Terminate, Query, PasswordMessage, Part, pair_cause, parts, joined, parts_cause, frame_cause, cause, Says}
 use Rattle.pgp_base.specs.Cause.{Cause, either, first, text_cause, length_cause}
-use Rattle.pgp_base.specs.declared.error.Error.TheVariants.{OutOfMemory, EmbeddedNull, TooLarge}
-use Rattle.pgp_frontend.specs.ClientMessage.{ClientMessage, Startup, SslRequest, Sync, Terminate, Query, PasswordMessage}
-use Rattle.pgp_frontend.specs.Payload.{Part, pair_cause, parts, joined, parts_cause, frame_cause, cause}
-use Rattle.pgp_wire.specs.Script.{Says}
 
 never_null : (b : Bool) → (if b then Some EmbeddedNull else None) ≡ Some OutOfMemory → ⊥
 never_null true h = cc

@@ -1,23 +1,11 @@
 -- A script has one output: each line says one thing, and one line is the first that is rejected. A stream
 -- has one listing.
-use Rattle.std.proofs.Common.{◌≡◌, ℕ, ◌+◌, Bool, true, List, [], ◌∷◌, ◌++◌, length, get_or, Contains, Some, None, refl, sym, ap, subst, ◌∙◌, arith, inl, inr, length-append}
-use Rattle.std.specs.Prelude.{codes, decimal}
-use Rattle.std.specs.List.{AllByRecursion, flat_map, slice_split}
-use Rattle.std.specs.Str.{IsUtf8}
+use Rattle.pgp_wire.proofs.Common.{◌≡◌, ℕ, ◌+◌, Bool, true, List, [], ◌∷◌, ◌++◌, length, get_or, Contains, Some, None, refl, sym, ap, subst, ◌∙◌, arith, inl, inr, length-append, codes, decimal, AllByRecursion, flat_map, slice_split, IsUtf8, V3_0, V3_2, ClientMessage, Query, PasswordMessage, Startup, SslRequest, CancelRequest, GssEncRequest, Sync, Terminate, cause, minor_of, IsSpelled, AreInOrder, IsStartup, IsRequest, IsTagged, MayCome, is_opened, runs_bytes, Ask, ClientOutput, IsFaulty, IsRefused, IsSent, Sends, reported, line, line_of, last_line, BackendOutput, ArePairs, HasWord, IsPair, Says, is_newline, is_space, version_word}
 use Rattle.hex.specs.Hex.{encode_lower}
 use Rattle.pgp_frontend.specs.declared.startup.ProtocolVersion.{ProtocolVersion}
-use Rattle.pgp_frontend.specs.declared.startup.ProtocolVersion.TheVariants.{V3_0, V3_2}
-use Rattle.pgp_frontend.specs.ClientMessage.{ClientMessage, Query, PasswordMessage, Startup, SslRequest, CancelRequest, GssEncRequest, Sync, Terminate}
-use Rattle.pgp_frontend.specs.Payload.{cause, minor_of}
-use Rattle.pgp_frontend.specs.Reading.{IsSpelled}
 use Rattle.pgp_message.proofs.Runs.{runs_one}
-use Rattle.pgp_frontend.specs.ClientRun.{AreInOrder, IsStartup, IsRequest, IsTagged, MayCome, is_opened}
-use Rattle.pgp_frontend.proofs.ClientRuns.{runs_bytes}
 use Rattle.pgp_wire.specs.declared.client.LineFault.{LineFault}
 use Rattle.pgp_wire.specs.declared.client.LineFault.TheVariants.{NotUtf8, WrongWords, WrongPhase, Refused}
-use Rattle.pgp_wire.specs.ClientOutput.{Ask, ClientOutput, IsFaulty, IsRefused, IsSent, Sends, reported}
-use Rattle.pgp_wire.specs.Output.{line, line_of, last_line, BackendOutput}
-use Rattle.pgp_wire.specs.Script.{ArePairs, HasWord, IsPair, Says, is_newline, is_space, version_word}
 use Rattle.pgp_wire.proofs.ScriptLemmas.{free_by, one_cut, one_word}
 
 -- ---- a line says one thing

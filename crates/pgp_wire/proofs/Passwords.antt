@@ -1,5 +1,5 @@
 -- A password that no mapping changes.
-use Rattle.std.proofs.Common.{◌≡◌, ℕ, Bool, true, false, cond, List, None, refl}
+use Rattle.pgp_wire.proofs.Common.{◌≡◌, ℕ, Bool, true, false, cond, List, None, refl}
 use Rattle.pgp_auth.specs.Prepared.{is_asked, prepared}
 
 same : (b : Bool) (password : List ℕ) → cond b password password ≡ password

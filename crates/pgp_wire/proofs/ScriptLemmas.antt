@@ -1,15 +1,7 @@
 -- Where a line and its parts are cut.
-use Rattle.std.proofs.Common.{◌≡◌, ◌≢◌, ℕ, zero, suc, ◌+◌, ◌-◌, ◌<◌, Bool, true, false, List, [], ◌∷◌, ◌++◌, length, take, drop, get_or, take-append-drop, Contains, refl, sym, ap, subst, ◌∙◌, arith, inl, inr}
-use Rattle.std.specs.Prelude.{◌==◌, codes}
-use Rattle.pgp_frontend.specs.declared.startup.ProtocolVersion.TheVariants.{V3_0, V3_2}
-use Rattle.pgp_frontend.specs.ClientMessage.{ClientMessage, Query, PasswordMessage, Startup, SslRequest, Sync, Terminate}
-use Rattle.std.specs.List.{list_any, slice_split}
+use Rattle.pgp_wire.proofs.Common.{◌≡◌, ◌≢◌, ℕ, zero, suc, ◌+◌, ◌-◌, ◌<◌, Bool, true, false, List, [], ◌∷◌, ◌++◌, length, take, drop, get_or, take-append-drop, Contains, refl, sym, ap, subst, ◌∙◌, arith, inl, inr, ◌==◌, codes, V3_0, V3_2, ClientMessage, Query, PasswordMessage, Startup, SslRequest, Sync, Terminate, list_any, slice_split, get_or_default, drop_more, get_or-take, length-take-le, take_rest, All-from_get_or, HasWord, IsPair, ArePairs, Says, is_newline, AddsPart}
 use Rattle.std.proofs.lemmas.Bool.{eq-eqb, or_left, or_right}
-use Rattle.std.proofs.lemmas.List.{get_or_default, drop_more, get_or-take, length-take-le, take_rest}
-use Rattle.std.proofs.lemmas.List.Elements.{All-from_get_or}
 use Rattle.std.proofs.lemmas.List.Splits.{slice_split_at, slice_split_none}
-use Rattle.pgp_wire.specs.Script.{HasWord, IsPair, ArePairs, Says, is_newline}
-use Rattle.pgp_wire.specs.Request.{AddsPart}
 
 -- ---- lists without an element
 
@@ -60,11 +52,6 @@ one_word w v line r s (inr a) (inr b) nw nv = one_cut 32 w r v s nw nv (sym a �
 
 pub never_without : (part : List ℕ) → (Contains part 61 → ⊥) → (p : List ℕ × List ℕ) → IsPair part p → ⊥
 never_without part none p one = not_cut 61 part p.0 p.1 none one.spelled
-
-pub never_nameless : (part name value : List ℕ) → part ≡ name ++ 61 ∷ value → name ≡ [] → (p : List ℕ × List ℕ) → IsPair part p → ⊥
-never_nameless part name value e none p one =
-    let free_name : Contains name 61 → ⊥ = λ h. omega (arith, h.1, ap length none) in
-    one.some (sym (one_cut 61 name value p.0 p.1 free_name one.first (sym e ∙ one.spelled)).0 ∙ none)
 
 -- ---- one part more
 

@@ -1,18 +1,6 @@
 -- The lines of a script, sent one after another.
-use Rattle.std.proofs.Common.{◌≡◌, ◌≢◌, ℕ, Bool, true, List, [], ◌∷◌, ◌++◌, None, refl, sym, ap, subst, ◌∙◌, inl, inr}
-use Rattle.std.specs.Prelude.{not, if◌then◌else◌}
-use Rattle.std.specs.List.{AllByRecursion, slice_split}
-use Rattle.std.proofs.lemmas.List.Elements.{All-from_recursion}
-use Rattle.std.specs.Str.{IsUtf8}
+use Rattle.pgp_wire.proofs.Common.{◌≡◌, ◌≢◌, ℕ, Bool, true, List, [], ◌∷◌, ◌++◌, None, refl, sym, ap, subst, ◌∙◌, inl, inr, not, if◌then◌else◌, AllByRecursion, slice_split, All-from_recursion, IsUtf8, ClientMessage, Startup, SslRequest, Sync, Terminate, Query, PasswordMessage, IsNamed, MayCome, kinds_of, is_startup, Sent, opened_more, Ask, ArePairs, Says, is_space, is_opening, SendsLine, HasSent}
 use Rattle.pgp_base.specs.Held.{Held}
-use Rattle.pgp_frontend.specs.ClientMessage.{ClientMessage, Startup, SslRequest, Sync, Terminate, Query, PasswordMessage}
-use Rattle.pgp_frontend.specs.Reading.{IsNamed}
-use Rattle.pgp_frontend.specs.ClientRun.{MayCome, kinds_of, is_startup}
-use Rattle.pgp_stream.specs.ClientStream.{Sent}
-use Rattle.pgp_frontend.proofs.ClientRuns.{opened_more}
-use Rattle.pgp_wire.specs.ClientOutput.{Ask}
-use Rattle.pgp_wire.specs.Script.{ArePairs, Says, is_space}
-use Rattle.pgp_wire.specs.Sending.{is_opening, SendsLine, HasSent}
 
 -- an empty line more
 ask_empty : (lines : List (List ℕ)) (messages : List ClientMessage) → Ask lines messages → Ask (lines ++ [] ∷ []) messages
@@ -72,12 +60,3 @@ comes_now text Terminate o says e = subst (MayCome Terminate) (sym e) (λ none. 
 comes_now text (Query z) o says e = subst (MayCome (Query z)) (sym e) (λ none. cc)
 comes_now text (PasswordMessage z) o says e = subst (MayCome (PasswordMessage z)) (sym e) (λ none. cc)
 comes_now text _ o says e = absurd says
-
-pub comes_not : (text : List ℕ) (m : ClientMessage) (o : Bool) → Says text m → o ≡ is_opening m → MayCome m o → ⊥
-comes_not text (Startup v ps) o says e may = (subst (MayCome (Startup v ps)) e may) refl
-comes_not text SslRequest o says e may = (subst (MayCome SslRequest) e may) refl
-comes_not text Sync o says e may = elim (subst (MayCome Sync) e may).0 [ inl s ↦ s | inr r ↦ r ]
-comes_not text Terminate o says e may = elim (subst (MayCome Terminate) e may).0 [ inl s ↦ s | inr r ↦ r ]
-comes_not text (Query z) o says e may = elim (subst (MayCome (Query z)) e may).0 [ inl s ↦ s | inr r ↦ r ]
-comes_not text (PasswordMessage z) o says e may = elim (subst (MayCome (PasswordMessage z)) e may).0 [ inl s ↦ s | inr r ↦ r ]
-comes_not text _ o says e may = absurd says

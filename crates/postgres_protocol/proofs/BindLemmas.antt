@@ -1,32 +1,7 @@
 -- The message that binds one value, and the one that binds an array of steps.
-use Rattle.std.proofs.Common.{◌≡◌, ℕ, ◌+◌, ◌≤◌, ℤ, pos, List, [], ◌∷◌, ◌++◌, length, take, Option, Some, None, Result, Ok, Err, MutBor, refl, sym, ap, subst, ◌∙◌, inl, inr, arith}
-use Rattle.std.specs.Prelude.{map, ◌⊎◌}
-use Rattle.std.specs.List.{flat_map}
-use Rattle.std.proofs.lemmas.List.{append-nil}
-use Rattle.pgp_base.specs.declared.error.Error.{Error}
-use Rattle.pgp_base.specs.declared.error.BindError.{BindError}
-use Rattle.pgp_base.specs.declared.error.BindError.TheVariants.{Conversion, Serialization}
-use Rattle.pgp_base.specs.declared.number.IsNull.{IsNull}
-use Rattle.pgp_base.specs.declared.number.IsNull.TheVariants.{No}
-use Rattle.std.specs.Option.{option_to_list}
-use Rattle.pgp_base.specs.Wire.{uint16, uint32, int16, nullable, counted}
-use Rattle.pgp_base.specs.Cause.{Cause, Wants, either}
-use Rattle.pgp_base.specs.Held.{Held, ◌⊕◌}
-use Rattle.pgp_base.specs.Calls.{value_of, Puts, Gives, Runs}
-use Rattle.pgp_base.proofs.Needs.{flat_more, counted_length, nullable_least, sized_wants, counted_wants}
-use Rattle.pgp_base.proofs.Parts.{nothing_more, wants_more}
-use Rattle.pgp_frontend.proofs.Causes.{parts_first}
+use Rattle.postgres_protocol.proofs.Common.{◌≡◌, ℕ, ◌+◌, ◌≤◌, ℤ, pos, List, [], ◌∷◌, ◌++◌, length, take, Option, Some, None, Result, Ok, Err, MutBor, refl, sym, ap, subst, ◌∙◌, inl, inr, arith, ◌⊎◌, flat_map, append-nil, Error, BindError, Conversion, Serialization, IsNull, No, option_to_list, uint16, uint32, int16, nullable, counted, Cause, Wants, either, Held, ◌⊕◌, value_of, Puts, Gives, Runs, flat_more, counted_length, nullable_least, sized_wants, counted_wants, nothing_more, wants_more, parts_first, null_length, bind_length, joined_more, framed_wants, ClientMessage, Bind, Part, Text, Int16s, Values, part_cause, parts, parts_cause, joined, bytes_of, cause, Arrived, Serves, before_values, BindWhole, BindSoFar, BindRefused, WritesBind, ArrayDimension, array_bytes, array_cause, Step, Append, Null, Refuse, Give, RefusesAt, array_of, ElementsWant, ArrayRefused, ArrayWants, WritesSteps, binding, BindWants, BindsArray, Target, unnamed, one_bound, names_cause, PutsOne, NamesRefused, OneTooLong, OneWants, OneRefused, OneBinds, BindsOne}
+use Rattle.std.specs.Prelude.{map}
 use Rattle.pgp_frontend.proofs.Fields.{cause_front}
-use Rattle.pgp_frontend.proofs.Needs.{null_length, bind_length, joined_more, framed_wants}
-use Rattle.pgp_frontend.specs.ClientMessage.{ClientMessage, Bind}
-use Rattle.pgp_frontend.specs.Payload.{Part, Text, Int16s, Values, part_cause, parts, parts_cause, joined, bytes_of, cause}
-use Rattle.pgp_frontend.specs.Given.{Arrived, Serves, before_values, BindWhole, BindSoFar, BindRefused, WritesBind}
-use Rattle.pgp_types.specs.declared.array.ArrayDimension.{ArrayDimension}
-use Rattle.pgp_types.specs.Array.{array_bytes, array_cause}
-use Rattle.postgres_protocol.specs.declared.laws.array.Step.{Step}
-use Rattle.postgres_protocol.specs.declared.laws.array.Step.TheVariants.{Append, Null, Refuse}
-use Rattle.postgres_protocol.specs.ArraySteps.{Give, RefusesAt, array_of, ElementsWant, ArrayRefused, ArrayWants, WritesSteps, binding, BindWants, BindsArray}
-use Rattle.postgres_protocol.specs.OneValue.{Target, unnamed, one_bound, names_cause, PutsOne, NamesRefused, OneTooLong, OneWants, OneRefused, OneBinds, BindsOne}
 use Rattle.postgres_protocol.proofs.StepLemmas.{same_more}
 
 -- ---- one value
@@ -309,11 +284,6 @@ refused_as ds type steps P Q turn (Serialization e) (inl memory) =
     let w = memory.1 in
     inl (memory.0, record { before = w.before; more = w.more; are = w.are; vs = w.vs; give = w.give; wanted = turn (w.vs ++ map (λ step. None) (take 1 w.more)) w.wanted })
 refused_as ds type steps P Q turn (Serialization e) (inr cause) = inr cause
-
--- the same steps
-pub same_steps : {K : Type 0} (ds xs : List ArrayDimension) (type n : ℕ) (steps ys : List Step) (lacks : Held K → ℕ → Type 0) (old new : Held K) (r : Result IsNull (BindError Error)) → (xs ≡ ds) × (n ≡ type) × (ys ≡ steps)
-    → WritesSteps xs n ys lacks old new r → WritesSteps ds type steps lacks old new r
-same_steps ds xs type n steps ys lacks old new r i w = rw (← i.0, ← i.1, ← i.2) w
 
 module _ {F B K : Type 0} (held : B → Held K) (step : F → ℕ → MutBor B → Result IsNull (BindError Error) → MutBor B → F → Type 0) (lacks : Held K → ℕ → Type 0)
     (ds : List ArrayDimension) (type : ℕ) (steps : List Step) (f last : F) (old : Held K)

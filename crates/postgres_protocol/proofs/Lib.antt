@@ -1,3 +1,4 @@
+mod Common
 pub mod RowLemmas
 pub mod StepLemmas
 pub mod BindLemmas

@@ -1,33 +1,12 @@
 -- What a call comes to in a window, by the room that is left there.
-use Rattle.std.proofs.Common.{◌≡◌, ℕ, ◌+◌, ◌*◌, ◌≤◌, List, [], ◌∷◌, ◌++◌, map, take, length, Option, Some, None, Result, Ok, Err, refl, sym, ap, subst, ◌∙◌, arith, inl, inr, length-append}
+use Rattle.postgres_protocol.proofs.Common.{◌≡◌, ℕ, ◌+◌, ◌*◌, ◌≤◌, List, [], ◌∷◌, ◌++◌, map, take, length, Option, Some, None, Result, Ok, Err, refl, sym, ap, subst, ◌∙◌, arith, inl, inr, length-append, flat_map, map-append, nullable, counted, either, first, length_cause, nullable_cause, Wants, Held, ◌⊕◌, window_held, window_lacks, Error, BindError, Conversion, Serialization, either_left, either_right, either_none, first-append, wants_window, sized_length, flat_more, counted_length, nullable_least, ClientMessage, Parse, bytes_of, cause, ParseWhole, ParseSoFar, never_memory, parse_refused, null_length, bind_length, ArrayDimension, array_bytes, array_cause, Step, Append, Null, Refuse, gives, Give, RefusesAt, array_of, binding, StepRefuses, ElementsWant, HasCause, IsTooLong, BindWants, BindsArray}
 use Rattle.std.specs.Prelude.{pos}
-use Rattle.std.specs.List.{flat_map}
 use Rattle.std.specs.Borrow.{GName}
-use Rattle.std.proofs.lemmas.List.{map-append}
 use Rattle.std.proofs.lemmas.List.Concat.{flat_map-append}
-use Rattle.pgp_base.specs.Wire.{nullable, counted}
-use Rattle.pgp_base.specs.Cause.{either, first, length_cause, nullable_cause, Wants}
-use Rattle.pgp_base.specs.Held.{Held, ◌⊕◌}
-use Rattle.pgp_base.specs.Window.{window_held, window_lacks}
 use Rattle.pgp_base.specs.declared.window.Window.{Window}
-use Rattle.pgp_base.specs.declared.error.Error.{Error}
 use Rattle.pgp_base.specs.declared.error.Error.TheVariants.{OutOfMemory}
-use Rattle.pgp_base.specs.declared.error.BindError.{BindError}
-use Rattle.pgp_base.specs.declared.error.BindError.TheVariants.{Conversion, Serialization}
-use Rattle.pgp_base.proofs.Causes.{either_left, either_right, either_none, first-append}
 use Rattle.pgp_base.proofs.Fitting.{too_long}
-use Rattle.pgp_base.proofs.Needs.{wants_window, sized_length, flat_more, counted_length, nullable_least}
-use Rattle.pgp_frontend.specs.ClientMessage.{ClientMessage, Parse}
-use Rattle.pgp_frontend.specs.Payload.{bytes_of, cause}
-use Rattle.pgp_frontend.specs.Given.{ParseWhole, ParseSoFar}
-use Rattle.pgp_frontend.proofs.Causes.{never_memory}
-use Rattle.pgp_frontend.proofs.Lists.{parse_refused}
-use Rattle.pgp_frontend.proofs.Needs.{null_length, bind_length}
-use Rattle.pgp_types.specs.declared.array.ArrayDimension.{ArrayDimension}
-use Rattle.pgp_types.specs.Array.{array_bytes, array_cause}
-use Rattle.postgres_protocol.specs.declared.laws.array.Step.{Step}
-use Rattle.postgres_protocol.specs.declared.laws.array.Step.TheVariants.{Append, Null, Refuse}
-use Rattle.postgres_protocol.specs.ArraySteps.{gives, Give, RefusesAt, array_of, binding, StepRefuses, ElementsWant, HasCause, IsTooLong, BindWants, BindRefused, BindsArray}
+use Rattle.postgres_protocol.specs.ArraySteps.{BindRefused}
 use Rattle.pgp_stream.specs.ClientStream.{Sent, IsAdded, Adds, AddsMessage, AddsGiven}
 use Rattle.postgres_protocol.specs.Rooms.{HasRoom, LacksRoom, GoesByRoom, IsWant, BindsByRoom}
 use Rattle.postgres_protocol.proofs.StepLemmas.{array_length}

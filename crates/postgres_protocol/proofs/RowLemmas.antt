@@ -1,11 +1,6 @@
 -- The values of a row that were read so far.
-use Rattle.std.proofs.Common.{◌≡◌, ℕ, ℤ, zero, suc, ◌<◌, List, [], ◌∷◌, ◌++◌, length, Option, Some, None, Result, refl, sym, subst, arith}
-use Rattle.std.specs.List.{slice_get}
-use Rattle.std.specs.Option.{option_map}
+use Rattle.postgres_protocol.proofs.Common.{◌≡◌, ℕ, ℤ, List, [], ◌∷◌, ◌++◌, length, Option, Some, None, Result, refl, sym, subst, slice_get, option_map, Error, Table, column, value_at, IsInt4, AreInt4}
 use Rattle.std.specs.declared.ops.Range.{Range}
-use Rattle.pgp_base.specs.declared.error.Error.{Error}
-use Rattle.pgp_message.specs.Table.{Table, column, value_at}
-use Rattle.postgres_protocol.specs.RowValues.{IsInt4, AreInt4}
 
 -- the first values of these places
 abbrev pub AreFirst : List ℕ → List (Option (Range ℕ)) → List (Option (Result ℤ Error)) → Type 0
@@ -43,11 +38,6 @@ some_column table i v e = shown_some table.buffer (slice_get table.places i) v e
 
 pub none_column : (table : Table) (i : ℕ) → None ≡ column table i → slice_get table.places i ≡ None
 none_column table i e = shown_none table.buffer (slice_get table.places i) e
-
-pub get_below : (ps : List (Option (Range ℕ))) (i : ℕ) (p : Option (Range ℕ)) → slice_get ps i ≡ Some p → i < length ps
-get_below [] i p e = absurd cc
-get_below (q ∷ ps) zero p e = omega arith
-get_below (q ∷ ps) (suc i) p e = omega (arith, get_below ps i p e)
 
 -- one value more
 pub value_read : (table : Table) (rs : List (Option (Result ℤ Error))) (v : Option (List ℕ)) (r : Option (Result ℤ Error)) → AreFirst table.buffer table.places rs → Some v ≡ column table (length rs) → IsInt4 v r

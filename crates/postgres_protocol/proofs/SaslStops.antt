@@ -1,14 +1,8 @@
 -- Where an exchange of SCRAM-SHA-256 stopped, by what its calls reported.
-use Rattle.std.proofs.Common.{◌≡◌, ℕ, List, [], Option, Some, None, Result, Ok, Err, refl, ap, subst, ◌∙◌, inl, inr}
-use Rattle.std.specs.Prelude.{IfErr}
+use Rattle.postgres_protocol.proofs.Common.{◌≡◌, ℕ, List, [], Option, Some, None, Result, Ok, Err, refl, ap, subst, ◌∙◌, inl, inr, IfErr, if_err_at, Held, ◌⊕◌, Error, SaslInitialResponse, SaslResponse, bytes_of, WritesMessage}
 use Rattle.std.specs.Result.{IsErrAnd}
-use Rattle.pgp_base.proofs.Parts.{if_err_at}
-use Rattle.pgp_base.specs.Held.{Held, ◌⊕◌}
-use Rattle.pgp_base.specs.declared.error.Error.{Error}
 use Rattle.pgp_auth.specs.ScramRefusal.{Refusal}
 use Rattle.pgp_auth.specs.ScramClient.{Client, Begun, Answers, UpdateRefused, FinishRefused, AwaitsFirst, first_text, message_of}
-use Rattle.pgp_frontend.specs.ClientMessage.{SaslInitialResponse, SaslResponse}
-use Rattle.pgp_frontend.specs.Payload.{bytes_of, WritesMessage}
 use Rattle.pgp_message.specs.BackendMessage.{Authentication, AuthenticationSaslContinue, AuthenticationSaslFinal}
 use Rattle.pgp_message.specs.Stream.{TakesFrame}
 use Rattle.postgres_protocol.specs.SaslExchange.{GivesNone, IsNoContinue, IsNoFinal, SentFirst, GotFirst, SentFinal, FirstUnwritten, FirstRefused, FinalUnwritten, FinalRefused, Stopped}

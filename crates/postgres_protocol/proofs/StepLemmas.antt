@@ -1,39 +1,8 @@
 -- What an array of steps comes to, alone and as the value of a message.
-use Rattle.std.proofs.Common.{◌≡◌, ℕ, ◌+◌, ◌*◌, ◌≤◌, List, [], ◌∷◌, ◌++◌, map, take, length, Option, Some, None, Result, Ok, Err, Bor, MutBor, refl, sym, ap, subst, ◌∙◌, inl, inr, arith, length-append}
-use Rattle.std.proofs.lemmas.List.{append_cancel_left, map-append}
-use Rattle.pgp_base.specs.declared.error.Error.{Error}
-use Rattle.pgp_base.specs.declared.error.BindError.{BindError}
-use Rattle.pgp_base.specs.declared.error.BindError.TheVariants.{Conversion, Serialization}
-use Rattle.pgp_base.specs.declared.number.IsNull.{IsNull}
-use Rattle.pgp_base.specs.declared.number.IsNull.TheVariants.{Yes, No}
-use Rattle.std.specs.List.{flat_map}
-use Rattle.std.specs.Option.{option_to_list}
-use Rattle.pgp_base.specs.Wire.{uint32, int32, oid, nullable}
-use Rattle.pgp_base.specs.Cause.{either, first, length_cause, nullable_cause, Wants}
-use Rattle.pgp_base.specs.Held.{Held, ◌⊕◌}
-use Rattle.pgp_base.specs.Calls.{value_of, Puts, Gives, Runs, SoFar, KeepsValue}
-use Rattle.pgp_base.proofs.Causes.{either_none, either_then, first_here, length_past}
-use Rattle.pgp_base.proofs.Needs.{flat_more, nullable_least, sized_wants}
-use Rattle.pgp_base.proofs.Parts.{length-uint32, more_bytes, more_twice, front_same, front_left, wants_more, wants_then}
-use Rattle.pgp_frontend.proofs.Needs.{int32_length}
-use Rattle.pgp_types.specs.declared.array.ArrayDimension.{ArrayDimension}
-use Rattle.pgp_types.specs.Array.{Array, dimension_bytes, has_null, flag_of, array_bytes, array_cause}
+use Rattle.postgres_protocol.proofs.Common.{◌≡◌, ℕ, ◌+◌, ◌*◌, ◌≤◌, List, [], ◌∷◌, ◌++◌, map, take, length, Option, Some, None, Result, Ok, Err, Bor, MutBor, refl, sym, ap, subst, ◌∙◌, inl, inr, arith, length-append, append_cancel_left, map-append, Error, BindError, Conversion, Serialization, IsNull, Yes, No, flat_map, option_to_list, uint32, int32, oid, nullable, either, first, length_cause, nullable_cause, Wants, Held, ◌⊕◌, value_of, Puts, Gives, Runs, SoFar, KeepsValue, either_none, either_then, first_here, length_past, flat_more, nullable_least, sized_wants, length-uint32, more_bytes, more_twice, front_left, wants_more, wants_then, int32_length, ArrayDimension, Array, dimension_bytes, has_null, flag_of, array_bytes, array_cause, Step, Append, Null, Refuse, Does, gives, Give, RefusesAt, array_of, ArrayRefused, ArrayWants, ArrayAppended, WritesSteps}
 use Rattle.pgp_types.specs.ArrayWriting.{before_elements, MadeUpTo, ArrayWritten, ArrayRefused as RefusedArray}
-use Rattle.postgres_protocol.specs.declared.laws.array.Step.{Step}
-use Rattle.postgres_protocol.specs.declared.laws.array.Step.TheVariants.{Append, Null, Refuse}
-use Rattle.postgres_protocol.specs.ArraySteps.{Does, gives, Give, RefusesAt, array_of, ArrayRefused, ArrayWants, ArrayAppended, WritesSteps}
 
 -- The laws of the closures.
-
-pub keeps_does : {K : Type 0} (s : Step) (lacks : Held K → ℕ → Type 0) (old new : Held K) (r : Result IsNull Error) → Does s lacks old new r → KeepsValue r old new
-keeps_does (Append bytes) lacks old new (Ok Yes) d = let e : Yes ≡ No = d.0 in absurd cc
-keeps_does (Append bytes) lacks old new (Ok No) d = (bytes.items, d.1)
-keeps_does (Append bytes) lacks old new (Err e) d = front_same old new d.1
-keeps_does Null lacks old new (Ok Yes) d = d.1
-keeps_does Null lacks old new (Ok No) d = let e : No ≡ Yes = d.0 in absurd cc
-keeps_does Null lacks old new (Err e) d = absurd d
-keeps_does (Refuse w) lacks old new (Ok null) d = absurd d
-keeps_does (Refuse w) lacks old new (Err e) d = front_same old new d.1
 
 pub keeps_steps : {K : Type 0} (ds : List ArrayDimension) (type : ℕ) (steps : List Step) (lacks : Held K → ℕ → Type 0) (old new : Held K) (r : Result IsNull (BindError Error)) → WritesSteps ds type steps lacks old new r → KeepsValue r old new
 keeps_steps ds type steps lacks old new (Ok Yes) d = let e : Yes ≡ No = d.0 in absurd cc

@@ -1,4 +1,22 @@
-//! The byte level of a PostgreSQL client, with the API of `postgres-protocol` 0.6.12.
+//! The byte level of a PostgreSQL client, with the API of `postgres-protocol` 0.6.12: messages, values in the binary format, and what a
+//! log-in computes.
+//!
+//! ```
+//! use bytes::BytesMut;
+//! use postgres_protocol::message::{backend::Message, frontend};
+//!
+//! let mut sent = BytesMut::new();
+//! frontend::query("SELECT 1", &mut sent)?;
+//! assert_eq!(&sent[..], b"Q\0\0\0\x0dSELECT 1\0");
+//!
+//! let mut received = BytesMut::from(&b"C\0\0\0\x0dSELECT 1\0Z\0\0\0\x05I"[..]);
+//! while let Some(message) = Message::parse(&mut received)? {
+//!     if let Message::CommandComplete(body) = message {
+//!         assert_eq!(body.tag()?, "SELECT 1");
+//!     }
+//! }
+//! # Ok::<(), std::io::Error>(())
+//! ```
 //!
 //! The modules below `proved` are generated: sources whose contracts a machine checked, without these contracts. `kit` stands for what
 //! they are proved over, and the other modules give them the API; neither is proved.
@@ -6,37 +24,23 @@
 #![warn(missing_docs, rust_2018_idioms)]
 
 pub mod authentication;
-#[cfg(feature = "extensions")]
-pub mod dialogue;
 pub mod escape;
-mod kit;
 pub mod message;
 pub mod password;
-// What isn't clean in the generated modules, by single lints; any other is a warning.
-// Of the sources stand here all parts, of which the library for C and the programs call some, and the feature `extensions` more.
-#[allow(dead_code, unused_imports)]
-// The allocator is handed on, and here it is the global one.
-#[allow(unused_variables, clippy::let_unit_value)]
-// The sources say what a field is at its struct, and write lifetimes where Rattle asks for them.
-#[allow(missing_docs, elided_lifetimes_in_paths, clippy::needless_lifetimes)]
-// Where contracts stood: after the text about a function, and between its parts.
-#[allow(clippy::empty_line_after_doc_comments)]
-// Names and signatures are those of the proved API: a `clone` that may fail, a `next` with an error, a `len` that is a field of a message.
-#[allow(clippy::should_implement_trait, clippy::len_without_is_empty, clippy::new_without_default, clippy::type_complexity)]
-#[allow(clippy::too_many_arguments)]
-// What Rust's std has a shorter call for is written out where Rattle's has none, or where a proof goes by the cases.
-#[allow(clippy::match_like_matches_macro, clippy::redundant_pattern_matching, clippy::question_mark, clippy::manual_ok_err)]
-#[allow(clippy::manual_is_ascii_check, clippy::manual_range_contains, clippy::manual_find, clippy::manual_unwrap_or_default)]
-#[allow(clippy::mem_replace_with_default, clippy::needless_range_loop, clippy::nonminimal_bool, clippy::explicit_auto_deref)]
-// What Rattle has to drop by hand has nothing to drop here.
-#[allow(clippy::drop_non_drop)]
-mod proved;
-#[cfg(feature = "extensions")]
-pub mod session;
 mod status;
 pub mod types;
-#[cfg(feature = "extensions")]
-pub mod values;
+
+// `postgres-session` stands on these.
+#[cfg(not(feature = "parts"))]
+mod kit;
+#[cfg(feature = "parts")]
+#[doc(hidden)]
+pub mod kit;
+#[cfg(not(feature = "parts"))]
+mod proved;
+#[cfg(feature = "parts")]
+#[doc(hidden)]
+pub mod proved;
 
 /// The number of an object of a database.
 pub type Oid = u32;
@@ -45,8 +49,3 @@ pub type Oid = u32;
 pub type Lsn = u64;
 
 pub use proved::pgp_base::IsNull;
-
-#[cfg(feature = "extensions")]
-pub use proved::pgp_base::{BindError, Buffer, Error, FallibleIterator, Window};
-#[cfg(feature = "extensions")]
-pub use kit::{AllocError, AllocFailed, Global};

@@ -4,8 +4,6 @@ use crate::kit::Global;
 use crate::status::ample;
 
 pub mod sasl;
-#[cfg(feature = "extensions")]
-pub mod scram;
 
 /// What `AuthenticationMd5Password` asks for, to be sent as a password.
 pub fn md5_hash(username: &[u8], password: &[u8], salt: [u8; 4]) -> String {

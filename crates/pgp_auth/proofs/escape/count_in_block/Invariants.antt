@@ -1,6 +1,4 @@
-use Rattle.std.proofs.Common.{◌≡◌, take}
-use Rattle.std.specs.List.{count_by}
-use Rattle.pgp_auth.specs.Doubling.{is_doubled}
+use Rattle.pgp_auth.proofs.Common.{◌≡◌, take, count_by, is_doubled}
 use Rattle.pgp_auth.proofs.escape.count_in_block.Given as goal
 
 abbrev pub invariant-bytes : goal.invariant-bytes

@@ -1,6 +1,4 @@
-use Rattle.std.proofs.Common.{◌≡◌, ◌+◌, length}
-use Rattle.std.specs.List.{count_by}
-use Rattle.pgp_auth.specs.Doubling.{is_doubled}
+use Rattle.pgp_auth.proofs.Common.{◌≡◌, ◌+◌, length, count_by, is_doubled}
 use Rattle.pgp_auth.proofs.escape.count_twice.Given as goal
 
 abbrev pub invariant-pieces : goal.invariant-pieces

@@ -1,6 +1,4 @@
-use Rattle.std.proofs.Common.{◌≡◌, refl, arith, rules, set, get_or, cond, ◌+◌, ◌∙◌}
-use Rattle.std.proofs.lemmas.List.{length-set}
-use Rattle.pgp_auth.specs.Doubling.{is_doubled}
+use Rattle.pgp_auth.proofs.Common.{◌≡◌, refl, arith, rules, set, get_or, cond, ◌+◌, ◌∙◌, length-set, is_doubled}
 use Rattle.pgp_auth.proofs.Doubles.{doubled_nil, at_most_one, block_more}
 use Rattle.pgp_auth.proofs.escape.push_block.Goals as goal
 

@@ -1,5 +1,4 @@
-use Rattle.std.proofs.Common.{◌≡◌, ◌≤◌, ◌*◌, take, length}
-use Rattle.pgp_auth.specs.Doubling.{doubled}
+use Rattle.pgp_auth.proofs.Common.{◌≡◌, ◌≤◌, ◌*◌, take, length, doubled}
 use Rattle.pgp_auth.proofs.escape.push_block.Given as goal
 
 abbrev pub invariant-bytes : goal.invariant-bytes

@@ -1,5 +1,4 @@
-use Rattle.std.proofs.Common.{◌≡◌, ◌++◌, length}
-use Rattle.pgp_auth.specs.Doubling.{doubled}
+use Rattle.pgp_auth.proofs.Common.{◌≡◌, ◌++◌, length, doubled}
 use Rattle.pgp_auth.proofs.escape.push_blocks.Given as goal
 
 abbrev pub invariant-pieces : goal.invariant-pieces

@@ -1,6 +1,4 @@
-use Rattle.std.proofs.Common.{◌++◌, ◌∙◌}
-use Rattle.std.specs.Prelude.{string_bytes}
-use Rattle.pgp_auth.specs.Doubling.{doubled}
+use Rattle.pgp_auth.proofs.Common.{◌++◌, ◌∙◌, string_bytes, doubled}
 use Rattle.pgp_auth.proofs.Quoting.{cut_behind, run_step, run_end}
 use Rattle.pgp_auth.proofs.escape.push_doubled.Goals as goal
 

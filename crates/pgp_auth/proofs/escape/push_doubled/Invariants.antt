@@ -1,6 +1,4 @@
-use Rattle.std.proofs.Common.{◌≡◌, ◌++◌, length}
-use Rattle.std.specs.Prelude.{string_bytes}
-use Rattle.pgp_auth.specs.Doubling.{doubled}
+use Rattle.pgp_auth.proofs.Common.{◌≡◌, ◌++◌, length, string_bytes, doubled}
 use Rattle.pgp_auth.proofs.escape.push_doubled.Given as goal
 use denote.Shadow.{shadow}
 use denote.Text.{Utf8}

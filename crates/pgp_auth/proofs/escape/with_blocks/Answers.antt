@@ -1,7 +1,4 @@
-use Rattle.std.proofs.Common.{◌≡◌, ◌++◌, rules}
-use Rattle.std.specs.Prelude.{string_bytes}
-use Rattle.std.proofs.lemmas.Str.{IsUtf8-append, IsUtf8-string_bytes}
-use Rattle.pgp_auth.specs.Doubling.{doubled}
+use Rattle.pgp_auth.proofs.Common.{◌≡◌, ◌++◌, rules, string_bytes, IsUtf8-append, IsUtf8-string_bytes, doubled}
 use Rattle.pgp_auth.proofs.Doubles.{utf8_doubled}
 use Rattle.pgp_auth.proofs.Quoting.{true_not_false}
 use Rattle.pgp_auth.proofs.escape.with_blocks.Goals as goal

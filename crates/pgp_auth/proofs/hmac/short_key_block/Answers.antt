@@ -1,4 +1,4 @@
-use Rattle.std.proofs.Common.{◌≡◌, ◌∙◌, length, bit_xor, arith}
+use Rattle.pgp_auth.proofs.Common.{◌≡◌, ◌∙◌, length, bit_xor, arith}
 use Rattle.pgp_auth.proofs.Blocks.{block_step, block_whole}
 use Rattle.pgp_auth.proofs.hmac.short_key_block.Goals as goal
 

@@ -1,4 +1,4 @@
-use Rattle.std.proofs.Common.{◌≡◌, ◌-◌, ◌++◌, take, map, replicate, bit_xor}
+use Rattle.pgp_auth.proofs.Common.{◌≡◌, ◌-◌, ◌++◌, take, map, replicate, bit_xor}
 use Rattle.pgp_auth.proofs.hmac.short_key_block.Given as goal
 
 abbrev pub invariant-loop-i : goal.invariant-loop-i

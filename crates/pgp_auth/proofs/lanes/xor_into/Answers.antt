@@ -1,8 +1,4 @@
-use Rattle.std.proofs.Common.{◌≡◌, ◌+◌, ◌≤◌, length, arith, inl, inr, ◌∙◌, bit_xor}
-use Rattle.std.proofs.lemmas.Bool.{cases_lt}
-use Rattle.std.proofs.lemmas.Simd.{get_or-put_chunk_below, get_or-put_chunk_above, length-zip2, length-chunk}
-use Rattle.std.specs.Simd.Lanes.{chunk}
-use Rattle.pgp_auth.specs.IteratedKey.{xor_bytes}
+use Rattle.pgp_auth.proofs.Common.{◌≡◌, ◌+◌, ◌≤◌, length, arith, inl, inr, ◌∙◌, bit_xor, cases_lt, get_or-put_chunk_below, get_or-put_chunk_above, length-zip2, length-chunk, chunk, xor_bytes}
 use Rattle.pgp_auth.proofs.Blocks.{block_at, xor_from_places}
 use Rattle.pgp_auth.proofs.lanes.xor_into.Goals as goal
 

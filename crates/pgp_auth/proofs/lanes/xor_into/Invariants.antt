@@ -1,4 +1,4 @@
-use Rattle.std.proofs.Common.{◌≡◌, ◌≤◌, ◌-◌, ℕ, ◌<◌, get_or, length, bit_xor}
+use Rattle.pgp_auth.proofs.Common.{◌≡◌, ◌≤◌, ◌-◌, ℕ, ◌<◌, get_or, length, bit_xor}
 use Rattle.pgp_auth.proofs.lanes.xor_into.Given as goal
 
 abbrev pub invariant-lanes : goal.invariant-lanes

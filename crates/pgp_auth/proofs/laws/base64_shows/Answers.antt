@@ -1,6 +1,4 @@
-use Rattle.std.proofs.Common.{refl}
-use Rattle.base64.specs.Engines.{standard}
-use Rattle.base64.proofs.EngineFacts.{decode_of-encode_of, decode_of_strict}
+use Rattle.pgp_auth.proofs.Common.{refl, standard, decode_of-encode_of, decode_of_strict}
 use Rattle.pgp_auth.proofs.laws.base64_shows.Goals as goal
 
 pub returns-clause-shows : goal.returns-clause-shows

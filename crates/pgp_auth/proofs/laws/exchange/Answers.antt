@@ -1,4 +1,4 @@
-use Rattle.pgp_base.proofs.Parts.{if_err_at}
+use Rattle.pgp_auth.proofs.Common.{if_err_at}
 use Rattle.pgp_auth.proofs.BothWays.{update_memory, finish_memory}
 use Rattle.pgp_auth.proofs.laws.exchange.Goals as goal
 

@@ -1,4 +1,4 @@
-use Rattle.std.proofs.Common.{refl}
+use Rattle.pgp_auth.proofs.Common.{refl}
 use Rattle.pgp_auth.proofs.Mocks.{reported_alike}
 use Rattle.pgp_auth.proofs.laws.mock_is_told_alike.Goals as goal
 

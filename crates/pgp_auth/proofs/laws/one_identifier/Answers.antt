@@ -1,4 +1,4 @@
-use Rattle.std.proofs.Common.{false}
+use Rattle.pgp_auth.proofs.Common.{false}
 use Rattle.pgp_auth.proofs.OneText.{one_quoted}
 use Rattle.pgp_auth.proofs.laws.one_identifier.Goals as goal
 

@@ -1,6 +1,4 @@
-use Rattle.std.proofs.Common.{◌++◌}
-use Rattle.std.specs.Str.{IsUtf8}
-use Rattle.md5.specs.Md5.{md5}
+use Rattle.pgp_auth.proofs.Common.{◌++◌, IsUtf8, md5}
 use Rattle.pgp_auth.proofs.Digits.{digits_are_text, text_passes}
 use Rattle.pgp_auth.proofs.md5_text.digest_text.Goals as goal
 

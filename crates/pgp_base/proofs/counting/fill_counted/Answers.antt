@@ -1,6 +1,4 @@
-use Rattle.std.proofs.Common.{rules, arith, [], ◌∷◌, ◌++◌, length, refl, inr, length-append, sym, ◌∙◌}
-use Rattle.pgp_base.specs.Held.{◌⊕◌}
-use Rattle.pgp_base.specs.Wire.{uint16}
+use Rattle.pgp_base.proofs.Common.{rules, arith, [], ◌∷◌, ◌++◌, length, refl, inr, length-append, sym, ◌∙◌, ◌⊕◌, uint16}
 use Rattle.pgp_base.proofs.Causes.{count_fits}
 use Rattle.pgp_base.proofs.Parts.{counted_up, sized2, more_parts, nothing_more, Runs-snoc, Runs-length, Puts-at, front_twice, front_then, front_refused}
 use Rattle.pgp_base.proofs.counting.fill_counted.Goals as goal

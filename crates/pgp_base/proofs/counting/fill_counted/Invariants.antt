@@ -1,8 +1,4 @@
-use Rattle.std.proofs.Common.{◌≡◌, ℕ, List, length}
-use Rattle.std.specs.List.{flat_map}
-use Rattle.pgp_base.specs.Held.{◌⊕◌}
-use Rattle.pgp_base.specs.Wire.{uint16}
-use Rattle.pgp_base.specs.Calls.{Wrote, Runs}
+use Rattle.pgp_base.proofs.Common.{◌≡◌, ℕ, List, length, flat_map, ◌⊕◌, uint16, Wrote, Runs}
 use Rattle.pgp_base.proofs.counting.fill_counted.Given as goal
 
 abbrev pub invariant-loop-item : goal.invariant-loop-item

@@ -1,7 +1,4 @@
-use Rattle.std.proofs.Common.{◌<◌, ◌^◌}
-use Rattle.std.specs.Prelude.{FitsSigned}
-use Rattle.std.specs.Int.{w64, from_be_bytes, cast_signed}
-use Rattle.pgp_base.specs.Wire.{int64, uint64}
+use Rattle.pgp_base.proofs.Common.{◌<◌, ◌^◌, FitsSigned, w64, from_be_bytes, cast_signed, int64, uint64}
 use Rattle.pgp_base.proofs.PartLemmas.{int64_number, uint64_number}
 use Rattle.pgp_base.proofs.Prefixes.{int16_begins, int32_begins, uint16_begins, uint32_begins}
 use Rattle.pgp_base.proofs.Spellings.{number_begins}

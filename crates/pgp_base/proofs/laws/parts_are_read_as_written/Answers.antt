@@ -1,7 +1,4 @@
-use Rattle.std.proofs.Common.{◌<◌, ◌^◌}
-use Rattle.std.specs.Prelude.{FitsSigned}
-use Rattle.std.specs.Int.{w16, w32, from_be_bytes, cast_signed}
-use Rattle.pgp_base.specs.Wire.{int16, int32, uint16, oid}
+use Rattle.pgp_base.proofs.Common.{◌<◌, ◌^◌, FitsSigned, w16, w32, from_be_bytes, cast_signed, int16, int32, uint16, oid}
 use Rattle.pgp_base.proofs.MarkedLemmas.{mark_parts, is_unmarked}
 use Rattle.pgp_base.proofs.PartLemmas.{int16_number, int32_number, uint16_number, oid_number}
 use Rattle.pgp_base.proofs.Spellings.{number_reads, byte_reads, string_reads, text_reads}

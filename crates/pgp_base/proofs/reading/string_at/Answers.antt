@@ -1,6 +1,4 @@
-use Rattle.std.proofs.Common.{◌≡◌, ◌+◌, List, ℕ, Some, suc, take, drop, arith, refl, add-one}
-use Rattle.std.proofs.lemmas.Bool.{eqb-true, eq-eqb}
-use Rattle.pgp_base.specs.PartReading.{string_at}
+use Rattle.pgp_base.proofs.Common.{◌≡◌, ◌+◌, List, ℕ, Some, suc, take, drop, arith, refl, add-one, eqb-true, eq-eqb, string_at}
 use Rattle.pgp_base.proofs.Strings.{string_found, string_missing}
 use Rattle.pgp_base.proofs.reading.string_at.Goals as goal
 

@@ -1,4 +1,4 @@
-use Rattle.std.proofs.Common.{rules}
+use Rattle.pgp_base.proofs.Common.{rules}
 use Rattle.pgp_base.proofs.PartLemmas.{text_read, text_refused}
 use Rattle.pgp_base.proofs.reading.text_at.Goals as goal
 

@@ -1,4 +1,4 @@
-use Rattle.std.proofs.Common.{refl}
+use Rattle.pgp_base.proofs.Common.{refl}
 use Rattle.pgp_base.proofs.Parts.{adds_of}
 use Rattle.pgp_base.proofs.writing.append_by.Goals as goal
 

@@ -1,5 +1,4 @@
-use Rattle.std.proofs.Common.{arith, ◌≡◌, ℕ, ◌+◌, ◌-◌, length, None, subst, ◌∙◌}
-use Rattle.pgp_base.specs.Cause.{length_cause}
+use Rattle.pgp_base.proofs.Common.{arith, ◌≡◌, ℕ, ◌+◌, ◌-◌, length, None, subst, ◌∙◌, length_cause}
 use Rattle.pgp_base.proofs.Parts.{filled4, sized4, body_refused, Appends-at, front_twice, front_refused}
 use Rattle.pgp_base.proofs.writing.fill_body.Goals as goal
 

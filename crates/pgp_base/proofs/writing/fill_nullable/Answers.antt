@@ -1,6 +1,4 @@
-use Rattle.std.proofs.Common.{arith, refl, ◌≡◌, None, subst, ◌∙◌}
-use Rattle.pgp_base.specs.Cause.{nullable_cause}
-use Rattle.pgp_base.specs.Calls.{value_of}
+use Rattle.pgp_base.proofs.Common.{arith, refl, ◌≡◌, None, subst, ◌∙◌, nullable_cause, value_of}
 use Rattle.pgp_base.proofs.Parts.{sized4, rest4, none_sized, none_ok, valued, nullable_refused, Appends-at, front_twice, front_refused}
 use Rattle.pgp_base.proofs.writing.fill_nullable.Goals as goal
 

@@ -1,6 +1,4 @@
-use Rattle.std.proofs.Common.{arith, ◌≡◌, None, refl, subst, ◌∙◌}
-use Rattle.pgp_base.specs.Cause.{nullable_cause}
-use Rattle.pgp_base.specs.Calls.{value_of}
+use Rattle.pgp_base.proofs.Common.{arith, ◌≡◌, None, refl, subst, ◌∙◌, nullable_cause, value_of}
 use Rattle.pgp_base.proofs.Parts.{sized4, rest4, none_sized, none_ok, null_again, valued, value_refused, Puts-at, front_twice, front_refused}
 use Rattle.pgp_base.proofs.writing.put_value.Goals as goal
 

@@ -1,6 +1,4 @@
-use Rattle.std.proofs.Common.{rules, arith, length-append, [], ◌∷◌, ap, ◌∙◌, inl}
-use Rattle.std.specs.List.{Contains}
-use Rattle.pgp_base.specs.Held.{◌⊕◌}
+use Rattle.pgp_base.proofs.Common.{rules, arith, length-append, [], ◌∷◌, ap, ◌∙◌, inl, Contains, ◌⊕◌}
 use Rattle.pgp_base.proofs.Causes.{text_clean}
 use Rattle.pgp_base.proofs.Parts.{more_twice, front_more, cut_back, left_same, wants_here, wants_then, writes_out}
 use Rattle.pgp_base.proofs.writing.write_cstr.Goals as goal

@@ -1,5 +1,4 @@
-use Rattle.std.proofs.Common.{refl, sym, subst, inr}
-use Rattle.pgp_types.specs.Format.{IsBlock}
+use Rattle.pgp_c.proofs.Common.{refl, sym, subst, inr, IsBlock}
 use Rattle.pgp_c.proofs.Sending.{wrote_same, lacks_same}
 use Rattle.pgp_c.proofs.address.pgp_put_macaddr.Goals as goal
 

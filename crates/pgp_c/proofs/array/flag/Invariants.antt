@@ -1,6 +1,4 @@
-use Rattle.std.proofs.Common.{◌≡◌, true, take}
-use Rattle.std.specs.List.{list_all}
-use Rattle.pgp_c.specs.Putting.{has_value}
+use Rattle.pgp_c.proofs.Common.{◌≡◌, true, take, list_all, has_value}
 use Rattle.pgp_c.proofs.array.flag.Given as goal
 
 abbrev pub invariant-loop-value : goal.invariant-loop-value

@@ -1,4 +1,4 @@
-use Rattle.std.proofs.Common.{rules}
+use Rattle.pgp_c.proofs.Common.{rules}
 use Rattle.pgp_c.proofs.Compound.{array_in}
 use Rattle.pgp_c.proofs.array.pgp_get_array.Goals as goal
 

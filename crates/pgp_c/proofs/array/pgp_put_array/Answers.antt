@@ -1,7 +1,4 @@
-use Rattle.std.proofs.Common.{rules, ap, ◌++◌, inl, inr, ◌∙◌, Some}
-use Rattle.pgp_base.specs.Error.{number_of}
-use Rattle.pgp_types.specs.Array.{array_bytes}
-use Rattle.pgp_c.specs.Putting.{elements_of, head_of, list_of}
+use Rattle.pgp_c.proofs.Common.{rules, ap, ◌++◌, inl, inr, ◌∙◌, Some, number_of, array_bytes, elements_of, head_of, list_of}
 use Rattle.pgp_c.proofs.Elements.{is_array, list_bytes}
 use Rattle.pgp_c.proofs.Sending.{wrote, lacked}
 use Rattle.pgp_c.proofs.array.pgp_put_array.Goals as goal

@@ -1,6 +1,4 @@
-use Rattle.std.proofs.Common.{arith, inl, inr, length-append}
-use Rattle.pgp_base.proofs.Needs.{memory_more, memory_then}
-use Rattle.pgp_c.specs.Putting.{elements_of, head_of}
+use Rattle.pgp_c.proofs.Common.{arith, inl, inr, length-append, memory_more, memory_then, elements_of, head_of}
 use Rattle.pgp_c.proofs.Elements.{elements_large, head_length}
 use Rattle.pgp_c.proofs.Handed.{err_then}
 use Rattle.pgp_c.proofs.array.put_list.Goals as goal

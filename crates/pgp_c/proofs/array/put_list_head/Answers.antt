@@ -1,9 +1,4 @@
-use Rattle.std.proofs.Common.{◌≡◌, ◌++◌, length, arith, inl, ap, ◌∙◌, length-append}
-use Rattle.pgp_base.specs.Held.{◌⊕◌}
-use Rattle.pgp_base.specs.Wire.{uint32}
-use Rattle.pgp_base.proofs.Causes.{fits_of}
-use Rattle.pgp_base.proofs.Parts.{if_err_at, length-uint32, wants_more, wants_then}
-use Rattle.pgp_c.specs.Putting.{flag_in, head_of}
+use Rattle.pgp_c.proofs.Common.{◌≡◌, ◌++◌, length, arith, inl, ap, ◌∙◌, length-append, ◌⊕◌, uint32, fits_of, if_err_at, length-uint32, wants_more, wants_then, flag_in, head_of}
 use Rattle.pgp_c.proofs.Elements.{then_more}
 use Rattle.pgp_c.proofs.array.put_list_head.Goals as goal
 

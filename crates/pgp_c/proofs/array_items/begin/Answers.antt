@@ -1,4 +1,4 @@
-use Rattle.std.proofs.Common.{rules, refl}
+use Rattle.pgp_c.proofs.Common.{rules, refl}
 use Rattle.pgp_c.proofs.ArrayItems.{begun, behind_head}
 use Rattle.pgp_c.proofs.array_items.begin.Goals as goal
 

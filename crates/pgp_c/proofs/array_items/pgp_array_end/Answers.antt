@@ -1,4 +1,4 @@
-use Rattle.std.proofs.Common.{rules}
+use Rattle.pgp_c.proofs.Common.{rules}
 use Rattle.pgp_c.proofs.ArrayItems.{array_ended}
 use Rattle.pgp_c.proofs.array_items.pgp_array_end.Goals as goal
 

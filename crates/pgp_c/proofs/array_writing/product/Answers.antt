@@ -1,4 +1,4 @@
-use Rattle.std.proofs.Common.{rules}
+use Rattle.pgp_c.proofs.Common.{rules}
 use Rattle.pgp_c.proofs.ArrayShapes.{product_more, stops_at}
 use Rattle.pgp_c.proofs.array_writing.product.Goals as goal
 

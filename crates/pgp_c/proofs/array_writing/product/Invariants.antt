@@ -1,6 +1,4 @@
-use Rattle.std.proofs.Common.{◌≤◌, map, take}
-use Rattle.pgp_types.specs.Array.{Product}
-use Rattle.pgp_c.specs.ArrayWriting.{dimension_of}
+use Rattle.pgp_c.proofs.Common.{◌≤◌, map, take, Product, dimension_of}
 use Rattle.pgp_c.proofs.array_writing.product.Given as goal
 
 abbrev pub invariant-loop-dimension : goal.invariant-loop-dimension

@@ -1,11 +1,5 @@
-use Rattle.std.proofs.Common.{◌≡◌, None, arith, inl, inr, map, ap, ◌∙◌, length, length-append}
-use Rattle.std.proofs.lemmas.List.{length-map}
-use Rattle.pgp_base.specs.Cause.{length_cause}
-use Rattle.pgp_base.specs.Held.{◌⊕◌}
-use Rattle.pgp_base.proofs.Causes.{either_first, either_none, either_then}
-use Rattle.pgp_base.proofs.Needs.{memory_more, memory_then}
-use Rattle.pgp_c.specs.ArrayWriting.{body_of, dimension_of, head_of}
-use Rattle.pgp_c.specs.Putting.{elements_cause, flag_in}
+use Rattle.pgp_c.proofs.Common.{◌≡◌, None, arith, inl, inr, map, ap, ◌∙◌, length, length-append, length-map, length_cause, ◌⊕◌, either_first, either_none, either_then, memory_more, memory_then, body_of, dimension_of, elements_cause, flag_in}
+use Rattle.pgp_c.specs.ArrayWriting.{head_of}
 use Rattle.pgp_c.proofs.ArrayShapes.{array_written, head_size}
 use Rattle.pgp_c.proofs.Elements.{then_more}
 use Rattle.pgp_c.proofs.Handed.{err_then, ok_then}

@@ -1,9 +1,4 @@
-use Rattle.std.proofs.Common.{arith, inl, inr, map, sym, ◌∙◌, length-append}
-use Rattle.std.specs.List.{flat_map}
-use Rattle.pgp_base.proofs.Needs.{memory_more, memory_then}
-use Rattle.pgp_types.specs.Array.{dimension_bytes}
-use Rattle.pgp_c.specs.ArrayWriting.{dimension_of}
-use Rattle.pgp_c.specs.Putting.{elements_of}
+use Rattle.pgp_c.proofs.Common.{arith, inl, inr, map, sym, ◌∙◌, length-append, flat_map, memory_more, memory_then, dimension_bytes, dimension_of, elements_of}
 use Rattle.pgp_c.proofs.ArrayShapes.{none_dimensions}
 use Rattle.pgp_c.proofs.Handed.{err_then}
 use Rattle.pgp_c.proofs.array_writing.put_body.Goals as goal

@@ -1,8 +1,4 @@
-use Rattle.std.proofs.Common.{arith, inl, sym, ap, ◌∙◌, ◌++◌, append_assoc}
-use Rattle.pgp_base.specs.Held.{◌⊕◌}
-use Rattle.pgp_base.specs.Wire.{uint32}
-use Rattle.pgp_base.proofs.Needs.{memory_more, memory_then}
-use Rattle.pgp_base.proofs.Parts.{length-uint32}
+use Rattle.pgp_c.proofs.Common.{arith, inl, sym, ap, ◌∙◌, ◌++◌, append_assoc, ◌⊕◌, uint32, memory_more, memory_then, length-uint32}
 use Rattle.pgp_c.proofs.Elements.{then_more}
 use Rattle.pgp_c.proofs.Handed.{err_then, ok_then}
 use Rattle.pgp_c.proofs.array_writing.put_head.Goals as goal

@@ -1,7 +1,4 @@
-use Rattle.std.proofs.Common.{arith}
-use Rattle.pgp_base.specs.Wire.{uint32}
-use Rattle.pgp_base.proofs.Needs.{memory_more, memory_then}
-use Rattle.pgp_base.proofs.Parts.{length-uint32}
+use Rattle.pgp_c.proofs.Common.{arith, uint32, memory_more, memory_then, length-uint32}
 use Rattle.pgp_c.proofs.Handed.{err_then}
 use Rattle.pgp_c.proofs.array_writing.put_two.Goals as goal
 

@@ -1,6 +1,4 @@
-use Rattle.std.proofs.Common.{rules}
-use Rattle.pgp_types.specs.Array.{array}
-use Rattle.pgp_c.specs.ArrayWriting.{array_of}
+use Rattle.pgp_c.proofs.Common.{rules, array, array_of}
 use Rattle.pgp_c.proofs.ListWriting.{writes_value, fails_value}
 use Rattle.pgp_c.proofs.array_writing.write_array.Goals as goal
 

@@ -1,6 +1,4 @@
-use Rattle.std.proofs.Common.{rules, refl, ◌-◌, length, drop, take, ap, ◌∙◌, inr}
-use Rattle.std.proofs.lemmas.List.{take-append-drop}
-use Rattle.pgp_base.specs.Wire.{counted, int16}
+use Rattle.pgp_c.proofs.Common.{rules, refl, ◌-◌, length, drop, take, ap, ◌∙◌, inr, take-append-drop, counted, int16}
 use Rattle.pgp_c.proofs.BindItems.{end_head, end_within, ended, kept_before, not_there, past_end}
 use Rattle.pgp_c.proofs.bind_items.end.Goals as goal
 

@@ -1,4 +1,4 @@
-use Rattle.std.proofs.Common.{rules, [], arith}
+use Rattle.pgp_c.proofs.Common.{rules, [], arith}
 use Rattle.pgp_c.proofs.BindItems.{begin_behind, begin_size, begin_some, begin_within, begun}
 use Rattle.pgp_c.proofs.bind_items.pgp_bind_begin.Goals as goal
 

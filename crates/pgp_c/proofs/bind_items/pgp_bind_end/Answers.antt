@@ -1,4 +1,4 @@
-use Rattle.std.proofs.Common.{rules, inl, inr}
+use Rattle.pgp_c.proofs.Common.{rules, inl, inr}
 use Rattle.pgp_c.proofs.BindItems.{not_sent, not_short, sent_whole}
 use Rattle.pgp_c.proofs.bind_items.pgp_bind_end.Goals as goal
 

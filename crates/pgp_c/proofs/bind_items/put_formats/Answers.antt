@@ -1,10 +1,4 @@
-use Rattle.std.proofs.Common.{ℤ, map, arith, inl, inr, sym, ap, ◌∙◌, length, length-append}
-use Rattle.std.specs.List.{flat_map}
-use Rattle.pgp_base.specs.Held.{◌⊕◌}
-use Rattle.pgp_base.specs.Wire.{int16, uint16}
-use Rattle.pgp_base.proofs.Causes.{count_fits, count_past}
-use Rattle.pgp_base.proofs.Needs.{memory_more, memory_then}
-use Rattle.pgp_base.proofs.Parts.{length-uint16}
+use Rattle.pgp_c.proofs.Common.{ℤ, map, arith, inl, inr, sym, ap, ◌∙◌, length, length-append, flat_map, ◌⊕◌, int16, uint16, count_fits, count_past, memory_more, memory_then, length-uint16}
 use Rattle.pgp_c.proofs.BindItems.{as_they_are, none_formats}
 use Rattle.pgp_c.proofs.Elements.{then_more}
 use Rattle.pgp_c.proofs.Handed.{err_then, ok_then}

@@ -1,4 +1,4 @@
-use Rattle.std.proofs.Common.{rules, refl}
+use Rattle.pgp_c.proofs.Common.{rules, refl}
 use Rattle.pgp_c.proofs.BindItems.{formats_refused, formats_written}
 use Rattle.pgp_c.proofs.bind_items.write_formats.Goals as goal
 

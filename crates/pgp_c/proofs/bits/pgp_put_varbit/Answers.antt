@@ -1,5 +1,4 @@
-use Rattle.std.proofs.Common.{rules, refl, ◌++◌, inl, inr, ◌∙◌}
-use Rattle.pgp_base.specs.Wire.{uint32}
+use Rattle.pgp_c.proofs.Common.{rules, refl, ◌++◌, inl, inr, ◌∙◌, uint32}
 use Rattle.pgp_c.proofs.Compound.{too_long}
 use Rattle.pgp_c.proofs.Sending.{wrote, lacked}
 use Rattle.pgp_c.proofs.bits.pgp_put_varbit.Goals as goal

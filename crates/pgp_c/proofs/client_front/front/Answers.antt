@@ -1,6 +1,5 @@
-use Rattle.std.proofs.Common.{rules, Ok, Err, Some, None}
+use Rattle.pgp_c.proofs.Common.{rules, Ok, Err, Some, None, UnknownPacket, Reading}
 use Rattle.pgp_frontend_read.specs.Views.{kind_view, view}
-use Rattle.pgp_frontend_read.specs.declared.error.ClientError.TheVariants.{UnknownPacket, Reading}
 use Rattle.pgp_c.proofs.ClientFronts.{reports}
 use Rattle.pgp_c.proofs.client_front.front.Goals as goal
 

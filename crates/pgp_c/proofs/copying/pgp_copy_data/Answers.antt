@@ -1,5 +1,4 @@
-use Rattle.std.proofs.Common.{rules}
-use Rattle.pgp_frontend.specs.ClientMessage.{CopyData}
+use Rattle.pgp_c.proofs.Common.{rules, CopyData}
 use Rattle.pgp_c.proofs.Sending.{sends}
 use Rattle.pgp_c.proofs.copying.pgp_copy_data.Goals as goal
 

@@ -1,4 +1,4 @@
-use Rattle.std.proofs.Common.{rules, arith}
+use Rattle.pgp_c.proofs.Common.{rules, arith}
 use Rattle.pgp_c.proofs.Copies.{head_sent, head_lacks}
 use Rattle.pgp_c.proofs.copying.pgp_copy_data_head.Goals as goal
 

@@ -1,4 +1,4 @@
-use Rattle.std.proofs.Common.{rules, arith}
+use Rattle.pgp_c.proofs.Common.{rules, arith}
 use Rattle.pgp_c.proofs.Alls.{none_more, none_so_far, one_more}
 use Rattle.pgp_c.proofs.cursor.all_counted.Goals as goal
 

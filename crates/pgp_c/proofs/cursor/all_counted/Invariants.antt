@@ -1,5 +1,5 @@
 use Rattle.pgp_c.proofs.Alls.{SoFar}
-use Rattle.std.proofs.Common.{length}
+use Rattle.pgp_c.proofs.Common.{length}
 use Rattle.pgp_c.proofs.cursor.all_counted.Given as goal
 
 abbrev pub invariant-loop-at : goal.invariant-loop-at

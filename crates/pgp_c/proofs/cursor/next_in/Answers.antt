@@ -1,4 +1,4 @@
-use Rattle.std.proofs.Common.{rules, refl}
+use Rattle.pgp_c.proofs.Common.{rules, refl}
 use Rattle.pgp_c.proofs.Walks.{one_fewer, passes_left, stands_in}
 use Rattle.pgp_c.proofs.cursor.next_in.Goals as goal
 

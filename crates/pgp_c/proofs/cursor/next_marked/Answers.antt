@@ -1,5 +1,4 @@
-use Rattle.std.proofs.Common.{rules, refl}
-use Rattle.pgp_base.specs.Items.{Unmarked}
+use Rattle.pgp_c.proofs.Common.{rules, refl, Unmarked}
 use Rattle.pgp_c.proofs.Walks.{passes_left, stands_in, unmarked}
 use Rattle.pgp_c.proofs.cursor.next_marked.Goals as goal
 

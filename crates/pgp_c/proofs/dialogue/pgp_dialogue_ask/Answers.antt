@@ -1,5 +1,4 @@
-use Rattle.std.proofs.Common.{rules, inr, ap, sym, ◌∙◌, length}
-use Rattle.pgp_client.specs.Talk.{Talk}
+use Rattle.pgp_c.proofs.Common.{rules, inr, ap, sym, ◌∙◌, length, Talk}
 use Rattle.pgp_c.proofs.Dialogues.{said_of}
 use Rattle.pgp_c.proofs.dialogue.pgp_dialogue_ask.Goals.{in-Ok, in-Err}
 use Rattle.pgp_c.proofs.dialogue.pgp_dialogue_ask.Goals as goal

@@ -1,4 +1,4 @@
-use Rattle.std.proofs.Common.{rules}
+use Rattle.pgp_c.proofs.Common.{rules}
 use Rattle.pgp_c.proofs.Dialogues.{rejected_of, taken_of}
 use Rattle.pgp_c.proofs.dialogue.pgp_dialogue_take.Goals.{in-Ok, in-Err}
 use Rattle.pgp_c.proofs.dialogue.pgp_dialogue_take.Goals as goal

@@ -1,5 +1,4 @@
-use Rattle.std.proofs.Common.{rules, Ok, Err, Some, None}
-use Rattle.pgp_message.specs.BackendMessage.{DataRow}
+use Rattle.pgp_c.proofs.Common.{rules, Ok, Err, Some, None, DataRow}
 use Rattle.pgp_message.specs.Views.{view}
 use Rattle.pgp_c.proofs.Fronts.{reported}
 use Rattle.pgp_c.proofs.front.pgp_front.Goals as goal

@@ -1,6 +1,4 @@
-use Rattle.std.proofs.Common.{◌≡◌, true, take}
-use Rattle.std.specs.List.{list_all}
-use Rattle.pgp_c.specs.Putting.{are_texts}
+use Rattle.pgp_c.proofs.Common.{◌≡◌, true, take, list_all, are_texts}
 use Rattle.pgp_c.proofs.hstore.all_texts.Given as goal
 
 abbrev pub invariant-loop-pair : goal.invariant-loop-pair

@@ -1,5 +1,4 @@
-use Rattle.std.proofs.Common.{rules}
-use Rattle.pgp_types.proofs.HstoreLemmas.{value_read, value_bad}
+use Rattle.pgp_c.proofs.Common.{rules, value_read, value_bad}
 use Rattle.pgp_c.proofs.hstore.entry_value_at.Goals as goal
 
 pub returns-in-Ok : goal.returns-in-Ok

@@ -1,4 +1,4 @@
-use Rattle.pgp_types.proofs.HstoreLemmas.{key_read, key_bad}
+use Rattle.pgp_c.proofs.Common.{key_read, key_bad}
 use Rattle.pgp_c.proofs.hstore.key_at.Goals as goal
 
 pub returns-in-Ok : goal.returns-in-Ok

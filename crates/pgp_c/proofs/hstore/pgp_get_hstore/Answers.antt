@@ -1,4 +1,4 @@
-use Rattle.std.proofs.Common.{refl, ap}
+use Rattle.pgp_c.proofs.Common.{refl, ap}
 use Rattle.pgp_c.proofs.Compound.{begins_hstore}
 use Rattle.pgp_c.proofs.hstore.pgp_get_hstore.Goals as goal
 

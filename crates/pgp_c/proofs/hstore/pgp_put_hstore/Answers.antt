@@ -1,7 +1,4 @@
-use Rattle.std.proofs.Common.{rules, ap, map, inl, inr, refl, ◌∙◌, Some}
-use Rattle.pgp_base.specs.Error.{number_of}
-use Rattle.pgp_types.specs.Hstore.{hstore}
-use Rattle.pgp_c.specs.Putting.{entry_of}
+use Rattle.pgp_c.proofs.Common.{rules, ap, map, inl, inr, refl, ◌∙◌, Some, number_of, hstore, entry_of}
 use Rattle.pgp_c.proofs.Pairs.{entries_text, hstore_large}
 use Rattle.pgp_c.proofs.Sending.{wrote, lacked}
 use Rattle.pgp_c.proofs.hstore.pgp_put_hstore.Goals as goal

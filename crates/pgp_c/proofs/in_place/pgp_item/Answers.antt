@@ -1,4 +1,4 @@
-use Rattle.std.proofs.Common.{arith}
+use Rattle.pgp_c.proofs.Common.{arith}
 use Rattle.pgp_c.proofs.ItemSteps.{value_placed}
 use Rattle.pgp_c.proofs.in_place.pgp_item.Goals as goal
 

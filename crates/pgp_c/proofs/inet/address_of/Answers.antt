@@ -1,6 +1,4 @@
-use Rattle.std.proofs.Common.{rules, ◌≡◌, subst, arith}
-use Rattle.std.specs.Net.Addr.{IsV6And, ipv6_segments, segments_of}
-use Rattle.pgp_base.specs.Wire.{IsBytes}
+use Rattle.pgp_c.proofs.Common.{rules, ◌≡◌, subst, arith, IsV6And, ipv6_segments, segments_of, IsBytes}
 use Rattle.pgp_c.proofs.Addresses.{is_v6}
 use Rattle.pgp_c.proofs.inet.address_of.Goals as goal
 

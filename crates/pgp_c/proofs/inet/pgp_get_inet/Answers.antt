@@ -1,4 +1,4 @@
-use Rattle.std.proofs.Common.{rules}
+use Rattle.pgp_c.proofs.Common.{rules}
 use Rattle.pgp_c.proofs.Addresses.{inet_behind}
 use Rattle.pgp_c.proofs.inet.pgp_get_inet.Goals as goal
 

@@ -1,5 +1,4 @@
-use Rattle.std.proofs.Common.{rules, refl, inr}
-use Rattle.pgp_types.specs.Network.{Inet}
+use Rattle.pgp_c.proofs.Common.{rules, refl, inr, Inet}
 use Rattle.pgp_values.specs.Network.{cidr}
 use Rattle.pgp_c.proofs.Addresses.{inet_of}
 use Rattle.pgp_c.proofs.Sending.{wrote, lacked}

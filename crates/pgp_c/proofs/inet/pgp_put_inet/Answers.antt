@@ -1,5 +1,4 @@
-use Rattle.std.proofs.Common.{rules, refl, inr}
-use Rattle.pgp_types.specs.Network.{Inet, inet}
+use Rattle.pgp_c.proofs.Common.{rules, refl, inr, Inet, inet}
 use Rattle.pgp_c.proofs.Addresses.{inet_of}
 use Rattle.pgp_c.proofs.Sending.{wrote, lacked}
 use Rattle.pgp_c.proofs.inet.pgp_put_inet.Goals as goal

@@ -1,6 +1,4 @@
-use Rattle.std.proofs.Common.{rules, refl, subst}
-use Rattle.std.proofs.Math.Facts.{to_z-of_z}
-use Rattle.pgp_values.specs.Decimal.{numeric_bytes}
+use Rattle.pgp_c.proofs.Common.{rules, refl, subst, to_z-of_z, numeric_bytes}
 use Rattle.pgp_values.specs.Integer.{IntegerMeans}
 use Rattle.pgp_c.proofs.Sending.{wrote}
 use Rattle.pgp_c.proofs.integer.write_integer.Goals as goal

@@ -1,4 +1,4 @@
-use Rattle.std.proofs.Common.{rules, ap, inl, ◌∷◌, List, ℕ}
+use Rattle.pgp_c.proofs.Common.{rules, ap, inl, ◌∷◌, List, ℕ}
 use Rattle.pgp_c.proofs.Sending.{wrote}
 use Rattle.pgp_c.proofs.label.put_label.Goals as goal
 

@@ -1,7 +1,4 @@
-use Rattle.std.proofs.Common.{rules, sym, ap, subst, ◌∙◌, length, inl, inr}
-use Rattle.pgp_base.specs.Cause.{Wants, WantsMemory}
-use Rattle.pgp_base.specs.Held.{◌⊕◌}
-use Rattle.pgp_base.proofs.Parts.{if_err_at}
+use Rattle.pgp_c.proofs.Common.{rules, sym, ap, subst, ◌∙◌, length, inl, inr, Wants, WantsMemory, ◌⊕◌, if_err_at}
 use Rattle.pgp_c.proofs.Items.{items_none, items_joined, items_refused, items_want}
 use Rattle.pgp_c.proofs.list_writing.put_items.Goals as goal
 

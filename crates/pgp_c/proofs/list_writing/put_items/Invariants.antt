@@ -1,6 +1,4 @@
-use Rattle.std.proofs.Common.{◌≡◌, None, map, take}
-use Rattle.pgp_base.specs.Held.{◌⊕◌}
-use Rattle.pgp_c.specs.ListWriting.{items_bytes, items_cause}
+use Rattle.pgp_c.proofs.Common.{◌≡◌, None, map, take, ◌⊕◌, items_bytes, items_cause}
 use Rattle.pgp_c.proofs.list_writing.put_items.Given as goal
 
 abbrev pub invariant-loop-item : goal.invariant-loop-item

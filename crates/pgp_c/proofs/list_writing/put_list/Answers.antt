@@ -1,12 +1,4 @@
-use Rattle.std.proofs.Common.{◌≡◌, None, arith, inl, inr, ap, sym, ◌∙◌, length, map, length-append}
-use Rattle.std.proofs.lemmas.List.{length-map}
-use Rattle.pgp_base.specs.Cause.{length_cause}
-use Rattle.pgp_base.specs.Held.{◌⊕◌}
-use Rattle.pgp_base.specs.Wire.{uint32}
-use Rattle.pgp_base.proofs.Causes.{either_none, either_then}
-use Rattle.pgp_base.proofs.Needs.{memory_more, memory_then}
-use Rattle.pgp_base.proofs.Parts.{length-uint32}
-use Rattle.pgp_c.specs.ListWriting.{items_bytes, items_cause}
+use Rattle.pgp_c.proofs.Common.{◌≡◌, None, arith, inl, inr, ap, sym, ◌∙◌, length, map, length-append, length-map, length_cause, ◌⊕◌, uint32, either_none, either_then, memory_more, memory_then, length-uint32, items_bytes, items_cause}
 use Rattle.pgp_c.proofs.Elements.{then_more}
 use Rattle.pgp_c.proofs.Handed.{err_then, ok_then}
 use Rattle.pgp_c.proofs.list_writing.put_list.Goals as goal

@@ -1,5 +1,4 @@
-use Rattle.std.proofs.Common.{rules, map}
-use Rattle.pgp_values.specs.List.{list}
+use Rattle.pgp_c.proofs.Common.{rules, map, list}
 use Rattle.pgp_c.proofs.ListWriting.{writes_value, fails_value}
 use Rattle.pgp_c.proofs.list_writing.write_list.Goals as goal
 

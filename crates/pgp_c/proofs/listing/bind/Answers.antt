@@ -1,14 +1,5 @@
-use Rattle.std.proofs.Common.{rules, ◌≡◌, map, refl, ap, sym, subst, ◌∙◌, Bor}
-use Rattle.std.proofs.iter.Yields.{copies, fronts}
-use Rattle.std.proofs.lemmas.Iterator.{YieldsList, YieldsList-from_slice}
-use Rattle.std.proofs.lemmas.Iterator.Consumers.{YieldsList-from_copied}
-use Rattle.pgp_base.specs.Calls.{Yielded}
-use Rattle.pgp_base.specs.Error.{number_of}
-use Rattle.pgp_base.specs.Window.{window_held, window_lacks}
-use Rattle.pgp_frontend.specs.ClientMessage.{Bind}
-use Rattle.pgp_frontend.proofs.Lists.{all_given, some_given, all_same as same_given, some_same}
-use Rattle.pgp_c.specs.declared.listing.PgpValue.{PgpValue}
-use Rattle.pgp_c.specs.Lists.{error_of, value_of}
+use Rattle.pgp_c.proofs.Common.{rules, ◌≡◌, map, refl, ap, sym, subst, ◌∙◌, Bor, copies, fronts, YieldsList, YieldsList-from_slice, YieldsList-from_copied, Yielded, number_of, window_held, window_lacks, Bind, all_given, some_given, some_same, PgpValue, error_of, value_of}
+use Rattle.pgp_frontend.proofs.Lists.{all_same as same_given}
 use Rattle.pgp_c.proofs.BindRefusals.{bind_refused}
 use Rattle.pgp_c.proofs.Lists.{keeps, all_made, all_received, all_same, fused, same_bind}
 use Rattle.pgp_c.proofs.Sending.{sends, refuses}

@@ -1,12 +1,6 @@
-use Rattle.std.proofs.Common.{rules, ◌≡◌, refl, ap, sym, subst, ◌∙◌}
-use Rattle.std.proofs.iter.Yields.{copies, fronts}
-use Rattle.std.proofs.lemmas.Iterator.{YieldsList, YieldsList-from_slice}
-use Rattle.std.proofs.lemmas.Iterator.Consumers.{YieldsList-from_copied}
-use Rattle.pgp_frontend.specs.ClientMessage.{Parse}
+use Rattle.pgp_c.proofs.Common.{rules, ◌≡◌, refl, ap, sym, subst, ◌∙◌, copies, fronts, YieldsList, YieldsList-from_slice, YieldsList-from_copied, Parse, Yielded, window_held, window_lacks, some_same, parse_refused}
 use Rattle.pgp_c.proofs.Lists.{all_same}
-use Rattle.pgp_base.specs.Calls.{Yielded}
-use Rattle.pgp_base.specs.Window.{window_held, window_lacks}
-use Rattle.pgp_frontend.proofs.Lists.{all_same as all_given, some_same, parse_refused}
+use Rattle.pgp_frontend.proofs.Lists.{all_same as all_given}
 use Rattle.pgp_c.proofs.Sending.{sends, refuses}
 use Rattle.pgp_c.proofs.listing.pgp_parse.Goals as goal
 

@@ -1,4 +1,4 @@
-use Rattle.std.proofs.Common.{rules, refl}
+use Rattle.pgp_c.proofs.Common.{rules, refl}
 use Rattle.pgp_c.proofs.Sending.{wrote}
 use Rattle.pgp_c.proofs.numeric.pgp_get_numeric_text.Goals as goal
 

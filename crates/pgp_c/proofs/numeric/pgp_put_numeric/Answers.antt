@@ -1,9 +1,5 @@
-use Rattle.std.proofs.Common.{rules, refl, ap, inl, inr, ◌∙◌}
-use Rattle.std.proofs.Math.Facts.{to_z-of_z}
-use Rattle.pgp_base.specs.declared.error.Error.{Error}
-use Rattle.pgp_values.specs.Decimal.{finite, numeric_bytes}
+use Rattle.pgp_c.proofs.Common.{rules, refl, ap, inl, inr, ◌∙◌, to_z-of_z, Error, finite, numeric_bytes, numeric_number}
 use Rattle.pgp_values.specs.DecimalDigits.{decimal_of}
-use Rattle.pgp_c.specs.Further.{numeric_number}
 use Rattle.pgp_c.proofs.Sending.{lacked, wrote}
 use Rattle.pgp_c.proofs.numeric.pgp_put_numeric.Goals as goal
 

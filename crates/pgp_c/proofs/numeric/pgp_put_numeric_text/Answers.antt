@@ -1,8 +1,5 @@
-use Rattle.std.proofs.Common.{rules, refl, ap, subst, inl, inr, ◌∙◌, List, ℕ}
-use Rattle.pgp_base.specs.declared.error.Error.{Error}
-use Rattle.pgp_values.specs.Decimal.{numeric_bytes}
+use Rattle.pgp_c.proofs.Common.{rules, refl, ap, subst, inl, inr, ◌∙◌, List, ℕ, Error, numeric_bytes, numeric_number}
 use Rattle.pgp_values.specs.NumberMeaning.{TextMeans, TextRefused}
-use Rattle.pgp_c.specs.Further.{numeric_number}
 use Rattle.pgp_c.proofs.Sending.{lacked, wrote}
 use Rattle.pgp_c.proofs.numeric.pgp_put_numeric_text.Goals as goal
 

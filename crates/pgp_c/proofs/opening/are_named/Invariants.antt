@@ -1,6 +1,4 @@
-use Rattle.std.proofs.Common.{◌≡◌, true, take}
-use Rattle.std.specs.List.{list_all}
-use Rattle.pgp_c.specs.Opening.{is_named}
+use Rattle.pgp_c.proofs.Common.{◌≡◌, true, take, list_all, is_named}
 use Rattle.pgp_c.proofs.opening.are_named.Given as goal
 
 abbrev pub invariant-loop-pair : goal.invariant-loop-pair

@@ -1,11 +1,4 @@
-use Rattle.std.proofs.Common.{rules, map, ap, ◌∙◌, refl, inr}
-use Rattle.std.proofs.iter.Yields.{fronts}
-use Rattle.std.proofs.lemmas.Iterator.{YieldsList-from_slice}
-use Rattle.std.proofs.lemmas.Iterator.Consumers.{YieldsList-at}
-use Rattle.pgp_base.specs.Window.{window_held}
-use Rattle.pgp_frontend.specs.ClientMessage.{Startup}
-use Rattle.pgp_frontend.specs.Payload.{minor_of}
-use Rattle.pgp_c.specs.Opening.{pair_of}
+use Rattle.pgp_c.proofs.Common.{rules, map, ap, ◌∙◌, refl, inr, fronts, YieldsList-from_slice, YieldsList-at, window_held, Startup, minor_of, pair_of}
 use Rattle.pgp_c.proofs.Openings.{pair_is, pairs_given, pairs_refused}
 use Rattle.pgp_c.proofs.Sending.{sends, refuses}
 use Rattle.pgp_c.proofs.opening.open.Goals as goal

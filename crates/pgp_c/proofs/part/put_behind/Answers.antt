@@ -1,6 +1,4 @@
-use Rattle.std.proofs.Common.{rules, arith, length-append}
-use Rattle.pgp_base.specs.Wire.{uint32}
-use Rattle.pgp_base.proofs.Parts.{length-uint32, wants_more, wants_now, wants_then}
+use Rattle.pgp_c.proofs.Common.{rules, arith, length-append, uint32, length-uint32, wants_more, wants_now, wants_then}
 use Rattle.pgp_c.proofs.part.put_behind.Goals as goal
 
 pub returns-in-Err-append-clause-cause : goal.returns-in-Err-append-clause-cause

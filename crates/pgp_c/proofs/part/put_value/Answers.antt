@@ -1,7 +1,4 @@
-use Rattle.std.proofs.Common.{inl}
-use Rattle.pgp_base.proofs.Needs.{nullable_least}
-use Rattle.pgp_base.proofs.Parts.{wants_more}
-use Rattle.pgp_c.specs.Lists.{value_of}
+use Rattle.pgp_c.proofs.Common.{inl, nullable_least, wants_more, value_of}
 use Rattle.pgp_c.proofs.Handed.{err_then}
 use Rattle.pgp_c.proofs.part.put_value.Goals as goal
 

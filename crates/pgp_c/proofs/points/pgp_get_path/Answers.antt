@@ -1,4 +1,4 @@
-use Rattle.std.proofs.Common.{rules, refl}
+use Rattle.pgp_c.proofs.Common.{rules, refl}
 use Rattle.pgp_c.proofs.PointLists.{begins_path}
 use Rattle.pgp_c.proofs.points.pgp_get_path.Goals as goal
 

@@ -1,5 +1,4 @@
-use Rattle.std.proofs.Common.{refl, ap}
-use Rattle.pgp_values.specs.Polygon.{corner}
+use Rattle.pgp_c.proofs.Common.{refl, ap, corner}
 use Rattle.pgp_c.proofs.RecordWalks.{begins_list}
 use Rattle.pgp_c.proofs.points.pgp_get_polygon.Goals as goal
 

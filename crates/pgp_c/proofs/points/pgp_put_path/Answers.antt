@@ -1,6 +1,4 @@
-use Rattle.std.proofs.Common.{rules}
-use Rattle.pgp_types.specs.Path.{path}
-use Rattle.pgp_c.specs.Points.{path_of}
+use Rattle.pgp_c.proofs.Common.{rules, path, path_of}
 use Rattle.pgp_c.proofs.ListWriting.{writes_value, fails_value}
 use Rattle.pgp_c.proofs.points.pgp_put_path.Goals as goal
 

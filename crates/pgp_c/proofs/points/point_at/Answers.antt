@@ -1,6 +1,5 @@
-use Rattle.std.proofs.Common.{◌≡◌, ◌++◌, arith, sym, ap, subst, ◌∙◌, length, length-take}
-use Rattle.std.proofs.lemmas.List.{take-append-drop}
-use Rattle.pgp_types.specs.Geometry.{IsPoint, point_bytes}
+use Rattle.pgp_c.proofs.Common.{◌≡◌, ◌++◌, arith, sym, ap, subst, ◌∙◌, length, take-append-drop, IsPoint, point_bytes}
+use Rattle.std.proofs.Common.{length-take}
 use Rattle.pgp_c.proofs.PointLists.{never_rejected}
 use Rattle.pgp_c.proofs.points.point_at.Goals as goal
 

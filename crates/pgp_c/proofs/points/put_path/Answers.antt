@@ -1,8 +1,4 @@
-use Rattle.std.proofs.Common.{map, arith, inl, inr, sym, ◌∙◌, length-append}
-use Rattle.pgp_types.specs.Scalar.{bool_bytes}
-use Rattle.pgp_base.proofs.Needs.{memory_more, memory_then}
-use Rattle.pgp_values.specs.Polygon.{polygon}
-use Rattle.pgp_c.specs.Geometry.{point_of}
+use Rattle.pgp_c.proofs.Common.{map, arith, inl, inr, sym, ◌∙◌, length-append, bool_bytes, memory_more, memory_then, polygon, point_of}
 use Rattle.pgp_c.proofs.Elements.{then_more}
 use Rattle.pgp_c.proofs.Handed.{err_then, ok_then}
 use Rattle.pgp_c.proofs.PointLists.{corner_cause}

@@ -1,4 +1,4 @@
-use Rattle.std.proofs.Common.{rules, refl}
+use Rattle.pgp_c.proofs.Common.{rules, refl}
 use Rattle.pgp_types.specs.RangeReading.{shown_side}
 use Rattle.pgp_c.proofs.Compound.{range_placed, range_within}
 use Rattle.pgp_c.proofs.range.pgp_get_range.Goals as goal

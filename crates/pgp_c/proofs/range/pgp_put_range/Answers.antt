@@ -1,7 +1,4 @@
-use Rattle.std.proofs.Common.{rules, refl, ap, inl, inr, ◌∙◌, Some}
-use Rattle.pgp_base.specs.Error.{number_of}
-use Rattle.pgp_types.specs.Range.{range_bytes}
-use Rattle.pgp_c.specs.Putting.{range_of_sides}
+use Rattle.pgp_c.proofs.Common.{rules, refl, ap, inl, inr, ◌∙◌, Some, number_of, range_bytes, range_of_sides}
 use Rattle.pgp_c.proofs.Putting.{range_large}
 use Rattle.pgp_c.proofs.Sending.{wrote, lacked}
 use Rattle.pgp_c.proofs.range.pgp_put_range.Goals as goal

@@ -1,9 +1,4 @@
-use Rattle.std.proofs.Common.{◌∷◌, ◌++◌, [], arith, inl, inr, ap, ◌∙◌, length-append}
-use Rattle.pgp_base.specs.Held.{◌⊕◌}
-use Rattle.pgp_base.proofs.Causes.{either_first, either_then}
-use Rattle.pgp_base.proofs.Parts.{more_twice, wants_more, wants_then}
-use Rattle.pgp_types.specs.Range.{side_bytes, side_cause}
-use Rattle.pgp_c.specs.Putting.{side_of}
+use Rattle.pgp_c.proofs.Common.{◌∷◌, ◌++◌, [], arith, inl, inr, ap, ◌∙◌, length-append, ◌⊕◌, either_first, either_then, more_twice, wants_more, wants_then, side_bytes, side_cause, side_of}
 use Rattle.pgp_c.proofs.Handed.{err_then}
 use Rattle.pgp_c.proofs.range.put_sides.Goals as goal
 

@@ -1,5 +1,4 @@
-use Rattle.std.proofs.Common.{refl, ap}
-use Rattle.pgp_values.specs.Multirange.{member}
+use Rattle.pgp_c.proofs.Common.{refl, ap, member}
 use Rattle.pgp_c.proofs.RecordWalks.{begins_list}
 use Rattle.pgp_c.proofs.record.pgp_get_multirange.Goals as goal
 

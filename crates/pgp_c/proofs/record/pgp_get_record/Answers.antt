@@ -1,5 +1,4 @@
-use Rattle.std.proofs.Common.{refl, ap}
-use Rattle.pgp_values.specs.Record.{field}
+use Rattle.pgp_c.proofs.Common.{refl, ap, field}
 use Rattle.pgp_c.proofs.RecordWalks.{begins_list}
 use Rattle.pgp_c.proofs.record.pgp_get_record.Goals as goal
 

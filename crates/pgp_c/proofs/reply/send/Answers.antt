@@ -1,5 +1,4 @@
-use Rattle.std.proofs.Common.{rules}
-use Rattle.pgp_c.specs.Replies.{reply_of}
+use Rattle.pgp_c.proofs.Common.{rules, reply_of}
 use Rattle.pgp_c.proofs.Replies.{not_replied, replied}
 use Rattle.pgp_c.proofs.reply.send.Goals as goal
 

@@ -1,11 +1,4 @@
-use Rattle.std.proofs.Common.{rules, refl}
-use Rattle.std.proofs.iter.Yields.{fronts}
-use Rattle.std.proofs.lemmas.Iterator.{YieldsList-from_slice}
-use Rattle.std.proofs.lemmas.Iterator.Consumers.{YieldsList-at}
-use Rattle.pgp_base.specs.Cause.{count_cause}
-use Rattle.pgp_message_write.specs.Lists.{counted_list, lent, value_parts}
-use Rattle.pgp_message_write.specs.Reply.{row_of}
-use Rattle.pgp_c.specs.Lists.{value_of}
+use Rattle.pgp_c.proofs.Common.{rules, refl, fronts, YieldsList-from_slice, YieldsList-at, count_cause, counted_list, lent, value_parts, row_of, value_of}
 use Rattle.pgp_c.proofs.NeverMemory.{never_count}
 use Rattle.pgp_c.proofs.ReplyLists.{made_not_replied, made_replied, row_longer}
 use Rattle.pgp_c.proofs.reply_list.pgp_reply_data_row.Goals as goal

@@ -1,13 +1,4 @@
-use Rattle.std.proofs.Common.{rules, refl}
-use Rattle.std.proofs.iter.Yields.{fronts}
-use Rattle.std.proofs.lemmas.Iterator.{YieldsList-from_slice}
-use Rattle.std.proofs.lemmas.Iterator.Consumers.{YieldsList-at}
-use Rattle.pgp_message.specs.BackendMessage.{NoticeResponse}
-use Rattle.pgp_message_write.specs.Given.{uncounted}
-use Rattle.pgp_message_write.specs.Lists.{field_parts, marked_list}
-use Rattle.pgp_message_write.specs.Reply.{fields_of}
-use Rattle.pgp_message_write.specs.Views.{shown_field}
-use Rattle.pgp_c.specs.Replies.{reported_field}
+use Rattle.pgp_c.proofs.Common.{rules, refl, fronts, YieldsList-from_slice, YieldsList-at, NoticeResponse, uncounted, field_parts, marked_list, fields_of, shown_field, reported_field}
 use Rattle.pgp_c.proofs.ReplyLists.{made_not_replied, made_replied, notice_longer, never_uncounted}
 use Rattle.pgp_c.proofs.reply_list.pgp_reply_notice.Goals as goal
 

@@ -1,12 +1,4 @@
-use Rattle.std.proofs.Common.{rules, refl}
-use Rattle.std.proofs.iter.Yields.{fronts}
-use Rattle.std.proofs.lemmas.Iterator.{YieldsList-from_slice}
-use Rattle.std.proofs.lemmas.Iterator.Consumers.{YieldsList-at}
-use Rattle.pgp_base.specs.Cause.{count_cause}
-use Rattle.pgp_message_write.specs.Lists.{column_parts, counted_list}
-use Rattle.pgp_message_write.specs.Reply.{description_of}
-use Rattle.pgp_message_write.specs.Views.{shown_column}
-use Rattle.pgp_c.specs.Replies.{described}
+use Rattle.pgp_c.proofs.Common.{rules, refl, fronts, YieldsList-from_slice, YieldsList-at, count_cause, column_parts, counted_list, description_of, shown_column, described}
 use Rattle.pgp_c.proofs.NeverMemory.{never_count}
 use Rattle.pgp_c.proofs.ReplyLists.{made_not_replied, made_replied, description_longer}
 use Rattle.pgp_c.proofs.reply_list.pgp_reply_row_description.Goals as goal

@@ -1,13 +1,4 @@
-use Rattle.std.proofs.Common.{rules, refl, pos, ◌∷◌}
-use Rattle.std.proofs.iter.Yields.{fronts}
-use Rattle.std.proofs.lemmas.Iterator.{YieldsList-from_slice}
-use Rattle.std.proofs.lemmas.Iterator.Consumers.{YieldsList-at}
-use Rattle.pgp_frontend.specs.Payload.{Int32}
-use Rattle.pgp_message.specs.BackendMessage.{Authentication, AuthenticationSasl}
-use Rattle.pgp_message_write.specs.Given.{uncounted}
-use Rattle.pgp_message_write.specs.Lists.{marked_list, text_parts}
-use Rattle.pgp_message_write.specs.Reply.{names_of}
-use Rattle.pgp_c.specs.Replies.{name_of}
+use Rattle.pgp_c.proofs.Common.{rules, refl, pos, ◌∷◌, fronts, YieldsList-from_slice, YieldsList-at, Int32, Authentication, AuthenticationSasl, uncounted, marked_list, text_parts, names_of, name_of}
 use Rattle.pgp_c.proofs.ReplyLists.{made_not_replied, made_replied, sasl_longer, never_uncounted}
 use Rattle.pgp_c.proofs.reply_names.pgp_reply_authentication_sasl.Goals as goal
 

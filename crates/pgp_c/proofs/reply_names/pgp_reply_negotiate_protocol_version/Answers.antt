@@ -1,13 +1,5 @@
-use Rattle.std.proofs.Common.{rules, refl, map, ◌∷◌, to_z, of_z, w32}
-use Rattle.std.proofs.Math.Facts.{to_z-of_z}
-use Rattle.std.proofs.iter.Yields.{fronts}
-use Rattle.std.proofs.lemmas.Iterator.{YieldsList-from_slice}
-use Rattle.std.proofs.lemmas.Iterator.Consumers.{YieldsList-at}
-use Rattle.pgp_base.specs.Cause.{length_cause}
-use Rattle.pgp_frontend.specs.Payload.{Int32}
-use Rattle.pgp_message_write.specs.Lists.{text_parts, wide_list}
-use Rattle.pgp_message_write.specs.Reply.{negotiation_of}
-use Rattle.pgp_c.specs.Replies.{name_of}
+use Rattle.pgp_c.proofs.Common.{rules, refl, map, ◌∷◌, to_z, of_z, to_z-of_z, fronts, YieldsList-from_slice, YieldsList-at, length_cause, Int32, text_parts, wide_list, negotiation_of, name_of}
+use Rattle.std.proofs.Common.{w32}
 use Rattle.pgp_c.proofs.NeverMemory.{never_length}
 use Rattle.pgp_c.proofs.ReplyLists.{made_not_replied, made_replied, negotiated, negotiation_longer, not_negotiated}
 use Rattle.pgp_c.proofs.reply_names.pgp_reply_negotiate_protocol_version.Goals as goal

@@ -1,7 +1,5 @@
-use Rattle.std.proofs.Common.{rules}
-use Rattle.pgp_message.specs.BackendMessage.{CopyInResponse}
-use Rattle.pgp_message_write.specs.Reply.{bytes_of, formats_of}
-use Rattle.pgp_c.specs.Replies.{formats_cause}
+use Rattle.pgp_c.proofs.Common.{rules, CopyInResponse, formats_of, formats_cause}
+use Rattle.pgp_message_write.specs.Reply.{bytes_of}
 use Rattle.pgp_c.proofs.NeverMemory.{never_formats}
 use Rattle.pgp_c.proofs.Replies.{refused_ended, sent_ended}
 use Rattle.pgp_c.proofs.reply_numbers.pgp_reply_copy_in.Goals as goal

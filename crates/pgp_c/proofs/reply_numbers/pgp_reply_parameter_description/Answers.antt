@@ -1,6 +1,5 @@
-use Rattle.std.proofs.Common.{rules}
-use Rattle.pgp_message_write.specs.Reply.{bytes_of, types_of}
-use Rattle.pgp_c.specs.Replies.{types_cause}
+use Rattle.pgp_c.proofs.Common.{rules, types_of, types_cause}
+use Rattle.pgp_message_write.specs.Reply.{bytes_of}
 use Rattle.pgp_c.proofs.NeverMemory.{never_types}
 use Rattle.pgp_c.proofs.Replies.{refused_ended, sent_ended}
 use Rattle.pgp_c.proofs.reply_numbers.pgp_reply_parameter_description.Goals as goal

@@ -1,6 +1,4 @@
-use Rattle.std.proofs.Common.{◌≡◌, true, take}
-use Rattle.std.specs.List.{list_all}
-use Rattle.pgp_c.specs.Requests.{is_format}
+use Rattle.pgp_c.proofs.Common.{◌≡◌, true, take, list_all, is_format}
 use Rattle.pgp_c.proofs.request.are_formats.Given as goal
 
 abbrev pub invariant-loop-code : goal.invariant-loop-code

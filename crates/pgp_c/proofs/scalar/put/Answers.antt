@@ -1,4 +1,4 @@
-use Rattle.std.proofs.Common.{rules, refl}
+use Rattle.pgp_c.proofs.Common.{rules, refl}
 use Rattle.pgp_c.specs.Scalars.{spelled}
 use Rattle.pgp_c.proofs.Sending.{wrote, lacked}
 use Rattle.pgp_c.proofs.scalar.put.Goals as goal

@@ -1,4 +1,4 @@
-use Rattle.std.proofs.Common.{rules, refl}
+use Rattle.pgp_c.proofs.Common.{rules, refl}
 use Rattle.pgp_c.proofs.SnapshotWalks.{begins_snapshot}
 use Rattle.pgp_c.proofs.snapshot.pgp_get_snapshot.Goals as goal
 

@@ -1,10 +1,4 @@
-use Rattle.std.proofs.Common.{rules, ◌≡◌, sym, subst}
-use Rattle.std.proofs.iter.Yields.{copies, fronts}
-use Rattle.std.proofs.lemmas.Iterator.{YieldsList, YieldsList-from_slice}
-use Rattle.std.proofs.lemmas.Iterator.Consumers.{YieldsList-from_copied}
-use Rattle.pgp_base.specs.Calls.{Yielded}
-use Rattle.pgp_frontend.proofs.Lists.{all_same, some_same}
-use Rattle.pgp_values.specs.Snapshot.{snapshot, snapshot_of}
+use Rattle.pgp_c.proofs.Common.{rules, ◌≡◌, sym, subst, copies, fronts, YieldsList, YieldsList-from_slice, YieldsList-from_copied, Yielded, all_same, some_same, snapshot, snapshot_of}
 use Rattle.pgp_c.proofs.ListWriting.{writes_value, fails_value}
 use Rattle.pgp_c.proofs.SnapshotLists.{wrote_all, why_none}
 use Rattle.pgp_c.proofs.snapshot.pgp_put_snapshot.Goals as goal

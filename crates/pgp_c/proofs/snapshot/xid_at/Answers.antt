@@ -1,5 +1,5 @@
-use Rattle.std.proofs.Common.{◌≡◌, ◌++◌, arith, sym, ap, ◌∙◌, length, length-take}
-use Rattle.std.proofs.lemmas.List.{take-append-drop}
+use Rattle.pgp_c.proofs.Common.{◌≡◌, ◌++◌, arith, sym, ap, ◌∙◌, length, take-append-drop}
+use Rattle.std.proofs.Common.{length-take}
 use Rattle.pgp_c.proofs.SnapshotWalks.{no_xid}
 use Rattle.pgp_c.proofs.snapshot.xid_at.Goals as goal
 

@@ -1,5 +1,4 @@
-use Rattle.std.proofs.Common.{rules, refl}
-use Rattle.pgp_c.specs.Plain.{comes_open, message_of}
+use Rattle.pgp_c.proofs.Common.{rules, refl, comes_open, message_of}
 use Rattle.pgp_c.proofs.Extensions.{extends, no_room, parts_of}
 use Rattle.pgp_c.proofs.Plain.{may_come, no_startup}
 use Rattle.pgp_c.proofs.stream.add.Goals as goal

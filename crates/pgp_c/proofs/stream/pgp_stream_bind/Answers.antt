@@ -1,6 +1,4 @@
-use Rattle.std.proofs.Common.{rules, refl, true, map}
-use Rattle.pgp_frontend.specs.ClientMessage.{Bind}
-use Rattle.pgp_c.specs.Lists.{value_of}
+use Rattle.pgp_c.proofs.Common.{rules, refl, true, map, Bind, value_of}
 use Rattle.pgp_c.proofs.Extensions.{extends, parts_of}
 use Rattle.pgp_c.proofs.stream.pgp_stream_bind.Goals as goal
 

@@ -1,4 +1,4 @@
-use Rattle.std.proofs.Common.{rules, refl}
+use Rattle.pgp_c.proofs.Common.{rules, refl}
 use Rattle.pgp_c.proofs.Extensions.{extends_by_head, parts_of}
 use Rattle.pgp_c.proofs.stream.pgp_stream_copy_data_head.Goals as goal
 

@@ -1,5 +1,4 @@
-use Rattle.std.proofs.Common.{rules, refl, true}
-use Rattle.pgp_frontend.specs.ClientMessage.{Parse}
+use Rattle.pgp_c.proofs.Common.{rules, refl, true, Parse}
 use Rattle.pgp_c.proofs.Extensions.{extends, parts_of}
 use Rattle.pgp_c.proofs.stream.pgp_stream_parse.Goals as goal
 

@@ -1,8 +1,4 @@
-use Rattle.std.proofs.Common.{rules, refl, ◌∙◌, map, true, false}
-use Rattle.std.proofs.Math.Facts.{to_z-of_z}
-use Rattle.pgp_frontend.specs.ClientMessage.{Startup}
-use Rattle.pgp_frontend.specs.Payload.{minor_of}
-use Rattle.pgp_c.specs.Opening.{pair_of}
+use Rattle.pgp_c.proofs.Common.{rules, refl, ◌∙◌, map, true, false, to_z-of_z, Startup, minor_of, pair_of}
 use Rattle.pgp_c.proofs.Extensions.{extends_to, may_open, parts_of}
 use Rattle.pgp_c.proofs.stream.pgp_stream_startup.Goals as goal
 

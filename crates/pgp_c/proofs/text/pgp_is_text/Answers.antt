@@ -1,5 +1,4 @@
-use Rattle.std.proofs.Common.{sym, ◌∙◌}
-use Rattle.pgp_base.proofs.PartLemmas.{no_string, some_none, string_none}
+use Rattle.pgp_c.proofs.Common.{sym, ◌∙◌, no_string, some_none, string_none}
 use Rattle.pgp_c.proofs.text.pgp_is_text.Goals as goal
 
 pub returns-in-Ok-string_at-clause-zero : goal.returns-in-Ok-string_at-clause-zero

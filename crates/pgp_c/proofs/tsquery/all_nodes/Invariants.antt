@@ -1,6 +1,4 @@
-use Rattle.std.proofs.Common.{◌≡◌, true, take}
-use Rattle.std.specs.List.{list_all}
-use Rattle.pgp_c.specs.TextSearch.{is_node}
+use Rattle.pgp_c.proofs.Common.{◌≡◌, true, take, list_all, is_node}
 use Rattle.pgp_c.proofs.tsquery.all_nodes.Given as goal
 
 abbrev pub invariant-loop-item : goal.invariant-loop-item

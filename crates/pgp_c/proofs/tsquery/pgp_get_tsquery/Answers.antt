@@ -1,5 +1,4 @@
-use Rattle.std.proofs.Common.{refl, ap}
-use Rattle.pgp_values.specs.Tsquery.{query_item}
+use Rattle.pgp_c.proofs.Common.{refl, ap, query_item}
 use Rattle.pgp_c.proofs.RecordWalks.{begins_list}
 use Rattle.pgp_c.proofs.tsquery.pgp_get_tsquery.Goals as goal
 

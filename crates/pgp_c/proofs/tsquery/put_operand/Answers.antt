@@ -1,9 +1,4 @@
-use Rattle.std.proofs.Common.{rules, ◌≡◌, true, [], ◌∷◌, ◌∙◌, arith, inl, inr}
-use Rattle.std.specs.Str.{is_utf8}
-use Rattle.pgp_base.specs.Cause.{text_cause}
-use Rattle.pgp_base.specs.Wire.{text}
-use Rattle.pgp_base.proofs.Needs.{memory_more, memory_then}
-use Rattle.pgp_types.proofs.Appending.{only_memory}
+use Rattle.pgp_c.proofs.Common.{rules, ◌≡◌, true, [], ◌∷◌, ◌∙◌, arith, inl, inr, is_utf8, text_cause, text, memory_more, memory_then, only_memory}
 use Rattle.pgp_c.proofs.Handed.{err_then}
 use Rattle.pgp_c.proofs.TextSearch.{then_cause, writes_err}
 use Rattle.pgp_c.proofs.tsquery.put_operand.Goals as goal

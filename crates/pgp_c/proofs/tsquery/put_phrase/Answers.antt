@@ -1,7 +1,4 @@
-use Rattle.std.proofs.Common.{[], ◌∷◌, arith}
-use Rattle.pgp_base.proofs.Needs.{memory_more, memory_then}
-use Rattle.pgp_base.proofs.Parts.{length-uint16}
-use Rattle.pgp_types.proofs.Appending.{only_memory}
+use Rattle.pgp_c.proofs.Common.{[], ◌∷◌, arith, memory_more, memory_then, length-uint16, only_memory}
 use Rattle.pgp_c.proofs.Handed.{err_then}
 use Rattle.pgp_c.proofs.tsquery.put_phrase.Goals as goal
 

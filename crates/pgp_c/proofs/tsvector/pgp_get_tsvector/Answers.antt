@@ -1,5 +1,4 @@
-use Rattle.std.proofs.Common.{refl, ap}
-use Rattle.pgp_values.specs.Tsvector.{lexeme}
+use Rattle.pgp_c.proofs.Common.{refl, ap, lexeme}
 use Rattle.pgp_c.proofs.RecordWalks.{begins_list}
 use Rattle.pgp_c.proofs.tsvector.pgp_get_tsvector.Goals as goal
 

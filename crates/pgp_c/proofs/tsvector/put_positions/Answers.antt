@@ -1,11 +1,4 @@
-use Rattle.std.proofs.Common.{arith, inl, inr, map, sym, ap, ◌∙◌, length, length-append}
-use Rattle.std.specs.List.{flat_map}
-use Rattle.std.proofs.lemmas.List.{map-id}
-use Rattle.pgp_base.specs.Held.{◌⊕◌}
-use Rattle.pgp_base.specs.Wire.{uint16}
-use Rattle.pgp_base.proofs.Causes.{count_fits}
-use Rattle.pgp_base.proofs.Needs.{memory_more, memory_then}
-use Rattle.pgp_base.proofs.Parts.{length-uint16}
+use Rattle.pgp_c.proofs.Common.{arith, inl, inr, map, sym, ap, ◌∙◌, length, length-append, flat_map, map-id, ◌⊕◌, uint16, count_fits, memory_more, memory_then, length-uint16}
 use Rattle.pgp_values.proofs.PlaceLemmas.{count_is}
 use Rattle.pgp_c.proofs.Elements.{then_more}
 use Rattle.pgp_c.proofs.Handed.{err_then, ok_then}

@@ -1,9 +1,4 @@
-use Rattle.std.proofs.Common.{◌++◌, ◌∙◌, inl, inr, length, arith, length-append}
-use Rattle.std.specs.List.{flat_map}
-use Rattle.pgp_base.specs.Cause.{text_cause, count_cause}
-use Rattle.pgp_base.specs.Wire.{text, uint16}
-use Rattle.pgp_base.proofs.Causes.{either_first, either_then}
-use Rattle.pgp_base.proofs.Needs.{memory_more, memory_then}
+use Rattle.pgp_c.proofs.Common.{◌++◌, ◌∙◌, inl, inr, length, arith, length-append, flat_map, text_cause, count_cause, text, uint16, either_first, either_then, memory_more, memory_then}
 use Rattle.pgp_c.proofs.Handed.{err_then}
 use Rattle.pgp_c.proofs.tsvector.put_word.Goals as goal
 

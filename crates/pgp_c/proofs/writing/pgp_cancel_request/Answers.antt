@@ -1,6 +1,4 @@
-use Rattle.std.proofs.Common.{rules, ap}
-use Rattle.std.proofs.Math.Facts.{to_z-of_z}
-use Rattle.pgp_frontend.specs.ClientMessage.{CancelRequest}
+use Rattle.pgp_c.proofs.Common.{rules, ap, to_z-of_z, CancelRequest}
 use Rattle.pgp_c.proofs.Sending.{sends_ended, refuses_ended}
 use Rattle.pgp_c.proofs.writing.pgp_cancel_request.Goals as goal
 

@@ -1,5 +1,4 @@
-use Rattle.std.proofs.Common.{rules, refl}
-use Rattle.pgp_frontend.specs.ClientMessage.{CopyFail}
+use Rattle.pgp_c.proofs.Common.{rules, refl, CopyFail}
 use Rattle.pgp_c.proofs.Sending.{sends_ended, refuses_ended}
 use Rattle.pgp_c.proofs.writing.pgp_copy_fail.Goals as goal
 

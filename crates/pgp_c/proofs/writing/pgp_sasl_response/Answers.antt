@@ -1,5 +1,4 @@
-use Rattle.std.proofs.Common.{rules, refl}
-use Rattle.pgp_frontend.specs.ClientMessage.{SaslResponse}
+use Rattle.pgp_c.proofs.Common.{rules, refl, SaslResponse}
 use Rattle.pgp_c.proofs.Sending.{sends_ended, refuses_ended}
 use Rattle.pgp_c.proofs.writing.pgp_sasl_response.Goals as goal
 

@@ -1,6 +1,4 @@
-use Rattle.std.proofs.Common.{◌≡◌, rules, inl, inr, sym, subst, List, ℕ}
-use Rattle.std.specs.Prelude.{string_bytes}
-use Rattle.pgp_c_auth.specs.Escaping.{IsLiteral}
+use Rattle.pgp_c_auth.proofs.Common.{◌≡◌, rules, inl, inr, sym, subst, List, ℕ, string_bytes, IsLiteral}
 use Rattle.pgp_c_auth.proofs.Texts.{delivers, literal_is, longer}
 use Rattle.pgp_c_auth.proofs.escaping.literal.Goals as goal
 

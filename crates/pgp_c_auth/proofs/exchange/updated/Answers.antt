@@ -1,4 +1,4 @@
-use Rattle.std.proofs.Common.{rules, inr}
+use Rattle.pgp_c_auth.proofs.Common.{rules, inr}
 use Rattle.pgp_c_auth.proofs.Texts.{answers_kept, delivers_another, no_room}
 use Rattle.pgp_c_auth.proofs.exchange.updated.Goals.{then-code-eq0, else-code-eq0}
 use Rattle.pgp_c_auth.proofs.exchange.updated.Goals as goal

@@ -1,5 +1,4 @@
-use Rattle.std.proofs.Common.{arith}
-use Rattle.pgp_c_auth.specs.Login.{Md5}
+use Rattle.pgp_c_auth.proofs.Common.{arith, Md5}
 use Rattle.pgp_c_auth.proofs.login.asked_by_md5.Goals as goal
 
 pub returns-clause-step : goal.returns-clause-step

@@ -1,5 +1,4 @@
-use Rattle.std.proofs.Common.{arith, ◌≡◌}
-use Rattle.pgp_c_auth.specs.Login.{First}
+use Rattle.pgp_c_auth.proofs.Common.{arith, ◌≡◌, First}
 use Rattle.pgp_c_auth.proofs.login.continued.Goals as goal
 
 pub returns-clause-step : goal.returns-clause-step

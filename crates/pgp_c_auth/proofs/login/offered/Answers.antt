@@ -1,5 +1,4 @@
-use Rattle.std.proofs.Common.{arith}
-use Rattle.pgp_c_auth.specs.Login.{Offer}
+use Rattle.pgp_c_auth.proofs.Common.{arith, Offer}
 use Rattle.pgp_c_auth.proofs.login.offered.Goals as goal
 
 pub returns-clause-step : goal.returns-clause-step

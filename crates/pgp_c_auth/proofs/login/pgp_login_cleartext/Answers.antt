@@ -1,5 +1,4 @@
-use Rattle.std.proofs.Common.{arith}
-use Rattle.pgp_c_auth.specs.Login.{Cleartext}
+use Rattle.pgp_c_auth.proofs.Common.{arith, Cleartext}
 use Rattle.pgp_c_auth.proofs.login.pgp_login_cleartext.Goals as goal
 
 pub returns-clause-step : goal.returns-clause-step

@@ -1,5 +1,4 @@
-use Rattle.std.proofs.Common.{◌≡◌, rules, inl, inr, refl, ap, ◌∙◌, sym, List, ℕ, Option, Some, unwrap_or}
-use Rattle.std.specs.Prelude.{string_bytes}
+use Rattle.pgp_c_auth.proofs.Common.{◌≡◌, rules, inl, inr, refl, ap, ◌∙◌, sym, List, ℕ, Option, Some, unwrap_or, string_bytes}
 use Rattle.pgp_saslprep.specs.SaslPrep.{prepared_bytes}
 use Rattle.pgp_c_auth.specs.Prep.{IsUsed}
 use Rattle.pgp_c_auth.proofs.Texts.{delivers, longer}

@@ -1,4 +1,4 @@
-use Rattle.std.proofs.Common.{rules, inl, inr}
+use Rattle.pgp_c_auth.proofs.Common.{rules, inl, inr}
 use Rattle.pgp_c_auth.proofs.Texts.{first_text, delivers_another, no_room_first}
 use Rattle.pgp_c_auth.proofs.scram.first.Goals as goal
 

@@ -1,4 +1,4 @@
-use Rattle.std.proofs.Common.{rules, inl, inr}
+use Rattle.pgp_c_auth.proofs.Common.{rules, inl, inr}
 use Rattle.pgp_c_auth.proofs.Texts.{answers_in, delivers_another, no_room}
 use Rattle.pgp_c_auth.proofs.scram.last.Goals as goal
 

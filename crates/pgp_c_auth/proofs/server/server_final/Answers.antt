@@ -1,4 +1,4 @@
-use Rattle.std.proofs.Common.{inl, inr}
+use Rattle.pgp_c_auth.proofs.Common.{inl, inr}
 use Rattle.pgp_c_auth.proofs.Servers.{admits_delivered, admits_longer}
 use Rattle.pgp_c_auth.proofs.server.server_final.Goals as goal
 

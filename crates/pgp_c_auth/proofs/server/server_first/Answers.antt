@@ -1,4 +1,4 @@
-use Rattle.std.proofs.Common.{inl}
+use Rattle.pgp_c_auth.proofs.Common.{inl}
 use Rattle.pgp_c_auth.proofs.server.server_first.Goals as goal
 
 pub returns-clause-why : goal.returns-clause-why

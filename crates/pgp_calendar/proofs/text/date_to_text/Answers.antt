@@ -1,8 +1,4 @@
-use Rattle.std.proofs.Common.{rules, FitsSigned, w32}
-use Rattle.std.proofs.Math.Facts.{to_z-of_z}
-use Rattle.jiff.specs.Words.{IsEpochDay}
-use Rattle.pgp_calendar.specs.Numbers.{day_1970}
-use Rattle.pgp_calendar.specs.Text.{ShowsDay}
+use Rattle.pgp_calendar.proofs.Common.{rules, FitsSigned, w32, to_z-of_z, IsEpochDay, day_1970, ShowsDay}
 use Rattle.pgp_calendar.proofs.TextLemmas.{writes_moment}
 use Rattle.pgp_calendar.proofs.text.date_to_text.Goals as goal
 

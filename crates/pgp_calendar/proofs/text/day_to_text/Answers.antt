@@ -1,6 +1,4 @@
-use Rattle.std.proofs.Common.{◌∙◌, ap}
-use Rattle.std.proofs.Math.Facts.{to_z-of_z}
-use Rattle.pgp_calendar.specs.Text.{ShowsDay, date_text}
+use Rattle.pgp_calendar.proofs.Common.{◌∙◌, ap, to_z-of_z, ShowsDay, date_text}
 use Rattle.pgp_calendar.proofs.TextLemmas.{writes_shown}
 use Rattle.pgp_calendar.proofs.text.day_to_text.Goals as goal
 

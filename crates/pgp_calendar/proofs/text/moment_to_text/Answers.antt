@@ -1,8 +1,4 @@
-use Rattle.std.proofs.Common.{rules, FitsSigned, w64}
-use Rattle.std.proofs.Math.Facts.{to_z-of_z}
-use Rattle.jiff.specs.Words.{IsCivilNanos}
-use Rattle.pgp_calendar.specs.Numbers.{nanos_1970}
-use Rattle.pgp_calendar.specs.Text.{ShowsInstant}
+use Rattle.pgp_calendar.proofs.Common.{rules, FitsSigned, w64, to_z-of_z, IsCivilNanos, nanos_1970, ShowsInstant}
 use Rattle.pgp_calendar.proofs.TextLemmas.{writes_moment}
 use Rattle.pgp_calendar.proofs.text.moment_to_text.Goals as goal
 

@@ -1,6 +1,4 @@
-use Rattle.std.proofs.Common.{◌∙◌, ap, inr}
-use Rattle.std.proofs.Math.Facts.{to_z-of_z}
-use Rattle.pgp_calendar.specs.Text.{ShowsTime, clock_text}
+use Rattle.pgp_calendar.proofs.Common.{◌∙◌, ap, inr, to_z-of_z, ShowsTime, clock_text}
 use Rattle.pgp_calendar.proofs.TextLemmas.{writes_shown}
 use Rattle.pgp_calendar.proofs.text.time_to_text.Goals as goal
 

@@ -1,5 +1,4 @@
-use Rattle.std.proofs.Common.{◌≡◌, drop}
-use Rattle.pgp_client.specs.Taking.{has_end}
+use Rattle.pgp_client.proofs.Common.{◌≡◌, drop, has_end}
 use Rattle.pgp_client.proofs.request.has_end.Given as goal
 
 abbrev pub invariant-loop-asked : goal.invariant-loop-asked

@@ -1,7 +1,4 @@
-use Rattle.std.proofs.Common.{arith, [], ◌∷◌, ◌+◌, ap, ◌∙◌, length}
-use Rattle.pgp_base.specs.Held.{◌⊕◌}
-use Rattle.pgp_base.specs.Wire.{uint32}
-use Rattle.pgp_base.proofs.Parts.{on_err, length-uint32, wants_here, wants_now, wants_more, wants_same, wants_then}
+use Rattle.pgp_frontend.proofs.Common.{arith, [], ◌∷◌, ◌+◌, ap, ◌∙◌, length, ◌⊕◌, uint32, on_err, length-uint32, wants_here, wants_now, wants_more, wants_same, wants_then}
 use Rattle.pgp_frontend.proofs.copy.fill.Goals as goal
 
 pub returns-in_err-reserve-clause-lacks : goal.returns-in_err-reserve-clause-lacks

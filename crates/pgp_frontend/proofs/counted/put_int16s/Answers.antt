@@ -1,13 +1,5 @@
-use Rattle.std.proofs.Common.{rules, arith, ◌≡◌, [], ◌∷◌, ◌++◌, length, refl, inl, inr, Some, sym, ap, ◌∙◌, length-append}
-use Rattle.std.specs.Prelude.{FitsSigned}
-use Rattle.std.specs.Int.{w16, cast_unsigned}
-use Rattle.std.proofs.lemmas.List.Elements.{All-push}
-use Rattle.pgp_base.specs.Held.{◌⊕◌}
-use Rattle.pgp_base.specs.Wire.{int16, uint16}
-use Rattle.pgp_base.proofs.Causes.{count_fits, count_past}
-use Rattle.pgp_base.proofs.Needs.{counted_length, counted_wants}
+use Rattle.pgp_frontend.proofs.Common.{rules, arith, ◌≡◌, [], ◌∷◌, ◌++◌, length, refl, inl, inr, Some, sym, ap, ◌∙◌, length-append, FitsSigned, w16, cast_unsigned, All-push, ◌⊕◌, int16, uint16, count_fits, count_past, counted_length, counted_wants, if_err_at, wants_more, counted_up, sized2, more_parts, int16_spelled}
 use Rattle.pgp_frontend.proofs.Needs.{int16_length}
-use Rattle.pgp_base.proofs.Parts.{if_err_at, wants_more, counted_up, sized2, more_parts, int16_spelled}
 use Rattle.pgp_frontend.proofs.counted.put_int16s.Goals as goal
 
 pub loop-item-preserved : goal.loop-item-preserved

@@ -1,9 +1,4 @@
-use Rattle.std.proofs.Common.{◌≡◌, length}
-use Rattle.std.specs.Prelude.{All, FitsSigned}
-use Rattle.std.specs.Int.{w16}
-use Rattle.std.specs.List.{flat_map}
-use Rattle.pgp_base.specs.Held.{◌⊕◌}
-use Rattle.pgp_base.specs.Wire.{uint16, int16}
+use Rattle.pgp_frontend.proofs.Common.{◌≡◌, length, All, FitsSigned, w16, flat_map, ◌⊕◌, uint16, int16}
 use Rattle.pgp_frontend.proofs.counted.put_int16s.Given as goal
 
 abbrev pub invariant-loop-item : goal.invariant-loop-item

@@ -1,10 +1,4 @@
-use Rattle.std.proofs.Common.{rules, arith, ◌^◌, ◌<◌, ◌≡◌, [], ◌∷◌, ◌++◌, length, refl, inl, inr, Some, length-append}
-use Rattle.pgp_base.specs.Held.{◌⊕◌}
-use Rattle.std.proofs.lemmas.List.Elements.{All-push}
-use Rattle.pgp_base.specs.Wire.{uint16, oid}
-use Rattle.pgp_base.proofs.Causes.{count_fits, count_past}
-use Rattle.pgp_base.proofs.Needs.{counted_length, counted_wants}
-use Rattle.pgp_base.proofs.Parts.{if_err_at, wants_more, length-uint32, counted_up, sized2, more_parts}
+use Rattle.pgp_frontend.proofs.Common.{rules, arith, ◌^◌, ◌<◌, ◌≡◌, [], ◌∷◌, ◌++◌, length, refl, inl, inr, Some, length-append, ◌⊕◌, All-push, uint16, oid, count_fits, count_past, counted_length, counted_wants, if_err_at, wants_more, length-uint32, counted_up, sized2, more_parts}
 use Rattle.pgp_frontend.proofs.counted.put_oids.Goals as goal
 
 pub patch_u16-requires : goal.patch_u16-requires

@@ -1,8 +1,4 @@
-use Rattle.std.proofs.Common.{◌≡◌, ◌<◌, ◌^◌, length}
-use Rattle.std.specs.Prelude.{All}
-use Rattle.std.specs.List.{flat_map}
-use Rattle.pgp_base.specs.Held.{◌⊕◌}
-use Rattle.pgp_base.specs.Wire.{uint16, oid}
+use Rattle.pgp_frontend.proofs.Common.{◌≡◌, ◌<◌, ◌^◌, length, All, flat_map, ◌⊕◌, uint16, oid}
 use Rattle.pgp_frontend.proofs.counted.put_oids.Given as goal
 
 abbrev pub invariant-loop-item : goal.invariant-loop-item

@@ -1,7 +1,4 @@
-use Rattle.std.proofs.Common.{arith, refl, ap}
-use Rattle.pgp_base.specs.Held.{◌⊕◌}
-use Rattle.pgp_base.specs.Wire.{uint16}
-use Rattle.pgp_base.proofs.Parts.{if_err_at}
+use Rattle.pgp_frontend.proofs.Common.{arith, refl, ap, ◌⊕◌, uint16, if_err_at}
 use Rattle.pgp_frontend.proofs.BindLemmas.{refused_at, served_at, formats_refused, values_refused, results_refused, bind_room, length_refused, bind_written}
 use Rattle.pgp_frontend.proofs.extended.fill_bind.Goals as goal
 

@@ -1,10 +1,5 @@
-use Rattle.std.proofs.Common.{arith, refl, sym, ◌≡◌, [], ◌∷◌, inl, inr, ap, ◌∙◌}
-use Rattle.pgp_base.specs.Held.{◌⊕◌}
-use Rattle.pgp_base.specs.Wire.{uint32, int16, nullable}
-use Rattle.pgp_base.proofs.Parts.{if_err_at, nothing_more, wants_here, wants_more, wants_same, wants_then}
-use Rattle.pgp_base.proofs.Needs.{counted_length}
+use Rattle.pgp_frontend.proofs.Common.{arith, refl, sym, ◌≡◌, [], ◌∷◌, inl, inr, ap, ◌∙◌, ◌⊕◌, uint32, int16, nullable, if_err_at, nothing_more, wants_here, wants_more, wants_same, wants_then, counted_length, Text, Int16s, Values, joined}
 use Rattle.pgp_frontend.proofs.Needs.{framed_length, bind_length, joined_more, framed_wants}
-use Rattle.pgp_frontend.specs.Payload.{Text, Int16s, Values, joined}
 use Rattle.pgp_frontend.proofs.Fields.{cause_more, cause_here, cause_front}
 use Rattle.pgp_frontend.proofs.Texts.{part_more}
 use Rattle.pgp_frontend.proofs.extended.fill_formats.Goals as goal

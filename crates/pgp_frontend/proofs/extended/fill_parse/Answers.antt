@@ -1,11 +1,5 @@
-use Rattle.std.proofs.Common.{arith, sym, [], ◌∷◌, ◌++◌, refl, inl, inr, ap, ◌∙◌}
-use Rattle.pgp_base.specs.Held.{◌⊕◌}
-use Rattle.pgp_base.specs.Wire.{uint32, oid}
-use Rattle.pgp_base.proofs.Parts.{if_err_at, nothing_more, wants_here, wants_more, wants_same, wants_then}
-use Rattle.pgp_base.proofs.Needs.{counted_length}
+use Rattle.pgp_frontend.proofs.Common.{arith, sym, [], ◌∷◌, ◌++◌, refl, inl, inr, ap, ◌∙◌, ◌⊕◌, uint32, oid, if_err_at, nothing_more, wants_here, wants_more, wants_same, wants_then, counted_length, Parse, Text, Oids, joined}
 use Rattle.pgp_frontend.proofs.Needs.{framed_length, parse_length, framed_wants}
-use Rattle.pgp_frontend.specs.ClientMessage.{Parse}
-use Rattle.pgp_frontend.specs.Payload.{Text, Oids, joined}
 use Rattle.pgp_frontend.proofs.Fields.{cause_more, cause_here, cause_front}
 use Rattle.pgp_frontend.proofs.Frames.{frame_room, frame_done, frame_fits, frame_passes, tagged}
 use Rattle.pgp_frontend.proofs.Texts.{part_more}

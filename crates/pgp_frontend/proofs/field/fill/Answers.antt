@@ -1,10 +1,5 @@
-use Rattle.std.proofs.Common.{arith, inl, inr}
-use Rattle.pgp_base.specs.Wire.{uint32}
-use Rattle.pgp_frontend.specs.Payload.{joined}
-use Rattle.pgp_base.proofs.Needs.{memory_more, memory_then}
+use Rattle.pgp_frontend.proofs.Common.{arith, inl, inr, uint32, joined, memory_more, memory_then, if_err_at, length-uint32, parts_of}
 use Rattle.pgp_frontend.proofs.Needs.{framed_length}
-use Rattle.pgp_base.proofs.Parts.{if_err_at, length-uint32}
-use Rattle.pgp_frontend.specs.View.{parts_of}
 use Rattle.pgp_frontend.proofs.Frames.{frame_room, frame_done, frame_fits, frame_passes, frame_refused}
 use Rattle.pgp_frontend.proofs.field.fill.Goals as goal
 

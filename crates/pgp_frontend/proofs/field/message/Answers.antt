@@ -1,9 +1,4 @@
-use Rattle.std.proofs.Common.{arith, [], ◌∷◌, ap, ◌∙◌}
-use Rattle.pgp_base.specs.Held.{◌⊕◌}
-use Rattle.pgp_base.proofs.Parts.{cut_back, front_then, left_same, left_then, wants_here, wants_same, writes_out}
-use Rattle.pgp_frontend.specs.Payload.{joined}
-use Rattle.pgp_frontend.specs.View.{parts_of}
-use Rattle.pgp_base.proofs.Needs.{memory_more, refused_then, writes_memory}
+use Rattle.pgp_frontend.proofs.Common.{arith, [], ◌∷◌, ap, ◌∙◌, ◌⊕◌, cut_back, front_then, left_same, left_then, wants_here, wants_same, writes_out, joined, parts_of, memory_more, refused_then, writes_memory}
 use Rattle.pgp_frontend.proofs.Needs.{framed_length, tagged_length}
 use Rattle.pgp_frontend.proofs.field.message.Goals as goal
 

@@ -1,5 +1,4 @@
-use Rattle.pgp_base.proofs.Parts.{cut_back, left_same, left_then, wants_here, writes_out}
-use Rattle.pgp_base.proofs.Needs.{refused_same}
+use Rattle.pgp_frontend.proofs.Common.{cut_back, left_same, left_then, wants_here, writes_out, refused_same}
 use Rattle.pgp_frontend.proofs.field.packet.Goals as goal
 
 pub returns-in-Err : goal.returns-in-Err

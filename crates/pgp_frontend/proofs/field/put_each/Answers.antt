@@ -1,5 +1,4 @@
-use Rattle.std.proofs.Common.{rules, inl, inr}
-use Rattle.pgp_base.proofs.Parts.{if_err_at}
+use Rattle.pgp_frontend.proofs.Common.{rules, inl, inr, if_err_at}
 use Rattle.pgp_frontend.proofs.Fields.{fields_none, fields_joined, fields_refused, fields_want}
 use Rattle.pgp_frontend.proofs.field.put_each.Goals as goal
 

@@ -1,7 +1,4 @@
-use Rattle.std.proofs.Common.{◌≡◌, None, take}
-use Rattle.pgp_base.specs.Held.{◌⊕◌}
-use Rattle.pgp_frontend.specs.Payload.{parts_cause, joined}
-use Rattle.pgp_frontend.specs.View.{parts_of}
+use Rattle.pgp_frontend.proofs.Common.{◌≡◌, None, take, ◌⊕◌, parts_cause, joined, parts_of}
 use Rattle.pgp_frontend.proofs.field.put_each.Given as goal
 
 abbrev pub invariant-loop-field : goal.invariant-loop-field

@@ -1,4 +1,4 @@
-use Rattle.pgp_base.proofs.Parts.{if_err_at}
+use Rattle.pgp_frontend.proofs.Common.{if_err_at}
 use Rattle.pgp_frontend.proofs.Fields.{fields_empty, fields_behind, first_refused, later_refused}
 use Rattle.pgp_frontend.proofs.field.put_fields.Goals as goal
 

@@ -1,6 +1,4 @@
-use Rattle.std.proofs.Common.{arith, refl, inl}
-use Rattle.pgp_base.proofs.Parts.{if_err_at, wants_now}
-use Rattle.pgp_base.proofs.Needs.{sized_length, sized_wants, memory_more}
+use Rattle.pgp_frontend.proofs.Common.{arith, refl, inl, if_err_at, wants_now, sized_length, sized_wants, memory_more}
 use Rattle.pgp_frontend.proofs.field.put_sized.Goals as goal
 
 pub returns-in_err-put_u32-clause-cause : goal.returns-in_err-put_u32-clause-cause

@@ -1,7 +1,4 @@
-use Rattle.std.proofs.Common.{arith, ◌≡◌, ap, take, length}
-use Rattle.std.proofs.lemmas.List.{take_all}
-use Rattle.pgp_frontend.specs.Payload.{joined}
-use Rattle.pgp_frontend.specs.View.{parts_of}
+use Rattle.pgp_frontend.proofs.Common.{arith, ◌≡◌, ap, take, length, take_all, joined, parts_of}
 use Rattle.pgp_frontend.proofs.Needs.{framed_length}
 use Rattle.pgp_frontend.proofs.field.room.Goals as goal
 

@@ -1,6 +1,4 @@
-use Rattle.std.proofs.Common.{◌+◌, ◌≤◌, take, length}
-use Rattle.pgp_frontend.specs.Payload.{joined}
-use Rattle.pgp_frontend.specs.View.{parts_of}
+use Rattle.pgp_frontend.proofs.Common.{◌+◌, ◌≤◌, take, length, joined, parts_of}
 use Rattle.pgp_frontend.proofs.field.room.Given as goal
 
 abbrev pub invariant-loop-field : goal.invariant-loop-field

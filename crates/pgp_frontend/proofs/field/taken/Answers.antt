@@ -1,5 +1,4 @@
-use Rattle.std.proofs.Common.{arith}
-use Rattle.pgp_base.proofs.Needs.{sized_length}
+use Rattle.pgp_frontend.proofs.Common.{arith, sized_length}
 use Rattle.pgp_frontend.proofs.Needs.{int32_length}
 use Rattle.pgp_frontend.proofs.field.taken.Goals as goal
 

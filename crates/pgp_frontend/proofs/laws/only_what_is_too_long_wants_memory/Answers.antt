@@ -1,4 +1,4 @@
-use Rattle.pgp_base.proofs.Needs.{wants_window}
+use Rattle.pgp_frontend.proofs.Common.{wants_window}
 use Rattle.pgp_frontend.proofs.Fitting.{too_long}
 use Rattle.pgp_frontend.proofs.laws.only_what_is_too_long_wants_memory.Goals as goal
 

@@ -1,4 +1,4 @@
-use Rattle.pgp_frontend.specs.ClientMessage.{Query}
+use Rattle.pgp_frontend.proofs.Common.{Query}
 use Rattle.pgp_frontend.proofs.Fitting.{fits_written}
 use Rattle.pgp_frontend.proofs.laws.query_that_fits.Goals as goal
 

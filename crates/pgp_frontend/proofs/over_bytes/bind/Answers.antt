@@ -1,4 +1,4 @@
-use Rattle.pgp_base.proofs.Parts.{cut_back}
+use Rattle.pgp_frontend.proofs.Common.{cut_back}
 use Rattle.pgp_frontend.proofs.over_bytes.bind.Goals as goal
 
 pub returns : goal.returns

@@ -1,7 +1,5 @@
-use Rattle.std.specs.Int.{w32, to_be_bytes}
-use Rattle.std.proofs.Common.{ap, ◌∙◌}
+use Rattle.pgp_frontend.proofs.Common.{w32, to_be_bytes, ap, ◌∙◌, int32}
 use Rattle.std.proofs.Math.Facts.{to_z-of_z}
-use Rattle.pgp_base.specs.Wire.{int32}
 use Rattle.pgp_frontend.proofs.Keys.{number_key, same_cancel}
 use Rattle.pgp_frontend.proofs.startup.cancel_request.Goals as goal
 

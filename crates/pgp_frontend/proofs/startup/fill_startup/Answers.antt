@@ -1,12 +1,5 @@
-use Rattle.std.proofs.Common.{arith, ◌+◌, length, [], ◌∷◌, refl, inl, inr, map}
-use Rattle.std.specs.Prelude.{FitsSigned}
-use Rattle.std.specs.Int.{w32}
-use Rattle.pgp_base.proofs.Parts.{if_err_at, length-uint32, wants_more, wants_then}
-use Rattle.pgp_base.specs.Wire.{uint32, int32}
+use Rattle.pgp_frontend.proofs.Common.{arith, ◌+◌, length, [], ◌∷◌, refl, inl, inr, map, FitsSigned, w32, if_err_at, length-uint32, wants_more, wants_then, uint32, int32, Startup, shown_by, Int32, Pairs, minor_of, version_code, spelling}
 use Rattle.pgp_frontend.proofs.Needs.{int32_length, startup_length, minor_fits, minor_small}
-use Rattle.pgp_frontend.specs.ClientMessage.{Startup}
-use Rattle.pgp_frontend.specs.Given.{shown_by}
-use Rattle.pgp_frontend.specs.Payload.{Int32, Pairs, minor_of, version_code, spelling}
 use Rattle.pgp_frontend.proofs.Fields.{cause_more, cause_here}
 use Rattle.pgp_frontend.proofs.Frames.{frame_room, frame_done, frame_fits, frame_passes}
 use Rattle.pgp_frontend.proofs.Texts.{part_more, first_part}

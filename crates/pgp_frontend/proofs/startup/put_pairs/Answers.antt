@@ -1,11 +1,4 @@
-use Rattle.std.proofs.Common.{rules, arith, refl, inl, inr, [], ◌∷◌, ◌+◌, Some, None, length, length-append, map, sym}
-use Rattle.std.specs.List.{flat_map}
-use Rattle.std.proofs.lemmas.List.{append-nil}
-use Rattle.pgp_base.specs.Wire.{text}
-use Rattle.pgp_frontend.specs.Given.{shown_by}
-use Rattle.pgp_frontend.specs.Payload.{pair}
-use Rattle.pgp_base.proofs.Needs.{if_err_map}
-use Rattle.pgp_base.proofs.Parts.{if_err_at, on_err, front_then, front_left, wants_then}
+use Rattle.pgp_frontend.proofs.Common.{rules, arith, refl, inl, inr, [], ◌∷◌, ◌+◌, Some, None, length, length-append, map, sym, flat_map, append-nil, text, shown_by, pair, if_err_map, if_err_at, on_err, front_then, front_left, wants_then}
 use Rattle.pgp_frontend.proofs.PairLemmas.{pairs_none, name_refused, value_refused, pairs_held, pairs_length}
 use Rattle.pgp_frontend.proofs.startup.put_pairs.Goals as goal
 

@@ -1,8 +1,4 @@
-use Rattle.std.proofs.Common.{◌≡◌, None, map}
-use Rattle.std.specs.List.{flat_map}
-use Rattle.pgp_base.specs.Held.{◌⊕◌}
-use Rattle.pgp_frontend.specs.Given.{shown_by}
-use Rattle.pgp_frontend.specs.Payload.{Pairs, pair, part_cause}
+use Rattle.pgp_frontend.proofs.Common.{◌≡◌, None, map, flat_map, ◌⊕◌, shown_by, Pairs, pair, part_cause}
 use Rattle.pgp_frontend.proofs.startup.put_pairs.Given as goal
 
 abbrev pub invariant-loop-name : goal.invariant-loop-name

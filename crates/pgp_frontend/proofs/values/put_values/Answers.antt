@@ -1,7 +1,4 @@
-use Rattle.std.proofs.Common.{rules, arith, [], ◌∷◌, ◌++◌, refl, length-append, sym, ◌∙◌}
-use Rattle.pgp_base.specs.Held.{◌⊕◌}
-use Rattle.pgp_base.specs.Wire.{uint16, nullable}
-use Rattle.pgp_base.proofs.Parts.{counted_up, sized2, more_parts, nothing_more, Runs-snoc, Runs-length}
+use Rattle.pgp_frontend.proofs.Common.{rules, arith, [], ◌∷◌, ◌++◌, refl, length-append, sym, ◌∙◌, ◌⊕◌, uint16, nullable, counted_up, sized2, more_parts, nothing_more, Runs-snoc, Runs-length}
 use Rattle.pgp_frontend.proofs.ValueLemmas.{Runs-fit, values_fit, value_stops, count_stops}
 use Rattle.pgp_frontend.proofs.values.put_values.Goals as goal
 

@@ -1,8 +1,4 @@
-use Rattle.std.proofs.Common.{◌≡◌, ℕ, List, Option, length}
-use Rattle.std.specs.List.{flat_map}
-use Rattle.pgp_base.specs.Held.{◌⊕◌}
-use Rattle.pgp_base.specs.Wire.{uint16, nullable}
-use Rattle.pgp_base.specs.Calls.{Gives, Runs}
+use Rattle.pgp_frontend.proofs.Common.{◌≡◌, ℕ, List, Option, length, flat_map, ◌⊕◌, uint16, nullable, Gives, Runs}
 use Rattle.pgp_frontend.proofs.values.put_values.Given as goal
 
 abbrev pub invariant-loop-item : goal.invariant-loop-item

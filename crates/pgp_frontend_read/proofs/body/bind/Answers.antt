@@ -1,4 +1,4 @@
-use Rattle.std.proofs.Common.{rules, ◌∙◌}
+use Rattle.pgp_frontend_read.proofs.Common.{rules, ◌∙◌}
 use Rattle.pgp_frontend_read.proofs.Bodies.{bind_is}
 use Rattle.pgp_frontend_read.proofs.body.bind.Goals as goal
 

@@ -1,4 +1,4 @@
-use Rattle.std.proofs.Common.{rules, ◌∙◌}
+use Rattle.pgp_frontend_read.proofs.Common.{rules, ◌∙◌}
 use Rattle.pgp_frontend_read.proofs.Bodies.{parse_is}
 use Rattle.pgp_frontend_read.proofs.body.parse.Goals as goal
 

@@ -1,5 +1,4 @@
-use Rattle.std.proofs.Common.{◌≡◌, List, ℕ, length, take, true, false, Ok, Err, rules, refl, ap, ◌∙◌, subst}
-use Rattle.pgp_frontend_read.specs.Holding.{Holds, Opens}
+use Rattle.pgp_frontend_read.proofs.Common.{◌≡◌, List, ℕ, length, take, true, false, Ok, Err, rules, refl, ap, ◌∙◌, subst, Holds, Opens}
 use Rattle.pgp_frontend_read.proofs.Holdings.{held_size, completes_none, completes_some, completes_refused}
 use Rattle.pgp_frontend_read.proofs.client_parser.complete.Goals as goal
 

@@ -1,5 +1,4 @@
-use Rattle.std.proofs.Common.{◌≡◌, rules, length}
-use Rattle.pgp_frontend_read.specs.Holding.{Fills, wanted, is_whole}
+use Rattle.pgp_frontend_read.proofs.Common.{◌≡◌, rules, length, Fills, wanted, is_whole}
 use Rattle.pgp_frontend_read.proofs.Holdings.{hold_done}
 use Rattle.pgp_frontend_read.proofs.client_parser.hold.Goals as goal
 

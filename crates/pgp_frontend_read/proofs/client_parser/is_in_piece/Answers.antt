@@ -1,6 +1,4 @@
-use Rattle.std.proofs.Common.{◌≡◌, [], ◌++◌, rules, arith, length, subst}
-use Rattle.pgp_frontend_read.specs.Holding.{IsWanted, is_whole}
-use Rattle.std.proofs.lemmas.Bool.Decides.{nat_tests}
+use Rattle.pgp_frontend_read.proofs.Common.{◌≡◌, [], ◌++◌, rules, arith, length, subst, IsWanted, is_whole, nat_tests}
 use Rattle.pgp_frontend_read.proofs.Handing.{none_left}
 use Rattle.pgp_frontend_read.proofs.Holdings.{piece_done}
 use Rattle.pgp_frontend_read.proofs.client_parser.is_in_piece.Goals as goal

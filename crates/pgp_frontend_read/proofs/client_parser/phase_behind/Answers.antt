@@ -1,8 +1,4 @@
-use Rattle.std.proofs.Common.{rules, Bool, true, false, List, ℕ, length, Ok, refl, subst}
-use Rattle.pgp_frontend.specs.ClientMessage.{Password}
-use Rattle.pgp_frontend_read.specs.Step.{Step, Refuses}
-use Rattle.pgp_frontend_read.specs.Views.{read}
-use Rattle.pgp_frontend_read.specs.Holding.{HasSize}
+use Rattle.pgp_frontend_read.proofs.Common.{rules, Bool, true, false, List, ℕ, length, Ok, refl, subst, Password, Step, Refuses, read, HasSize}
 use Rattle.pgp_frontend_read.proofs.Handing.{frame_read, packet_opened, packet_refused}
 use Rattle.pgp_frontend_read.proofs.Steps.{left}
 use Rattle.pgp_frontend_read.proofs.client_parser.phase_behind.Goals as goal

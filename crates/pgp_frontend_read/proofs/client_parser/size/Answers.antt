@@ -1,6 +1,4 @@
-use Rattle.std.proofs.Common.{◌≤◌, ◌<◌, ◌++◌, ℕ, List, length, refl, arith, inl, inr, length-append}
-use Rattle.pgp_base.specs.Wire.{IsBytes}
-use Rattle.pgp_frontend_read.specs.Holding.{header}
+use Rattle.pgp_frontend_read.proofs.Common.{◌≤◌, ◌<◌, ◌++◌, ℕ, List, length, refl, arith, inl, inr, length-append, IsBytes, header}
 use Rattle.pgp_frontend_read.proofs.Fronts.{length_there, fault_there}
 use Rattle.pgp_frontend_read.proofs.Headers.{short_within, low_within}
 use Rattle.pgp_frontend_read.proofs.Spelled.{bytes_joined}

@@ -1,6 +1,4 @@
-use Rattle.std.proofs.Common.{◌≡◌, ◌++◌, take, rules, ap, ◌∙◌, Err}
-use Rattle.std.proofs.lemmas.List.{take-append-drop}
-use Rattle.pgp_frontend_read.specs.Holding.{Opens}
+use Rattle.pgp_frontend_read.proofs.Common.{◌≡◌, ◌++◌, take, rules, ap, ◌∙◌, Err, take-append-drop, Opens}
 use Rattle.pgp_frontend_read.proofs.Holdings.{front_size, front_refused}
 use Rattle.pgp_frontend_read.proofs.client_parser.take_off.Goals as goal
 

@@ -1,4 +1,4 @@
-use Rattle.std.proofs.Common.{◌≡◌, length}
+use Rattle.pgp_frontend_read.proofs.Common.{◌≡◌, length}
 use Rattle.pgp_frontend_read.proofs.ends.ends.Given as goal
 
 abbrev pub invariant-items : goal.invariant-items

@@ -1,5 +1,4 @@
-use Rattle.std.proofs.Common.{rules, ◌≡◌, FitsSigned, to_z, of_z}
-use Rattle.std.specs.Int.{w16}
+use Rattle.pgp_frontend_read.proofs.Common.{rules, ◌≡◌, FitsSigned, to_z, of_z, w16}
 use Rattle.std.proofs.Math.Facts.{to_z-of_z}
 use Rattle.pgp_frontend_read.proofs.forwarding.forward.Goals as goal
 

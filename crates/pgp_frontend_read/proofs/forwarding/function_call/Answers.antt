@@ -1,5 +1,4 @@
-use Rattle.std.proofs.Common.{rules, ◌≡◌}
-use Rattle.pgp_base.specs.Wire.{int16}
+use Rattle.pgp_frontend_read.proofs.Common.{rules, ◌≡◌, int16}
 use Rattle.pgp_frontend_read.proofs.Rewritten.{writes_function_call}
 use Rattle.pgp_frontend_read.proofs.forwarding.function_call.Goals as goal
 

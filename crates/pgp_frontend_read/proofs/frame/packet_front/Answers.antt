@@ -1,5 +1,4 @@
-use Rattle.std.proofs.Common.{arith, false, refl, inl, inr}
-use Rattle.pgp_base.specs.Wire.{IsBytes}
+use Rattle.pgp_frontend_read.proofs.Common.{arith, false, refl, inl, inr, IsBytes}
 use Rattle.pgp_frontend_read.proofs.Fronts.{length_there, fault_there, unfinished_there, whole_packet}
 use Rattle.pgp_frontend_read.proofs.frame.packet_front.Goals as goal
 

@@ -1,4 +1,4 @@
-use Rattle.std.proofs.Common.{arith}
+use Rattle.pgp_frontend_read.proofs.Common.{arith}
 use Rattle.pgp_frontend_read.proofs.listed.items.Goals as goal
 
 pub returns-clause-bytes : goal.returns-clause-bytes

@@ -1,7 +1,4 @@
-use Rattle.std.proofs.Common.{rules, arith, false, None, ◌≤◌, length}
-use Rattle.pgp_base.specs.Wire.{IsBytes}
-use Rattle.pgp_frontend_read.specs.Step.{IsFront}
-use Rattle.pgp_frontend_read.specs.Views.{view}
+use Rattle.pgp_frontend_read.proofs.Common.{rules, arith, false, None, ◌≤◌, length, IsBytes, IsFront, view}
 use Rattle.pgp_frontend_read.proofs.Steps.{step_fault, step_opened, step_stopped}
 use Rattle.pgp_frontend_read.proofs.messages.opening.Goals as goal
 

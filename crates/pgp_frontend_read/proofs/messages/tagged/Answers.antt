@@ -1,6 +1,4 @@
-use Rattle.std.proofs.Common.{rules, arith, true}
-use Rattle.pgp_base.specs.Wire.{IsBytes}
-use Rattle.pgp_frontend_read.specs.Views.{kind_view, view}
+use Rattle.pgp_frontend_read.proofs.Common.{rules, arith, true, IsBytes, kind_view, view}
 use Rattle.pgp_frontend_read.proofs.Steps.{step_fault, step_taken, step_skipped}
 use Rattle.pgp_frontend_read.proofs.messages.tagged.Goals as goal
 

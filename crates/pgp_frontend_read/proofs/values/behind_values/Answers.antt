@@ -1,6 +1,4 @@
-use Rattle.std.proofs.Common.{rules, arith, ◌∷◌, ◌++◌, [], ◌≡◌, Ok, Err, Bor, List, ℕ}
-use Rattle.pgp_frontend_read.specs.Reading.{value_at, items_at}
-use Rattle.pgp_frontend_read.specs.Whole.{shown}
+use Rattle.pgp_frontend_read.proofs.Common.{rules, arith, ◌∷◌, ◌++◌, [], ◌≡◌, Ok, Err, Bor, List, ℕ, value_at, items_at, shown}
 use Rattle.pgp_frontend_read.proofs.Loops.{none_read, item_read, item_refused, rest_err}
 use Rattle.pgp_frontend_read.proofs.values.behind_values.Goals as goal
 

@@ -1,6 +1,4 @@
-use Rattle.std.proofs.Common.{◌≡◌, ◌-◌, ◌≤◌, List, ℕ, Option}
-use Rattle.pgp_frontend_read.specs.Reading.{value_at, items_at}
-use Rattle.pgp_frontend_read.specs.Whole.{behind}
+use Rattle.pgp_frontend_read.proofs.Common.{◌≡◌, ◌-◌, ◌≤◌, List, ℕ, Option, value_at, items_at, behind}
 use Rattle.pgp_frontend_read.proofs.values.behind_values.Given as goal
 
 -- after values that were read

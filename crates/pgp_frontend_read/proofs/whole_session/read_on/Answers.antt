@@ -1,9 +1,4 @@
-use Rattle.std.proofs.Common.{rules, ◌≡◌, map, List, [], ◌∷◌, ◌++◌, Some, None, Ok, Err, sym, ap, ◌∙◌, subst}
-use Rattle.std.proofs.lemmas.List.{map-append}
-use Rattle.pgp_frontend.specs.ClientMessage.{ClientMessage, PasswordKind}
-use Rattle.pgp_frontend_read.specs.Step.{Step}
-use Rattle.pgp_frontend_read.specs.Reads.{HasRead, next_kind}
-use Rattle.pgp_frontend_read.specs.Views.{kind_view, view}
+use Rattle.pgp_frontend_read.proofs.Common.{rules, ◌≡◌, map, List, [], ◌∷◌, ◌++◌, Some, None, Ok, Err, sym, ap, ◌∙◌, subst, map-append, ClientMessage, PasswordKind, Step, HasRead, next_kind, kind_view, view}
 use Rattle.pgp_frontend_read.proofs.Sessions.{one_more, ends_with, shorter}
 use Rattle.pgp_frontend_read.proofs.whole_session.read_on.Goals as goal
 

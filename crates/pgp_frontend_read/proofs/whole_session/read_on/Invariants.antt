@@ -1,6 +1,4 @@
-use Rattle.std.proofs.Common.{map, length}
-use Rattle.pgp_frontend_read.specs.Reads.{HasRead}
-use Rattle.pgp_frontend_read.specs.Views.{kind_view, view}
+use Rattle.pgp_frontend_read.proofs.Common.{map, length, HasRead, kind_view, view}
 use Rattle.pgp_frontend_read.proofs.whole_session.read_on.Given as goal
 
 -- the messages so far are those of steps, and these kinds are left

@@ -1,6 +1,4 @@
-use Rattle.std.proofs.Common.{◌≡◌, ◌∷◌, ◌++◌, ap, subst, ◌∙◌}
-use Rattle.std.specs.Prelude.{string_bytes, OnOk}
-use Rattle.std.specs.Fmt.{styled_decimal}
+use Rattle.pgp_line.proofs.Common.{◌≡◌, ◌∷◌, ◌++◌, ap, subst, ◌∙◌, string_bytes, OnOk, styled_decimal}
 use Rattle.pgp_line.proofs.Columns.{right_8}
 use Rattle.pgp_line.proofs.line.put_length.Goals as goal
 

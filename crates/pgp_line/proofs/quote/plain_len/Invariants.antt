@@ -1,7 +1,5 @@
 -- What came so far stands as it is.
-use Rattle.std.proofs.Common.{◌≡◌, ◌≤◌, ◌+◌, ◌-◌, true, length, take, drop}
-use Rattle.std.specs.List.{list_all, prefix_len}
-use Rattle.pgp_line.specs.Plain.{is_plain}
+use Rattle.pgp_line.proofs.Common.{◌≡◌, ◌≤◌, ◌+◌, ◌-◌, true, length, take, drop, list_all, prefix_len, is_plain}
 use Rattle.pgp_line.proofs.quote.plain_len.Given as goal
 
 abbrev pub invariant-bytes : goal.invariant-bytes

@@ -1,8 +1,4 @@
-use Rattle.std.proofs.Common.{arith, rules, ◌∙◌, ap, ◌++◌}
-use Rattle.std.specs.Prelude.{string_bytes}
-use Rattle.std.specs.List.{flat_map}
-use Rattle.std.proofs.lemmas.List.{take_all}
-use Rattle.pgp_line.specs.Quoting.{escaped_byte}
+use Rattle.pgp_line.proofs.Common.{arith, rules, ◌∙◌, ap, ◌++◌, string_bytes, flat_map, take_all, escaped_byte}
 use Rattle.pgp_line.proofs.Parts.{text_more}
 use Rattle.pgp_line.proofs.quote.put_bytes.Goals as goal
 

@@ -1,9 +1,4 @@
-use Rattle.std.proofs.Common.{arith, rules, ◌∙◌, ap, ◌++◌}
-use Rattle.std.specs.Prelude.{string_bytes}
-use Rattle.std.specs.List.{flat_map}
-use Rattle.std.proofs.lemmas.List.{take_all}
-use Rattle.pgp_line.specs.declared.style.Form.TheVariants.{Columns}
-use Rattle.pgp_line.specs.Quoting.{hex_escape}
+use Rattle.pgp_line.proofs.Common.{arith, rules, ◌∙◌, ap, ◌++◌, string_bytes, flat_map, take_all, Columns, hex_escape}
 use Rattle.pgp_line.proofs.Parts.{text_more}
 use Rattle.pgp_line.proofs.quote.put_escapes.Goals as goal
 

@@ -1,4 +1,4 @@
-use Rattle.std.proofs.Common.{rules}
+use Rattle.pgp_line.proofs.Common.{rules}
 use Rattle.pgp_line.proofs.Escapes.{plain_end}
 use Rattle.pgp_line.proofs.quote.put_plain.Goals as goal
 

@@ -1,5 +1,5 @@
-use Rattle.std.proofs.Common.{rules, string_bytes, sym, ◌∙◌, length}
-use Rattle.std.proofs.lemmas.Bool.{eqb-true}
+use Rattle.pgp_line.proofs.Common.{rules, sym, ◌∙◌, length, eqb-true}
+use Rattle.std.proofs.Common.{string_bytes}
 use Rattle.pgp_line.proofs.Escapes.{all_added}
 use Rattle.pgp_line.proofs.quote.put_text.Goals as goal
 

@@ -1,9 +1,7 @@
 -- What is still to come makes of the line what all was to make of it.
-use Rattle.std.proofs.Common.{◌≡◌, ◌++◌, length}
-use Rattle.std.specs.Prelude.{string_bytes}
+use Rattle.pgp_line.proofs.Common.{◌≡◌, ◌++◌, length, string_bytes, escaped_text}
 use denote.Shadow.{shadow}
 use denote.Text.{Utf8}
-use Rattle.pgp_line.specs.Plain.{escaped_text}
 use Rattle.pgp_line.proofs.quote.put_text.Given as goal
 
 abbrev pub invariant-runs : goal.invariant-runs

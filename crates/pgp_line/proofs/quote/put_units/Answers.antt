@@ -1,4 +1,4 @@
-use Rattle.std.specs.Prelude.{string_bytes}
+use Rattle.pgp_line.proofs.Common.{string_bytes}
 use Rattle.pgp_line.proofs.Escapes.{pair_added}
 use Rattle.pgp_line.proofs.quote.put_units.Goals as goal
 

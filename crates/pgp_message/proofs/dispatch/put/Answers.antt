@@ -1,6 +1,4 @@
-use Rattle.std.proofs.Common.{rules, map, ap, ◌∙◌}
-use Rattle.std.proofs.lemmas.List.{map_push}
-use Rattle.pgp_message.specs.Views.{seen}
+use Rattle.pgp_message.proofs.Common.{rules, map, ap, ◌∙◌, map_push, seen}
 use Rattle.pgp_message.proofs.dispatch.put.Goals as goal
 
 pub returns-clause-joined : goal.returns-clause-joined

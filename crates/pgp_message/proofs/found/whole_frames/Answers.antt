@@ -1,5 +1,4 @@
-use Rattle.std.proofs.Common.{rules}
-use Rattle.pgp_message.specs.FrontReading.{Front, IsFront}
+use Rattle.pgp_message.proofs.Common.{rules, Front, IsFront}
 use Rattle.pgp_message.proofs.FindLemmas.{finding_none, finding_more, finding_within, finds_frames}
 use Rattle.pgp_message.proofs.found.whole_frames.Goals as goal
 

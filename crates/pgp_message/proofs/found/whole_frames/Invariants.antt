@@ -1,5 +1,4 @@
-use Rattle.std.proofs.Common.{◌≡◌, length}
-use Rattle.pgp_message.specs.Remembered.{header_of}
+use Rattle.pgp_message.proofs.Common.{◌≡◌, length, header_of}
 use Rattle.pgp_message.proofs.FindLemmas.{Finding}
 use Rattle.pgp_message.proofs.found.whole_frames.Given as goal
 

@@ -1,8 +1,5 @@
-use Rattle.std.proofs.Common.{◌≡◌, ◌+◌, ◌-◌, ◌<◌, ◌∷◌, [], drop, length, map, rules, arith, ap}
-use Rattle.std.proofs.lemmas.List.{length-append, length-drop, length-map}
-use Rattle.pgp_message.specs.Found.{TakesSome}
-use Rattle.pgp_message.specs.FrameSteps.{TakesOnto}
-use Rattle.pgp_message.specs.Views.{seen}
+use Rattle.pgp_message.proofs.Common.{◌≡◌, ◌+◌, ◌-◌, ◌<◌, ◌∷◌, [], drop, length, map, rules, arith, ap, length-drop, length-map, TakesSome, TakesOnto, seen}
+use Rattle.std.proofs.lemmas.List.{length-append}
 use Rattle.pgp_message.proofs.FindLemmas.{frames_some, frames_begin, taking_none, taking_more, taking_some, taking_all, takes_none}
 use Rattle.pgp_message.proofs.frames.read_frames.Goals as goal
 

@@ -1,5 +1,4 @@
-use Rattle.std.proofs.Common.{ℕ, ◌+◌, ◌-◌, ◌≤◌, drop, length, map, vec_len, vec_capacity}
-use Rattle.pgp_message.specs.Views.{seen}
+use Rattle.pgp_message.proofs.Common.{ℕ, ◌+◌, ◌-◌, ◌≤◌, drop, length, map, vec_len, vec_capacity, seen}
 use Rattle.pgp_message.proofs.FindLemmas.{Taking}
 use Rattle.pgp_message.proofs.frames.read_frames.Given as goal
 

@@ -1,7 +1,4 @@
-use Rattle.std.proofs.Common.{◌≡◌, ◌+◌, ◌-◌, map, take, drop, rules, refl, sym, ap, ◌∙◌}
-use Rattle.std.proofs.lemmas.List.{drop-drop}
-use Rattle.pgp_message.specs.FrontReading.{Front, IsFront}
-use Rattle.pgp_message.specs.Views.{seen}
+use Rattle.pgp_message.proofs.Common.{◌≡◌, ◌+◌, ◌-◌, map, take, drop, rules, refl, sym, ap, ◌∙◌, drop-drop, Front, IsFront, seen}
 use Rattle.pgp_message.proofs.FindLemmas.{payload_at, takes_onto}
 use Rattle.pgp_message.proofs.Steps.{payload_of_front}
 use Rattle.pgp_message.proofs.frames.read_onto.Goals as goal

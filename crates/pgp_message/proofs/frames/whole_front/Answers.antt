@@ -1,4 +1,4 @@
-use Rattle.std.proofs.Common.{◌+◌, rules}
+use Rattle.pgp_message.proofs.Common.{◌+◌, rules}
 use Rattle.pgp_message.proofs.FindLemmas.{begins_long, front_begins}
 use Rattle.pgp_message.proofs.frames.whole_front.Goals as goal
 

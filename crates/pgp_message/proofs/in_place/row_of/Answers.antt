@@ -1,5 +1,4 @@
-use Rattle.std.proofs.Common.{arith, sym}
-use Rattle.pgp_base.specs.Wire.{IsBytes}
+use Rattle.pgp_message.proofs.Common.{arith, sym, IsBytes}
 use Rattle.pgp_message.proofs.RowSteps.{row_tag}
 use Rattle.pgp_message.proofs.in_place.row_of.Goals as goal
 

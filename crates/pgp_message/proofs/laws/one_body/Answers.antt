@@ -1,4 +1,4 @@
-use Rattle.std.proofs.Common.{sym, ◌∙◌}
+use Rattle.pgp_message.proofs.Common.{sym, ◌∙◌}
 use Rattle.pgp_message.proofs.Bodies.{one_body}
 use Rattle.pgp_message.proofs.laws.one_body.Goals as goal
 

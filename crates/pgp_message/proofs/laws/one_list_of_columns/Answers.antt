@@ -1,6 +1,4 @@
-use Rattle.pgp_base.proofs.OneLists.{one_counted_list}
-use Rattle.pgp_message.specs.Items.{FieldSpelled, FieldRefused, RawFieldSpelled, RawFieldRefused}
-use Rattle.pgp_message.specs.ItemReading.{field_at, raw_field_at}
+use Rattle.pgp_message.proofs.Common.{one_counted_list, FieldSpelled, FieldRefused, RawFieldSpelled, RawFieldRefused, field_at, raw_field_at}
 use Rattle.pgp_message.proofs.FieldLemmas.{field_reader}
 use Rattle.pgp_message.proofs.RawLemmas.{raw_field_reader}
 use Rattle.pgp_message.proofs.laws.one_list_of_columns.Goals as goal

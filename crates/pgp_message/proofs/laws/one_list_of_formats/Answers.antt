@@ -1,6 +1,4 @@
-use Rattle.pgp_base.proofs.OneLists.{one_counted_list}
-use Rattle.pgp_message.specs.Items.{FormatSpelled, FormatRefused}
-use Rattle.pgp_message.specs.ItemReading.{format_at}
+use Rattle.pgp_message.proofs.Common.{one_counted_list, FormatSpelled, FormatRefused, format_at}
 use Rattle.pgp_message.proofs.NumberLemmas.{format_reader}
 use Rattle.pgp_message.proofs.laws.one_list_of_formats.Goals as goal
 

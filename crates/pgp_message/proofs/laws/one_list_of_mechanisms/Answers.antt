@@ -1,7 +1,4 @@
-use Rattle.pgp_base.proofs.OneLists.{one_marked_list}
-use Rattle.pgp_message.specs.Items.{TextSpelled, TextRefused, StringSpelled, StringRefused}
-use Rattle.pgp_base.specs.PartReading.{text_at}
-use Rattle.pgp_message.specs.ItemReading.{raw_string_at}
+use Rattle.pgp_message.proofs.Common.{one_marked_list, TextSpelled, TextRefused, StringSpelled, StringRefused, text_at, raw_string_at}
 use Rattle.pgp_message.proofs.TextLemmas.{text_reader}
 use Rattle.pgp_message.proofs.RawLemmas.{string_reader}
 use Rattle.pgp_message.proofs.laws.one_list_of_mechanisms.Goals as goal

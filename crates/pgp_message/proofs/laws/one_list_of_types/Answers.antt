@@ -1,6 +1,4 @@
-use Rattle.pgp_base.proofs.OneLists.{one_counted_list}
-use Rattle.pgp_message.specs.Items.{TypeSpelled, TypeRefused}
-use Rattle.pgp_message.specs.ItemReading.{type_at}
+use Rattle.pgp_message.proofs.Common.{one_counted_list, TypeSpelled, TypeRefused, type_at}
 use Rattle.pgp_message.proofs.NumberLemmas.{type_reader}
 use Rattle.pgp_message.proofs.laws.one_list_of_types.Goals as goal
 

@@ -1,4 +1,4 @@
-use Rattle.pgp_message.specs.Reading.{body_of}
+use Rattle.pgp_message.proofs.Common.{body_of}
 use Rattle.pgp_message.proofs.Bodies.{body_is}
 use Rattle.pgp_message.proofs.laws.some_body.Goals as goal
 

@@ -1,5 +1,4 @@
-use Rattle.std.proofs.Common.{rules, arith, ◌≤◌, refl, inl, inr}
-use Rattle.pgp_base.specs.Wire.{IsBytes}
+use Rattle.pgp_message.proofs.Common.{rules, arith, ◌≤◌, refl, inl, inr, IsBytes}
 use Rattle.pgp_message.proofs.Families.{code_takes}
 use Rattle.pgp_message.proofs.request.request_keeps_bytes.Goals as goal
 

@@ -1,4 +1,4 @@
-use Rattle.std.proofs.Common.{length}
+use Rattle.pgp_message.proofs.Common.{length}
 use Rattle.pgp_base.proofs.Walks.{HasCollected}
 use Rattle.pgp_message.proofs.row_index.fill.Given as goal
 

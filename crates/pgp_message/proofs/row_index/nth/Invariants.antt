@@ -1,5 +1,4 @@
-use Rattle.std.proofs.Common.{◌≡◌}
-use Rattle.pgp_message.specs.Table.{place_at}
+use Rattle.pgp_message.proofs.Common.{◌≡◌, place_at}
 use Rattle.pgp_message.proofs.row_index.nth.Given as goal
 
 abbrev pub invariant-columns : goal.invariant-columns

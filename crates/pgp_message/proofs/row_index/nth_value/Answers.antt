@@ -1,5 +1,4 @@
-use Rattle.std.proofs.Common.{Some, None, Ok, sym, ap, ◌∙◌}
-use Rattle.pgp_message.specs.Parts.{CountedBytes}
+use Rattle.pgp_message.proofs.Common.{Some, None, Ok, sym, ap, ◌∙◌, CountedBytes}
 use Rattle.pgp_message.proofs.ColumnLemmas.{column_in, column_is}
 use Rattle.pgp_message.proofs.row_index.nth_value.Goals as goal
 

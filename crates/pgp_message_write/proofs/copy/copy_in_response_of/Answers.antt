@@ -1,13 +1,5 @@
-use Rattle.pgp_base.specs.Calls.{Yielded}
-use Rattle.pgp_base.specs.Cause.{count_cause}
-use Rattle.pgp_base.specs.Wire.{uint16}
-use Rattle.pgp_frontend.specs.Payload.{Byte, joined}
-use Rattle.pgp_message.specs.BackendMessage.{CopyInResponse}
+use Rattle.pgp_message_write.proofs.Common.{Yielded, count_cause, uint16, Byte, joined, CopyInResponse, counted_list, format_parts, formats_of, length, refl, ap, ◌∷◌, flat_map}
 use Rattle.pgp_message_write.proofs.GivenLists.{counted_spelled, message_given}
-use Rattle.pgp_message_write.specs.Lists.{counted_list, format_parts}
-use Rattle.pgp_message_write.specs.Reply.{formats_of}
-use Rattle.std.proofs.Common.{length, refl, ap, ◌∷◌}
-use Rattle.std.specs.List.{flat_map}
 use Rattle.pgp_message_write.proofs.copy.copy_in_response_of.Goals as goal
 
 pub returns : goal.returns

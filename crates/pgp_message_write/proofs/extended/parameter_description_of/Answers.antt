@@ -1,12 +1,5 @@
-use Rattle.pgp_base.specs.Calls.{Yielded}
-use Rattle.pgp_base.specs.Cause.{count_cause}
-use Rattle.pgp_base.specs.Wire.{uint16}
-use Rattle.pgp_frontend.specs.Payload.{joined}
+use Rattle.pgp_message_write.proofs.Common.{Yielded, count_cause, uint16, joined, counted_list, type_parts, types_of, length, refl, flat_map}
 use Rattle.pgp_message_write.proofs.GivenLists.{counted_spelled, message_given}
-use Rattle.pgp_message_write.specs.Lists.{counted_list, type_parts}
-use Rattle.pgp_message_write.specs.Reply.{types_of}
-use Rattle.std.proofs.Common.{length, refl}
-use Rattle.std.specs.List.{flat_map}
 use Rattle.pgp_message_write.proofs.extended.parameter_description_of.Goals as goal
 
 pub returns : goal.returns

@@ -1,13 +1,4 @@
-use Rattle.std.proofs.Common.{arith, inl, inr}
-use Rattle.std.specs.List.{flat_map}
-use Rattle.pgp_base.specs.Wire.{uint32}
-use Rattle.pgp_base.proofs.Needs.{memory_more, memory_then}
-use Rattle.pgp_base.proofs.Parts.{if_err_at, length-uint32}
-use Rattle.pgp_frontend.specs.Payload.{joined}
-use Rattle.pgp_frontend.specs.View.{parts_of}
-use Rattle.pgp_frontend.proofs.Frames.{frame_room, frame_done, frame_fits, frame_passes, frame_refused}
-use Rattle.pgp_frontend.proofs.Needs.{framed_length}
-use Rattle.pgp_message_write.specs.Lists.{with_list}
+use Rattle.pgp_message_write.proofs.Common.{arith, inl, inr, flat_map, uint32, memory_more, memory_then, if_err_at, length-uint32, joined, parts_of, frame_room, frame_done, frame_fits, frame_passes, frame_refused, framed_length, with_list}
 use Rattle.pgp_message_write.proofs.list_message.fill.Goals as goal
 
 pub finish_body-requires : goal.finish_body-requires

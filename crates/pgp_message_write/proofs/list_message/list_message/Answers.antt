@@ -1,11 +1,4 @@
-use Rattle.std.proofs.Common.{arith, [], ◌∷◌}
-use Rattle.std.specs.List.{flat_map}
-use Rattle.pgp_base.proofs.Needs.{memory_more, refused_then, writes_memory}
-use Rattle.pgp_base.proofs.Parts.{cut_back, front_then, left_same}
-use Rattle.pgp_frontend.specs.Payload.{joined}
-use Rattle.pgp_frontend.specs.View.{parts_of}
-use Rattle.pgp_frontend.proofs.Needs.{framed_length, tagged_length}
-use Rattle.pgp_message_write.specs.Lists.{with_list}
+use Rattle.pgp_message_write.proofs.Common.{arith, [], ◌∷◌, flat_map, memory_more, refused_then, writes_memory, cut_back, front_then, left_same, joined, parts_of, framed_length, tagged_length, with_list}
 use Rattle.pgp_message_write.proofs.list_message.list_message.Goals as goal
 
 pub returns-in-Err : goal.returns-in-Err

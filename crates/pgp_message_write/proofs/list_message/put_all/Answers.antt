@@ -1,6 +1,4 @@
-use Rattle.std.specs.List.{flat_map}
-use Rattle.pgp_base.proofs.Parts.{if_err_at}
-use Rattle.pgp_frontend.specs.View.{parts_of}
+use Rattle.pgp_message_write.proofs.Common.{flat_map, if_err_at, parts_of}
 use Rattle.pgp_message_write.proofs.Lists.{puts_then, refused_before, refused_behind}
 use Rattle.pgp_message_write.proofs.list_message.put_all.Goals as goal
 

@@ -1,5 +1,4 @@
-use Rattle.std.proofs.Common.{rules}
-use Rattle.pgp_base.proofs.Parts.{if_err_at}
+use Rattle.pgp_message_write.proofs.Common.{rules, if_err_at}
 use Rattle.pgp_message_write.proofs.Lists.{items_put, items_refused}
 use Rattle.pgp_message_write.proofs.list_message.put_items.Goals as goal
 

@@ -1,6 +1,4 @@
-use Rattle.std.proofs.Common.{take}
-use Rattle.std.specs.List.{flat_map}
-use Rattle.pgp_frontend.specs.Putting.{PutsParts}
+use Rattle.pgp_message_write.proofs.Common.{take, flat_map, PutsParts}
 use Rattle.pgp_message_write.proofs.list_message.put_items.Given as goal
 
 abbrev pub invariant-loop-item : goal.invariant-loop-item

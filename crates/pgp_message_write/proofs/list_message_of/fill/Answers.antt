@@ -1,12 +1,4 @@
-use Rattle.std.proofs.Common.{arith, [], ◌++◌, length, refl, inl, inr}
-use Rattle.pgp_base.proofs.Causes.{either_none}
-use Rattle.pgp_base.proofs.Needs.{memory_more}
-use Rattle.pgp_base.proofs.Parts.{if_err_at}
-use Rattle.pgp_frontend.specs.Payload.{frame_cause, joined, parts_cause}
-use Rattle.pgp_frontend.specs.View.{parts_of}
-use Rattle.pgp_frontend.proofs.Frames.{frame_room, frame_done, frame_fits, frame_passes}
-use Rattle.pgp_frontend.proofs.Needs.{framed_length}
-use Rattle.pgp_message_write.specs.Ending.{list_parts, number_cause}
+use Rattle.pgp_message_write.proofs.Common.{arith, [], ◌++◌, length, refl, inl, inr, either_none, memory_more, if_err_at, frame_cause, joined, parts_cause, parts_of, frame_room, frame_done, frame_fits, frame_passes, framed_length, list_parts, number_cause}
 use Rattle.pgp_message_write.proofs.Lists.{puts_then}
 use Rattle.pgp_message_write.proofs.GivenLists.{head_refused, list_behind, none_counted}
 use Rattle.pgp_message_write.proofs.list_message_of.fill.Goals as goal

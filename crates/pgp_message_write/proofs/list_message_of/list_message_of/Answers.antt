@@ -1,13 +1,5 @@
-use Rattle.std.proofs.Common.{arith, [], ◌++◌}
-use Rattle.pgp_base.specs.Calls.{Yielded}
-use Rattle.pgp_base.proofs.Needs.{memory_more}
-use Rattle.pgp_base.proofs.Parts.{cut_back, front_then, left_same}
-use Rattle.pgp_frontend.specs.Payload.{framed, joined}
+use Rattle.pgp_message_write.proofs.Common.{arith, [], ◌++◌, Yielded, memory_more, cut_back, front_then, left_same, framed, joined, parts_of, tagged, tagged_length, list_parts, number_cause}
 use Rattle.std.specs.Prelude.{Some}
-use Rattle.pgp_frontend.specs.View.{parts_of}
-use Rattle.pgp_frontend.proofs.Frames.{tagged}
-use Rattle.pgp_frontend.proofs.Needs.{tagged_length}
-use Rattle.pgp_message_write.specs.Ending.{list_parts, number_cause}
 use Rattle.pgp_message_write.proofs.GivenLists.{given_memory, tagged_refused}
 use Rattle.pgp_message_write.proofs.list_message_of.list_message_of.Goals as goal
 

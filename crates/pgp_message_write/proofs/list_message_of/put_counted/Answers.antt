@@ -1,13 +1,4 @@
-use Rattle.std.proofs.Common.{rules, arith, [], ◌∷◌, ◌++◌, length, refl, inl, inr, Some, sym, ◌∙◌, length-append}
-use Rattle.std.specs.List.{flat_map}
-use Rattle.pgp_base.specs.Held.{◌⊕◌}
-use Rattle.pgp_base.specs.Wire.{uint16}
-use Rattle.pgp_base.specs.Cause.{count_cause}
-use Rattle.pgp_base.proofs.Causes.{count_fits, count_past, either_first, either_none}
-use Rattle.pgp_base.proofs.Needs.{memory_more}
-use Rattle.pgp_base.proofs.Parts.{if_err_at, filled2, length-uint16, more_twice, nothing_more, sized2}
-use Rattle.pgp_frontend.specs.Payload.{joined, parts_cause}
-use Rattle.pgp_message_write.specs.Lists.{counted_list}
+use Rattle.pgp_message_write.proofs.Common.{rules, arith, [], ◌∷◌, ◌++◌, length, refl, inl, inr, Some, sym, ◌∙◌, length-append, flat_map, ◌⊕◌, uint16, count_cause, count_fits, count_past, either_first, either_none, memory_more, if_err_at, filled2, length-uint16, more_twice, nothing_more, sized2, joined, parts_cause, counted_list}
 use Rattle.pgp_message_write.proofs.GivenLists.{counted_refused, more_put, more_refused}
 use Rattle.pgp_message_write.proofs.list_message_of.put_counted.Goals as goal
 

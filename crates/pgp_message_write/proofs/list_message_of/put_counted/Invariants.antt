@@ -1,8 +1,4 @@
-use Rattle.std.proofs.Common.{◌≡◌, length}
-use Rattle.std.specs.List.{flat_map}
-use Rattle.pgp_base.specs.Held.{◌⊕◌}
-use Rattle.pgp_base.specs.Wire.{uint16}
-use Rattle.pgp_frontend.specs.Putting.{PutsParts}
+use Rattle.pgp_message_write.proofs.Common.{◌≡◌, length, flat_map, ◌⊕◌, uint16, PutsParts}
 use Rattle.pgp_message_write.proofs.list_message_of.put_counted.Given as goal
 
 abbrev pub invariant-loop-item : goal.invariant-loop-item

@@ -1,10 +1,4 @@
-use Rattle.std.proofs.Common.{rules, arith, [], ◌∷◌, ◌++◌, refl, inl, inr, None, Some, sym, length, length-append, ap}
-use Rattle.std.specs.List.{flat_map}
-use Rattle.std.proofs.lemmas.List.{append-nil}
-use Rattle.pgp_base.specs.Calls.{Yielded}
-use Rattle.pgp_base.proofs.Needs.{if_err_map, memory_then}
-use Rattle.pgp_base.proofs.Parts.{if_err_at}
-use Rattle.pgp_frontend.specs.Payload.{Byte, joined}
+use Rattle.pgp_message_write.proofs.Common.{rules, arith, [], ◌∷◌, ◌++◌, refl, inl, inr, None, Some, sym, length, length-append, ap, flat_map, append-nil, Yielded, if_err_map, memory_then, if_err_at, Byte, joined}
 use Rattle.pgp_message_write.proofs.Lists.{joined-append, refused_before}
 use Rattle.pgp_message_write.proofs.GivenLists.{marked_none, marked_put, more_put, more_refused}
 use Rattle.pgp_message_write.proofs.list_message_of.put_marked.Goals as goal

@@ -1,5 +1,4 @@
-use Rattle.std.specs.List.{flat_map}
-use Rattle.pgp_frontend.specs.Putting.{PutsParts}
+use Rattle.pgp_message_write.proofs.Common.{flat_map, PutsParts}
 use Rattle.pgp_message_write.proofs.list_message_of.put_marked.Given as goal
 
 abbrev pub invariant-loop-item : goal.invariant-loop-item

@@ -1,15 +1,5 @@
-use Rattle.std.proofs.Common.{rules, arith, [], ◌∷◌, ◌++◌, length, refl, inl, inr, Some, sym, ap, ◌∙◌, length-append}
+use Rattle.pgp_message_write.proofs.Common.{rules, arith, [], ◌∷◌, ◌++◌, length, refl, inl, inr, Some, sym, ap, ◌∙◌, length-append, flat_map, ◌⊕◌, int32, uint32, length_cause, either_first, either_none, length_fits, length_past, memory_more, if_err_at, filled4, more_twice, nothing_more, sized4, int32_length, joined, parts_cause, wide_list}
 use Rattle.std.specs.Prelude.{pos}
-use Rattle.std.specs.List.{flat_map}
-use Rattle.pgp_base.specs.Held.{◌⊕◌}
-use Rattle.pgp_base.specs.Wire.{int32, uint32}
-use Rattle.pgp_base.specs.Cause.{length_cause}
-use Rattle.pgp_base.proofs.Causes.{either_first, either_none, length_fits, length_past}
-use Rattle.pgp_base.proofs.Needs.{memory_more}
-use Rattle.pgp_base.proofs.Parts.{if_err_at, filled4, more_twice, nothing_more, sized4}
-use Rattle.pgp_frontend.proofs.Needs.{int32_length}
-use Rattle.pgp_frontend.specs.Payload.{joined, parts_cause}
-use Rattle.pgp_message_write.specs.Lists.{wide_list}
 use Rattle.pgp_message_write.proofs.GivenLists.{more_put, more_refused, wide_number, wide_refused}
 use Rattle.pgp_message_write.proofs.list_message_of.put_wide.Goals as goal
 

@@ -1,10 +1,4 @@
-use Rattle.std.proofs.Common.{map, [], ◌∷◌, ◌++◌, None, refl, ap, pos}
-use Rattle.std.specs.List.{flat_map}
-use Rattle.pgp_base.specs.Wire.{int32}
-use Rattle.pgp_frontend.specs.Payload.{Byte, Int32}
-use Rattle.pgp_message.specs.BackendMessage.{Authentication, AuthenticationSasl}
-use Rattle.pgp_message_write.specs.Lists.{text_parts}
-use Rattle.pgp_message_write.specs.Reply.{names_of}
+use Rattle.pgp_message_write.proofs.Common.{map, [], ◌∷◌, ◌++◌, None, refl, ap, pos, flat_map, int32, Byte, Int32, Authentication, AuthenticationSasl, text_parts, names_of}
 use Rattle.pgp_message_write.proofs.Written.{list_written, marked_joined, viewed}
 use Rattle.pgp_message_write.proofs.login.authentication_sasl.Goals as goal
 

@@ -1,14 +1,6 @@
-use Rattle.pgp_base.specs.Calls.{Yielded}
-use Rattle.pgp_base.specs.Wire.{int32}
-use Rattle.pgp_frontend.specs.Payload.{Int32}
-use Rattle.pgp_message.specs.BackendMessage.{Authentication, AuthenticationSasl}
+use Rattle.pgp_message_write.proofs.Common.{Yielded, int32, Int32, Authentication, AuthenticationSasl, uncounted, marked_list, text_parts, names_of, map, refl, ap, pos, ◌∷◌, ◌++◌, flat_map}
 use Rattle.pgp_message_write.proofs.GivenLists.{marked_view, message_given}
 use Rattle.pgp_message_write.proofs.Written.{marked_joined}
-use Rattle.pgp_message_write.specs.Given.{uncounted}
-use Rattle.pgp_message_write.specs.Lists.{marked_list, text_parts}
-use Rattle.pgp_message_write.specs.Reply.{names_of}
-use Rattle.std.proofs.Common.{map, refl, ap, pos, ◌∷◌, ◌++◌}
-use Rattle.std.specs.List.{flat_map}
 use Rattle.pgp_message_write.proofs.login.authentication_sasl_of.Goals as goal
 
 pub returns : goal.returns

@@ -1,12 +1,4 @@
-use Rattle.std.proofs.Common.{map, length, [], ◌∷◌, ◌++◌, ◌≡◌, ap, ◌∙◌, sym, pos}
-use Rattle.std.specs.List.{flat_map}
-use Rattle.std.proofs.lemmas.List.{length-map}
-use Rattle.std.proofs.Math.Facts.{to_z-of_z}
-use Rattle.pgp_base.specs.Cause.{length_cause}
-use Rattle.pgp_base.specs.Wire.{int32}
-use Rattle.pgp_frontend.specs.Payload.{Int32, Rest}
-use Rattle.pgp_message_write.specs.Lists.{text_parts, with_list}
-use Rattle.pgp_message_write.specs.Reply.{negotiation_of}
+use Rattle.pgp_message_write.proofs.Common.{map, length, [], ◌∷◌, ◌++◌, ◌≡◌, ap, ◌∙◌, sym, pos, flat_map, length-map, to_z-of_z, length_cause, int32, Int32, Rest, text_parts, with_list, negotiation_of}
 use Rattle.pgp_message_write.proofs.Lists.{joined-append}
 use Rattle.pgp_message_write.proofs.Written.{list_written, viewed}
 use Rattle.pgp_message_write.proofs.login.negotiate_protocol_version.Goals as goal

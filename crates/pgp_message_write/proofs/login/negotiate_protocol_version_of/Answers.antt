@@ -1,14 +1,5 @@
-use Rattle.pgp_base.specs.Calls.{Yielded}
-use Rattle.pgp_base.specs.Cause.{length_cause}
-use Rattle.pgp_base.specs.Wire.{int32}
-use Rattle.pgp_frontend.specs.Payload.{Int32, joined}
+use Rattle.pgp_message_write.proofs.Common.{Yielded, length_cause, int32, Int32, joined, wide_list, text_parts, negotiation_of, length, map, refl, ap, pos, ◌∷◌, ◌++◌, ◌∙◌, to_z-of_z, w32, cast_signed, cast_unsigned, flat_map}
 use Rattle.pgp_message_write.proofs.GivenLists.{counted_spelled, wide_view, message_given}
-use Rattle.pgp_message_write.specs.Lists.{wide_list, text_parts}
-use Rattle.pgp_message_write.specs.Reply.{negotiation_of}
-use Rattle.std.proofs.Common.{length, map, refl, ap, pos, ◌∷◌, ◌++◌, ◌∙◌}
-use Rattle.std.proofs.Math.Facts.{to_z-of_z}
-use Rattle.std.specs.Int.{w32, cast_signed, cast_unsigned}
-use Rattle.std.specs.List.{flat_map}
 use Rattle.pgp_message_write.proofs.login.negotiate_protocol_version_of.Goals as goal
 
 pub returns : goal.returns

@@ -1,10 +1,4 @@
-use Rattle.std.proofs.Common.{map, [], ◌∷◌, None, refl}
-use Rattle.std.specs.List.{flat_map}
-use Rattle.pgp_frontend.specs.Payload.{Byte}
-use Rattle.pgp_message.specs.BackendMessage.{ErrorResponse}
-use Rattle.pgp_message_write.specs.Lists.{field_parts}
-use Rattle.pgp_message_write.specs.Reply.{fields_of}
-use Rattle.pgp_message_write.specs.Views.{shown_field}
+use Rattle.pgp_message_write.proofs.Common.{map, [], ◌∷◌, None, refl, flat_map, Byte, ErrorResponse, field_parts, fields_of, shown_field}
 use Rattle.pgp_message_write.proofs.Written.{list_written, marked_joined, viewed}
 use Rattle.pgp_message_write.proofs.notice.error_response.Goals as goal
 

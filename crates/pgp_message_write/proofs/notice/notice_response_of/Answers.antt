@@ -1,13 +1,6 @@
-use Rattle.pgp_base.specs.Calls.{Yielded}
-use Rattle.pgp_message.specs.BackendMessage.{NoticeResponse}
+use Rattle.pgp_message_write.proofs.Common.{Yielded, NoticeResponse, uncounted, field_parts, marked_list, fields_of, shown_field, map, refl, flat_map}
 use Rattle.pgp_message_write.proofs.GivenLists.{marked_view, message_given}
 use Rattle.pgp_message_write.proofs.Written.{marked_joined}
-use Rattle.pgp_message_write.specs.Given.{uncounted}
-use Rattle.pgp_message_write.specs.Lists.{field_parts, marked_list}
-use Rattle.pgp_message_write.specs.Reply.{fields_of}
-use Rattle.pgp_message_write.specs.Views.{shown_field}
-use Rattle.std.proofs.Common.{map, refl}
-use Rattle.std.specs.List.{flat_map}
 use Rattle.pgp_message_write.proofs.notice.notice_response_of.Goals as goal
 
 pub returns : goal.returns

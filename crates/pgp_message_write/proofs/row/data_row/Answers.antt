@@ -1,9 +1,4 @@
-use Rattle.std.proofs.Common.{length, map, [], ◌∷◌, ap, ◌∙◌}
-use Rattle.std.specs.List.{flat_map}
-use Rattle.pgp_base.specs.Wire.{uint16}
-use Rattle.pgp_frontend.specs.Payload.{Rest}
-use Rattle.pgp_message_write.specs.Lists.{lent, value_parts, with_list}
-use Rattle.pgp_message_write.specs.Reply.{row_of}
+use Rattle.pgp_message_write.proofs.Common.{length, map, [], ◌∷◌, ap, ◌∙◌, flat_map, uint16, Rest, lent, value_parts, with_list, row_of}
 use Rattle.pgp_message_write.proofs.Written.{list_written, counted_joined, few, viewed_counted}
 use Rattle.pgp_message_write.proofs.row.data_row.Goals as goal
 

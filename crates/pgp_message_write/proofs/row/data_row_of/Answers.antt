@@ -1,12 +1,5 @@
-use Rattle.pgp_base.specs.Calls.{Yielded}
-use Rattle.pgp_base.specs.Cause.{count_cause}
-use Rattle.pgp_base.specs.Wire.{uint16}
-use Rattle.pgp_frontend.specs.Payload.{joined}
+use Rattle.pgp_message_write.proofs.Common.{Yielded, count_cause, uint16, joined, counted_list, lent, value_parts, row_of, length, map, refl, flat_map}
 use Rattle.pgp_message_write.proofs.GivenLists.{counted_spelled, counted_view, message_given}
-use Rattle.pgp_message_write.specs.Lists.{counted_list, lent, value_parts}
-use Rattle.pgp_message_write.specs.Reply.{row_of}
-use Rattle.std.proofs.Common.{length, map, refl}
-use Rattle.std.specs.List.{flat_map}
 use Rattle.pgp_message_write.proofs.row.data_row_of.Goals as goal
 
 pub returns : goal.returns

@@ -1,10 +1,4 @@
-use Rattle.std.proofs.Common.{length, map, [], ◌∷◌, ap, ◌∙◌}
-use Rattle.std.specs.List.{flat_map}
-use Rattle.pgp_base.specs.Wire.{uint16}
-use Rattle.pgp_frontend.specs.Payload.{Rest}
-use Rattle.pgp_message_write.specs.Lists.{column_parts, with_list}
-use Rattle.pgp_message_write.specs.Reply.{description_of}
-use Rattle.pgp_message_write.specs.Views.{shown_column}
+use Rattle.pgp_message_write.proofs.Common.{length, map, [], ◌∷◌, ap, ◌∙◌, flat_map, uint16, Rest, column_parts, with_list, description_of, shown_column}
 use Rattle.pgp_message_write.proofs.Written.{list_written, counted_joined, few, viewed_counted}
 use Rattle.pgp_message_write.proofs.row.row_description.Goals as goal
 

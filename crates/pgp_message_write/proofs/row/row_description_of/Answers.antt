@@ -1,13 +1,5 @@
-use Rattle.pgp_base.specs.Calls.{Yielded}
-use Rattle.pgp_base.specs.Cause.{count_cause}
-use Rattle.pgp_base.specs.Wire.{uint16}
-use Rattle.pgp_frontend.specs.Payload.{joined}
+use Rattle.pgp_message_write.proofs.Common.{Yielded, count_cause, uint16, joined, column_parts, counted_list, description_of, shown_column, length, map, refl, flat_map}
 use Rattle.pgp_message_write.proofs.GivenLists.{counted_spelled, counted_view, message_given}
-use Rattle.pgp_message_write.specs.Lists.{column_parts, counted_list}
-use Rattle.pgp_message_write.specs.Reply.{description_of}
-use Rattle.pgp_message_write.specs.Views.{shown_column}
-use Rattle.std.proofs.Common.{length, map, refl}
-use Rattle.std.specs.List.{flat_map}
 use Rattle.pgp_message_write.proofs.row.row_description_of.Goals as goal
 
 pub returns : goal.returns

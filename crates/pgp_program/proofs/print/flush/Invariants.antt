@@ -1,6 +1,5 @@
 -- Each try before this one was interrupted.
-use Rattle.std.proofs.Common.{◌≡◌, ◌⊎◌}
-use Rattle.std.specs.Io.KnownBytes.{Keeps}
+use Rattle.pgp_program.proofs.Common.{◌≡◌, ◌⊎◌, Keeps}
 use Rattle.pgp_program.proofs.print.flush.Given as goal
 
 abbrev pub invariant-tries : goal.invariant-tries

@@ -1,6 +1,5 @@
 -- What the writer took is gone from the rest.
-use Rattle.std.proofs.Common.{◌≡◌, ℕ, ◌-◌, List, ◌++◌, length, take, drop, sym, ap, ◌∙◌, append_assoc, take-append-drop}
-use Rattle.std.proofs.lemmas.List.{take_rest}
+use Rattle.pgp_program.proofs.Common.{◌≡◌, ℕ, ◌-◌, List, ◌++◌, length, take, drop, sym, ap, ◌∙◌, append_assoc, take-append-drop, take_rest}
 use Rattle.std.proofs.KnownBytes.{Appends-trans}
 use Rattle.pgp_program.proofs.print.write.Goals as goal
 

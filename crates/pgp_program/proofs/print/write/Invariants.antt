@@ -1,6 +1,5 @@
 -- What is gone from the rest was taken.
-use Rattle.std.proofs.Common.{◌≡◌, ℕ, List, ◌++◌, length}
-use Rattle.std.specs.Io.KnownBytes.{Appends}
+use Rattle.pgp_program.proofs.Common.{◌≡◌, ℕ, List, ◌++◌, length, Appends}
 use Rattle.pgp_program.proofs.print.write.Given as goal
 
 abbrev pub invariant-rest : goal.invariant-rest

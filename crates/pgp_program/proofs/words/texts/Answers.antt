@@ -1,5 +1,4 @@
-use Rattle.std.proofs.Common.{rules, map, string_bytes, [], ◌∷◌, sym, ap, subst, ◌∙◌}
-use Rattle.std.proofs.lemmas.List.{map-append}
+use Rattle.pgp_program.proofs.Common.{rules, map, string_bytes, [], ◌∷◌, sym, ap, subst, ◌∙◌, map-append}
 use Rattle.std.proofs.lemmas.Str.{IsUtf8-string_bytes}
 use Rattle.pgp_program.proofs.WordLemmas.{one_more}
 use Rattle.pgp_program.proofs.words.texts.Goals as goal

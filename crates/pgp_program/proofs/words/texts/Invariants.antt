@@ -1,5 +1,4 @@
-use Rattle.std.proofs.Common.{◌≡◌, map, string_bytes, ◌+◌, length}
-use Rattle.pgp_program.specs.Words.{TextsFrom}
+use Rattle.pgp_program.proofs.Common.{◌≡◌, map, string_bytes, ◌+◌, length, TextsFrom}
 use Rattle.pgp_program.proofs.words.texts.Given as goal
 
 abbrev pub invariant-places : goal.invariant-places

@@ -1,5 +1,5 @@
 use Rattle.std.specs.Prelude.{◌<◌, ◌-◌}
-use Rattle.pgp_program.specs.Words.{greatest}
+use Rattle.pgp_program.proofs.Common.{greatest}
 use Rattle.pgp_program.proofs.words.word.Given as goal
 
 abbrev pub invariant-sizes : goal.invariant-sizes

@@ -1,7 +1,4 @@
-use Rattle.std.proofs.Common.{sym, ◌∙◌, refl}
-use Rattle.std.proofs.lemmas.Str.{chars_past_char}
-use Rattle.std.proofs.StrCases.{chars_of_empty}
-use Rattle.pgp_saslprep.specs.SaslPrep.{begins}
+use Rattle.pgp_saslprep.proofs.Common.{sym, ◌∙◌, refl, chars_past_char, chars_of_empty, begins}
 use Rattle.pgp_saslprep.proofs.check.begins_with.Goals as goal
 
 pub returns-in-Some : goal.returns-in-Some

@@ -1,7 +1,4 @@
-use Rattle.std.proofs.Common.{sym, ◌∙◌, ap, refl, map-id}
-use Rattle.std.proofs.lemmas.Iterator.{YieldsList-from_chars}
-use Rattle.std.proofs.lemmas.Iterator.Consumers.{YieldsList-end}
-use Rattle.pgp_saslprep.specs.SaslPrep.{ends}
+use Rattle.pgp_saslprep.proofs.Common.{sym, ◌∙◌, ap, refl, map-id, YieldsList-from_chars, YieldsList-end, ends}
 use Rattle.pgp_saslprep.proofs.Ends.{ends_push}
 use Rattle.pgp_saslprep.proofs.check.ends_with.Goals as goal
 

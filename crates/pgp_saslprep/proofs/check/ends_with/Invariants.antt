@@ -1,5 +1,4 @@
-use Rattle.std.proofs.Common.{◌≡◌}
-use Rattle.pgp_saslprep.specs.SaslPrep.{ends}
+use Rattle.pgp_saslprep.proofs.Common.{◌≡◌, ends}
 use Rattle.pgp_saslprep.proofs.check.ends_with.Given as goal
 
 abbrev pub invariant-loop-c : goal.invariant-loop-c

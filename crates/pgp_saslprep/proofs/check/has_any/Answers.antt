@@ -1,7 +1,4 @@
-use Rattle.std.proofs.Common.{◌≡◌, true, false, sym, ◌∙◌}
-use Rattle.std.proofs.lemmas.Str.{IsUtf8-past_char, chars_past_char}
-use Rattle.std.proofs.StrCases.{chars_of_empty}
-use Rattle.pgp_saslprep.specs.Table.{in_table}
+use Rattle.pgp_saslprep.proofs.Common.{◌≡◌, true, false, sym, ◌∙◌, IsUtf8-past_char, chars_past_char, chars_of_empty, in_table}
 use Rattle.pgp_saslprep.proofs.check.has_any.Goals as goal
 
 pub returns-then-lists : goal.returns-then-lists

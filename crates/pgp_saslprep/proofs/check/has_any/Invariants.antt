@@ -1,6 +1,6 @@
-use Rattle.std.proofs.Common.{◌≡◌, IsUtf8, chars}
+use Rattle.pgp_saslprep.proofs.Common.{◌≡◌, chars, has}
+use Rattle.std.proofs.Common.{IsUtf8}
 use Rattle.std.specs.Str.Iter.{chars_rest}
-use Rattle.pgp_saslprep.specs.SaslPrep.{has}
 use Rattle.pgp_saslprep.proofs.check.has_any.Given as goal
 
 abbrev pub invariant-loop-c : goal.invariant-loop-c

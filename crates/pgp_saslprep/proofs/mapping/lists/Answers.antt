@@ -1,6 +1,4 @@
-use Rattle.std.proofs.Common.{◌≡◌, ◌+◌, ◌-◌, ◌/◌, length, drop, sym, ap, ◌∙◌, arith, inl, inr}
-use Rattle.std.proofs.lemmas.Bool.{cases_lt}
-use Rattle.pgp_saslprep.specs.Table.{in_table}
+use Rattle.pgp_saslprep.proofs.Common.{◌≡◌, ◌+◌, ◌-◌, ◌/◌, length, drop, sym, ap, ◌∙◌, arith, inl, inr, cases_lt, in_table}
 use Rattle.pgp_saslprep.proofs.Halving.{behind_one, before_one, in_one, behind_all}
 use Rattle.pgp_saslprep.proofs.mapping.lists.Goals as goal
 

@@ -1,5 +1,4 @@
-use Rattle.std.proofs.Common.{◌≡◌, ◌-◌, ◌<◌, ◌≤◌, length, drop, get_or}
-use Rattle.pgp_saslprep.specs.Table.{Range, in_table}
+use Rattle.pgp_saslprep.proofs.Common.{◌≡◌, ◌-◌, ◌<◌, ◌≤◌, length, drop, get_or, Range, in_table}
 use Rattle.pgp_saslprep.proofs.mapping.lists.Given as goal
 
 -- the ranges before `low` don't have the code, nor do those from `high` on

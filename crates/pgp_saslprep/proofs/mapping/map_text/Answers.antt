@@ -1,9 +1,5 @@
-use Rattle.std.proofs.Common.{encode_utf8_all, ◌∙◌, ap, sym, map-id}
+use Rattle.pgp_saslprep.proofs.Common.{encode_utf8_all, ◌∙◌, ap, sym, map-id, YieldsList-from_chars, YieldsList-end, encodes-append, mapped_text}
 use Rattle.std.proofs.lemmas.Grind.{flat_map-append}
-use Rattle.std.proofs.lemmas.Iterator.{YieldsList-from_chars}
-use Rattle.std.proofs.lemmas.Iterator.Consumers.{YieldsList-end}
-use Rattle.std.proofs.lemmas.Str.{encodes-append}
-use Rattle.pgp_saslprep.specs.SaslPrep.{mapped_text}
 use Rattle.pgp_saslprep.proofs.mapping.map_text.Goals as goal
 
 pub loop-c-preserved : goal.loop-c-preserved

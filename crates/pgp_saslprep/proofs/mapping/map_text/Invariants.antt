@@ -1,5 +1,4 @@
-use Rattle.std.proofs.Common.{◌≡◌, string_bytes, encode_utf8_all}
-use Rattle.pgp_saslprep.specs.SaslPrep.{mapped_text}
+use Rattle.pgp_saslprep.proofs.Common.{◌≡◌, string_bytes, encode_utf8_all, mapped_text}
 use Rattle.pgp_saslprep.proofs.mapping.map_text.Given as goal
 
 abbrev pub invariant-loop-c : goal.invariant-loop-c

@@ -1,5 +1,4 @@
-use Rattle.std.proofs.Common.{◌++◌, ◌∙◌, sym, ap, append-nil, string_bytes}
-use Rattle.pgp_saslprep.specs.Table.{in_table}
+use Rattle.pgp_saslprep.proofs.Common.{◌++◌, ◌∙◌, sym, ap, append-nil, string_bytes, in_table}
 use Rattle.pgp_saslprep.proofs.Mapped.{as_nothing}
 use Rattle.pgp_saslprep.proofs.mapping.push_mapped.Goals as goal
 

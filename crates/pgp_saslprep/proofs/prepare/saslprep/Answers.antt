@@ -1,5 +1,4 @@
-use Rattle.std.proofs.Common.{◌∙◌, List, ℕ, Some, sym, ap, encode_utf8_all, chars}
-use Rattle.unicode_normalization.specs.Forms.{nfkc}
+use Rattle.pgp_saslprep.proofs.Common.{◌∙◌, List, ℕ, Some, sym, ap, encode_utf8_all, chars, nfkc}
 use Rattle.pgp_saslprep.proofs.Prepared.{unassigned_text, refused_text, kept_text}
 use Rattle.pgp_saslprep.proofs.prepare.saslprep.Goals as goal
 

@@ -1,7 +1,4 @@
-use Rattle.std.proofs.Common.{◌≡◌, ◌++◌, [], List, ℕ, subst, ap, ◌∙◌}
-use Rattle.pgp_frontend.specs.ClientMessage.{ClientMessage}
-use Rattle.pgp_frontend.specs.Payload.{bytes_of}
-use Rattle.pgp_session.specs.Login.{Puts}
+use Rattle.pgp_session.proofs.Common.{◌≡◌, ◌++◌, [], List, ℕ, subst, ap, ◌∙◌, ClientMessage, bytes_of, Puts}
 use Rattle.pgp_session.proofs.Connections.{put_by}
 use Rattle.pgp_session.proofs.LogIns.{lengthened_by}
 use Rattle.pgp_session.proofs.connection_parts.put_startup.Goals as goal

@@ -1,5 +1,4 @@
-use Rattle.std.proofs.Common.{refl}
-use Rattle.pgp_session.specs.Connection.{dropped, fed}
+use Rattle.pgp_session.proofs.Common.{refl, dropped, fed}
 use Rattle.pgp_session.proofs.Sessions.{answered, asks_encryption, begins, ends, fed_some, observed_one, sends, sent_some, starts, stopped}
 use Rattle.pgp_session.proofs.laws.calls_are_known.Goals as goal
 
@@ -10,8 +9,8 @@ returns c = record {
   answered = answered;
   starts = starts;
   sends = sends;
-  sent = λ ways h old count. sent_some ways h old (dropped count old) count refl refl refl refl refl refl;
-  fed = λ ways h old piece. fed_some ways h old (fed piece old) piece refl refl refl refl refl refl c.no_frame.ensures c.frames_go_on.ensures;
+  sent = λ ways h old count. sent_some ways h old (dropped count old) count refl refl refl refl refl refl refl;
+  fed = λ ways h old piece. fed_some ways h old (fed piece old) piece refl refl refl refl refl refl refl c.no_frame.ensures c.frames_go_on.ensures;
   observed = λ ways h old new rest m e phase frame took. observed_one ways h old new rest m e phase frame took c.next_frame.ensures;
   ends = ends;
   stopped = stopped;

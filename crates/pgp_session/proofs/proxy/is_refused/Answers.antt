@@ -1,8 +1,5 @@
-use Rattle.std.proofs.Common.{◌≡◌, Some, rules, refl}
-use Rattle.std.proofs.lemmas.Bool.Decides.{Decides-eqb}
-use Rattle.std.proofs.lemmas.Slice.Eq.{slice_eq-Decides}
+use Rattle.pgp_session.proofs.Common.{◌≡◌, Some, rules, refl, Decides-eqb, slice_eq-Decides, statement_of}
 use Rattle.pgp_frontend_read.specs.Views.{view}
-use Rattle.pgp_session.specs.Proxy.{statement_of}
 use Rattle.pgp_session.proofs.Listed.{listed}
 use Rattle.pgp_session.proofs.proxy.is_refused.Goals as goal
 

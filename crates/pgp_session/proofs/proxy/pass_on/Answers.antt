@@ -1,5 +1,4 @@
-use Rattle.std.proofs.Common.{◌≡◌, Bool, refl, ap, subst, ◌∙◌}
-use Rattle.pgp_frontend_read.specs.Step.{Unread, Refuses}
+use Rattle.pgp_session.proofs.Common.{◌≡◌, Bool, refl, ap, subst, ◌∙◌, Unread, Refuses}
 use Rattle.pgp_frontend_read.specs.Views.{kind_view}
 use Rattle.pgp_frontend_read.proofs.Steps.{left}
 use Rattle.pgp_session.proofs.proxy.pass_on.Goals as goal

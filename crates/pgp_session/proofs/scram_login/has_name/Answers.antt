@@ -1,4 +1,4 @@
-use Rattle.std.proofs.Common.{rules}
+use Rattle.pgp_session.proofs.Common.{rules}
 use Rattle.pgp_base.proofs.Walks.{one_fewer}
 use Rattle.pgp_session.proofs.Mechanisms.{none_sought, one_sought, all_sought, refused_sought}
 use Rattle.pgp_session.proofs.scram_login.has_name.Goals as goal

@@ -1,4 +1,4 @@
-use Rattle.std.proofs.Common.{length}
+use Rattle.pgp_session.proofs.Common.{length}
 use Rattle.pgp_session.proofs.Mechanisms.{HasSought}
 use Rattle.pgp_session.proofs.scram_login.has_name.Given as goal
 

@@ -1,5 +1,4 @@
-use Rattle.std.proofs.Common.{ℕ, List, None, Contains, sym, subst}
-use Rattle.pgp_session.specs.ScramLogin.{mechanism_of}
+use Rattle.pgp_session.proofs.Common.{ℕ, List, None, Contains, sym, subst, mechanism_of}
 use Rattle.pgp_session.proofs.scram_login.offers.Goals as goal
 
 pub returns-clause-no : goal.returns-clause-no

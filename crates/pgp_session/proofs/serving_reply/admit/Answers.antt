@@ -1,6 +1,5 @@
-use Rattle.std.proofs.Common.{Err}
+use Rattle.pgp_session.proofs.Common.{Err, admission, signature}
 use Rattle.pgp_message_write.specs.Reply.{bytes_of, cause}
-use Rattle.pgp_session.specs.Serving.{admission, signature}
 use Rattle.pgp_session.proofs.Replies.{admission_said, both_said, first_unsaid, second_unsaid}
 use Rattle.pgp_session.proofs.serving_reply.admit.Goals as goal
 

@@ -1,5 +1,4 @@
-use Rattle.std.proofs.Common.{◌≡◌, ◌-◌, take}
-use Rattle.pgp_session.specs.Settings.{size}
+use Rattle.pgp_session.proofs.Common.{◌≡◌, ◌-◌, take, size}
 use Rattle.pgp_session.proofs.settings.left.Given as goal
 
 abbrev pub invariant-loop-entry : goal.invariant-loop-entry

@@ -1,8 +1,4 @@
-use Rattle.std.proofs.Common.{◌≡◌, ◌≤◌, true, List, length, rules, subst}
-use Rattle.std.specs.List.{list_all}
-use Rattle.std.specs.Str.{bytes_eq}
-use Rattle.std.proofs.lemmas.List.{take_all}
-use Rattle.pgp_message.specs.Parts.{Setting}
+use Rattle.pgp_session.proofs.Common.{◌≡◌, ◌≤◌, true, List, length, rules, subst, list_all, bytes_eq, take_all, Setting}
 use Rattle.pgp_session.proofs.Reported.{is_other, none_stands, stands}
 use Rattle.pgp_session.proofs.settings.place.Goals as goal
 

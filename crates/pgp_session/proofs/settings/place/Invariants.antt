@@ -1,5 +1,4 @@
-use Rattle.std.proofs.Common.{◌≡◌, true, take}
-use Rattle.std.specs.List.{list_all}
+use Rattle.pgp_session.proofs.Common.{◌≡◌, true, take, list_all}
 use Rattle.pgp_session.proofs.Reported.{is_other}
 use Rattle.pgp_session.proofs.settings.place.Given as goal
 

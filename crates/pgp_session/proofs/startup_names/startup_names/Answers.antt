@@ -1,6 +1,4 @@
-use Rattle.std.proofs.Common.{rules, codes}
-use Rattle.pgp_base.specs.Walk.{TakesItem}
-use Rattle.pgp_frontend_read.specs.Whole.{plain}
+use Rattle.pgp_session.proofs.Common.{rules, codes, TakesItem, plain}
 use Rattle.pgp_session.proofs.StartupNames.{none_named, one_named}
 use Rattle.pgp_session.proofs.startup_names.startup_names.Goals as goal
 

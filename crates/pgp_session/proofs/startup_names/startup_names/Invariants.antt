@@ -1,6 +1,4 @@
-use Rattle.std.proofs.Common.{codes, length}
-use Rattle.std.specs.Prelude.{option_map}
-use Rattle.pgp_frontend_read.specs.Whole.{plain}
+use Rattle.pgp_session.proofs.Common.{codes, length, option_map, plain}
 use Rattle.pgp_session.proofs.StartupNames.{HasNamed}
 use Rattle.pgp_session.proofs.startup_names.startup_names.Given as goal
 

@@ -1,8 +1,4 @@
-use Rattle.std.proofs.Common.{◌≡◌, ◌<◌, ◌++◌, length, map, rules, refl}
-use Rattle.std.proofs.lemmas.List.{nil_from_length}
-use Rattle.pgp_message.specs.Views.{seen}
-use Rattle.pgp_stream.specs.ServerSteps.{Moves, TakesPart}
-use Rattle.pgp_message.specs.Found.{TakesSome}
+use Rattle.pgp_stream.proofs.Common.{◌≡◌, ◌<◌, ◌++◌, length, map, rules, refl, nil_from_length, seen, Moves, TakesPart, TakesSome}
 use Rattle.pgp_stream.proofs.Pieces.{Completing, completing_none, completing_by, completing_fails, part_read, part_ends, part_stops, part_fails, part_shorter}
 use Rattle.pgp_stream.proofs.stream_parser.take_frames.Goals as goal
 

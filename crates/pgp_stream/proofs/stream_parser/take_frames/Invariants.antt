@@ -1,5 +1,4 @@
-use Rattle.std.proofs.Common.{length, map}
-use Rattle.pgp_message.specs.Views.{seen}
+use Rattle.pgp_stream.proofs.Common.{length, map, seen}
 use Rattle.pgp_stream.proofs.Pieces.{Completing}
 use Rattle.pgp_stream.proofs.stream_parser.take_frames.Given as goal
 

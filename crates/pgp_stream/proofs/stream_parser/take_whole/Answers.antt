@@ -1,9 +1,6 @@
-use Rattle.std.proofs.Common.{◌≡◌, ◌<◌, ◌++◌, [], length, take, drop, map, rules, arith, refl, sym, ap, subst, ◌∙◌}
+use Rattle.pgp_stream.proofs.Common.{◌≡◌, ◌<◌, ◌++◌, [], length, take, drop, map, rules, arith, refl, sym, ap, subst, ◌∙◌, Found, FindsAll, TakesEach, TakesSome, seen, TakesAll, kept_or_piece}
 use Rattle.std.proofs.Math.ListN.{drop_of_length-le}
-use Rattle.pgp_message.specs.Found.{Found, FindsAll, TakesEach, TakesSome}
-use Rattle.pgp_message.specs.Views.{seen}
 use Rattle.pgp_message.proofs.FindLemmas.{takes_none}
-use Rattle.pgp_stream.specs.ServerSteps.{TakesAll, kept_or_piece}
 use Rattle.pgp_stream.proofs.Pieces.{whole_taken, whole_some, next_kept, next_piece, some_of_next, some_of_all, part_of_kept, part_of_piece}
 use Rattle.pgp_stream.proofs.stream_parser.take_whole.Goals as goal
 

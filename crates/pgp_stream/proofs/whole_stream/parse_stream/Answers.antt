@@ -1,6 +1,4 @@
-use Rattle.std.proofs.Common.{ℕ, List, [], sym, subst, take, get_or, Bor}
-use Rattle.std.specs.List.{flat_map}
-use Rattle.pgp_stream.specs.ServerStream.{HasRead, GoesOn}
+use Rattle.pgp_stream.proofs.Common.{ℕ, List, [], sym, subst, take, get_or, Bor, flat_map, HasRead, GoesOn}
 use Rattle.pgp_stream.proofs.Pieces.{piece_more}
 use Rattle.pgp_stream.proofs.Readings.{has_read_more}
 use Rattle.pgp_stream.proofs.whole_stream.parse_stream.Goals as goal

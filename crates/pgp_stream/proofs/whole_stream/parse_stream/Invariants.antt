@@ -1,6 +1,4 @@
-use Rattle.std.proofs.Common.{◌≡◌, take, [], false}
-use Rattle.std.specs.List.{flat_map}
-use Rattle.pgp_stream.specs.ServerStream.{HasRead}
+use Rattle.pgp_stream.proofs.Common.{◌≡◌, take, [], false, flat_map, HasRead}
 use Rattle.pgp_stream.proofs.whole_stream.parse_stream.Given as goal
 
 abbrev pub invariant-loop-piece : goal.invariant-loop-piece

@@ -1,4 +1,4 @@
-use Rattle.std.proofs.Common.{arith, eqb-true}
+use Rattle.pgp_text.proofs.Common.{arith, eqb-true}
 use Rattle.pgp_text.proofs.AsciiLemmas.{ascii_of_mask}
 use Rattle.pgp_text.proofs.ascii.are_ascii_8.Goals as goal
 

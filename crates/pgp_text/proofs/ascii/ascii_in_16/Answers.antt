@@ -1,4 +1,4 @@
-use Rattle.std.proofs.Common.{arith}
+use Rattle.pgp_text.proofs.Common.{arith}
 use Rattle.pgp_text.proofs.AsciiLemmas.{ascii_of_mask, ascii_before}
 use Rattle.pgp_text.proofs.ascii.ascii_in_16.Goals as goal
 

@@ -1,5 +1,4 @@
-use Rattle.std.proofs.Common.{arith}
-use Rattle.std.proofs.lemmas.List.{take_rest}
+use Rattle.pgp_text.proofs.Common.{arith, take_rest}
 use Rattle.pgp_text.proofs.CharacterLemmas.{further, no_further}
 use Rattle.pgp_text.proofs.characters.are_characters.Goals as goal
 

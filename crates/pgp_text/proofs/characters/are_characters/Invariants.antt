@@ -1,4 +1,4 @@
-use Rattle.std.proofs.Common.{◌-◌, ◌≤◌, length, take, IsUtf8}
+use Rattle.pgp_text.proofs.Common.{◌-◌, ◌≤◌, length, take, IsUtf8}
 use Rattle.pgp_text.proofs.characters.are_characters.Given as goal
 
 abbrev pub invariant-fronts : goal.invariant-fronts

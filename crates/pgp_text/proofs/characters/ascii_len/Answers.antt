@@ -1,4 +1,4 @@
-use Rattle.std.proofs.Common.{arith}
+use Rattle.pgp_text.proofs.Common.{arith}
 use Rattle.pgp_text.proofs.CharacterLemmas.{ascii_begins, one_begins}
 use Rattle.pgp_text.proofs.characters.ascii_len.Goals as goal
 

@@ -1,4 +1,4 @@
-use Rattle.std.proofs.Common.{arith}
+use Rattle.pgp_text.proofs.Common.{arith}
 use Rattle.pgp_text.proofs.CharacterLemmas.{four_begin, none_begins}
 use Rattle.pgp_text.proofs.characters.four_len.Goals as goal
 

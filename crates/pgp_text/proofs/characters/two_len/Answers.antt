@@ -1,4 +1,4 @@
-use Rattle.std.proofs.Common.{arith}
+use Rattle.pgp_text.proofs.Common.{arith}
 use Rattle.pgp_text.proofs.CharacterLemmas.{two_begin, none_begins}
 use Rattle.pgp_text.proofs.characters.two_len.Goals as goal
 

@@ -1,5 +1,4 @@
-use Rattle.std.proofs.Common.{◌+◌, ◌-◌, ◌≤◌, length}
-use Rattle.pgp_text.specs.Ascii.{AreAscii}
+use Rattle.pgp_text.proofs.Common.{◌+◌, ◌-◌, ◌≤◌, length, AreAscii}
 use Rattle.pgp_text.proofs.texts.is_long_text.Given as goal
 
 abbrev pub invariant-lanes : goal.invariant-lanes

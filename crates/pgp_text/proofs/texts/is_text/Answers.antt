@@ -1,4 +1,4 @@
-use Rattle.std.proofs.Common.{arith}
+use Rattle.pgp_text.proofs.Common.{arith}
 use Rattle.pgp_text.proofs.AsciiLemmas.{ascii_is_text}
 use Rattle.pgp_text.proofs.texts.is_text.Goals as goal
 

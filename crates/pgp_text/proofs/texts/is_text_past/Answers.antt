@@ -1,4 +1,4 @@
-use Rattle.std.proofs.lemmas.List.{take_rest}
+use Rattle.pgp_text.proofs.Common.{take_rest}
 use Rattle.pgp_text.proofs.AsciiLemmas.{text_joined, text_cut_behind}
 use Rattle.pgp_text.proofs.texts.is_text_past.Goals as goal
 

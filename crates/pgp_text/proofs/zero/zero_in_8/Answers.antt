@@ -1,4 +1,4 @@
-use Rattle.std.proofs.Common.{arith}
+use Rattle.pgp_text.proofs.Common.{arith}
 use Rattle.pgp_text.proofs.ZeroLemmas.{no_zero, some_zero}
 use Rattle.pgp_text.proofs.zero.zero_in_8.Goals as goal
 

@@ -1,5 +1,4 @@
-use Rattle.std.proofs.Common.{rules, ap, inl, inr, arith}
-use Rattle.pgp_base.specs.Wire.{IsBytes}
+use Rattle.pgp_types.proofs.Common.{rules, ap, inl, inr, arith, IsBytes}
 use Rattle.pgp_types.proofs.ArrayLemmas.{reads_err, head_is, front_of, split_length, split_is, elements_is, each_walk, array_read}
 use Rattle.pgp_types.proofs.array.array_from_sql.Goals as goal
 

@@ -1,6 +1,4 @@
-use Rattle.std.proofs.Common.{[], ◌∷◌, ◌++◌, arith, length-append, subst, ℕ}
-use Rattle.pgp_base.proofs.Parts.{if_err_at}
-use Rattle.pgp_types.specs.Array.{Extent}
+use Rattle.pgp_types.proofs.Common.{[], ◌∷◌, ◌++◌, arith, length-append, subst, ℕ, if_err_at, Extent}
 use Rattle.pgp_types.proofs.ArrayLemmas.{extent_none, extent_small, extent_more, product_found, product_refused, next_bytes, of}
 use Rattle.pgp_types.proofs.array.dimensions_at.Goals as goal
 

@@ -1,7 +1,4 @@
-use Rattle.std.proofs.Common.{◌≡◌, ◌+◌, List, length}
-use Rattle.pgp_base.specs.Wire.{IsBytes}
-use Rattle.pgp_types.specs.declared.array.ArrayDimension.{ArrayDimension}
-use Rattle.pgp_types.specs.Array.{Extent}
+use Rattle.pgp_types.proofs.Common.{◌≡◌, ◌+◌, List, length, IsBytes, ArrayDimension, Extent}
 use Rattle.pgp_types.proofs.array.dimensions_at.Given as goal
 
 abbrev pub invariant-dimensions : goal.invariant-dimensions

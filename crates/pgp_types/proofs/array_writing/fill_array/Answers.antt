@@ -1,6 +1,4 @@
-use Rattle.std.proofs.Common.{rules, refl, inr}
-use Rattle.pgp_base.proofs.Parts.{if_err_at}
-use Rattle.pgp_types.specs.Array.{Array}
+use Rattle.pgp_types.proofs.Common.{rules, refl, inr, if_err_at, Array}
 use Rattle.pgp_types.proofs.ArrayWrites.{stops_at, made_at, Runs-fit, flag_room, flag_is, array_put, no_cause}
 use Rattle.pgp_types.proofs.array_writing.fill_array.Goals as goal
 

@@ -1,8 +1,4 @@
-use Rattle.std.proofs.Common.{rules, arith, ◌≡◌}
-use Rattle.pgp_base.proofs.Parts.{if_err_at, length-uint32, wants_more, wants_then}
-use Rattle.std.specs.Int.{w32, cast_unsigned}
-use Rattle.pgp_base.specs.Held.{◌⊕◌}
-use Rattle.pgp_base.specs.Wire.{uint32}
+use Rattle.pgp_types.proofs.Common.{rules, arith, ◌≡◌, if_err_at, length-uint32, wants_more, wants_then, w32, cast_unsigned, ◌⊕◌, uint32}
 use Rattle.pgp_types.proofs.ArrayWrites.{dimension_put}
 use Rattle.pgp_types.proofs.array_writing.put_dimension.Goals as goal
 

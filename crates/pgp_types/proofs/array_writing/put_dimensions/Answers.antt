@@ -1,10 +1,5 @@
-use Rattle.std.proofs.Common.{rules, arith, [], ◌∷◌, refl, inl, inr, Some, ◌++◌, length-append}
-use Rattle.std.specs.List.{flat_map}
+use Rattle.pgp_types.proofs.Common.{rules, arith, [], ◌∷◌, refl, inl, inr, Some, ◌++◌, length-append, flat_map, All-push, length_fits, more_parts, if_err_at, wants_then, IsDimension, dimension_bytes}
 use Rattle.pgp_types.proofs.ArrayWrites.{dimensions_length}
-use Rattle.std.proofs.lemmas.List.Elements.{All-push}
-use Rattle.pgp_base.proofs.Causes.{length_fits}
-use Rattle.pgp_base.proofs.Parts.{more_parts, if_err_at, wants_then}
-use Rattle.pgp_types.specs.Array.{IsDimension, dimension_bytes}
 use Rattle.pgp_types.proofs.array_writing.put_dimensions.Goals as goal
 
 pub loop-dimension-preserved : goal.loop-dimension-preserved

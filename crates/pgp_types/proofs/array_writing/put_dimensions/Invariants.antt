@@ -1,8 +1,4 @@
-use Rattle.std.proofs.Common.{◌≡◌, ◌≤◌, length}
-use Rattle.std.specs.Prelude.{All}
-use Rattle.std.specs.List.{flat_map}
-use Rattle.pgp_base.specs.Held.{◌⊕◌}
-use Rattle.pgp_types.specs.Array.{IsDimension, dimension_bytes}
+use Rattle.pgp_types.proofs.Common.{◌≡◌, ◌≤◌, length, All, flat_map, ◌⊕◌, IsDimension, dimension_bytes}
 use Rattle.pgp_types.proofs.array_writing.put_dimensions.Given as goal
 
 abbrev pub invariant-loop-dimension : goal.invariant-loop-dimension

@@ -1,6 +1,4 @@
-use Rattle.std.proofs.Common.{rules, [], ◌∷◌, ◌++◌, refl, sym, ◌∙◌}
-use Rattle.pgp_base.specs.Wire.{nullable}
-use Rattle.pgp_base.proofs.Parts.{more_parts, nothing_more, Runs-snoc}
+use Rattle.pgp_types.proofs.Common.{rules, [], ◌∷◌, ◌++◌, refl, sym, ◌∙◌, nullable, more_parts, nothing_more, Runs-snoc}
 use Rattle.pgp_types.proofs.ArrayWrites.{null_then, value_then, value_stops}
 use Rattle.pgp_types.proofs.array_writing.put_elements.Goals as goal
 

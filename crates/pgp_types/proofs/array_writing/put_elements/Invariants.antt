@@ -1,9 +1,4 @@
-use Rattle.std.proofs.Common.{◌≡◌, ℕ, List, Option}
-use Rattle.std.specs.List.{flat_map}
-use Rattle.pgp_base.specs.Held.{◌⊕◌}
-use Rattle.pgp_base.specs.Wire.{nullable}
-use Rattle.pgp_base.specs.Calls.{Gives, Runs}
-use Rattle.pgp_types.specs.Array.{has_null}
+use Rattle.pgp_types.proofs.Common.{◌≡◌, ℕ, List, Option, flat_map, ◌⊕◌, nullable, Gives, Runs, has_null}
 use Rattle.pgp_types.proofs.array_writing.put_elements.Given as goal
 
 abbrev pub invariant-loop-element : goal.invariant-loop-element

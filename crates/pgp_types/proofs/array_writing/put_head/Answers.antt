@@ -1,6 +1,4 @@
-use Rattle.std.proofs.Common.{arith, [], ◌+◌, ◌*◌, inl, inr, length, refl}
-use Rattle.pgp_base.specs.Wire.{uint32}
-use Rattle.pgp_base.proofs.Parts.{if_err_at, length-uint32, wants_more, wants_then}
+use Rattle.pgp_types.proofs.Common.{arith, [], ◌+◌, ◌*◌, inl, inr, length, refl, uint32, if_err_at, length-uint32, wants_more, wants_then}
 use Rattle.pgp_types.proofs.ArrayWrites.{count_room, head_put}
 use Rattle.pgp_types.proofs.array_writing.put_head.Goals as goal
 

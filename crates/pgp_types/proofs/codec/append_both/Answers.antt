@@ -1,5 +1,4 @@
-use Rattle.std.proofs.Common.{◌≡◌, arith, refl, inl, length-append}
-use Rattle.pgp_base.proofs.Parts.{front_then, front_same, cut_back, left_same, wants_here, wants_now, wants_then, writes_out}
+use Rattle.pgp_types.proofs.Common.{◌≡◌, arith, refl, inl, length-append, front_then, front_same, cut_back, left_same, wants_here, wants_now, wants_then, writes_out}
 use Rattle.pgp_types.proofs.Appending.{at_err}
 use Rattle.pgp_types.proofs.codec.append_both.Goals as goal
 

@@ -1,5 +1,4 @@
-use Rattle.std.proofs.Common.{arith, ◌++◌, length-append}
-use Rattle.pgp_types.specs.Geometry.{box_bytes, point_bytes}
+use Rattle.pgp_types.proofs.Common.{arith, ◌++◌, length-append, box_bytes, point_bytes}
 use Rattle.pgp_types.proofs.Appending.{part_refused, handed_on}
 use Rattle.pgp_types.proofs.geometry.box_to_sql.Goals as goal
 

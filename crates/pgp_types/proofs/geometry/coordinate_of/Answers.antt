@@ -1,5 +1,4 @@
-use Rattle.std.proofs.Common.{◌≡◌, refl}
-use Rattle.pgp_base.specs.Wire.{IsBytes}
+use Rattle.pgp_types.proofs.Common.{◌≡◌, refl, IsBytes}
 use Rattle.pgp_types.proofs.Spelling.{gives}
 use Rattle.pgp_types.proofs.Numbers.{uint64_spelling}
 use Rattle.pgp_types.proofs.geometry.coordinate_of.Goals as goal

@@ -1,5 +1,4 @@
-use Rattle.std.proofs.Common.{◌≡◌}
-use Rattle.pgp_base.specs.Wire.{uint64}
+use Rattle.pgp_types.proofs.Common.{◌≡◌, uint64}
 use Rattle.pgp_types.proofs.Numbers.{is_uint64}
 use Rattle.pgp_types.proofs.geometry.point_to_sql.Goals as goal
 

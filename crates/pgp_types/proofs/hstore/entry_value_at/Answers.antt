@@ -1,4 +1,4 @@
-use Rattle.std.proofs.Common.{rules}
+use Rattle.pgp_types.proofs.Common.{rules}
 use Rattle.pgp_types.proofs.HstoreLemmas.{value_read, value_bad}
 use Rattle.pgp_types.proofs.hstore.entry_value_at.Goals as goal
 

@@ -1,11 +1,4 @@
-use Rattle.std.proofs.Common.{rules, Bor, List, Option, ℕ, ◌+◌, ◌++◌, ap, ◌∙◌, Some, ◌≡◌, [], ◌∷◌, length, refl, inl, inr, arith, length-append}
-use Rattle.std.specs.List.{flat_map}
-use Rattle.std.proofs.lemmas.List.{length-map, map-append}
-use Rattle.pgp_base.specs.Held.{◌⊕◌}
-use Rattle.pgp_base.specs.Wire.{uint32, nullable}
-use Rattle.pgp_base.proofs.Parts.{length-uint32, wants_more, wants_then, sized4, if_err_at, on_err, front_twice, front_then, front_trans}
-use Rattle.pgp_types.specs.Hstore.{entry_bytes, shown_entry, shown_entries}
-use Rattle.pgp_base.proofs.Needs.{flat_more}
+use Rattle.pgp_types.proofs.Common.{rules, Bor, List, Option, ℕ, ◌+◌, ◌++◌, ap, ◌∙◌, Some, ◌≡◌, [], ◌∷◌, length, refl, inl, inr, arith, length-append, flat_map, length-map, map-append, ◌⊕◌, uint32, nullable, length-uint32, wants_more, wants_then, sized4, if_err_at, on_err, front_twice, front_then, front_trans, entry_bytes, shown_entry, shown_entries, flat_more}
 use Rattle.pgp_types.proofs.Appending.{counted_up4}
 use Rattle.pgp_types.proofs.HstoreLemmas.{entries_fit, entries_pass, key_stops, value_stops, entries_more, entries_held}
 use Rattle.pgp_types.proofs.hstore.fill_hstore.Goals as goal

@@ -1,9 +1,4 @@
-use Rattle.std.proofs.Common.{◌≡◌, ◌≤◌, length, map, None}
-use Rattle.std.specs.List.{flat_map}
-use Rattle.pgp_base.specs.Cause.{first}
-use Rattle.pgp_base.specs.Held.{◌⊕◌}
-use Rattle.pgp_base.specs.Wire.{uint32}
-use Rattle.pgp_types.specs.Hstore.{entry_bytes, entry_cause, shown_entries}
+use Rattle.pgp_types.proofs.Common.{◌≡◌, ◌≤◌, length, map, None, flat_map, first, ◌⊕◌, uint32, entry_bytes, entry_cause, shown_entries}
 use Rattle.pgp_types.proofs.hstore.fill_hstore.Given as goal
 
 abbrev pub invariant-loop-key : goal.invariant-loop-key

@@ -1,6 +1,4 @@
-use Rattle.std.proofs.Common.{arith}
-use Rattle.pgp_base.specs.Wire.{IsBytes}
-use Rattle.pgp_types.specs.Hstore.{HstoreReads}
+use Rattle.pgp_types.proofs.Common.{arith, IsBytes, HstoreReads}
 use Rattle.pgp_types.proofs.Appending.{refused_as}
 use Rattle.pgp_types.proofs.HstoreLemmas.{hstore_read, hstore_few, hstore_refused}
 use Rattle.pgp_types.proofs.hstore.hstore_from_sql.Goals as goal

@@ -1,8 +1,4 @@
-use Rattle.std.proofs.Common.{arith, ◌≡◌, ◌+◌, ap, inl, length, refl}
-use Rattle.pgp_base.specs.Wire.{uint32, nullable}
-use Rattle.pgp_base.proofs.Parts.{if_err_at, length-uint32, wants_more, wants_now, wants_then}
-use Rattle.pgp_types.specs.Part.{shown}
-use Rattle.pgp_base.proofs.Needs.{nullable_least, sized_length}
+use Rattle.pgp_types.proofs.Common.{arith, ◌≡◌, ◌+◌, ap, inl, length, refl, uint32, nullable, if_err_at, length-uint32, wants_more, wants_now, wants_then, shown, nullable_least, sized_length}
 use Rattle.pgp_types.proofs.Appending.{memory_as}
 use Rattle.pgp_types.proofs.hstore.put_nullable.Goals as goal
 

@@ -1,5 +1,4 @@
-use Rattle.std.proofs.Common.{rules, ◌≢◌, get_or, arith}
-use Rattle.pgp_types.specs.Network.{ipv4, ipv6}
+use Rattle.pgp_types.proofs.Common.{rules, ◌≢◌, get_or, arith, ipv4, ipv6}
 use Rattle.pgp_types.proofs.InetLemmas.{inet_refused, family_refused, read_v4, read_v6}
 use Rattle.pgp_types.proofs.network.inet_from_sql.Goals as goal
 use Rattle.pgp_types.proofs.network.inet_from_sql.Goals.{in-2+in_ok-octets-in-2, in-3+in_ok-octets-in-3}

@@ -1,13 +1,4 @@
-use Rattle.std.proofs.Common.{rules, ◌+◌, ◌≤◌, ◌++◌, Some, ◌≡◌, [], ◌∷◌, map, length, refl, sym, ap, ◌∙◌, inl, inr, arith, length-append}
-use Rattle.std.specs.List.{flat_map}
-use Rattle.std.proofs.lemmas.List.{length-map, map-append}
-use Rattle.pgp_base.specs.Held.{◌⊕◌}
-use Rattle.pgp_base.specs.Wire.{uint32}
-use Rattle.pgp_base.proofs.Parts.{length-uint32, wants_more, wants_then, sized4, more_twice, more_parts, if_err_at, on_err, front_left}
-use Rattle.pgp_types.specs.Geometry.{point_bytes}
-use Rattle.pgp_types.specs.Path.{path_bytes, path_of, point_at_xy}
-use Rattle.pgp_types.specs.Scalar.{bool_bytes}
-use Rattle.pgp_base.proofs.Needs.{flat_more}
+use Rattle.pgp_types.proofs.Common.{rules, ◌+◌, ◌≤◌, ◌++◌, Some, ◌≡◌, [], ◌∷◌, map, length, refl, sym, ap, ◌∙◌, inl, inr, arith, length-append, flat_map, length-map, map-append, ◌⊕◌, uint32, length-uint32, wants_more, wants_then, sized4, more_twice, more_parts, if_err_at, on_err, front_left, point_bytes, path_bytes, path_of, point_at_xy, bool_bytes, flat_more}
 use Rattle.pgp_types.proofs.Appending.{counted_up4, front_thrice, front_thrice_then, only_memory}
 use Rattle.pgp_types.proofs.PathLemmas.{points_fit, points_pass}
 use Rattle.pgp_types.proofs.path.fill_path.Goals as goal

@@ -1,10 +1,4 @@
-use Rattle.std.proofs.Common.{◌≡◌, ◌≤◌, length, map}
-use Rattle.std.specs.List.{flat_map}
-use Rattle.pgp_base.specs.Held.{◌⊕◌}
-use Rattle.pgp_base.specs.Wire.{uint32}
-use Rattle.pgp_types.specs.Geometry.{point_bytes}
-use Rattle.pgp_types.specs.Path.{point_at_xy}
-use Rattle.pgp_types.specs.Scalar.{bool_bytes}
+use Rattle.pgp_types.proofs.Common.{◌≡◌, ◌≤◌, length, map, flat_map, ◌⊕◌, uint32, point_bytes, point_at_xy, bool_bytes}
 use Rattle.pgp_types.proofs.path.fill_path.Given as goal
 
 abbrev pub invariant-loop-x : goal.invariant-loop-x

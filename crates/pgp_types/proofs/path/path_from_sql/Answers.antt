@@ -1,6 +1,4 @@
-use Rattle.std.proofs.Common.{refl, arith}
-use Rattle.pgp_base.specs.Wire.{IsBytes}
-use Rattle.pgp_types.specs.Path.{PathReads}
+use Rattle.pgp_types.proofs.Common.{refl, arith, IsBytes, PathReads}
 use Rattle.pgp_types.proofs.Appending.{refused_as}
 use Rattle.pgp_types.proofs.PathLemmas.{header_refused, path_read, path_few}
 use Rattle.pgp_types.proofs.path.path_from_sql.Goals as goal

@@ -1,5 +1,4 @@
-use Rattle.std.proofs.Common.{◌≡◌, ◌++◌, sym, refl}
-use Rattle.std.proofs.lemmas.List.{take-append-drop}
+use Rattle.pgp_types.proofs.Common.{◌≡◌, ◌++◌, sym, refl, take-append-drop}
 use Rattle.pgp_types.proofs.PathLemmas.{point_item, coordinates_read}
 use Rattle.pgp_types.proofs.path.point_at.Goals as goal
 

@@ -1,4 +1,4 @@
-use Rattle.std.proofs.Common.{refl}
+use Rattle.pgp_types.proofs.Common.{refl}
 use Rattle.pgp_types.proofs.RangeWriteLemmas.{bound_adds_of}
 use Rattle.pgp_types.proofs.range.bound_by.Goals as goal
 

@@ -1,8 +1,4 @@
-use Rattle.std.proofs.Common.{◌≡◌, ◌+◌, refl, inl, inr}
-use Rattle.std.specs.Prelude.{bit_or}
-use Rattle.pgp_base.proofs.Causes.{either_none}
-use Rattle.pgp_base.proofs.Parts.{if_err_at, on_err, front_then, front_trans}
-use Rattle.pgp_types.specs.Range.{side_cause, lower_bits, upper_bits, side_bit}
+use Rattle.pgp_types.proofs.Common.{◌≡◌, ◌+◌, refl, inl, inr, bit_or, either_none, if_err_at, on_err, front_then, front_trans, side_cause, lower_bits, upper_bits, side_bit}
 use Rattle.pgp_types.proofs.RangeWriteLemmas.{makes_at, extends_at, stops_at, extends_front, tag_or, tag_room, tag_written}
 use Rattle.pgp_types.proofs.range.fill_range.Goals as goal
 

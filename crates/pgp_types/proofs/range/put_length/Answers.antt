@@ -1,4 +1,4 @@
-use Rattle.pgp_base.proofs.Parts.{if_err_at}
+use Rattle.pgp_types.proofs.Common.{if_err_at}
 use Rattle.pgp_types.proofs.RangeWriteLemmas.{length_past, length_lacks, length_put_all}
 use Rattle.pgp_types.proofs.range.put_length.Goals as goal
 

@@ -1,6 +1,4 @@
-use Rattle.std.proofs.Common.{◌≡◌, ◌+◌, length, ap, ◌∙◌, arith, length-append}
-use Rattle.pgp_base.specs.Held.{Held}
-use Rattle.pgp_base.proofs.Parts.{more_bytes}
+use Rattle.pgp_types.proofs.Common.{◌≡◌, ◌+◌, length, ap, ◌∙◌, arith, length-append, Held, more_bytes}
 use Rattle.pgp_types.proofs.range.put_side.Goals as goal
 
 pub finish_side-requires : goal.finish_side-requires

@@ -1,5 +1,4 @@
-use Rattle.std.proofs.Common.{arith}
-use Rattle.pgp_base.specs.Wire.{IsBytes}
+use Rattle.pgp_types.proofs.Common.{arith, IsBytes}
 use Rattle.pgp_types.proofs.RangeLemmas.{range_answers}
 use Rattle.pgp_types.proofs.range.range_from_sql.Goals as goal
 

@@ -1,4 +1,4 @@
-use Rattle.pgp_base.proofs.Parts.{cut_back}
+use Rattle.pgp_types.proofs.Common.{cut_back}
 use Rattle.pgp_types.proofs.range.range_to_sql.Goals as goal
 
 pub returns-in-Err : goal.returns-in-Err

@@ -1,4 +1,4 @@
-use Rattle.std.proofs.Common.{w8}
+use Rattle.pgp_types.proofs.Common.{w8}
 use Rattle.pgp_types.proofs.Numbers.{gives_signed, int8_spelling}
 use Rattle.pgp_types.proofs.scalar.char_from_sql.Goals as goal
 

@@ -1,5 +1,5 @@
-use Rattle.std.specs.Int.{cast_signed}
-use Rattle.std.proofs.Common.{w32, ap, ◌∙◌}
+use Rattle.pgp_types.proofs.Common.{cast_signed, ap, ◌∙◌}
+use Rattle.std.proofs.Common.{w32}
 use Rattle.pgp_types.proofs.Numbers.{gives_signed, int32_spelling}
 use Rattle.pgp_types.proofs.scalar.int4_from_sql.Goals as goal
 

@@ -1,5 +1,4 @@
-use Rattle.std.specs.Int.{cast_signed}
-use Rattle.std.proofs.Common.{w64, ap, ◌∙◌}
+use Rattle.pgp_types.proofs.Common.{cast_signed, w64, ap, ◌∙◌}
 use Rattle.pgp_types.proofs.Numbers.{gives_signed, int64_spelling}
 use Rattle.pgp_types.proofs.scalar.int8_from_sql.Goals as goal
 

@@ -1,7 +1,4 @@
-use Rattle.std.proofs.Common.{rules, arith, inl, inr, Some, ◌++◌, length-append, [], ◌∷◌, refl, ap, ◌∙◌}
-use Rattle.pgp_base.specs.Held.{◌⊕◌}
-use Rattle.pgp_base.specs.Wire.{uint32}
-use Rattle.pgp_base.proofs.Parts.{more_twice, front_twice, on_err, if_err_at, length-uint32, wants_more, wants_then}
+use Rattle.pgp_types.proofs.Common.{rules, arith, inl, inr, Some, ◌++◌, length-append, [], ◌∷◌, refl, ap, ◌∙◌, ◌⊕◌, uint32, more_twice, front_twice, on_err, if_err_at, length-uint32, wants_more, wants_then}
 use Rattle.pgp_types.proofs.varbit.fill_varbit.Goals as goal
 
 pub loop-byte-preserved : goal.loop-byte-preserved

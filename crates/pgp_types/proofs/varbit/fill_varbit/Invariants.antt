@@ -1,6 +1,4 @@
-use Rattle.std.proofs.Common.{◌≡◌}
-use Rattle.pgp_base.specs.Held.{◌⊕◌}
-use Rattle.pgp_base.specs.Wire.{uint32}
+use Rattle.pgp_types.proofs.Common.{◌≡◌, ◌⊕◌, uint32}
 use Rattle.pgp_types.proofs.varbit.fill_varbit.Given as goal
 
 abbrev pub invariant-loop-byte : goal.invariant-loop-byte

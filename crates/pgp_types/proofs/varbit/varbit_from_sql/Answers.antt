@@ -1,7 +1,4 @@
-use Rattle.std.proofs.Common.{refl, sym, ◌∙◌, inl, inr, arith}
-use Rattle.pgp_base.specs.Wire.{IsBytes}
-use Rattle.pgp_base.specs.declared.error.Error.TheVariants.{InvalidBitLength}
-use Rattle.pgp_types.specs.Varbit.{VarbitReads}
+use Rattle.pgp_types.proofs.Common.{refl, sym, ◌∙◌, inl, inr, arith, IsBytes, InvalidBitLength, VarbitReads}
 use Rattle.pgp_types.proofs.Appending.{refused_as}
 use Rattle.pgp_types.proofs.PartLemmas.{natural_part}
 use Rattle.pgp_types.proofs.varbit.varbit_from_sql.Goals as goal

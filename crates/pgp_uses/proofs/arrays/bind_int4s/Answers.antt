@@ -1,4 +1,4 @@
-use Rattle.std.proofs.Common.{rules}
+use Rattle.pgp_uses.proofs.Common.{rules}
 use Rattle.pgp_uses.proofs.Lists.{binds_int4s, keeps_int4s}
 use Rattle.pgp_uses.proofs.arrays.bind_int4s.Goals as goal
 

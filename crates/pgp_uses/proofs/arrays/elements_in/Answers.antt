@@ -1,4 +1,4 @@
-use Rattle.std.proofs.Common.{rules}
+use Rattle.pgp_uses.proofs.Common.{rules}
 use Rattle.pgp_types.specs.Part.{shown}
 use Rattle.pgp_uses.proofs.Elements.{one_read}
 use Rattle.pgp_uses.proofs.arrays.elements_in.Goals as goal

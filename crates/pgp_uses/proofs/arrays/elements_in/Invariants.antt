@@ -1,4 +1,4 @@
-use Rattle.std.proofs.Common.{length}
+use Rattle.pgp_uses.proofs.Common.{length}
 use Rattle.pgp_uses.proofs.Elements.{HasRead}
 use Rattle.pgp_uses.proofs.arrays.elements_in.Given as goal
 

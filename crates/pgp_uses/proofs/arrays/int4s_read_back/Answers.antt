@@ -1,18 +1,4 @@
-use Rattle.std.proofs.Common.{rules, arith, ◌≡◌, ◌<◌, ◌^◌, ℕ, ℤ, zero, suc, pos, List, [], ◌∷◌, map, length, Option, Some, None, option_map, Ok, refl, ap}
-use Rattle.std.specs.List.{AllByRecursion, AllZip}
-use Rattle.std.specs.Prelude.{slice_index_or}
-use Rattle.std.specs.Int.{w32}
-use Rattle.std.proofs.lemmas.Int.{fits_signed_from_abs}
-use Rattle.std.proofs.lemmas.List.{length-map}
-use Rattle.pgp_base.specs.Cause.{first, nullable_cause, length_cause}
-use Rattle.pgp_base.specs.Wire.{int32}
-use Rattle.pgp_base.proofs.Causes.{either_none, fits_of}
-use Rattle.pgp_base.proofs.PartLemmas.{int32_number}
-use Rattle.pgp_types.specs.Array.{IsArray, IsDimension, array_seen}
-use Rattle.pgp_types.specs.declared.array.ArrayDimension.{ArrayDimension}
-use Rattle.pgp_types.specs.Format.{IsSound}
-use Rattle.pgp_types.specs.Scalar.{int4}
-use Rattle.pgp_uses.specs.Arrays.{IsInt4, ReadsElement, int4_array}
+use Rattle.pgp_uses.proofs.Common.{rules, arith, ◌≡◌, ◌<◌, ◌^◌, ℕ, ℤ, zero, suc, pos, List, [], ◌∷◌, map, length, Option, Some, None, option_map, Ok, refl, ap, AllByRecursion, AllZip, slice_index_or, w32, fits_signed_from_abs, length-map, first, nullable_cause, length_cause, int32, either_none, fits_of, int32_number, IsArray, IsDimension, array_seen, ArrayDimension, IsSound, int4, IsInt4, ReadsElement, int4_array}
 use Rattle.pgp_uses.proofs.arrays.int4s_read_back.Goals as goal
 
 no_cause : (values : List (Option ℤ)) → first (map nullable_cause (map (option_map int4.written) values)) ≡ None

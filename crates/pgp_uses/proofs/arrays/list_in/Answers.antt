@@ -1,4 +1,4 @@
-use Rattle.std.proofs.Common.{inl}
+use Rattle.pgp_uses.proofs.Common.{inl}
 use Rattle.pgp_uses.proofs.arrays.list_in.Goals as goal
 
 pub returns-in-Err : goal.returns-in-Err

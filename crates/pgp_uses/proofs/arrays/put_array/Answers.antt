@@ -1,19 +1,5 @@
-use Rattle.pgp_base.proofs.Causes.{fits_of, length_fits}
-use Rattle.pgp_base.specs.Held.{Held, ◌⊕◌}
-use Rattle.pgp_types.specs.Array.{Array, array_bytes}
-use Rattle.pgp_types.specs.Scalar.{int4}
-use Rattle.std.specs.Int.{w32}
-use Rattle.std.proofs.lemmas.Int.{to_z_pos}
-use Rattle.std.proofs.Common.{rules, ◌≡◌, ◌≤◌, ℕ, ℤ, pos, List, map, option_map, ap, subst, ◌∙◌, Option, length, [], ◌∷◌, Some, refl, inl, arith}
-use Rattle.pgp_base.specs.Cause.{Wants, WantsMemory}
-use Rattle.pgp_base.specs.declared.error.Error.{Error}
-use Rattle.std.specs.Iterator.Adapters.{once_item, once_steps}
-use Rattle.std.specs.Option.{option_len}
-use Rattle.std.specs.declared.iter.Once.{Once}
+use Rattle.pgp_uses.proofs.Common.{fits_of, length_fits, Held, ◌⊕◌, Array, array_bytes, int4, w32, to_z_pos, rules, ◌≡◌, ◌≤◌, ℕ, ℤ, pos, List, map, option_map, ap, subst, ◌∙◌, Option, length, [], ◌∷◌, Some, refl, inl, arith, Wants, WantsMemory, Error, once_item, once_steps, option_len, Once, YieldsList-from_once, all_given, some_given, all_same, some_same, first_of_one}
 use Rattle.std.proofs.lemmas.Iterator.{YieldsList-from_slice}
-use Rattle.std.proofs.lemmas.Iterator.Adapters.{YieldsList-from_once}
-use Rattle.pgp_frontend.proofs.Lists.{all_given, some_given, all_same, some_same}
-use Rattle.postgres_protocol.proofs.StepLemmas.{first_of_one}
 use Rattle.pgp_uses.proofs.Lists.{array_ok, array_refused}
 use Rattle.pgp_uses.proofs.arrays.put_array.Goals as goal
 

@@ -1,8 +1,5 @@
-use Rattle.std.proofs.Common.{◌≡◌, ◌∷◌, [], ℕ, codes, rules, sym, ap, subst, ◌∙◌}
-use Rattle.pgp_frontend.specs.ClientMessage.{Startup}
-use Rattle.pgp_session.specs.Connection.{Shown, begun, shown}
+use Rattle.pgp_uses.proofs.Common.{◌≡◌, ◌∷◌, [], ℕ, codes, rules, sym, ap, subst, ◌∙◌, Startup, Shown, begun, shown, scram_alone}
 use Rattle.pgp_session.specs.Session.{Known, and_wrote, nothing}
-use Rattle.pgp_uses.specs.Client.{scram_alone}
 use Rattle.pgp_uses.proofs.client.connect.Goals as goal
 
 pub returns-in-Ok : goal.returns-in-Ok

@@ -1,5 +1,4 @@
-use Rattle.pgp_message.specs.Views.{view}
-use Rattle.pgp_session.specs.Connection.{shown}
+use Rattle.pgp_uses.proofs.Common.{view, shown}
 use Rattle.pgp_uses.proofs.Connected.{is_so, none_given, some_given}
 use Rattle.pgp_uses.proofs.client.next_row.Goals as goal
 

@@ -1,7 +1,5 @@
-use Rattle.std.proofs.Common.{Ok, subst}
+use Rattle.pgp_uses.proofs.Common.{Ok, subst, Step, view, parsed}
 use Rattle.pgp_uses.proofs.Descriptions.{finds, skips, skips_fault}
-use Rattle.pgp_message.specs.Stream.{Step}
-use Rattle.pgp_message.specs.Views.{view, parsed}
 use Rattle.pgp_uses.proofs.columns.description.Goals as goal
 
 pub returns-in-Some : goal.returns-in-Some

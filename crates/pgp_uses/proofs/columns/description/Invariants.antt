@@ -1,5 +1,4 @@
-use Rattle.std.proofs.Common.{length}
-use Rattle.pgp_uses.specs.Columns.{Passed}
+use Rattle.pgp_uses.proofs.Common.{length, Passed}
 use Rattle.pgp_uses.proofs.columns.description.Given as goal
 
 abbrev pub invariant-frames : goal.invariant-frames

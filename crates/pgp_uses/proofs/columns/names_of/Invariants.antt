@@ -1,4 +1,4 @@
-use Rattle.std.proofs.Common.{◌≡◌, map, take}
+use Rattle.pgp_uses.proofs.Common.{◌≡◌, map, take}
 use Rattle.pgp_uses.proofs.columns.names_of.Given as goal
 
 abbrev pub invariant-loop-column : goal.invariant-loop-column

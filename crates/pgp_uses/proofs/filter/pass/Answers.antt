@@ -1,6 +1,4 @@
-use Rattle.std.proofs.Common.{rules, arith, ◌+◌}
-use Rattle.std.proofs.Math.IntN.{nat_abs}
-use Rattle.pgp_base.specs.Wire.{IsBytes}
+use Rattle.pgp_uses.proofs.Common.{rules, arith, ◌+◌, nat_abs, IsBytes}
 use Rattle.pgp_uses.proofs.Passed.{passes_frame, lacks_frame}
 use Rattle.pgp_uses.proofs.filter.pass.Goals as goal
 

@@ -1,9 +1,6 @@
-use Rattle.std.proofs.Common.{◌≡◌, ℕ, List, Some, Option, ap, subst, sym, ◌∙◌}
+use Rattle.pgp_uses.proofs.Common.{◌≡◌, ℕ, List, Some, Option, ap, subst, sym, ◌∙◌, Client, message_of, RefusesMessage, first_message}
 use Rattle.pgp_auth.specs.Nonce.{drawn_chars}
-use Rattle.pgp_auth.specs.ScramClient.{Client, message_of}
 use Rattle.pgp_auth.specs.ScramText.{Binding, Unsupported, client_first}
-use Rattle.pgp_stream.specs.ClientStream.{RefusesMessage}
-use Rattle.pgp_session.specs.Serving.{first_message}
 use Rattle.pgp_uses.proofs.login.begin_with.Goals as goal
 
 -- what stands in both

@@ -1,6 +1,4 @@
-use Rattle.std.proofs.Common.{◌≡◌, ◌-◌, length, Ok, rules, false, true, ap}
-use Rattle.pgp_message.specs.Stream.{TakesFrame}
-use Rattle.pgp_message.specs.Views.{view}
+use Rattle.pgp_uses.proofs.Common.{◌≡◌, ◌-◌, length, Ok, rules, false, true, ap, TakesFrame, view}
 use Rattle.pgp_message.proofs.Steps.{taken_by}
 use Rattle.pgp_uses.proofs.Places.{cut_none, cut_next, cut_end}
 use Rattle.pgp_uses.proofs.recorder.record.Goals as goal

@@ -1,4 +1,4 @@
-use Rattle.std.proofs.Common.{length}
+use Rattle.pgp_uses.proofs.Common.{length}
 use Rattle.pgp_uses.proofs.Places.{IsCut}
 use Rattle.pgp_uses.proofs.recorder.record.Given as goal
 

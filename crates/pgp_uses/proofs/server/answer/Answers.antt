@@ -1,5 +1,4 @@
-use Rattle.std.proofs.Common.{rules, inl}
-use Rattle.pgp_base.proofs.Parts.{cut_back, front_then, front_left, if_err_at}
+use Rattle.pgp_uses.proofs.Common.{rules, inl, cut_back, front_then, front_left, if_err_at}
 use Rattle.pgp_uses.proofs.Written.{framed, refused, tag_wants}
 use Rattle.pgp_uses.proofs.server.answer.Goals as goal
 

@@ -1,18 +1,5 @@
-use Rattle.std.proofs.Common.{rules, refl, true, ap, ◌∙◌, ℕ, ◌≡◌, ◌≤◌, Option, None, Some, List, [], ◌∷◌}
-use Rattle.std.specs.Iterator.Adapters.{once_item, once_steps}
-use Rattle.std.specs.Option.{option_len}
-use Rattle.std.specs.declared.iter.Once.{Once}
-use Rattle.std.proofs.lemmas.Iterator.Adapters.{YieldsList-from_once}
-use Rattle.pgp_base.specs.Calls.{Yielded}
-use Rattle.pgp_frontend.specs.ClientMessage.{ClientMessage, Parse, Describe, Execute, Sync}
-use Rattle.pgp_base.specs.Held.{Held}
-use Rattle.pgp_frontend.specs.Given.{ParseWhole}
-use Rattle.pgp_stream.specs.ClientStream.{Sent, IsAdded}
-use Rattle.pgp_types.specs.Scalar.{int4}
-use Rattle.pgp_frontend.proofs.Lists.{all_same, some_same}
-use Rattle.postgres_protocol.proofs.StepLemmas.{none_of_none}
+use Rattle.pgp_uses.proofs.Common.{rules, refl, true, ap, ◌∙◌, ℕ, ◌≡◌, ◌≤◌, Option, None, Some, List, [], ◌∷◌, once_item, once_steps, option_len, Once, YieldsList-from_once, Yielded, ClientMessage, Parse, Describe, Execute, Sync, Held, ParseWhole, Sent, IsAdded, int4, all_same, some_same, none_of_none, AreAdded, named_bound}
 use Rattle.std.specs.Prelude.{pos}
-use Rattle.pgp_uses.specs.Asking.{AreAdded, named_bound}
 use Rattle.pgp_uses.proofs.Asking.{none_yet, one_more, stops, parse_refused, bound_is, bind_left, bind_blames}
 use Rattle.pgp_uses.proofs.Bound.{keeps_value}
 use Rattle.pgp_uses.proofs.session.ask_named.Goals as goal

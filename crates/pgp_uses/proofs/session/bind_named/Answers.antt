@@ -1,11 +1,4 @@
-use Rattle.std.proofs.Common.{◌≡◌, ◌≤◌, Option, pos, [], ◌∷◌, Some}
-use Rattle.std.specs.Iterator.Adapters.{once_item, once_steps}
-use Rattle.std.specs.Option.{option_len}
-use Rattle.std.specs.declared.iter.Once.{Once}
-use Rattle.std.proofs.lemmas.Iterator.Adapters.{YieldsList-from_once}
-use Rattle.pgp_base.specs.Calls.{Yielded}
-use Rattle.pgp_frontend.proofs.Lists.{all_same, some_same}
-use Rattle.postgres_protocol.proofs.StepLemmas.{first_of_one}
+use Rattle.pgp_uses.proofs.Common.{◌≡◌, ◌≤◌, Option, pos, [], ◌∷◌, Some, once_item, once_steps, option_len, Once, YieldsList-from_once, Yielded, all_same, some_same, first_of_one}
 use Rattle.pgp_uses.proofs.Asking.{named_binds}
 use Rattle.pgp_uses.proofs.session.bind_named.Goals as goal
 

@@ -1,6 +1,4 @@
-use Rattle.std.proofs.Common.{[], ◌∷◌, codes, subst}
-use Rattle.pgp_frontend.specs.ClientMessage.{Startup, Query}
-use Rattle.pgp_frontend.specs.ClientRun.{ClientRun, kinds_of}
+use Rattle.pgp_uses.proofs.Common.{[], ◌∷◌, codes, subst, Startup, Query, ClientRun, kinds_of}
 use Rattle.pgp_uses.proofs.session.one_query.Goals as goal
 
 pub returns-clause-run : goal.returns-clause-run

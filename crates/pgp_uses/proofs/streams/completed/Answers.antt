@@ -1,4 +1,4 @@
-use Rattle.std.proofs.Common.{◌++◌}
+use Rattle.pgp_uses.proofs.Common.{◌++◌}
 use Rattle.pgp_stream.proofs.Readings.{has_read_more}
 use Rattle.pgp_uses.proofs.streams.completed.Goals as goal
 

@@ -1,5 +1,4 @@
-use Rattle.std.proofs.Common.{rules}
-use Rattle.pgp_types.specs.Scalar.{int4}
+use Rattle.pgp_uses.proofs.Common.{rules, int4}
 use Rattle.pgp_uses.proofs.Bound.{binds_value, keeps_value}
 use Rattle.pgp_uses.proofs.values.bind_int4.Goals as goal
 

@@ -1,5 +1,5 @@
 use Rattle.pgp_uses.proofs.Room.{for_memory}
-use Rattle.pgp_frontend.specs.ClientMessage.{Query}
+use Rattle.pgp_uses.proofs.Common.{Query}
 use Rattle.pgp_uses.proofs.writing.ask.Goals as goal
 
 pub returns-clause-cause : goal.returns-clause-cause

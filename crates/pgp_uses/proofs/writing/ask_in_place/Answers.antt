@@ -1,7 +1,5 @@
-use Rattle.std.proofs.Common.{rules, ◌++◌, drop, sym, ap, ◌∙◌}
+use Rattle.pgp_uses.proofs.Common.{rules, ◌++◌, drop, sym, ap, ◌∙◌, Query, bytes_of}
 use Rattle.pgp_base.proofs.Windows.{window_size, window_written}
-use Rattle.pgp_frontend.specs.ClientMessage.{Query}
-use Rattle.pgp_frontend.specs.Payload.{bytes_of}
 use Rattle.pgp_uses.proofs.writing.ask_in_place.Goals as goal
 
 pub returns-clause-size : goal.returns-clause-size

@@ -1,9 +1,4 @@
-use Rattle.std.proofs.Common.{◌∙◌, from_bits}
-use Rattle.std.specs.Float.{binary64}
-use Rattle.std.proofs.lemmas.Bool.{lt-ltb, le-ltb}
-use Rattle.std.proofs.lemmas.Float.{T_from_false}
-use lib.Ieee.Bits.{nan_bits_above}
-use Rattle.pgp_value_text.specs.Float.{ShowsFloat}
+use Rattle.pgp_value_text.proofs.Common.{◌∙◌, from_bits, binary64, lt-ltb, le-ltb, T_from_false, nan_bits_above, ShowsDouble}
 use Rattle.pgp_value_text.proofs.Floats.{nan_double, shows_nan}
 use Rattle.pgp_value_text.proofs.Texts.{tells_one}
 use Rattle.pgp_value_text.proofs.float.put_double_bits.Goals as goal
@@ -16,4 +11,4 @@ put_double-requires g c = nan_double c.args.bits ∙ le-ltb _ _ c.if-bits-gt9218
 
 pub returns-then-bits-gt9218868437227405312 : goal.returns-then-bits-gt9218868437227405312
 returns-then-bits-gt9218868437227405312 g c =
-    tells_one _ _ _ _ (ShowsFloat binary64 (from_bits binary64 c.args.bits)) c.put.result (shows_nan binary64 (from_bits binary64 c.args.bits) (nan_double c.args.bits ∙ lt-ltb _ _ c.if-bits-gt9218868437227405312.true)) c.put.ensures
+    tells_one _ _ _ _ (ShowsDouble (from_bits binary64 c.args.bits)) c.put.result (shows_nan binary64 16 4 (from_bits binary64 c.args.bits) (nan_double c.args.bits ∙ lt-ltb _ _ c.if-bits-gt9218868437227405312.true)) c.put.ensures

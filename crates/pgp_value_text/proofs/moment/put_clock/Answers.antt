@@ -1,5 +1,4 @@
-use Rattle.std.proofs.Math.Facts.{to_z-of_z}
-use Rattle.pgp_calendar.specs.Text.{ShowsTime, IsShownTime}
+use Rattle.pgp_value_text.proofs.Common.{to_z-of_z, ShowsTime, IsShownTime}
 use Rattle.pgp_value_text.proofs.Written.{time_in_range, tells_told}
 use Rattle.pgp_value_text.proofs.moment.put_clock.Goals as goal
 

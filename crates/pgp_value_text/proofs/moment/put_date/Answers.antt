@@ -1,9 +1,4 @@
-use Rattle.std.proofs.Common.{refl}
-use Rattle.jiff.specs.Words.{IsEpochDay}
-use Rattle.pgp_calendar.specs.Numbers.{day_1970}
-use Rattle.pgp_calendar.specs.Text.{ShowsDay, ShowsMoment, HasText}
-use Rattle.pgp_values.specs.Moment.{date_value}
-use Rattle.pgp_values.proofs.MomentLemmas.{date_value_sound}
+use Rattle.pgp_value_text.proofs.Common.{refl, IsEpochDay, day_1970, ShowsDay, ShowsMoment, HasText, date_value, date_value_sound}
 use Rattle.pgp_value_text.proofs.Texts.{refused, tells_read}
 use Rattle.pgp_value_text.proofs.Written.{day_in_range, moment_in_range, tells_told}
 use Rattle.pgp_value_text.proofs.moment.put_date.Goals as goal

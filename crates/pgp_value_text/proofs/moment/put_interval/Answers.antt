@@ -1,9 +1,4 @@
-use Rattle.std.proofs.Common.{refl}
-use Rattle.std.specs.Prelude.{⊤}
-use Rattle.pgp_calendar.specs.Span.{span_text}
-use Rattle.pgp_values.specs.Time.{interval}
-use Rattle.pgp_values.proofs.Fixed.{interval_sound}
-use Rattle.pgp_value_text.specs.ValueText.{As}
+use Rattle.pgp_value_text.proofs.Common.{refl, ⊤, span_text, interval, interval_sound, As}
 use Rattle.pgp_value_text.proofs.Texts.{refused, tells_read}
 use Rattle.pgp_value_text.proofs.Written.{tells_told}
 use Rattle.pgp_value_text.proofs.moment.put_interval.Goals as goal

@@ -1,4 +1,4 @@
-use Rattle.std.proofs.Common.{true, false, sym, ◌∙◌}
+use Rattle.pgp_value_text.proofs.Common.{true, false, sym, ◌∙◌}
 use Rattle.pgp_value_text.proofs.Written.{tells_instant, zone_if}
 use Rattle.pgp_value_text.proofs.moment.put_moment.Goals as goal
 

@@ -1,9 +1,4 @@
-use Rattle.std.proofs.Common.{refl}
-use Rattle.std.proofs.Math.Facts.{to_z-of_z}
-use Rattle.pgp_calendar.specs.Text.{ShowsTime}
-use Rattle.pgp_types.specs.Time.{time}
-use Rattle.pgp_types.proofs.Spelling.{fixed_sound}
-use Rattle.pgp_types.proofs.Numbers.{int64_spelling}
+use Rattle.pgp_value_text.proofs.Common.{refl, to_z-of_z, ShowsTime, time, fixed_sound, int64_spelling}
 use Rattle.pgp_value_text.proofs.Texts.{refused, tells_read}
 use Rattle.pgp_value_text.proofs.moment.put_time.Goals as goal
 

@@ -1,8 +1,4 @@
-use Rattle.std.proofs.Common.{refl}
-use Rattle.pgp_calendar.specs.Text.{ShowsInstant, ShowsMoment}
-use Rattle.pgp_values.specs.Moment.{timestamp_value}
-use Rattle.pgp_values.proofs.MomentLemmas.{timestamp_value_sound}
-use Rattle.pgp_value_text.specs.ValueText.{zone_of}
+use Rattle.pgp_value_text.proofs.Common.{refl, ShowsInstant, ShowsMoment, timestamp_value, timestamp_value_sound, zone_of}
 use Rattle.pgp_value_text.proofs.Texts.{refused, tells_read}
 use Rattle.pgp_value_text.proofs.moment.put_timestamp.Goals as goal
 

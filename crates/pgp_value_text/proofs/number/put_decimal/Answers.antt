@@ -1,6 +1,5 @@
-use Rattle.std.proofs.Common.{refl}
+use Rattle.pgp_value_text.proofs.Common.{refl, numeric_text}
 use Rattle.pgp_values.specs.DecimalSeen.{said}
-use Rattle.pgp_values.specs.DecimalText.{numeric_text}
 use Rattle.pgp_value_text.proofs.Written.{lengthened_items}
 use Rattle.pgp_value_text.proofs.number.put_decimal.Goals as goal
 

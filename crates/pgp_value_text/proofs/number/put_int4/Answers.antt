@@ -1,9 +1,4 @@
-use Rattle.std.proofs.Common.{refl}
-use Rattle.std.specs.Fmt.{signed_decimal}
-use Rattle.pgp_types.specs.Scalar.{int4}
-use Rattle.pgp_types.proofs.Spelling.{fixed_sound}
-use Rattle.pgp_types.proofs.Numbers.{int32_spelling}
-use Rattle.pgp_value_text.specs.ValueText.{As}
+use Rattle.pgp_value_text.proofs.Common.{refl, signed_decimal, int4, fixed_sound, int32_spelling, As}
 use Rattle.pgp_value_text.proofs.Texts.{refused}
 use Rattle.pgp_value_text.proofs.number.put_int4.Goals as goal
 

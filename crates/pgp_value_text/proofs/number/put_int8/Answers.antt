@@ -1,9 +1,4 @@
-use Rattle.std.proofs.Common.{refl}
-use Rattle.std.specs.Fmt.{signed_decimal}
-use Rattle.pgp_types.specs.Scalar.{int8}
-use Rattle.pgp_types.proofs.Spelling.{fixed_sound}
-use Rattle.pgp_types.proofs.Numbers.{int64_spelling}
-use Rattle.pgp_value_text.specs.ValueText.{As}
+use Rattle.pgp_value_text.proofs.Common.{refl, signed_decimal, int8, fixed_sound, int64_spelling, As}
 use Rattle.pgp_value_text.proofs.Texts.{refused}
 use Rattle.pgp_value_text.proofs.number.put_int8.Goals as goal
 

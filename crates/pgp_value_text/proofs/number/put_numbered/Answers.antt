@@ -1,8 +1,4 @@
-use Rattle.std.proofs.Common.{sym, ◌∙◌}
-use Rattle.std.specs.Prelude.{IsTrue}
-use Rattle.std.specs.Fmt.{decimal}
-use Rattle.pgp_types.specs.Scalar.{oid}
-use Rattle.pgp_value_text.specs.ValueText.{is_numbered, As, Shows}
+use Rattle.pgp_value_text.proofs.Common.{sym, ◌∙◌, IsTrue, decimal, oid, is_numbered, As, Shows}
 use Rattle.pgp_value_text.proofs.Texts.{tells_if}
 use Rattle.pgp_value_text.proofs.number.put_numbered.Goals as goal
 

@@ -1,4 +1,4 @@
-use Rattle.std.proofs.Common.{refl}
+use Rattle.pgp_value_text.proofs.Common.{refl}
 use Rattle.pgp_value_text.proofs.Forms.{number_refused}
 use Rattle.pgp_value_text.proofs.number.put_numeric.Goals as goal
 

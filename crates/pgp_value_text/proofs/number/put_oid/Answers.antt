@@ -1,9 +1,4 @@
-use Rattle.std.proofs.Common.{refl}
-use Rattle.std.specs.Fmt.{decimal}
-use Rattle.pgp_types.specs.Scalar.{oid}
-use Rattle.pgp_types.proofs.Spelling.{fixed_sound}
-use Rattle.pgp_types.proofs.Numbers.{uint32_spelling}
-use Rattle.pgp_value_text.specs.ValueText.{As}
+use Rattle.pgp_value_text.proofs.Common.{refl, decimal, oid, fixed_sound, uint32_spelling, As}
 use Rattle.pgp_value_text.proofs.Texts.{refused}
 use Rattle.pgp_value_text.proofs.number.put_oid.Goals as goal
 

@@ -1,9 +1,4 @@
-use Rattle.std.proofs.Common.{refl}
-use Rattle.std.specs.Fmt.{decimal}
-use Rattle.pgp_values.specs.System.{xid8}
-use Rattle.pgp_types.proofs.Spelling.{fixed_sound}
-use Rattle.pgp_types.proofs.Numbers.{uint64_spelling}
-use Rattle.pgp_value_text.specs.ValueText.{As}
+use Rattle.pgp_value_text.proofs.Common.{refl, decimal, xid8, fixed_sound, uint64_spelling, As}
 use Rattle.pgp_value_text.proofs.Texts.{refused}
 use Rattle.pgp_value_text.proofs.number.put_xid8.Goals as goal
 

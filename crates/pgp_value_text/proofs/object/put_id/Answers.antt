@@ -1,5 +1,4 @@
-use Rattle.std.proofs.Common.{ap, ◌∙◌}
-use Rattle.uuid.specs.Text.{hyphenated_text, lower}
+use Rattle.pgp_value_text.proofs.Common.{ap, ◌∙◌, hyphenated_text, lower}
 use Rattle.pgp_value_text.proofs.Texts.{tells_same}
 use Rattle.pgp_value_text.proofs.object.put_id.Goals as goal
 

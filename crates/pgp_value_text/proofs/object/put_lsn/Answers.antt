@@ -1,8 +1,4 @@
-use Rattle.std.proofs.Common.{refl}
-use Rattle.pgp_types.specs.Scalar.{lsn}
-use Rattle.pgp_types.proofs.Spelling.{fixed_sound}
-use Rattle.pgp_types.proofs.Numbers.{uint64_spelling}
-use Rattle.pgp_value_text.specs.ValueText.{As, lsn_text}
+use Rattle.pgp_value_text.proofs.Common.{refl, lsn, fixed_sound, uint64_spelling, As, lsn_text}
 use Rattle.pgp_value_text.proofs.Texts.{refused}
 use Rattle.pgp_value_text.proofs.object.put_lsn.Goals as goal
 

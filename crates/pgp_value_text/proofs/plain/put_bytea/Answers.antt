@@ -1,6 +1,4 @@
-use Rattle.std.proofs.Common.{◌≡◌}
-use Rattle.pgp_types.specs.Scalar.{bytea}
-use Rattle.pgp_value_text.specs.ValueText.{hex_text, As, Shows}
+use Rattle.pgp_value_text.proofs.Common.{◌≡◌, bytea, hex_text, As, Shows}
 use Rattle.pgp_value_text.proofs.Texts.{tells_if}
 use Rattle.pgp_value_text.proofs.plain.put_bytea.Goals as goal
 

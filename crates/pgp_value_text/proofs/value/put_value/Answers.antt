@@ -1,5 +1,4 @@
-use Rattle.std.proofs.Common.{subst}
-use Rattle.pgp_value_text.specs.ValueText.{IsShownIn, Tells}
+use Rattle.pgp_value_text.proofs.Common.{subst, IsShownIn, Tells}
 use Rattle.pgp_value_text.proofs.value.put_value.Goals as goal
 
 pub returns : goal.returns

@@ -1,7 +1,4 @@
-use Rattle.std.proofs.Common.{refl}
-use Rattle.pgp_values.specs.Time.{timetz}
-use Rattle.pgp_values.proofs.Fixed.{timetz_sound}
-use Rattle.pgp_value_text.specs.Zone.{ShowsTimeTz}
+use Rattle.pgp_value_text.proofs.Common.{refl, timetz, timetz_sound, ShowsTimeTz}
 use Rattle.pgp_value_text.proofs.Texts.{refused, tells_read}
 use Rattle.pgp_value_text.proofs.zone.put_timetz.Goals as goal
 

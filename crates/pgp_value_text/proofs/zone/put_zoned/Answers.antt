@@ -1,5 +1,5 @@
-use Rattle.std.proofs.Common.{◌≡◌, ◌<◌, rules, arith, unsigned_abs, FitsSigned, w32, w64}
-use Rattle.std.proofs.Math.Facts.{to_z-of_z}
+use Rattle.pgp_value_text.proofs.Common.{◌≡◌, ◌<◌, rules, arith, FitsSigned, w32, w64, to_z-of_z}
+use Rattle.std.proofs.Common.{unsigned_abs}
 use Rattle.pgp_value_text.proofs.Zones.{not_zoned, zoned}
 use Rattle.pgp_value_text.proofs.zone.put_zoned.Goals as goal
 

@@ -1,5 +1,4 @@
-use Rattle.std.proofs.Common.{arith, ◌++◌, length-append}
-use Rattle.pgp_types.proofs.Appending.{part_refused, handed_on}
+use Rattle.pgp_values.proofs.Common.{arith, ◌++◌, length-append, part_refused, handed_on}
 use Rattle.pgp_values.proofs.codec.append_three.Goals as goal
 
 pub returns-in-Err : goal.returns-in-Err

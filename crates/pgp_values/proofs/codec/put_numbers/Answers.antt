@@ -1,10 +1,5 @@
-use Rattle.std.proofs.Common.{◌≡◌, take, get_or, sym, ap, ◌∙◌, arith, add-one, length-take}
-use Rattle.std.specs.List.{flat_map}
-use Rattle.std.proofs.Math.Seq.{take-suc}
-use Rattle.std.proofs.lemmas.List.{take_all}
-use Rattle.pgp_base.specs.Held.{◌⊕◌}
-use Rattle.pgp_base.specs.Wire.{uint16}
-use Rattle.pgp_base.proofs.Parts.{more_parts, wants_then}
+use Rattle.pgp_values.proofs.Common.{◌≡◌, take, get_or, sym, ap, ◌∙◌, arith, add-one, flat_map, take-suc, take_all, ◌⊕◌, uint16, more_parts, wants_then}
+use Rattle.std.proofs.Common.{length-take}
 use Rattle.pgp_values.proofs.PlaceLemmas.{pairs_size}
 use Rattle.pgp_values.proofs.codec.put_numbers.Goals as goal
 

@@ -1,7 +1,4 @@
-use Rattle.std.proofs.Common.{◌≡◌, take}
-use Rattle.std.specs.List.{flat_map}
-use Rattle.pgp_base.specs.Held.{◌⊕◌}
-use Rattle.pgp_base.specs.Wire.{uint16}
+use Rattle.pgp_values.proofs.Common.{◌≡◌, take, flat_map, ◌⊕◌, uint16}
 use Rattle.pgp_values.proofs.codec.put_numbers.Given as goal
 
 abbrev pub invariant-loop-i : goal.invariant-loop-i

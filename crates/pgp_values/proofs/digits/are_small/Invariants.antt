@@ -1,5 +1,4 @@
-use Rattle.std.proofs.Common.{◌≡◌, length}
-use Rattle.pgp_values.specs.DecimalReading.{all_small}
+use Rattle.pgp_values.proofs.Common.{◌≡◌, length, all_small}
 use Rattle.pgp_values.proofs.digits.are_small.Given as goal
 
 abbrev pub invariant-digits : goal.invariant-digits

@@ -1,9 +1,5 @@
-use Rattle.std.proofs.Common.{rules, ◌≡◌, true, false, inl, inr, refl, sym, ◌∙◌, arith}
-use Rattle.std.proofs.Math.Facts.{to_z-of_z}
-use Rattle.pgp_types.proofs.Appending.{only_memory}
-use Rattle.pgp_values.specs.Decimal.{IsDecimal}
+use Rattle.pgp_values.proofs.Common.{rules, ◌≡◌, true, false, inl, inr, refl, sym, ◌∙◌, arith, to_z-of_z, only_memory, IsDecimal, all_small}
 use Rattle.pgp_values.specs.DecimalDigits.{decimal_of}
-use Rattle.pgp_values.specs.DecimalReading.{all_small}
 use Rattle.pgp_values.proofs.Pairs.{small_yes, small_passes}
 use Rattle.pgp_values.proofs.digits.numeric_digits_to_sql.Goals as goal
 

@@ -1,10 +1,4 @@
-use Rattle.std.proofs.Common.{◌*◌, [], refl, length, arith}
-use Rattle.std.proofs.Math.Facts.{to_z-of_z}
-use Rattle.std.specs.List.{flat_map}
-use Rattle.pgp_base.specs.Wire.{uint16}
-use Rattle.pgp_base.proofs.Parts.{wants_more}
-use Rattle.pgp_types.proofs.Appending.{only_memory}
-use Rattle.pgp_values.specs.Decimal.{laid_out, sign_of}
+use Rattle.pgp_values.proofs.Common.{◌*◌, [], refl, length, arith, to_z-of_z, flat_map, uint16, wants_more, only_memory, laid_out, sign_of}
 use Rattle.pgp_values.proofs.GroupLemmas.{laid_length, laid_more}
 use Rattle.pgp_values.proofs.PlaceLemmas.{pairs_size}
 use Rattle.pgp_values.proofs.Rows.{ok_behind, why_behind}

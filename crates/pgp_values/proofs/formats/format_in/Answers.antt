@@ -1,7 +1,5 @@
-use Rattle.std.proofs.Common.{◌≡◌, ◌+◌, ◌-◌, ◌/◌, length, drop, sym, ap, ◌∙◌, arith, inl, inr}
-use Rattle.std.proofs.lemmas.Bool.{cases_lt}
+use Rattle.pgp_values.proofs.Common.{◌≡◌, ◌+◌, ◌-◌, ◌/◌, length, drop, sym, ap, ◌∙◌, arith, inl, inr, cases_lt, format_in}
 use Rattle.pgp_values.specs.declared.formats.BinaryFormat.TheVariants.{Array}
-use Rattle.pgp_values.specs.FormatTable.{format_in}
 use Rattle.pgp_values.proofs.FormatLemmas.{behind_one, before_one, found, behind_all}
 use Rattle.pgp_values.proofs.formats.format_in.Goals as goal
 

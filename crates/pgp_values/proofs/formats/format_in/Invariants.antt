@@ -1,5 +1,4 @@
-use Rattle.std.proofs.Common.{◌≡◌, ◌-◌, ◌<◌, ◌≤◌, length, drop, get_or}
-use Rattle.pgp_values.specs.FormatTable.{Entry, format_in}
+use Rattle.pgp_values.proofs.Common.{◌≡◌, ◌-◌, ◌<◌, ◌≤◌, length, drop, get_or, Entry, format_in}
 use Rattle.pgp_values.proofs.formats.format_in.Given as goal
 
 -- the number doesn't stand before `low`, nor from `high` on

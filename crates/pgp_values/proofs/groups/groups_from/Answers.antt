@@ -1,6 +1,4 @@
-use Rattle.std.proofs.Common.{◌+◌, ◌-◌, ◌/◌, ◌<◌, length, refl, arith}
-use Rattle.std.proofs.Math.Facts.{to_z-of_z}
-use Rattle.pgp_base.proofs.Parts.{if_err_at}
+use Rattle.pgp_values.proofs.Common.{◌+◌, ◌-◌, ◌/◌, ◌<◌, length, refl, arith, to_z-of_z, if_err_at}
 use Rattle.pgp_values.proofs.GroupLemmas.{number_value, weight_fits, weight_past}
 use Rattle.pgp_values.proofs.groups.groups_from.Goals as goal
 

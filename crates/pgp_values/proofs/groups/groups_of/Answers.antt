@@ -1,7 +1,4 @@
-use Rattle.std.proofs.Common.{◌++◌, map, pos, refl, sym, subst}
-use Rattle.pgp_values.specs.DecimalWriting.{digit_value, reported_by}
-use Rattle.pgp_values.specs.NumberGroups.{grouped}
-use Rattle.pgp_values.specs.NumberMeaning.{IsValueOf}
+use Rattle.pgp_values.proofs.Common.{◌++◌, map, pos, refl, sym, subst, digit_value, reported_by, grouped, IsValueOf}
 use Rattle.pgp_values.proofs.GroupLemmas.{zero_value}
 use Rattle.pgp_values.proofs.groups.groups_of.Goals as goal
 

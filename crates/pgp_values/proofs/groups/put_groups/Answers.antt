@@ -1,11 +1,4 @@
-use Rattle.std.proofs.Common.{◌≡◌, ◌+◌, ◌++◌, map, ap, ◌∙◌, sym, arith, add-one}
-use Rattle.std.specs.List.{flat_map}
-use Rattle.pgp_base.specs.Held.{◌⊕◌}
-use Rattle.pgp_base.specs.Wire.{uint16}
-use Rattle.pgp_base.proofs.Parts.{more_parts, wants_then}
-use Rattle.pgp_values.specs.DecimalText.{run}
-use Rattle.pgp_values.specs.DecimalWriting.{digit_value}
-use Rattle.pgp_values.specs.NumberGroups.{group_down}
+use Rattle.pgp_values.proofs.Common.{◌≡◌, ◌+◌, ◌++◌, map, ap, ◌∙◌, sym, arith, add-one, flat_map, ◌⊕◌, uint16, more_parts, wants_then, run, digit_value, group_down}
 use Rattle.pgp_values.proofs.PlaceLemmas.{pairs_size}
 use Rattle.pgp_values.proofs.TextLemmas.{run_more, run_length}
 use Rattle.pgp_values.proofs.groups.put_groups.Goals as goal

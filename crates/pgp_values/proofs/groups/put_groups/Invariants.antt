@@ -1,10 +1,4 @@
-use Rattle.std.proofs.Common.{◌≡◌, ◌++◌, map}
-use Rattle.std.specs.List.{flat_map}
-use Rattle.pgp_base.specs.Held.{◌⊕◌}
-use Rattle.pgp_base.specs.Wire.{uint16}
-use Rattle.pgp_values.specs.DecimalText.{run}
-use Rattle.pgp_values.specs.DecimalWriting.{digit_value}
-use Rattle.pgp_values.specs.NumberGroups.{group_down}
+use Rattle.pgp_values.proofs.Common.{◌≡◌, ◌++◌, map, flat_map, ◌⊕◌, uint16, run, digit_value, group_down}
 use Rattle.pgp_values.proofs.groups.put_groups.Given as goal
 
 abbrev pub invariant-loop-i : goal.invariant-loop-i

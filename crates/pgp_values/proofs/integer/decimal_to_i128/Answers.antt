@@ -1,8 +1,4 @@
-use Rattle.std.proofs.Common.{◌≡◌, subst, sym, ◌∙◌, FitsSigned, Bool, true, false, ℤ}
-use Rattle.std.specs.Int.{w128}
-use Rattle.std.proofs.Math.Facts.{to_z-of_z}
-use Rattle.pgp_values.specs.Integer.{with_sign, IsInteger}
-use Rattle.pgp_values.specs.IntegerReading.{whole_value, HasDigitFrom}
+use Rattle.pgp_values.proofs.Common.{◌≡◌, subst, sym, ◌∙◌, FitsSigned, Bool, true, false, ℤ, w128, to_z-of_z, with_sign, IsInteger, whole_value, HasDigitFrom}
 use Rattle.pgp_values.proofs.IntegerLemmas.{no_integer, integer_is, past_all_types, sign_as}
 use Rattle.pgp_values.proofs.integer.decimal_to_i128.Goals as goal
 

@@ -1,7 +1,4 @@
-use Rattle.std.proofs.Common.{◌≡◌, ◌∙◌, inl, inr, arith, sym}
-use Rattle.std.proofs.lemmas.Bool.{cases_lt}
-use Rattle.std.proofs.lemmas.List.{get_or_past}
-use Rattle.pgp_values.specs.IntegerReading.{digit_in}
+use Rattle.pgp_values.proofs.Common.{◌≡◌, ◌∙◌, inl, inr, arith, sym, cases_lt, get_or_past, digit_in}
 use Rattle.pgp_values.proofs.integer.has_digit_from.Goals as goal
 
 pub returns-then-digit-ne0 : goal.returns-then-digit-ne0

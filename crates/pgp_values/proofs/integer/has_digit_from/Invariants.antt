@@ -1,5 +1,4 @@
-use Rattle.std.proofs.Common.{◌≡◌, ◌<◌, ◌≤◌, ℕ}
-use Rattle.pgp_values.specs.IntegerReading.{digit_in}
+use Rattle.pgp_values.proofs.Common.{◌≡◌, ◌<◌, ◌≤◌, ℕ, digit_in}
 use Rattle.pgp_values.proofs.integer.has_digit_from.Given as goal
 
 abbrev pub invariant-loop-i : goal.invariant-loop-i

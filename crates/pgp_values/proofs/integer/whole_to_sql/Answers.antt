@@ -1,8 +1,4 @@
-use Rattle.std.proofs.Common.{◌++◌, [], map, inl, refl}
-use Rattle.pgp_types.proofs.Appending.{only_memory}
-use Rattle.pgp_values.specs.Decimal.{finite}
-use Rattle.pgp_values.specs.DecimalWriting.{digit_value}
-use Rattle.pgp_values.specs.NumberGroups.{grouped}
+use Rattle.pgp_values.proofs.Common.{◌++◌, [], map, inl, refl, only_memory, finite, digit_value, grouped}
 use Rattle.pgp_values.proofs.IntegerLemmas.{whole_meant, held_by}
 use Rattle.pgp_values.proofs.integer.whole_to_sql.Goals as goal
 

@@ -1,5 +1,4 @@
-use Rattle.std.proofs.Common.{◌≡◌, ◌+◌, ap, ◌∙◌, arith}
-use Rattle.pgp_values.specs.IntegerReading.{whole_value}
+use Rattle.pgp_values.proofs.Common.{◌≡◌, ◌+◌, ap, ◌∙◌, arith, whole_value}
 use Rattle.pgp_values.proofs.IntegerLemmas.{value_none, value_next, value_least}
 use Rattle.pgp_values.proofs.integer.whole_value.Goals as goal
 

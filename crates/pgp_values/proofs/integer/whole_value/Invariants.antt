@@ -1,5 +1,4 @@
-use Rattle.std.proofs.Common.{◌≡◌, ◌<◌, ◌^◌}
-use Rattle.pgp_values.specs.IntegerReading.{whole_value}
+use Rattle.pgp_values.proofs.Common.{◌≡◌, ◌<◌, ◌^◌, whole_value}
 use Rattle.pgp_values.proofs.integer.whole_value.Given as goal
 
 abbrev pub invariant-loop-i : goal.invariant-loop-i

@@ -1,4 +1,4 @@
-use Rattle.std.proofs.Common.{refl}
+use Rattle.pgp_values.proofs.Common.{refl}
 use Rattle.pgp_types.proofs.InetLemmas.{inet_sound}
 use Rattle.pgp_values.proofs.laws.networks.Goals as goal
 

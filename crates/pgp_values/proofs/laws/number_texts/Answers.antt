@@ -1,4 +1,4 @@
-use Rattle.pgp_values.specs.DecimalText.{numeric_text}
+use Rattle.pgp_values.proofs.Common.{numeric_text}
 use Rattle.pgp_values.proofs.KeptLemmas.{meant_is_kept}
 use Rattle.pgp_values.proofs.RoundLemmas.{one_meaning, kept_means, settled}
 use Rattle.pgp_values.proofs.laws.number_texts.Goals as goal

@@ -1,11 +1,4 @@
-use Rattle.std.proofs.Common.{rules, ◌+◌, ◌++◌, map, ap, ◌∙◌, Some, ◌≡◌, [], ◌∷◌, length, refl, inl, inr, arith, length-append}
-use Rattle.std.specs.List.{flat_map}
-use Rattle.std.proofs.lemmas.List.{length-map, map-append}
-use Rattle.pgp_base.specs.Held.{◌⊕◌}
-use Rattle.pgp_base.specs.Wire.{uint32}
-use Rattle.pgp_base.proofs.Parts.{length-uint32, wants_more, wants_then, sized4, if_err_at, front_twice, front_trans}
-use Rattle.pgp_base.proofs.Needs.{flat_more}
-use Rattle.pgp_types.proofs.Appending.{counted_up4}
+use Rattle.pgp_values.proofs.Common.{rules, ◌+◌, ◌++◌, map, ap, ◌∙◌, Some, ◌≡◌, [], ◌∷◌, length, refl, inl, inr, arith, length-append, flat_map, length-map, map-append, ◌⊕◌, uint32, length-uint32, wants_more, wants_then, sized4, if_err_at, front_twice, front_trans, flat_more, counted_up4}
 use Rattle.pgp_values.proofs.ListLemmas.{items_fit, items_pass, item_stops, items_more, items_held}
 use Rattle.pgp_values.proofs.list.fill_list.Goals as goal
 

@@ -1,11 +1,5 @@
-use Rattle.std.proofs.Common.{rules, [], ◌∷◌, ◌++◌, ◌≡◌, ◌∙◌, length, refl, sym, inl, inr, arith, length-append}
-use Rattle.std.specs.List.{flat_map}
-use Rattle.pgp_base.specs.Held.{◌⊕◌}
-use Rattle.pgp_base.specs.Wire.{uint32}
-use Rattle.pgp_base.proofs.Parts.{more_parts, nothing_more, Runs-snoc, Runs-length, sized4}
-use Rattle.pgp_types.proofs.Appending.{counted_up4}
-use Rattle.pgp_values.specs.Record.{Field, field as composite_field}
-use Rattle.pgp_values.specs.RecordWriting.{MakesField}
+use Rattle.pgp_values.proofs.Common.{rules, [], ◌∷◌, ◌++◌, ◌≡◌, ◌∙◌, length, refl, sym, inl, inr, arith, length-append, flat_map, ◌⊕◌, uint32, more_parts, nothing_more, Runs-snoc, Runs-length, sized4, counted_up4, Field, MakesField}
+use Rattle.pgp_values.specs.Record.{field as composite_field}
 use Rattle.pgp_values.proofs.RecordLemmas.{record_fits, refused_here}
 use Rattle.pgp_values.proofs.made.fill_record.Goals as goal
 

@@ -1,10 +1,5 @@
-use Rattle.std.proofs.Common.{◌≡◌, ◌≤◌, List, length}
-use Rattle.std.specs.List.{flat_map}
-use Rattle.pgp_base.specs.Held.{◌⊕◌}
-use Rattle.pgp_base.specs.Wire.{uint32}
-use Rattle.pgp_base.specs.Calls.{Runs}
-use Rattle.pgp_values.specs.Record.{Field, field as composite_field}
-use Rattle.pgp_values.specs.RecordWriting.{MakesField}
+use Rattle.pgp_values.proofs.Common.{◌≡◌, ◌≤◌, List, length, flat_map, ◌⊕◌, uint32, Runs, Field, MakesField}
+use Rattle.pgp_values.specs.Record.{field as composite_field}
 use Rattle.pgp_values.proofs.made.fill_record.Given as goal
 
 abbrev pub invariant-loop-field : goal.invariant-loop-field

@@ -1,8 +1,5 @@
-use Rattle.std.proofs.Common.{◌∙◌, ap, inr, subst}
-use Rattle.pgp_base.specs.Held.{Held, ◌⊕◌}
-use Rattle.pgp_base.specs.Wire.{oid, nullable}
-use Rattle.pgp_base.specs.Calls.{Gives, ValueRefused}
-use Rattle.pgp_base.proofs.Parts.{more_twice}
+use Rattle.pgp_values.proofs.Common.{◌∙◌, ap, inr, subst, Held, ◌⊕◌, oid, nullable, ValueRefused, more_twice}
+use Rattle.pgp_base.specs.Calls.{Gives}
 use Rattle.pgp_values.proofs.made.put_made.Goals as goal
 
 pub returns-in-Ok-put_value-clause-ok : goal.returns-in-Ok-put_value-clause-ok

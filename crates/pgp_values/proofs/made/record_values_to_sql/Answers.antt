@@ -1,4 +1,4 @@
-use Rattle.pgp_base.proofs.Parts.{cut_back}
+use Rattle.pgp_values.proofs.Common.{cut_back}
 use Rattle.pgp_values.proofs.made.record_values_to_sql.Goals as goal
 
 pub returns : goal.returns

@@ -1,10 +1,6 @@
-use Rattle.std.proofs.Common.{arith}
-use Rattle.pgp_base.specs.Wire.{IsBytes}
+use Rattle.pgp_values.proofs.Common.{arith, IsBytes, refused_as, ListReads, member}
 use Rattle.pgp_values.proofs.Items.{member_item}
-use Rattle.pgp_types.proofs.Appending.{refused_as}
 use Rattle.pgp_values.proofs.ListLemmas.{list_read, list_few, list_refused}
-use Rattle.pgp_values.specs.List.{ListReads}
-use Rattle.pgp_values.specs.Multirange.{member}
 use Rattle.pgp_values.proofs.multirange.multirange_from_sql.Goals as goal
 
 pub returns-in_err-count-clause-value : goal.returns-in_err-count-clause-value

@@ -1,7 +1,4 @@
-use Rattle.std.proofs.Common.{arith, ◌++◌, length-append}
-use Rattle.std.proofs.Math.Facts.{to_z-of_z}
-use Rattle.pgp_base.specs.Wire.{int16, uint16}
-use Rattle.pgp_types.proofs.Appending.{part_refused, handed_on}
+use Rattle.pgp_values.proofs.Common.{arith, ◌++◌, length-append, to_z-of_z, int16, uint16, part_refused, handed_on}
 use Rattle.pgp_values.proofs.numeric.parts_to_sql.Goals as goal
 
 pub returns-in-Err : goal.returns-in-Err

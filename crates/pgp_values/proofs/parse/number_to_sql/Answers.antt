@@ -1,9 +1,4 @@
-use Rattle.std.proofs.Common.{◌++◌, map, inl, refl}
-use Rattle.pgp_types.proofs.Appending.{only_memory}
-use Rattle.pgp_values.specs.Decimal.{finite}
-use Rattle.pgp_values.specs.DecimalWriting.{digit_value}
-use Rattle.pgp_values.specs.NumberGroups.{grouped}
-use Rattle.pgp_values.specs.NumberMeaning.{NumberMeans, NumberRefused}
+use Rattle.pgp_values.proofs.Common.{◌++◌, map, inl, refl, only_memory, finite, digit_value, grouped, NumberMeans, NumberRefused}
 use Rattle.pgp_values.proofs.MeaningLemmas.{refused_whole, refused_spells, number_meant, number_past}
 use Rattle.pgp_values.proofs.parse.number_to_sql.Goals as goal
 

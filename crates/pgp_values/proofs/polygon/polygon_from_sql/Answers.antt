@@ -1,10 +1,5 @@
-use Rattle.std.proofs.Common.{arith}
-use Rattle.pgp_base.specs.Wire.{IsBytes}
-use Rattle.pgp_types.proofs.PathLemmas.{point_item}
-use Rattle.pgp_types.proofs.Appending.{refused_as}
+use Rattle.pgp_values.proofs.Common.{arith, IsBytes, point_item, refused_as, ListReads, corner}
 use Rattle.pgp_values.proofs.ListLemmas.{list_read, list_few, list_refused}
-use Rattle.pgp_values.specs.List.{ListReads}
-use Rattle.pgp_values.specs.Polygon.{corner}
 use Rattle.pgp_values.proofs.polygon.polygon_from_sql.Goals as goal
 
 pub returns-in_err-count-clause-value : goal.returns-in_err-count-clause-value

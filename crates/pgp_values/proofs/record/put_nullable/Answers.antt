@@ -1,6 +1,4 @@
-use Rattle.pgp_types.specs.Part.{shown}
-use Rattle.pgp_base.proofs.Needs.{nullable_least}
-use Rattle.pgp_types.proofs.Appending.{memory_as}
+use Rattle.pgp_values.proofs.Common.{shown, nullable_least, memory_as}
 use Rattle.pgp_values.proofs.record.put_nullable.Goals as goal
 
 pub returns-in-None-clause-cause : goal.returns-in-None-clause-cause

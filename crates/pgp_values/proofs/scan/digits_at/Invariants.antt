@@ -1,6 +1,4 @@
-use Rattle.std.proofs.Common.{take}
-use Rattle.std.specs.List.{AllByRecursion}
-use Rattle.pgp_values.specs.NumberText.{IsDigit}
+use Rattle.pgp_values.proofs.Common.{take, AllByRecursion, IsDigit}
 use Rattle.pgp_values.proofs.scan.digits_at.Given as goal
 
 abbrev pub invariant-loop-i : goal.invariant-loop-i

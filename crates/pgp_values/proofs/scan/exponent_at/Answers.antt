@@ -1,4 +1,4 @@
-use Rattle.std.proofs.Common.{length}
+use Rattle.pgp_values.proofs.Common.{length}
 use Rattle.pgp_values.proofs.ScanLemmas.{some_of, exponent_at_err}
 use Rattle.pgp_values.proofs.scan.exponent_at.Goals as goal
 

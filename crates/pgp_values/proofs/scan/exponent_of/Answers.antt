@@ -1,4 +1,4 @@
-use Rattle.std.proofs.Common.{◌+◌, refl, arith}
+use Rattle.pgp_values.proofs.Common.{◌+◌, refl, arith}
 use Rattle.pgp_values.proofs.GroupLemmas.{spelled_next, spelled_take}
 use Rattle.pgp_values.proofs.scan.exponent_of.Goals as goal
 

@@ -1,6 +1,4 @@
-use Rattle.std.proofs.Common.{◌≡◌, ◌≤◌, map, take}
-use Rattle.pgp_values.specs.Amount.{spelled}
-use Rattle.pgp_values.specs.DecimalWriting.{digit_value}
+use Rattle.pgp_values.proofs.Common.{◌≡◌, ◌≤◌, map, take, spelled, digit_value}
 use Rattle.pgp_values.proofs.scan.exponent_of.Given as goal
 
 abbrev pub invariant-loop-i : goal.invariant-loop-i

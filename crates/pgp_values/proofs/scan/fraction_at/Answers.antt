@@ -1,4 +1,4 @@
-use Rattle.std.proofs.Common.{◌≡◌, ◌∷◌, [], inl, refl, ap, ◌∙◌}
+use Rattle.pgp_values.proofs.Common.{◌≡◌, ◌∷◌, [], inl, refl, ap, ◌∙◌}
 use Rattle.pgp_values.proofs.scan.fraction_at.Goals as goal
 
 pub returns-in-Some : goal.returns-in-Some

@@ -1,5 +1,4 @@
-use Rattle.std.proofs.Common.{◌≡◌, map, take}
-use Rattle.pgp_values.specs.NumberText.{lower}
+use Rattle.pgp_values.proofs.Common.{◌≡◌, map, take, lower}
 use Rattle.pgp_values.proofs.scan.is_word.Given as goal
 
 abbrev pub invariant-loop-i : goal.invariant-loop-i

@@ -1,5 +1,4 @@
-use Rattle.std.proofs.Common.{length}
-use Rattle.pgp_base.proofs.Parts.{if_err_at}
+use Rattle.pgp_values.proofs.Common.{length, if_err_at}
 use Rattle.pgp_values.proofs.ScanLemmas.{some_of, none_of, more_left, marked_is, refused_past}
 use Rattle.pgp_values.proofs.scan.marked_at.Goals as goal
 

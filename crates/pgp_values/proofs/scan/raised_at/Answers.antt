@@ -1,4 +1,4 @@
-use Rattle.std.proofs.Common.{inl, inr, refl}
+use Rattle.pgp_values.proofs.Common.{inl, inr, refl}
 use Rattle.pgp_values.proofs.ScanLemmas.{raised_at_err}
 use Rattle.pgp_values.proofs.scan.raised_at.Goals as goal
 

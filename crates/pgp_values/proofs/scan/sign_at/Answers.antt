@@ -1,4 +1,4 @@
-use Rattle.std.proofs.Common.{◌≡◌, ◌∷◌, [], inr, refl}
+use Rattle.pgp_values.proofs.Common.{◌≡◌, ◌∷◌, [], inr, refl}
 use Rattle.pgp_values.proofs.scan.sign_at.Goals as goal
 
 pub returns-in-Some : goal.returns-in-Some

@@ -1,6 +1,4 @@
-use Rattle.std.proofs.Common.{◌≡◌, ◌-◌, suc, subst, take, length, arith}
-use Rattle.pgp_values.specs.NumberText.{IsBlank}
-use Rattle.pgp_values.specs.NumberScan.{NotEnd}
+use Rattle.pgp_values.proofs.Common.{◌≡◌, ◌-◌, suc, subst, take, length, arith, IsBlank, NotEnd}
 use Rattle.pgp_values.proofs.ScanLemmas.{end_take}
 use Rattle.pgp_values.proofs.scan.trimmed_back.Goals as goal
 

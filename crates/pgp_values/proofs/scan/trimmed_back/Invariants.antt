@@ -1,6 +1,4 @@
-use Rattle.std.proofs.Common.{◌-◌, length, drop}
-use Rattle.std.specs.List.{AllByRecursion}
-use Rattle.pgp_values.specs.NumberText.{IsBlank}
+use Rattle.pgp_values.proofs.Common.{◌-◌, length, drop, AllByRecursion, IsBlank}
 use Rattle.pgp_values.proofs.scan.trimmed_back.Given as goal
 
 abbrev pub invariant-loop-i : goal.invariant-loop-i

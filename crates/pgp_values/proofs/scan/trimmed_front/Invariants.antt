@@ -1,6 +1,4 @@
-use Rattle.std.proofs.Common.{take}
-use Rattle.std.specs.List.{AllByRecursion}
-use Rattle.pgp_values.specs.NumberText.{IsBlank}
+use Rattle.pgp_values.proofs.Common.{take, AllByRecursion, IsBlank}
 use Rattle.pgp_values.proofs.scan.trimmed_front.Given as goal
 
 abbrev pub invariant-loop-i : goal.invariant-loop-i

@@ -1,5 +1,4 @@
-use Rattle.std.proofs.Common.{◌∙◌, sym}
-use Rattle.pgp_values.specs.DecimalText.{decimal_at, run, whole_places}
+use Rattle.pgp_values.proofs.Common.{◌∙◌, sym, decimal_at, run, whole_places}
 use Rattle.pgp_values.proofs.TextLemmas.{has_stripped}
 use Rattle.pgp_values.proofs.show.has_before.Goals as goal
 

@@ -1,5 +1,4 @@
-use Rattle.std.proofs.Common.{◌≡◌, ◌<◌, ℕ}
-use Rattle.pgp_values.specs.DecimalText.{decimal_at}
+use Rattle.pgp_values.proofs.Common.{◌≡◌, ◌<◌, ℕ, decimal_at}
 use Rattle.pgp_values.proofs.show.has_digit_to.Given as goal
 
 abbrev pub invariant-loop-i : goal.invariant-loop-i

@@ -1,5 +1,4 @@
-use Rattle.std.proofs.Common.{◌≡◌, ◌+◌, ap, ◌∙◌, sym, arith}
-use Rattle.pgp_values.specs.DecimalText.{behind_point}
+use Rattle.pgp_values.proofs.Common.{◌≡◌, ◌+◌, ap, ◌∙◌, sym, arith, behind_point}
 use Rattle.pgp_values.proofs.TextLemmas.{has_none, has_one}
 use Rattle.pgp_values.proofs.show.has_fraction.Goals as goal
 

@@ -1,5 +1,4 @@
-use Rattle.std.proofs.Common.{◌≡◌, ◌<◌, ℕ}
-use Rattle.pgp_values.specs.DecimalText.{behind_point}
+use Rattle.pgp_values.proofs.Common.{◌≡◌, ◌<◌, ℕ, behind_point}
 use Rattle.pgp_values.proofs.show.has_fraction.Given as goal
 
 abbrev pub invariant-loop-i : goal.invariant-loop-i

@@ -1,6 +1,4 @@
-use Rattle.std.proofs.Common.{◌*◌, arith, map}
-use Rattle.pgp_base.proofs.Parts.{wants_then}
-use Rattle.pgp_values.specs.DecimalText.{decimal_at, run, letter}
+use Rattle.pgp_values.proofs.Common.{◌*◌, arith, map, wants_then, decimal_at, run, letter}
 use Rattle.pgp_values.proofs.GroupTexts.{groups_more}
 use Rattle.pgp_values.proofs.TextLemmas.{letters_length}
 use Rattle.pgp_values.proofs.show.put_groups.Goals as goal

@@ -1,6 +1,4 @@
-use Rattle.std.proofs.Common.{◌≡◌, ◌*◌, map}
-use Rattle.pgp_base.specs.Held.{◌⊕◌}
-use Rattle.pgp_values.specs.DecimalText.{decimal_at, run, letter}
+use Rattle.pgp_values.proofs.Common.{◌≡◌, ◌*◌, map, ◌⊕◌, decimal_at, run, letter}
 use Rattle.pgp_values.proofs.show.put_groups.Given as goal
 
 abbrev pub invariant-loop-i : goal.invariant-loop-i

@@ -1,5 +1,4 @@
-use Rattle.std.proofs.Common.{◌∙◌, sym}
-use Rattle.pgp_values.specs.DecimalText.{whole_digits, fraction_digits}
+use Rattle.pgp_values.proofs.Common.{◌∙◌, sym, whole_digits, fraction_digits}
 use Rattle.pgp_values.proofs.TextLemmas.{has_left, has_right}
 use Rattle.pgp_values.proofs.show.shows_digit.Goals as goal
 

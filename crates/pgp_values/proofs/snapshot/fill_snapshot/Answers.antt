@@ -1,11 +1,4 @@
-use Rattle.std.proofs.Common.{rules, ◌+◌, ◌≤◌, ◌++◌, Some, ◌≡◌, [], ◌∷◌, length, refl, ◌∙◌, inl, inr, arith, length-append}
-use Rattle.std.specs.List.{flat_map}
-use Rattle.pgp_base.specs.Held.{◌⊕◌}
-use Rattle.pgp_base.specs.Wire.{uint32, uint64}
-use Rattle.pgp_base.proofs.Parts.{length-uint32, wants_more, wants_then, sized4, more_twice, more_parts, if_err_at, front_left}
-use Rattle.pgp_base.proofs.Needs.{flat_more}
-use Rattle.pgp_values.specs.Snapshot.{snapshot_bytes, snapshot_of, bounds_bytes}
-use Rattle.pgp_types.proofs.Appending.{counted_up4, front_thrice, front_thrice_then, only_memory}
+use Rattle.pgp_values.proofs.Common.{rules, ◌+◌, ◌≤◌, ◌++◌, Some, ◌≡◌, [], ◌∷◌, length, refl, ◌∙◌, inl, inr, arith, length-append, flat_map, ◌⊕◌, uint32, uint64, length-uint32, wants_more, wants_then, sized4, more_twice, more_parts, if_err_at, front_left, flat_more, snapshot_bytes, snapshot_of, bounds_bytes, counted_up4, front_thrice, front_thrice_then, only_memory}
 use Rattle.pgp_values.proofs.SnapshotLemmas.{ids_fit, ids_pass}
 use Rattle.pgp_values.proofs.snapshot.fill_snapshot.Goals as goal
 

@@ -1,8 +1,5 @@
-use Rattle.std.proofs.Common.{arith}
-use Rattle.pgp_base.specs.Wire.{IsBytes}
-use Rattle.pgp_types.proofs.Appending.{refused_as}
+use Rattle.pgp_values.proofs.Common.{arith, IsBytes, refused_as, SnapshotReads}
 use Rattle.pgp_values.proofs.SnapshotLemmas.{snapshot_read, snapshot_few, snapshot_refused}
-use Rattle.pgp_values.specs.Snapshot.{SnapshotReads}
 use Rattle.pgp_values.proofs.snapshot.snapshot_from_sql.Goals as goal
 
 pub returns-in_err-count-clause-value : goal.returns-in_err-count-clause-value

@@ -1,8 +1,4 @@
-use Rattle.std.proofs.Common.{[], ◌∷◌, arith, inl}
-use Rattle.pgp_base.specs.Cause.{text_cause}
-use Rattle.pgp_base.specs.Wire.{text}
-use Rattle.pgp_base.proofs.Parts.{wants_more}
-use Rattle.pgp_types.proofs.Appending.{only_memory}
+use Rattle.pgp_values.proofs.Common.{[], ◌∷◌, arith, inl, text_cause, text, wants_more, only_memory}
 use Rattle.pgp_values.proofs.Rows.{item_why, writes_why}
 use Rattle.pgp_values.proofs.tsquery.put_operand.Goals as goal
 

@@ -1,9 +1,5 @@
-use Rattle.std.proofs.Common.{arith}
-use Rattle.pgp_base.specs.Wire.{IsBytes}
-use Rattle.pgp_types.proofs.Appending.{refused_as}
+use Rattle.pgp_values.proofs.Common.{arith, IsBytes, refused_as, ListReads, query_item}
 use Rattle.pgp_values.proofs.ListLemmas.{list_read, list_few, list_refused}
-use Rattle.pgp_values.specs.List.{ListReads}
-use Rattle.pgp_values.specs.Tsquery.{query_item}
 use Rattle.pgp_values.proofs.QueryLemmas.{query_is_item}
 use Rattle.pgp_values.proofs.tsquery.tsquery_from_sql.Goals as goal
 

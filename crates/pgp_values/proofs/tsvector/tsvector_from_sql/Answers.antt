@@ -1,9 +1,5 @@
-use Rattle.std.proofs.Common.{arith}
-use Rattle.pgp_base.specs.Wire.{IsBytes}
-use Rattle.pgp_types.proofs.Appending.{refused_as}
+use Rattle.pgp_values.proofs.Common.{arith, IsBytes, refused_as, ListReads, lexeme}
 use Rattle.pgp_values.proofs.ListLemmas.{list_read, list_few, list_refused}
-use Rattle.pgp_values.specs.List.{ListReads}
-use Rattle.pgp_values.specs.Tsvector.{lexeme}
 use Rattle.pgp_values.proofs.LexemeLemmas.{lexeme_item}
 use Rattle.pgp_values.proofs.tsvector.tsvector_from_sql.Goals as goal
 

@@ -1,6 +1,4 @@
-use Rattle.std.proofs.Common.{◌++◌, map}
-use Rattle.pgp_values.specs.DecimalWriting.{digit_value}
-use Rattle.pgp_values.specs.NumberGroups.{NoneTo}
+use Rattle.pgp_values.proofs.Common.{◌++◌, map, digit_value, NoneTo}
 use Rattle.pgp_values.proofs.written.first_of.Given as goal
 
 abbrev pub invariant-loop-i : goal.invariant-loop-i

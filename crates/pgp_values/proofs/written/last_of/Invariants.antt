@@ -1,5 +1,4 @@
-use Rattle.std.proofs.Common.{◌≡◌, ◌+◌, ◌≤◌, ◌++◌, ℕ, get_or, length, map}
-use Rattle.pgp_values.specs.DecimalWriting.{digit_value}
+use Rattle.pgp_values.proofs.Common.{◌≡◌, ◌+◌, ◌≤◌, ◌++◌, ℕ, get_or, length, map, digit_value}
 use Rattle.pgp_values.proofs.written.last_of.Given as goal
 
 abbrev pub invariant-loop-i : goal.invariant-loop-i

@@ -1,5 +1,4 @@
-use Rattle.std.proofs.Common.{◌≢◌, ◌+◌, length, arith}
-use Rattle.pgp_base.proofs.Parts.{if_err_at}
+use Rattle.pgp_values.proofs.Common.{◌≢◌, ◌+◌, length, arith, if_err_at}
 use Rattle.pgp_values.proofs.ScanLemmas.{some_of, none_of, nothing_written, written_refused}
 use Rattle.pgp_values.proofs.written.written_of.Goals as goal
 use Rattle.pgp_values.proofs.written.written_of.Goals.{else-is_empty-via-then-is_empty+else-is_empty-2, else-is_empty-via-else-is_empty}

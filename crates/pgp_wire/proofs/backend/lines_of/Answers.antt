@@ -1,8 +1,4 @@
-use Rattle.std.proofs.Common.{ap, arith, length, take, subst, sym}
-use Rattle.std.proofs.KnownBytes.{Consumes-nil}
-use Rattle.std.specs.Prelude.{string_bytes}
-use Rattle.std.specs.Io.KnownBytes.{Consumes}
-use Rattle.pgp_stream.specs.ServerStream.{Reading}
+use Rattle.pgp_wire.proofs.Common.{ap, arith, length, take, subst, sym, Consumes-nil, string_bytes, Consumes, Reading}
 use Rattle.pgp_wire.proofs.Lists.{lists_nothing, lists_more, lists_same, lists_all}
 use Rattle.pgp_wire.proofs.backend.lines_of.Goals as goal
 use Rattle.pgp_wire.proofs.backend.lines_of.Goals.{in-Ok+in_ok-list_piece-in-Ok, in-Err+in-Interrupted}

@@ -1,4 +1,4 @@
-use Rattle.std.specs.Prelude.{string_bytes}
+use Rattle.pgp_wire.proofs.Common.{string_bytes}
 use Rattle.pgp_wire.proofs.Lists.{Lists}
 use Rattle.pgp_wire.proofs.backend.lines_of.Given as goal
 

@@ -1,9 +1,4 @@
-use Rattle.std.proofs.Common.{◌≡◌, ◌++◌, get_or, take, map, arith, rules, append_assoc, sym, ap, ◌∙◌}
-use Rattle.std.specs.Prelude.{string_bytes}
-use Rattle.std.specs.List.{flat_map}
-use Rattle.std.proofs.lemmas.List.{take_all}
-use Rattle.pgp_message.specs.Views.{seen}
-use Rattle.pgp_wire.specs.Output.{line_of}
+use Rattle.pgp_wire.proofs.Common.{◌≡◌, ◌++◌, get_or, take, map, arith, rules, append_assoc, sym, ap, ◌∙◌, string_bytes, flat_map, take_all, seen, line_of}
 use Rattle.pgp_wire.proofs.Lists.{one_line}
 use Rattle.pgp_wire.proofs.backend.list.Goals as goal
 use Rattle.pgp_wire.proofs.backend.list.Goals.{in-Ok+in_ok-put_line-in-Ok, in-Err+in_ok-put_fault-in-Err}

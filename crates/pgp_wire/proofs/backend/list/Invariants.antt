@@ -1,8 +1,4 @@
-use Rattle.std.proofs.Common.{◌≡◌, ◌++◌, take, map}
-use Rattle.std.specs.Prelude.{string_bytes}
-use Rattle.std.specs.List.{flat_map}
-use Rattle.pgp_message.specs.Views.{seen}
-use Rattle.pgp_wire.specs.Output.{line_of}
+use Rattle.pgp_wire.proofs.Common.{◌≡◌, ◌++◌, take, map, string_bytes, flat_map, seen, line_of}
 use Rattle.pgp_wire.proofs.backend.list.Given as goal
 
 abbrev pub invariant-loop-read : goal.invariant-loop-read

@@ -1,5 +1,4 @@
-use Rattle.std.proofs.Common.{rules, subst, ℕ, List}
-use Rattle.std.specs.Prelude.{string_bytes}
+use Rattle.pgp_wire.proofs.Common.{rules, subst, ℕ, List, string_bytes}
 use Rattle.pgp_base.proofs.Parts.{if_err_at}
 use Rattle.pgp_program.specs.Taken.{AppendsFront}
 use Rattle.pgp_wire.proofs.client.client.Goals as goal

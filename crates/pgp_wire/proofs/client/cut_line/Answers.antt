@@ -1,4 +1,4 @@
-use Rattle.std.proofs.Common.{arith}
+use Rattle.pgp_wire.proofs.Common.{arith}
 use Rattle.pgp_wire.proofs.ScriptLemmas.{line_at, last_line_of}
 use Rattle.pgp_wire.proofs.client.cut_line.Goals as goal
 

@@ -1,12 +1,5 @@
-use Rattle.std.proofs.Common.{rules, ◌≡◌, ◌≢◌, not, refl, ap, ◌∙◌, subst, inl, inr, Some}
-use Rattle.std.specs.Str.{IsUtf8}
-use Rattle.pgp_base.specs.declared.error.Error.{Error}
-use Rattle.pgp_base.specs.declared.error.Error.TheVariants.{OutOfMemory}
-use Rattle.pgp_frontend.specs.Payload.{cause}
-use Rattle.pgp_stream.specs.ClientStream.{IsAdded}
-use Rattle.pgp_wire.specs.Request.{asked}
-use Rattle.pgp_wire.specs.Script.{Says}
-use Rattle.pgp_wire.specs.Sending.{is_opening}
+use Rattle.pgp_wire.proofs.Common.{rules, ◌≡◌, ◌≢◌, refl, ap, ◌∙◌, subst, inl, inr, Some, IsUtf8, Error, OutOfMemory, cause, IsAdded, asked, Says, is_opening}
+use Rattle.std.proofs.Common.{not}
 use Rattle.pgp_wire.proofs.NoMemory.{never_memory}
 use Rattle.pgp_wire.proofs.SendingLemmas.{names_it, comes_now}
 use Rattle.pgp_wire.proofs.client.send_line.Goals as goal

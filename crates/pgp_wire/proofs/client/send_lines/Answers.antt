@@ -1,5 +1,4 @@
-use Rattle.std.proofs.Common.{rules, arith, ◌∷◌, [], ◌++◌, length-append, None, sym, ap, ◌∙◌, append_assoc}
-use Rattle.pgp_wire.specs.Sending.{SendsLine, lines_left, size_left}
+use Rattle.pgp_wire.proofs.Common.{rules, arith, ◌∷◌, [], ◌++◌, length-append, None, sym, ap, ◌∙◌, append_assoc, SendsLine, lines_left, size_left}
 use Rattle.pgp_wire.proofs.SendingLemmas.{sent_more}
 use Rattle.pgp_wire.proofs.client.send_lines.Goals as goal
 

@@ -1,7 +1,4 @@
-use Rattle.std.proofs.Common.{◌≡◌, ℕ, ◌+◌, ◌≤◌, List, ◌++◌, length}
-use Rattle.std.specs.List.{slice_split}
-use Rattle.pgp_wire.specs.Script.{is_newline}
-use Rattle.pgp_wire.specs.Sending.{HasSent, lines_left, size_left}
+use Rattle.pgp_wire.proofs.Common.{◌≡◌, ℕ, ◌+◌, ◌≤◌, List, ◌++◌, length, slice_split, is_newline, HasSent, lines_left, size_left}
 use Rattle.pgp_wire.proofs.client.send_lines.Given as goal
 
 abbrev pub invariant-lines : goal.invariant-lines

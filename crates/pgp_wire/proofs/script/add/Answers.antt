@@ -1,8 +1,4 @@
-use Rattle.std.proofs.Common.{rules, arith, ◌≢◌, [], inr, Some, map, ap, ◌∙◌}
-use Rattle.std.proofs.lemmas.List.{map_push}
-use Rattle.std.proofs.lemmas.Str.Pattern.{split_parts}
-use Rattle.pgp_frontend.specs.Given.{shown}
-use Rattle.pgp_wire.specs.Script.{IsPair}
+use Rattle.pgp_wire.proofs.Common.{rules, arith, ◌≢◌, [], inr, Some, map, ap, ◌∙◌, map_push, split_parts, shown, IsPair}
 use Rattle.pgp_wire.proofs.ScriptLemmas.{free, never_without}
 use Rattle.pgp_wire.proofs.script.add.Goals as goal
 

@@ -1,10 +1,6 @@
-use Rattle.std.proofs.Common.{rules, arith, ◌≡◌, ◌+◌, ◌∷◌, ◌++◌, length, take, drop, map, ap, sym, subst, ◌∙◌, take-append-drop}
-use Rattle.std.specs.List.{slice_split}
-use Rattle.std.proofs.lemmas.List.{map_push, drop_more}
+use Rattle.pgp_wire.proofs.Common.{rules, arith, ◌≡◌, ◌+◌, ◌∷◌, ◌++◌, length, take, drop, map, ap, sym, subst, ◌∙◌, take-append-drop, slice_split, map_push, drop_more, shown, ArePairs, is_space}
 use Rattle.std.proofs.lemmas.Iterator.Consumers.{YieldsList-so_far, YieldsList-turn, YieldsList-end, YieldsList-at}
 use Rattle.std.proofs.lemmas.Iterator.Splits.{YieldsList-from_str_split}
-use Rattle.pgp_frontend.specs.Given.{shown}
-use Rattle.pgp_wire.specs.Script.{ArePairs, is_space}
 use Rattle.pgp_wire.proofs.ScriptLemmas.{pairs_more, never_pairs}
 use Rattle.pgp_wire.proofs.script.parameters.Goals as goal
 

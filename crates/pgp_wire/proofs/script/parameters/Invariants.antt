@@ -1,6 +1,4 @@
-use Rattle.std.proofs.Common.{map}
-use Rattle.pgp_frontend.specs.Given.{shown}
-use Rattle.pgp_wire.specs.Script.{ArePairs}
+use Rattle.pgp_wire.proofs.Common.{map, shown, ArePairs}
 use Rattle.pgp_wire.proofs.script.parameters.Given as goal
 
 abbrev pub invariant-loop-part : goal.invariant-loop-part

@@ -1,4 +1,4 @@
-use Rattle.std.proofs.Common.{rules}
+use Rattle.pgp_wire.proofs.Common.{rules}
 use Rattle.pgp_wire.proofs.ScriptLemmas.{never_said}
 use Rattle.pgp_wire.proofs.script.request_of.Goals as goal
 

@@ -1,5 +1,4 @@
-use Rattle.std.proofs.Common.{arith, Some, None}
-use Rattle.std.proofs.lemmas.Str.Pattern.{split_parts}
+use Rattle.pgp_wire.proofs.Common.{arith, Some, None, split_parts}
 use Rattle.pgp_wire.proofs.ScriptLemmas.{free}
 use Rattle.pgp_wire.proofs.script.words.Goals as goal
 

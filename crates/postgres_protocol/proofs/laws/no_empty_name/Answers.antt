@@ -1,4 +1,4 @@
-use Rattle.pgp_frontend.proofs.ClientRuns.{no_run}
+use Rattle.postgres_protocol.proofs.Common.{no_run}
 use Rattle.postgres_protocol.proofs.laws.no_empty_name.Goals as goal
 
 pub returns : goal.returns

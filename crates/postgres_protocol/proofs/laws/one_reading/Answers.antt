@@ -1,4 +1,4 @@
-use Rattle.pgp_frontend.proofs.ClientRuns.{runs_one}
+use Rattle.postgres_protocol.proofs.Common.{runs_one}
 use Rattle.postgres_protocol.proofs.laws.one_reading.Goals as goal
 
 pub returns : goal.returns

@@ -1,4 +1,4 @@
-use Rattle.pgp_frontend.proofs.ClientRuns.{runs_bytes}
+use Rattle.postgres_protocol.proofs.Common.{runs_bytes}
 use Rattle.postgres_protocol.proofs.laws.one_spelling.Goals as goal
 
 pub returns : goal.returns

@@ -1,6 +1,4 @@
-use Rattle.std.proofs.Common.{◌≡◌, ◌+◌, ◌-◌, suc, arith, refl, append-nil}
-use Rattle.pgp_base.specs.Wire.{uint32}
-use Rattle.pgp_auth.specs.IteratedKey.{nth_code, xor_of_codes}
+use Rattle.pgp_auth.proofs.Common.{◌≡◌, ◌+◌, ◌-◌, suc, arith, refl, append-nil, uint32, nth_code, xor_of_codes}
 use Rattle.pgp_auth.proofs.Codes.{code_is}
 use Rattle.pgp_auth.proofs.authentication.sasl.counted_hi.Goals as goal
 

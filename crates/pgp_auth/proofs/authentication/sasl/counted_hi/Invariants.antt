@@ -1,5 +1,4 @@
-use Rattle.std.proofs.Common.{◌≡◌, ◌+◌, ◌-◌, ◌≤◌, max}
-use Rattle.pgp_auth.specs.IteratedKey.{nth_code, xor_of_codes}
+use Rattle.pgp_auth.proofs.Common.{◌≡◌, ◌+◌, ◌-◌, ◌≤◌, max, nth_code, xor_of_codes}
 use Rattle.pgp_auth.proofs.authentication.sasl.counted_hi.Given as goal
 
 abbrev pub invariant-rounds : goal.invariant-rounds

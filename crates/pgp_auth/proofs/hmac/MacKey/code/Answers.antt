@@ -1,5 +1,5 @@
-use Rattle.std.proofs.Common.{◌≡◌, ◌++◌, rules, append_assoc}
-use Rattle.pgp_auth.specs.MacBlocks.{code_of}
+use Rattle.pgp_auth.proofs.Common.{◌≡◌, ◌++◌, rules, code_of}
+use Rattle.std.proofs.Common.{append_assoc}
 use Rattle.pgp_auth.proofs.hmac.MacKey.code.Goals as goal
 
 pub returns : goal.returns

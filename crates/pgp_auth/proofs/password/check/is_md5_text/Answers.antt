@@ -1,4 +1,4 @@
-use Rattle.std.proofs.Common.{arith}
+use Rattle.pgp_auth.proofs.Common.{arith}
 use Rattle.pgp_auth.proofs.Md5Checks.{other_front, other_length, digits_compared}
 use Rattle.pgp_auth.proofs.password.check.is_md5_text.Goals as goal
 

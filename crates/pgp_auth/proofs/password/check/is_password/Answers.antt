@@ -1,4 +1,4 @@
-use Rattle.pgp_auth.specs.ScramServerView.{verifier_of}
+use Rattle.pgp_auth.proofs.Common.{verifier_of}
 use Rattle.pgp_auth.proofs.StoredTexts.{no_ones, other_stored_key, keys_compared, client_made, server_made}
 use Rattle.pgp_auth.proofs.password.check.is_password.Goals as goal
 

@@ -1,5 +1,4 @@
-use Rattle.std.proofs.Common.{rules}
-use Rattle.pgp_auth.specs.ScramPartView.{parts_of}
+use Rattle.pgp_auth.proofs.Common.{rules, parts_of}
 use Rattle.pgp_auth.proofs.Grants.{refused_parts}
 use Rattle.pgp_auth.proofs.scram.admit.admit.Goals as goal
 

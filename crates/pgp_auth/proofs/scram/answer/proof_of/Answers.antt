@@ -1,7 +1,4 @@
-use Rattle.std.proofs.Common.{◌≡◌, refl, append-nil}
-use Rattle.sha2.specs.Sha256.{sha256}
-use Rattle.pgp_auth.specs.Hmac.{mac}
-use Rattle.pgp_auth.specs.ScramAnswer.{client_key}
+use Rattle.pgp_auth.proofs.Common.{◌≡◌, refl, append-nil, sha256, mac, client_key}
 use Rattle.pgp_auth.proofs.Codes.{code_is}
 use Rattle.pgp_auth.proofs.scram.answer.proof_of.Goals as goal
 

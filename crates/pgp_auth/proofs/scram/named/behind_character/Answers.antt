@@ -1,4 +1,4 @@
-use Rattle.std.proofs.Common.{sym, ◌∙◌}
+use Rattle.pgp_auth.proofs.Common.{sym, ◌∙◌}
 use Rattle.pgp_auth.proofs.UserNames.{plain_step, no_character}
 use Rattle.pgp_auth.proofs.scram.named.behind_character.Goals as goal
 

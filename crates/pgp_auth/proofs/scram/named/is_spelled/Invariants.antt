@@ -1,6 +1,4 @@
-use Rattle.std.proofs.Common.{length}
-use Rattle.std.specs.Prelude.{◌↔◌}
-use Rattle.pgp_auth.specs.ScramText.{SaslName}
+use Rattle.pgp_auth.proofs.Common.{length, ◌↔◌, SaslName}
 use Rattle.pgp_auth.proofs.scram.named.is_spelled.Given as goal
 
 abbrev pub invariant-characters : goal.invariant-characters

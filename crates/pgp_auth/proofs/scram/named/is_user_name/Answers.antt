@@ -1,4 +1,4 @@
-use Rattle.std.proofs.Common.{sym, ◌∙◌}
+use Rattle.pgp_auth.proofs.Common.{sym, ◌∙◌}
 use Rattle.pgp_auth.proofs.UserNames.{not_text, text_spelled}
 use Rattle.pgp_auth.proofs.scram.named.is_user_name.Goals as goal
 

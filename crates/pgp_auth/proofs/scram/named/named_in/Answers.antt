@@ -1,4 +1,4 @@
-use Rattle.pgp_auth.specs.ScramText.{IsUserName, IsNonce}
+use Rattle.pgp_auth.proofs.Common.{IsUserName, IsNonce}
 use Rattle.pgp_auth.proofs.UserNames.{not_so, no_attribute, no_second, no_user, no_nonce, named}
 use Rattle.pgp_auth.proofs.scram.named.named_in.Goals as goal
 

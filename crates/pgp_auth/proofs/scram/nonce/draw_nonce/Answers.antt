@@ -1,6 +1,4 @@
-use Rattle.std.proofs.Common.{◌≡◌, ◌<◌, length, take, refl, ◌∙◌, arith}
-use Rattle.std.proofs.lemmas.List.{length-set, take_more_set, take_all, length-take-le}
-use Rattle.pgp_auth.specs.Nonce.{drawn_chars}
+use Rattle.pgp_auth.proofs.Common.{◌≡◌, ◌<◌, length, take, refl, ◌∙◌, arith, length-set, take_more_set, take_all, length-take-le, drawn_chars}
 use Rattle.pgp_auth.proofs.Draws.{drawn_next, no_char, one_more}
 use Rattle.pgp_auth.proofs.scram.nonce.draw_nonce.Goals as goal
 

@@ -1,7 +1,4 @@
-use Rattle.std.proofs.Common.{◌≡◌, length, take}
-use Rattle.std.specs.List.{AllPass}
-use Rattle.pgp_auth.specs.ScramText.{is_nonce_char}
-use Rattle.pgp_auth.specs.Nonce.{drawn_chars}
+use Rattle.pgp_auth.proofs.Common.{◌≡◌, length, take, AllPass, is_nonce_char, drawn_chars}
 use Rattle.pgp_auth.proofs.scram.nonce.draw_nonce.Given as goal
 
 abbrev pub invariant-loop-i : goal.invariant-loop-i

@@ -1,5 +1,4 @@
-use Rattle.std.proofs.Common.{◌≡◌, ◌+◌, ◌*◌, ◌-◌, ◌^◌, ◌≤◌, drop, sym, get_or, arith}
-use Rattle.pgp_auth.specs.ScramText.{number, number_from}
+use Rattle.pgp_auth.proofs.Common.{◌≡◌, ◌+◌, ◌*◌, ◌-◌, ◌^◌, ◌≤◌, drop, sym, get_or, arith, number, number_from}
 use Rattle.pgp_auth.proofs.Runs.{digits_step, too_large, all_taken}
 use Rattle.pgp_auth.proofs.scram.reading.count.Goals as goal
 

@@ -1,5 +1,4 @@
-use Rattle.std.proofs.Common.{◌≡◌, ◌<◌, ◌^◌, drop}
-use Rattle.pgp_auth.specs.ScramText.{number, number_from}
+use Rattle.pgp_auth.proofs.Common.{◌≡◌, ◌<◌, ◌^◌, drop, number, number_from}
 use Rattle.pgp_auth.proofs.scram.reading.count.Given as goal
 
 abbrev pub invariant-loop-d : goal.invariant-loop-d

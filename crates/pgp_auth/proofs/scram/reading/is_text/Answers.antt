@@ -1,9 +1,5 @@
-use Rattle.std.proofs.Common.{sym}
-use Rattle.std.proofs.lemmas.Str.{is_utf8-from_IsUtf8, IsUtf8-from_is_utf8}
-use Rattle.std.proofs.lemmas.Bool.{cases_Bool}
-use Rattle.std.specs.Str.{is_utf8}
+use Rattle.pgp_auth.proofs.Common.{sym, is_utf8-from_IsUtf8, IsUtf8-from_is_utf8, cases_Bool, is_utf8, inl, inr}
 use Rattle.pgp_auth.proofs.scram.reading.is_text.Goals as goal
-use Rattle.std.proofs.Common.{inl, inr}
 
 pub returns-in-Ok : goal.returns-in-Ok
 returns-in-Ok c = sym (is_utf8-from_IsUtf8 c.args.message.now c.in-Ok.ensures.cases.1)

@@ -1,5 +1,4 @@
-use Rattle.std.proofs.Common.{◌≡◌, ℕ, ◌<◌, max, refl, sym, subst}
-use Rattle.std.proofs.lemmas.Bool.{lt-ltb, ltb-true}
+use Rattle.pgp_auth.proofs.Common.{◌≡◌, ℕ, ◌<◌, max, refl, sym, subst, lt-ltb, ltb-true}
 use Rattle.pgp_auth.proofs.FirstTexts.{one_count}
 use Rattle.pgp_auth.proofs.scram.rounds.asks_fewer.Goals as goal
 

@@ -1,5 +1,4 @@
-use Rattle.std.proofs.Common.{sym, ◌∙◌}
-use Rattle.pgp_auth.specs.ScramPartView.{parts_of}
+use Rattle.pgp_auth.proofs.Common.{sym, ◌∙◌, parts_of}
 use Rattle.pgp_auth.proofs.FirstTexts.{read_first-complete, read_first-sound}
 use Rattle.pgp_auth.proofs.scram.rounds.iteration_count.Goals as goal
 

@@ -1,11 +1,5 @@
-use Rattle.std.proofs.Common.{◌≡◌, ◌≢◌, ℕ, List, ◌++◌, codes, sym, ap, ◌∙◌, append-nil}
-use Rattle.sha2.specs.Sha256.{sha256}
-use Rattle.pgp_auth.specs.Hmac.{mac}
-use Rattle.pgp_auth.specs.IteratedKey.{xor_bytes}
+use Rattle.pgp_auth.proofs.Common.{◌≡◌, ◌≢◌, ℕ, List, ◌++◌, codes, sym, ap, ◌∙◌, append-nil, sha256, mac, xor_bytes, with_proof, ExpectsOf, challenge_of}
 use Rattle.pgp_auth.specs.declared.scram.held.Challenged.{Challenged}
-use Rattle.pgp_auth.specs.ScramText.{with_proof}
-use Rattle.pgp_auth.specs.ScramServing.{ExpectsOf}
-use Rattle.pgp_auth.specs.ScramServerView.{challenge_of}
 use Rattle.pgp_auth.proofs.ServerTexts.{expects_of, no_front, no_mark, with_shown, not_32, other_key, made_up, accepts_final, shows_final}
 use Rattle.pgp_auth.proofs.UserNames.{stands_name}
 use Rattle.pgp_auth.proofs.scram.serving.admit.Goals as goal

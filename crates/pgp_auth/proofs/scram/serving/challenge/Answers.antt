@@ -1,7 +1,4 @@
-use Rattle.std.proofs.Common.{◌≡◌, ◌++◌}
-use Rattle.pgp_auth.specs.ScramText.{gs2_header, binding_data}
-use Rattle.pgp_base.proofs.Parts.{if_err_at}
-use Rattle.pgp_auth.specs.ScramServerView.{serving_of}
+use Rattle.pgp_auth.proofs.Common.{◌≡◌, ◌++◌, gs2_header, binding_data, if_err_at, serving_of}
 use Rattle.pgp_auth.proofs.ServerTexts.{chars_made, front_made, auth_made, whole_made, opens_without_memory}
 use Rattle.pgp_auth.proofs.UserNames.{name_stands}
 use Rattle.pgp_auth.proofs.scram.serving.challenge.Goals as goal

@@ -1,4 +1,4 @@
-use Rattle.std.proofs.Common.{◌≡◌}
+use Rattle.pgp_auth.proofs.Common.{◌≡◌}
 use Rattle.pgp_auth.proofs.StoredTexts.{no_key}
 use Rattle.pgp_auth.proofs.scram.stored.key_of.Goals as goal
 

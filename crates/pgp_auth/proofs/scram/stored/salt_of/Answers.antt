@@ -1,4 +1,4 @@
-use Rattle.std.proofs.Common.{refl, arith, inr}
+use Rattle.pgp_auth.proofs.Common.{refl, arith, inr}
 use Rattle.pgp_auth.proofs.ServerTexts.{no_salt, shown_alone}
 use Rattle.pgp_auth.proofs.scram.stored.salt_of.Goals as goal
 

@@ -1,5 +1,4 @@
-use Rattle.std.proofs.Common.{◌≡◌, ◌<◌, ◌^◌, length, get_or, ap, arith}
-use Rattle.std.proofs.lemmas.Nat.{xor_of_8}
+use Rattle.pgp_auth.proofs.Common.{◌≡◌, ◌<◌, ◌^◌, length, get_or, ap, arith, xor_of_8}
 use Rattle.pgp_auth.proofs.Differences.{step_same, step_none, all_same}
 use Rattle.pgp_auth.proofs.scram.verify.difference.Goals as goal
 

@@ -1,4 +1,4 @@
-use Rattle.std.proofs.Common.{◌≡◌, ℕ, ◌*◌, ◌<◌, ◌≤◌, get_or}
+use Rattle.pgp_auth.proofs.Common.{◌≡◌, ℕ, ◌*◌, ◌<◌, ◌≤◌, get_or}
 use Rattle.pgp_auth.proofs.scram.verify.difference.Given as goal
 
 abbrev pub invariant-loop-i : goal.invariant-loop-i

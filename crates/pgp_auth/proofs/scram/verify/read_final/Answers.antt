@@ -1,6 +1,4 @@
-use Rattle.std.proofs.Common.{sym, ◌∙◌, inl}
-use Rattle.pgp_auth.specs.ScramRefusal.{server}
-use Rattle.pgp_base.proofs.Parts.{if_err_at}
+use Rattle.pgp_auth.proofs.Common.{sym, ◌∙◌, inl, server, if_err_at}
 use Rattle.pgp_auth.proofs.FinalTexts.{text_no}
 use Rattle.pgp_auth.proofs.scram.verify.read_final.Goals as goal
 

@@ -1,6 +1,5 @@
-use Rattle.std.proofs.Common.{refl, ap, inr, ◌∙◌}
+use Rattle.pgp_auth.proofs.Common.{refl, ap, inr, ◌∙◌, refusal}
 use Rattle.pgp_auth.specs.ScramClient.{error}
-use Rattle.pgp_auth.specs.ScramErrorView.{refusal}
 use Rattle.pgp_auth.proofs.FinalTexts.{error_is, if_err_from}
 use Rattle.pgp_auth.proofs.scram.verify.server_error.Goals as goal
 

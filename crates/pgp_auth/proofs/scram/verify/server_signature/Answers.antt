@@ -1,5 +1,4 @@
-use Rattle.std.proofs.Common.{◌≡◌, codes, append-nil}
-use Rattle.pgp_auth.specs.Hmac.{mac}
+use Rattle.pgp_auth.proofs.Common.{◌≡◌, codes, append-nil, mac}
 use Rattle.pgp_auth.proofs.Codes.{code_is}
 use Rattle.pgp_auth.proofs.scram.verify.server_signature.Goals as goal
 

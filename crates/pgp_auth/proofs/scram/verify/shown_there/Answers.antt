@@ -1,5 +1,4 @@
-use Rattle.std.proofs.Common.{arith}
-use Rattle.pgp_base.proofs.Parts.{if_err_at}
+use Rattle.pgp_auth.proofs.Common.{arith, if_err_at}
 use Rattle.pgp_auth.proofs.FinalTexts.{long_not}
 use Rattle.pgp_auth.proofs.scram.verify.shown_there.Goals as goal
 

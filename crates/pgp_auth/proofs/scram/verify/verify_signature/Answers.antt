@@ -1,4 +1,4 @@
-use Rattle.pgp_base.proofs.Parts.{if_err_at}
+use Rattle.pgp_auth.proofs.Common.{if_err_at}
 use Rattle.pgp_auth.proofs.FinalTexts.{not_shown}
 use Rattle.pgp_auth.proofs.scram.verify.verify_signature.Goals as goal
 

@@ -1,5 +1,4 @@
-use Rattle.std.proofs.Common.{arith}
-use Rattle.pgp_base.specs.Wire.{IsBytes}
+use Rattle.pgp_c.proofs.Common.{arith, IsBytes}
 use Rattle.pgp_c.proofs.Compound.{dimension_reader}
 use Rattle.pgp_c.proofs.array.DimensionsListed.read.Goals as goal
 

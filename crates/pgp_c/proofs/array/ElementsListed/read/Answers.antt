@@ -1,12 +1,6 @@
-use Rattle.std.proofs.Common.{◌<◌, length, refl, sym, subst, ap, ◌∙◌, arith}
-use Rattle.pgp_base.proofs.Parts.{if_err_at}
-use Rattle.pgp_base.specs.Wire.{IsBytes}
-use Rattle.pgp_base.specs.declared.error.Error.TheVariants.{InvalidValueLength}
+use Rattle.pgp_c.proofs.Common.{◌<◌, length, refl, sym, subst, ap, ◌∙◌, arith, if_err_at, IsBytes, InvalidValueLength, shown, element_reader, value_in, IsColumnInside}
 use Rattle.pgp_types.specs.ArrayReading.{element_at}
-use Rattle.pgp_types.specs.Part.{nullable, shown}
-use Rattle.pgp_types.proofs.ArrayLemmas.{element_reader}
-use Rattle.pgp_c.specs.Compound.{value_in}
-use Rattle.pgp_c.specs.Listings.{IsColumnInside}
+use Rattle.pgp_types.specs.Part.{nullable}
 use Rattle.pgp_c.proofs.Compound.{column_inside, element_in}
 use Rattle.pgp_c.proofs.Listings.{reader_found, reader_shorter}
 use Rattle.pgp_c.proofs.array.ElementsListed.read.Goals as goal

@@ -1,9 +1,4 @@
-use Rattle.std.proofs.Common.{rules, ◌≡◌, ◌++◌, arith, refl, inl, ap, ◌∙◌, length, length-append}
-use Rattle.pgp_base.specs.Held.{◌⊕◌}
-use Rattle.pgp_base.specs.Wire.{uint32}
-use Rattle.pgp_base.proofs.Needs.{memory_more}
-use Rattle.pgp_base.proofs.Parts.{length-uint32}
-use Rattle.std.specs.Int.{w32, cast_unsigned}
+use Rattle.pgp_c.proofs.Common.{rules, ◌≡◌, ◌++◌, arith, refl, inl, ap, ◌∙◌, length, length-append, ◌⊕◌, uint32, memory_more, length-uint32, w32, cast_unsigned}
 use Rattle.pgp_c.proofs.ArrayShapes.{dimension_is}
 use Rattle.pgp_c.proofs.Handed.{err_then, ok_then}
 use Rattle.pgp_c.proofs.array_writing.PgpDimensionWritten.put.Goals as goal

@@ -1,8 +1,4 @@
-use Rattle.std.proofs.Common.{rules, ◌≡◌, arith, refl, inl, ap, ◌∙◌}
-use Rattle.std.specs.Int.{w16, cast_unsigned}
-use Rattle.pgp_base.specs.Held.{◌⊕◌}
-use Rattle.pgp_base.specs.Wire.{uint16}
-use Rattle.pgp_base.proofs.Needs.{memory_more}
+use Rattle.pgp_c.proofs.Common.{rules, ◌≡◌, arith, refl, inl, ap, ◌∙◌, w16, cast_unsigned, ◌⊕◌, uint16, memory_more}
 use Rattle.pgp_c.proofs.BindItems.{int16_is, length-int16}
 use Rattle.pgp_c.proofs.Handed.{err_then, ok_then}
 use Rattle.pgp_c.proofs.bind_items.I16Written.put.Goals as goal

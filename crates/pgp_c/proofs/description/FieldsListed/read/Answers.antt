@@ -1,11 +1,5 @@
-use Rattle.std.proofs.Common.{◌≡◌, ap, ◌∙◌, arith, subst, sym}
-use Rattle.pgp_base.proofs.Parts.{if_err_at}
-use Rattle.pgp_base.specs.Wire.{IsBytes}
-use Rattle.pgp_message.specs.ItemReading.{field_at}
-use Rattle.pgp_message.specs.Items.{FieldSpelled, FieldRefused}
+use Rattle.pgp_c.proofs.Common.{◌≡◌, ap, ◌∙◌, arith, subst, sym, if_err_at, IsBytes, field_at, FieldSpelled, FieldRefused, named, IsInside, stands}
 use Rattle.pgp_message.proofs.FieldLemmas.{field_reader}
-use Rattle.pgp_c.specs.Listings.{named}
-use Rattle.pgp_c.specs.Parts.{IsInside, stands}
 use Rattle.pgp_c.proofs.Listings.{reader_found, reader_shorter, text_fits, text_item, field_of_parts, field_of_no_text}
 use Rattle.pgp_c.proofs.description.FieldsListed.read.Goals as goal
 

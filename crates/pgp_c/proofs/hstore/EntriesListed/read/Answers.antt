@@ -1,10 +1,4 @@
-use Rattle.std.proofs.Common.{arith, subst, sym}
-use Rattle.pgp_base.proofs.Parts.{if_err_at}
-use Rattle.pgp_base.specs.Wire.{IsBytes}
-use Rattle.pgp_types.specs.Hstore.{Entry}
-use Rattle.pgp_types.specs.Part.{shown}
-use Rattle.pgp_types.proofs.HstoreLemmas.{entry_item}
-use Rattle.pgp_c.specs.Listings.{IsColumnInside}
+use Rattle.pgp_c.proofs.Common.{arith, subst, sym, if_err_at, IsBytes, Entry, shown, entry_item, IsColumnInside}
 use Rattle.pgp_c.proofs.Compound.{column_inside, entry_long, entry_placed, key_inside}
 use Rattle.pgp_c.proofs.hstore.EntriesListed.read.Goals as goal
 

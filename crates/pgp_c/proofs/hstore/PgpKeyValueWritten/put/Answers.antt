@@ -1,9 +1,4 @@
-use Rattle.std.proofs.Common.{Some, arith, inl, inr, ◌∙◌, length-append}
-use Rattle.pgp_base.specs.Cause.{nullable_cause}
-use Rattle.pgp_base.specs.Wire.{nullable}
-use Rattle.pgp_base.proofs.Causes.{either_first, either_then}
-use Rattle.pgp_base.proofs.Needs.{memory_more, memory_then}
-use Rattle.pgp_c.specs.Lists.{value_of}
+use Rattle.pgp_c.proofs.Common.{Some, arith, inl, inr, ◌∙◌, length-append, nullable_cause, nullable, either_first, either_then, memory_more, memory_then, value_of}
 use Rattle.pgp_c.proofs.Handed.{err_then}
 use Rattle.pgp_c.proofs.hstore.PgpKeyValueWritten.put.Goals as goal
 

@@ -1,8 +1,4 @@
-use Rattle.std.proofs.Common.{arith}
-use Rattle.pgp_base.specs.PartReading.{text_at}
-use Rattle.pgp_base.specs.Wire.{IsBytes}
-use Rattle.pgp_message.specs.Items.{TextSpelled, TextRefused}
-use Rattle.pgp_message.proofs.TextLemmas.{text_reader}
+use Rattle.pgp_c.proofs.Common.{arith, text_at, IsBytes, TextSpelled, TextRefused, text_reader}
 use Rattle.pgp_c.proofs.Listings.{reader_found, reader_shorter, text_fits, text_item}
 use Rattle.pgp_c.proofs.name.NamesListed.read.Goals as goal
 

@@ -1,9 +1,4 @@
-use Rattle.std.proofs.Common.{arith}
-use Rattle.pgp_base.specs.PartReading.{uint16_at}
-use Rattle.pgp_base.specs.Wire.{IsBytes}
-use Rattle.pgp_message.specs.ItemReading.{format_at}
-use Rattle.pgp_message.specs.Items.{FormatSpelled, FormatRefused}
-use Rattle.pgp_message.proofs.NumberLemmas.{format_reader}
+use Rattle.pgp_c.proofs.Common.{arith, uint16_at, IsBytes, format_at, FormatSpelled, FormatRefused, format_reader}
 use Rattle.pgp_c.proofs.Listings.{number_short, number_whole, reader_shorter}
 use Rattle.pgp_c.proofs.number.FormatsListed.read.Goals as goal
 

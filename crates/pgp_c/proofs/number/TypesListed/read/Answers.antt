@@ -1,9 +1,4 @@
-use Rattle.std.proofs.Common.{arith}
-use Rattle.pgp_base.specs.PartReading.{oid_at}
-use Rattle.pgp_base.specs.Wire.{IsBytes}
-use Rattle.pgp_message.specs.ItemReading.{type_at}
-use Rattle.pgp_message.specs.Items.{TypeSpelled, TypeRefused}
-use Rattle.pgp_message.proofs.NumberLemmas.{type_reader}
+use Rattle.pgp_c.proofs.Common.{arith, oid_at, IsBytes, type_at, TypeSpelled, TypeRefused, type_reader}
 use Rattle.pgp_c.proofs.Listings.{number_short, number_whole, reader_shorter}
 use Rattle.pgp_c.proofs.number.TypesListed.read.Goals as goal
 

@@ -1,5 +1,4 @@
-use Rattle.std.proofs.Common.{arith}
-use Rattle.pgp_c.specs.Geometry.{point_of}
+use Rattle.pgp_c.proofs.Common.{arith, point_of}
 use Rattle.pgp_c.proofs.PointLists.{point_long, point_stands}
 use Rattle.pgp_c.proofs.points.PointsListed.read.Goals as goal
 

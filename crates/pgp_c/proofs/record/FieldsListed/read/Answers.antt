@@ -1,10 +1,4 @@
-use Rattle.std.proofs.Common.{arith, subst, sym}
-use Rattle.pgp_base.proofs.Parts.{if_err_at}
-use Rattle.pgp_base.specs.Wire.{IsBytes}
-use Rattle.pgp_types.specs.Part.{shown}
-use Rattle.pgp_values.specs.Record.{Field}
-use Rattle.pgp_values.proofs.Items.{field_item}
-use Rattle.pgp_c.specs.Listings.{IsColumnInside}
+use Rattle.pgp_c.proofs.Common.{arith, subst, sym, if_err_at, IsBytes, shown, Field, field_item, IsColumnInside}
 use Rattle.pgp_c.proofs.Compound.{column_inside}
 use Rattle.pgp_c.proofs.RecordWalks.{field_long, field_placed}
 use Rattle.pgp_c.proofs.record.FieldsListed.read.Goals as goal

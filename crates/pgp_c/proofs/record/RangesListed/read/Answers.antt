@@ -1,7 +1,4 @@
-use Rattle.std.proofs.Common.{arith}
-use Rattle.pgp_base.proofs.Parts.{if_err_at}
-use Rattle.pgp_base.specs.Wire.{IsBytes}
-use Rattle.pgp_values.proofs.Items.{member_item}
+use Rattle.pgp_c.proofs.Common.{arith, if_err_at, IsBytes, member_item}
 use Rattle.pgp_c.proofs.RecordWalks.{range_long, range_stands}
 use Rattle.pgp_c.proofs.record.RangesListed.read.Goals as goal
 

@@ -1,8 +1,4 @@
-use Rattle.std.proofs.Common.{arith, inl, inr, length-append}
-use Rattle.pgp_base.specs.Wire.{oid, nullable}
-use Rattle.pgp_base.proofs.PartLemmas.{oid_number}
-use Rattle.pgp_base.proofs.Needs.{memory_more, memory_then}
-use Rattle.pgp_c.specs.Lists.{value_of}
+use Rattle.pgp_c.proofs.Common.{arith, inl, inr, length-append, oid, nullable, oid_number, memory_more, memory_then, value_of}
 use Rattle.pgp_c.proofs.Handed.{err_then}
 use Rattle.pgp_c.proofs.record_writing.PgpTypedWritten.put.Goals as goal
 

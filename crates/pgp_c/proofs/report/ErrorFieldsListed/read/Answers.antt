@@ -1,9 +1,4 @@
-use Rattle.std.proofs.Common.{ap, arith}
-use Rattle.pgp_base.proofs.Parts.{if_err_at}
-use Rattle.pgp_base.specs.Wire.{IsBytes}
-use Rattle.pgp_message.specs.ItemReading.{error_field_at}
-use Rattle.pgp_message.specs.Items.{ErrorPart, ErrorFieldSpelled, ErrorFieldRefused}
-use Rattle.pgp_message.proofs.ErrorFieldLemmas.{error_field_reader, error_field_falls}
+use Rattle.pgp_c.proofs.Common.{ap, arith, if_err_at, IsBytes, error_field_at, ErrorPart, ErrorFieldSpelled, ErrorFieldRefused, error_field_reader, error_field_falls}
 use Rattle.pgp_c.proofs.Listings.{reader_found, error_value_fits, error_value_item}
 use Rattle.pgp_c.proofs.report.ErrorFieldsListed.read.Goals as goal
 

@@ -1,11 +1,5 @@
-use Rattle.std.proofs.Common.{arith, inl, inr}
-use Rattle.std.proofs.lemmas.Bool.{cases_Bool}
-use Rattle.pgp_base.proofs.Parts.{if_err_at}
-use Rattle.pgp_base.specs.Wire.{IsBytes}
-use Rattle.pgp_message.specs.ItemReading.{range_at}
-use Rattle.pgp_message.specs.Items.{RangeSpelled, RangeRefused}
+use Rattle.pgp_c.proofs.Common.{arith, inl, inr, cases_Bool, if_err_at, IsBytes, range_at, RangeSpelled, RangeRefused, range_of}
 use Rattle.pgp_message.proofs.RangeLemmas.{range_reader}
-use Rattle.pgp_c.specs.Listings.{range_of}
 use Rattle.pgp_c.proofs.Compound.{range_inside}
 use Rattle.pgp_c.proofs.Listings.{reader_shorter}
 use Rattle.pgp_c.proofs.row.ValuesListed.read.Goals as goal

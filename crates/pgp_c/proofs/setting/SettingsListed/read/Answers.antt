@@ -1,4 +1,4 @@
-use Rattle.std.proofs.Common.{arith}
+use Rattle.pgp_c.proofs.Common.{arith}
 use Rattle.pgp_c.proofs.Settings.{found, open_pair, size, unread}
 use Rattle.pgp_c.proofs.setting.SettingsListed.read.Goals as goal
 

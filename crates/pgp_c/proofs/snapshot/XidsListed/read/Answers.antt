@@ -1,4 +1,4 @@
-use Rattle.std.proofs.Common.{arith}
+use Rattle.pgp_c.proofs.Common.{arith}
 use Rattle.pgp_c.proofs.SnapshotWalks.{xid_long, xid_stands}
 use Rattle.pgp_c.proofs.snapshot.XidsListed.read.Goals as goal
 

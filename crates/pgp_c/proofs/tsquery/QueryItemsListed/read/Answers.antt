@@ -1,9 +1,5 @@
-use Rattle.std.proofs.Common.{rules, arith, subst, sym}
-use Rattle.pgp_base.specs.Grammar.{StandsAt}
-use Rattle.pgp_base.specs.Wire.{IsBytes}
-use Rattle.pgp_values.specs.Tsquery.{query_item, shown_query}
+use Rattle.pgp_c.proofs.Common.{rules, arith, subst, sym, StandsAt, IsBytes, query_item, shown_query, IsQueryItemInside, query_item_in}
 use Rattle.pgp_values.proofs.QueryLemmas.{query_is_item}
-use Rattle.pgp_c.specs.TextSearch.{IsQueryItemInside, query_item_in}
 use Rattle.pgp_c.proofs.TextSearch.{query_inside, query_long, query_placed}
 use Rattle.pgp_c.proofs.tsquery.QueryItemsListed.read.Goals as goal
 

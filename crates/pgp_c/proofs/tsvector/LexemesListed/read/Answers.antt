@@ -1,8 +1,4 @@
-use Rattle.std.proofs.Common.{arith, refl}
-use Rattle.pgp_base.specs.Wire.{IsBytes}
-use Rattle.pgp_values.specs.DecimalReading.{pairs}
-use Rattle.pgp_values.proofs.LexemeLemmas.{lexeme_item}
-use Rattle.pgp_values.proofs.Pairs.{pairs_length}
+use Rattle.pgp_c.proofs.Common.{arith, refl, IsBytes, pairs, lexeme_item, pairs_length}
 use Rattle.pgp_c.proofs.TextSearch.{lexeme_placed, lexeme_size}
 use Rattle.pgp_c.proofs.tsvector.LexemesListed.read.Goals as goal
 

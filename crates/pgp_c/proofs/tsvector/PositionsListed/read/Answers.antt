@@ -1,7 +1,4 @@
-use Rattle.std.proofs.Common.{arith}
-use Rattle.pgp_base.specs.PartReading.{uint16_at}
-use Rattle.pgp_base.specs.Wire.{IsBytes}
-use Rattle.pgp_values.proofs.LexemeLemmas.{count_is}
+use Rattle.pgp_c.proofs.Common.{arith, uint16_at, IsBytes, count_is}
 use Rattle.pgp_c.proofs.Listings.{number_whole}
 use Rattle.pgp_c.proofs.tsvector.PositionsListed.read.Goals as goal
 

@@ -1,6 +1,4 @@
-use Rattle.std.proofs.Common.{arith, inl}
-use Rattle.pgp_base.proofs.Needs.{memory_more}
-use Rattle.pgp_base.proofs.Parts.{length-uint16}
+use Rattle.pgp_c.proofs.Common.{arith, inl, memory_more, length-uint16}
 use Rattle.pgp_c.proofs.Handed.{err_then}
 use Rattle.pgp_c.proofs.tsvector.U16Written.put.Goals as goal
 

@@ -1,5 +1,4 @@
-use Rattle.std.proofs.Common.{◌≡◌, ◌∙◌, true, false, sym, ap}
-use Rattle.pgp_client.specs.Taking.{has_end}
+use Rattle.pgp_client.proofs.Common.{◌≡◌, ◌∙◌, true, false, sym, ap, has_end}
 use Rattle.pgp_client.proofs.SlotItems.{end_behind, end_before}
 use Rattle.pgp_client.proofs.queue.VecDequeAskedQueue.has_end.Goals as goal
 

@@ -1,7 +1,5 @@
-use Rattle.std.proofs.Common.{◌∙◌, arith, ap, map, List}
+use Rattle.pgp_client.proofs.Common.{◌∙◌, arith, ap, map, List, has_end, Slot}
 use Rattle.pgp_client.specs.Codes.{asked_in}
-use Rattle.pgp_client.specs.Taking.{has_end}
-use Rattle.pgp_client.specs.declared.slots.Slot.{Slot}
 use Rattle.pgp_client.proofs.SlotItems.{slice_held}
 use Rattle.pgp_client.proofs.slots.SlotsQueue.has_end.Goals as goal
 

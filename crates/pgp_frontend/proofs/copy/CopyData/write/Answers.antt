@@ -1,5 +1,4 @@
-use Rattle.std.proofs.Common.{◌≡◌, ap, ◌∙◌, ◌++◌, [], arith, length, length-append}
-use Rattle.pgp_base.proofs.Parts.{cut_back, wants_more}
+use Rattle.pgp_frontend.proofs.Common.{◌≡◌, ap, ◌∙◌, ◌++◌, [], arith, length, length-append, cut_back, wants_more}
 use Rattle.pgp_frontend.proofs.Needs.{tagged_length}
 use Rattle.pgp_frontend.proofs.copy.CopyData.write.Goals as goal
 

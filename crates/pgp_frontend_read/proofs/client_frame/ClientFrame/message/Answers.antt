@@ -1,6 +1,4 @@
-use Rattle.std.proofs.Common.{rules, Ok, Err, Some, None}
-use Rattle.pgp_frontend_read.specs.Step.{Step}
-use Rattle.pgp_frontend_read.specs.Views.{kind_view, view}
+use Rattle.pgp_frontend_read.proofs.Common.{rules, Ok, Err, Some, None, Step, kind_view, view}
 use Rattle.pgp_frontend_read.proofs.Handing.{frame_steps, frame_there}
 use Rattle.pgp_frontend_read.proofs.Steps.{left}
 use Rattle.pgp_frontend_read.proofs.client_frame.ClientFrame.message.Goals as goal

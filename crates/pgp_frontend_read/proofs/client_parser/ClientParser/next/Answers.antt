@@ -1,8 +1,4 @@
-use Rattle.std.proofs.Common.{◌≡◌, [], ◌++◌, List, ℕ, true, false, Option, Some, None, Result, Ok, Err, rules, refl, sym, ap, subst, ◌∙◌, inr}
-use Rattle.pgp_frontend_read.specs.Pieces.{Waiting, IsWithin, Parses}
-use Rattle.pgp_frontend_read.specs.Holding.{Fits, IsWanted, Sizes, StandsInPiece, TakesOff, Completes}
-use Rattle.pgp_frontend_read.specs.declared.client_frame.ClientFrame.{ClientFrame}
-use Rattle.pgp_frontend_read.specs.declared.parser_error.ParserError.{ParserError}
+use Rattle.pgp_frontend_read.proofs.Common.{◌≡◌, [], ◌++◌, List, ℕ, true, false, Option, Some, None, Result, Ok, Err, rules, refl, sym, ap, subst, ◌∙◌, inr, Waiting, IsWithin, Parses, Fits, IsWanted, Sizes, StandsInPiece, TakesOff, Completes, ClientFrame, ParserError}
 use Rattle.pgp_frontend_read.proofs.Holdings.{waiting, refused, size_refused, piece_taken, piece_refused, held_refused, held_waits, held_handed, partial_fits, whole_of}
 use Rattle.pgp_frontend_read.proofs.Steps.{left}
 use Rattle.pgp_frontend_read.proofs.client_parser.ClientParser.next.Goals as goal

@@ -1,5 +1,4 @@
-use Rattle.std.proofs.Common.{rules, arith, List, ℕ}
-use Rattle.std.specs.Int.{w16, cast_signed, from_be_bytes}
+use Rattle.pgp_frontend_read.proofs.Common.{rules, arith, List, ℕ, w16, cast_signed, from_be_bytes}
 use Rattle.pgp_frontend_read.proofs.Items.{counted_short, fixed_left, counted_fixed}
 use Rattle.pgp_frontend_read.proofs.formats.Formats.read.Goals as goal
 

@@ -1,5 +1,4 @@
-use Rattle.pgp_frontend.specs.Reading.{SomeInt16s}
-use Rattle.std.proofs.Common.{◌++◌}
+use Rattle.pgp_frontend_read.proofs.Common.{SomeInt16s, ◌++◌}
 use Rattle.pgp_frontend_read.proofs.Spelled.{part_has, part_whole}
 use Rattle.pgp_frontend_read.proofs.formats.Formats.spelled.Goals as goal
 

@@ -1,5 +1,4 @@
-use Rattle.std.proofs.Common.{◌≡◌, ℕ, Some, ap, length}
-use Rattle.pgp_frontend_read.specs.Reading.{items_of}
+use Rattle.pgp_frontend_read.proofs.Common.{◌≡◌, ℕ, Some, ap, length, items_of}
 use Rattle.pgp_frontend_read.proofs.Spelled.{left_count}
 use Rattle.pgp_frontend_read.proofs.listed.Listed.size_hint.Goals as goal
 

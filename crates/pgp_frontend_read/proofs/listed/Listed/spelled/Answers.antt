@@ -1,4 +1,4 @@
-use Rattle.pgp_base.specs.Wire.{IsBytes, uint16}
+use Rattle.pgp_frontend_read.proofs.Common.{IsBytes, uint16}
 use Rattle.pgp_frontend_read.proofs.Spelled.{left_spelled, bytes_joined, count_bytes}
 use Rattle.pgp_frontend_read.proofs.listed.Listed.spelled.Goals as goal
 

@@ -1,7 +1,5 @@
-use Rattle.std.proofs.Common.{rules, ◌≡◌, false}
-use Rattle.pgp_base.specs.WalkReading.{is_marked}
+use Rattle.pgp_frontend_read.proofs.Common.{rules, ◌≡◌, false, is_marked, pair_at}
 use Rattle.pgp_base.proofs.Steps.{marked_item}
-use Rattle.pgp_frontend_read.specs.Reading.{pair_at}
 use Rattle.pgp_frontend_read.proofs.PairLemmas.{pair_falls}
 use Rattle.pgp_frontend_read.proofs.pairs.PairWalkFallibleIterator.next.Goals as goal
 

@@ -1,6 +1,4 @@
-use Rattle.std.proofs.Common.{◌≡◌, ap}
-use Rattle.pgp_base.specs.WalkReading.{marked}
-use Rattle.pgp_frontend_read.specs.Reading.{pair_at}
+use Rattle.pgp_frontend_read.proofs.Common.{◌≡◌, ap, marked, pair_at}
 use Rattle.pgp_frontend_read.specs.declared.pairs.StartupParameters.TheInside.{Inside}
 use Rattle.pgp_frontend_read.proofs.Spelled.{pairs_have, pairs_spelled}
 use Rattle.pgp_frontend_read.proofs.pairs.StartupParameters.spelled.Goals as goal

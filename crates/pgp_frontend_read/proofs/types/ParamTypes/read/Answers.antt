@@ -1,5 +1,4 @@
-use Rattle.std.proofs.Common.{rules, arith, List, ℕ}
-use Rattle.std.specs.Int.{w32, from_be_bytes}
+use Rattle.pgp_frontend_read.proofs.Common.{rules, arith, List, ℕ, w32, from_be_bytes}
 use Rattle.pgp_frontend_read.proofs.Items.{counted_short, fixed_left, counted_fixed}
 use Rattle.pgp_frontend_read.proofs.types.ParamTypes.read.Goals as goal
 

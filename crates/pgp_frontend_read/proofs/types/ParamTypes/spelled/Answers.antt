@@ -1,5 +1,4 @@
-use Rattle.pgp_frontend.specs.Reading.{SomeOids}
-use Rattle.std.proofs.Common.{◌++◌}
+use Rattle.pgp_frontend_read.proofs.Common.{SomeOids, ◌++◌}
 use Rattle.pgp_frontend_read.proofs.Spelled.{part_has, part_whole}
 use Rattle.pgp_frontend_read.proofs.types.ParamTypes.spelled.Goals as goal
 

@@ -1,6 +1,4 @@
-use Rattle.std.proofs.Common.{rules, arith, ◌≡◌, Ok, List, ℕ, Option}
-use Rattle.pgp_base.specs.Wire.{IsBytes}
-use Rattle.pgp_frontend_read.specs.Reading.{value_at, items_at}
+use Rattle.pgp_frontend_read.proofs.Common.{rules, arith, ◌≡◌, Ok, List, ℕ, Option, IsBytes, value_at, items_at}
 use Rattle.pgp_frontend_read.proofs.Loops.{values_shorter, values_left, values_read, count_tail}
 use Rattle.pgp_frontend_read.proofs.values.Values.read.Goals as goal
 

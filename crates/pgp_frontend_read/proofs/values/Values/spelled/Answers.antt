@@ -1,5 +1,4 @@
-use Rattle.pgp_frontend.specs.Reading.{SomeValues}
-use Rattle.std.proofs.Common.{◌++◌}
+use Rattle.pgp_frontend_read.proofs.Common.{SomeValues, ◌++◌}
 use Rattle.pgp_frontend_read.proofs.Spelled.{part_has, part_whole}
 use Rattle.pgp_frontend_read.proofs.values.Values.spelled.Goals as goal
 

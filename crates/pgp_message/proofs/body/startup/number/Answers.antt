@@ -1,5 +1,4 @@
-use Rattle.std.proofs.Common.{rules, arith, ◌<◌, length}
-use Rattle.pgp_base.specs.Wire.{IsBytes}
+use Rattle.pgp_message.proofs.Common.{rules, arith, ◌<◌, length, IsBytes}
 use Rattle.pgp_message.proofs.Keys.{key_number}
 use Rattle.pgp_message.proofs.body.startup.number.Goals as goal
 

@@ -1,5 +1,4 @@
-use Rattle.std.proofs.Common.{◌+◌, ◌<◌, length, arith, rules, inl, inr}
-use Rattle.pgp_base.specs.Wire.{IsBytes}
+use Rattle.pgp_message.proofs.Common.{◌+◌, ◌<◌, length, arith, rules, inl, inr, IsBytes}
 use Rattle.pgp_message.proofs.Cuts.{cut, found}
 use Rattle.pgp_message.proofs.Fronts.{partial_is, fault_is, partial_there, fault_there}
 use Rattle.pgp_message.proofs.Headers.{parts_of, short_of}

@@ -1,9 +1,4 @@
-use Rattle.std.proofs.Common.{pos, sym, ap, ◌∙◌, arith}
-use Rattle.std.specs.Int.{w32, cast_signed}
-use Rattle.std.specs.Int.Signed.{lt_z}
-use Rattle.std.proofs.lemmas.Int.{to_z-of_z}
-use Rattle.pgp_base.specs.Wire.{IsBytes}
-use Rattle.pgp_message.specs.Header.{HeaderPart, IsHeader}
+use Rattle.pgp_message.proofs.Common.{pos, sym, ap, ◌∙◌, arith, w32, cast_signed, lt_z, to_z-of_z, IsBytes, HeaderPart, IsHeader}
 use Rattle.pgp_message.proofs.Fronts.{int32_header, is_below, is_not_below}
 use Rattle.pgp_message.proofs.header.Header.parse.Goals as goal
 

@@ -1,6 +1,4 @@
-use Rattle.std.proofs.Common.{rules, ap, ◌∙◌}
-use Rattle.pgp_message.specs.FrontReading.{Front, IsFront}
-use Rattle.pgp_message.specs.Reading.{body_of}
+use Rattle.pgp_message.proofs.Common.{rules, ap, ◌∙◌, Front, IsFront, body_of}
 use Rattle.pgp_message.proofs.Steps.{steps, payload_of_front}
 use Rattle.pgp_message.proofs.in_place.Messages.next.Goals as goal
 

@@ -1,8 +1,4 @@
-use Rattle.std.proofs.Common.{rules, ◌∙◌, Ok, Err, refl, sym, ap, false, true}
-use Rattle.pgp_message.specs.BackendMessage.{DataRow}
-use Rattle.pgp_message.specs.FrontReading.{Front, IsFront, Finds}
-use Rattle.pgp_message.specs.Reading.{body_of}
-use Rattle.pgp_message.specs.Stream.{IsPartial}
+use Rattle.pgp_message.proofs.Common.{rules, ◌∙◌, Ok, Err, refl, sym, ap, false, true, DataRow, Front, IsFront, Finds, body_of, IsPartial}
 use Rattle.pgp_message.proofs.Steps.{payload_of_front}
 use Rattle.pgp_message.proofs.RowSteps.{one_step, none_taken, takes_front, fault_found}
 use Rattle.pgp_message.proofs.in_place.Messages.next_row.Goals as goal

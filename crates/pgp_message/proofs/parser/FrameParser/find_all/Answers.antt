@@ -1,5 +1,4 @@
-use Rattle.std.proofs.Common.{◌≡◌, ◌+◌, ◌-◌, ◌≤◌, drop, length, rules}
-use Rattle.pgp_message.specs.Remembered.{header_of, count_of}
+use Rattle.pgp_message.proofs.Common.{◌≡◌, ◌+◌, ◌-◌, ◌≤◌, drop, length, rules, header_of, count_of}
 use Rattle.pgp_message.proofs.FindLemmas.{count_one, found_within, known_counts, finds_all}
 use Rattle.pgp_message.proofs.parser.FrameParser.find_all.Goals as goal
 

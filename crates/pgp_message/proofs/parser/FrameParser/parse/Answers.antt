@@ -1,9 +1,4 @@
-use Rattle.std.proofs.Common.{◌≡◌, rules, sym, ap, subst, ◌∙◌}
-use Rattle.pgp_message.specs.FrontReading.{Front, IsFront}
-use Rattle.pgp_message.specs.Reading.{body_of}
-use Rattle.pgp_message.specs.Remembered.{header_of, headers_after}
-use Rattle.pgp_message.specs.Stream.{KeepsBytes}
-use Rattle.pgp_message.specs.Views.{parsed}
+use Rattle.pgp_message.proofs.Common.{◌≡◌, rules, sym, ap, subst, ◌∙◌, Front, IsFront, body_of, header_of, headers_after, KeepsBytes, parsed}
 use Rattle.pgp_message.proofs.Steps.{steps, payload_of_front, begins}
 use Rattle.pgp_message.proofs.Headers.{forgets, remembers_none}
 use Rattle.pgp_message.proofs.parser.FrameParser.parse.Goals as goal

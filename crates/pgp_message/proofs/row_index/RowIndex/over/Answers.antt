@@ -1,5 +1,4 @@
-use Rattle.std.proofs.Common.{None}
-use Rattle.pgp_message.specs.Parts.{CountedBytes}
+use Rattle.pgp_message.proofs.Common.{None, CountedBytes}
 use Rattle.pgp_message.proofs.TableLemmas.{places_in, collected_places}
 use Rattle.pgp_message.proofs.row_index.RowIndex.over.Goals as goal
 

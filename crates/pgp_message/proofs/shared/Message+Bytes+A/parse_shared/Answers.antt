@@ -1,7 +1,4 @@
-use Rattle.std.proofs.Common.{rules, refl, sym, ap, subst, ◌∙◌}
-use Rattle.pgp_message.specs.FrontReading.{Front, IsFront}
-use Rattle.pgp_message.specs.Reading.{body_of}
-use Rattle.pgp_message.specs.Stream.{KeepsBytes}
+use Rattle.pgp_message.proofs.Common.{rules, refl, sym, ap, subst, ◌∙◌, Front, IsFront, body_of, KeepsBytes}
 use Rattle.pgp_message.proofs.Steps.{steps, payload_of_front, begins}
 use Rattle.pgp_message.proofs.shared.Message+Bytes+A.parse_shared.Goals as goal
 

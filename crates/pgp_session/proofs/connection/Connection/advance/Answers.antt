@@ -1,8 +1,4 @@
-use Rattle.std.proofs.Common.{Some, Ok, Err, length, take, rules, refl, sym, ap, subst, ◌-◌, ◌∙◌}
-use Rattle.pgp_message.specs.Stream.{IsPartial, Step, TakesFrame}
-use Rattle.pgp_message.specs.Views.{view}
-use Rattle.pgp_session.specs.Connection.{OutOfTurn, IsLonger, IsCut, shown, with_incoming}
-use Rattle.pgp_session.specs.Incoming.{Reads}
+use Rattle.pgp_session.proofs.Common.{Some, Ok, Err, length, take, rules, refl, sym, ap, subst, ◌-◌, ◌∙◌, IsPartial, Step, TakesFrame, view, OutOfTurn, IsLonger, IsCut, shown, with_incoming, Reads}
 use Rattle.pgp_session.proofs.Connections.{advanced, malformed_at, so_far, step_none, step_some, stopped_at}
 use Rattle.pgp_session.proofs.Incomings.{frame_there}
 use Rattle.pgp_session.proofs.connection.Connection.advance.Goals as goal

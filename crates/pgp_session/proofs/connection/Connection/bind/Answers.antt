@@ -1,9 +1,5 @@
-use Rattle.std.proofs.Common.{◌≡◌, ◌∙◌, true, rules, ap, refl}
+use Rattle.pgp_session.proofs.Common.{◌≡◌, ◌∙◌, true, rules, ap, refl, request_of, awaits_data, is_copying, Bind, may_ask, may_send, shown, with_out}
 use Rattle.std.specs.Prelude.{List, ℕ}
-use Rattle.pgp_client.specs.Kinds.{request_of}
-use Rattle.pgp_client.specs.Taking.{awaits_data, is_copying}
-use Rattle.pgp_client.specs.declared.request.Request.TheVariants.{Bind}
-use Rattle.pgp_session.specs.Connection.{may_ask, may_send, shown, with_out}
 use Rattle.pgp_session.proofs.Connections.{bound_by, none_awaited, taken_back}
 use Rattle.pgp_session.proofs.connection.Connection.bind.Goals as goal
 

@@ -1,8 +1,4 @@
-use Rattle.std.proofs.Common.{None, Ok, Err, subst}
-use Rattle.std.specs.Prelude.{option_map}
-use Rattle.pgp_message.specs.Stream.{Step}
-use Rattle.pgp_message.specs.Views.{parsed, view}
-use Rattle.pgp_session.specs.Incoming.{Reads}
+use Rattle.pgp_session.proofs.Common.{None, Ok, Err, subst, option_map, Step, parsed, view, Reads}
 use Rattle.pgp_session.proofs.Incomings.{not_read, read_again}
 use Rattle.pgp_session.proofs.connection.Connection.message.Goals as goal
 

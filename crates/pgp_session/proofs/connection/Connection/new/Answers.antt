@@ -1,7 +1,4 @@
-use Rattle.std.proofs.Common.{ap, ◌∙◌}
-use Rattle.pgp_session.specs.Connection.{begun, in_state, with_incoming}
-use Rattle.pgp_session.specs.Incoming.{Waiting}
-use Rattle.pgp_session.specs.Login.{given}
+use Rattle.pgp_session.proofs.Common.{ap, ◌∙◌, begun, in_state, with_incoming, Waiting, given}
 use Rattle.pgp_session.proofs.connection.Connection.new.Goals as goal
 
 pub returns : goal.returns

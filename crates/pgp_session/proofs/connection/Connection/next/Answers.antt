@@ -1,6 +1,5 @@
-use Rattle.std.proofs.Common.{List, ℕ, rules, refl, ap}
-use Rattle.pgp_message.specs.Views.{view}
-use Rattle.pgp_session.specs.Connection.{OutOfTurn, IsLonger, IsCut, WantsMemory, IsNone, Comes, shown, with_incoming}
+use Rattle.pgp_session.proofs.Common.{List, ℕ, rules, refl, ap, view, OutOfTurn, IsLonger, IsCut, IsNone, Comes, shown, with_incoming}
+use Rattle.pgp_session.specs.Connection.{WantsMemory}
 use Rattle.pgp_session.proofs.Connections.{so_far, step_memory, step_none, step_some}
 use Rattle.pgp_session.proofs.connection.Connection.next.Goals as goal
 

@@ -1,9 +1,4 @@
-use Rattle.std.proofs.Common.{◌≡◌, ◌∙◌, true, rules, ap, subst}
-use Rattle.pgp_client.specs.Kinds.{request_of}
-use Rattle.pgp_client.specs.Taking.{awaits_data, is_copying}
-use Rattle.pgp_client.specs.declared.request.Request.TheVariants.{Parse}
-use Rattle.pgp_frontend.specs.Payload.{bytes_of}
-use Rattle.pgp_session.specs.Connection.{Notes, may_ask, may_send, shown, with_out}
+use Rattle.pgp_session.proofs.Common.{◌≡◌, ◌∙◌, true, rules, ap, subst, request_of, awaits_data, is_copying, Parse, bytes_of, Notes, may_ask, may_send, shown, with_out}
 use Rattle.pgp_session.proofs.Connections.{given_by, none_awaited}
 use Rattle.pgp_session.proofs.LogIns.{lengthened_by}
 use Rattle.pgp_session.proofs.connection.Connection.parse.Goals as goal

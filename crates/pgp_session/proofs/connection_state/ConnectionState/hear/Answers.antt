@@ -1,5 +1,4 @@
-use Rattle.pgp_message.specs.Views.{view}
-use Rattle.pgp_session.specs.Connection.{in_state}
+use Rattle.pgp_session.proofs.Common.{view, in_state}
 use Rattle.pgp_session.proofs.Connections.{stops_over}
 use Rattle.pgp_session.proofs.connection_state.ConnectionState.hear.Goals as goal
 

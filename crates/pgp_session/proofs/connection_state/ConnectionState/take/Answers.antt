@@ -1,11 +1,5 @@
-use Rattle.std.proofs.Common.{List, ap, refl, sym, inl, inr, ◌∙◌}
-use Rattle.pgp_client.specs.Kinds.{kind_of}
+use Rattle.pgp_session.proofs.Common.{List, ap, refl, sym, inl, inr, ◌∙◌, kind_of, taken, view, asking, seen, in_state, left_at, Setting}
 use Rattle.pgp_client.specs.Talk.{shown as talk_of}
-use Rattle.pgp_client.specs.Taking.{taken}
-use Rattle.pgp_message.specs.Views.{view}
-use Rattle.pgp_session.specs.Login.{asking, seen}
-use Rattle.pgp_session.specs.Connection.{in_state, left_at}
-use Rattle.pgp_message.specs.Parts.{Setting}
 use Rattle.pgp_session.proofs.Connections.{stopped_log_in, taken_no, taken_ok, took_bulk, took_so}
 use Rattle.pgp_session.proofs.LogIns.{logs_on}
 use Rattle.pgp_session.proofs.Reported.{heard_so}

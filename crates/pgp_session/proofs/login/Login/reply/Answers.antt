@@ -1,4 +1,4 @@
-use Rattle.std.proofs.Common.{◌≡◌, Some, rules}
+use Rattle.pgp_session.proofs.Common.{◌≡◌, Some, rules}
 use Rattle.pgp_session.proofs.LogIns.{first_refused}
 use Rattle.pgp_session.proofs.login.Login.reply.Goals as goal
 

@@ -1,4 +1,4 @@
-use Rattle.std.proofs.Common.{rules, refl}
+use Rattle.pgp_session.proofs.Common.{rules, refl}
 use Rattle.pgp_session.proofs.scram_login.ScramLogin.begin.Goals as goal
 
 pub returns-clause-observed : goal.returns-clause-observed

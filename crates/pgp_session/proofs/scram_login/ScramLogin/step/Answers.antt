@@ -1,4 +1,4 @@
-use Rattle.pgp_message.specs.Views.{view}
+use Rattle.pgp_session.proofs.Common.{view}
 use Rattle.pgp_session.proofs.Known.{known}
 use Rattle.pgp_session.proofs.scram_login.ScramLogin.step.Goals as goal
 

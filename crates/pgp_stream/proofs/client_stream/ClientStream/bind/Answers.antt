@@ -1,6 +1,4 @@
-use Rattle.std.proofs.Common.{ap}
-use Rattle.std.specs.Prelude.{is_some}
-use Rattle.pgp_frontend.specs.Payload.{tag_of}
+use Rattle.pgp_stream.proofs.Common.{ap, is_some, tag_of}
 use Rattle.pgp_stream.proofs.Additions.{is_plain}
 use Rattle.pgp_stream.proofs.Additions.{same_phase, later_added, later_stays, left, still}
 use Rattle.pgp_stream.proofs.client_stream.ClientStream.bind.Goals as goal

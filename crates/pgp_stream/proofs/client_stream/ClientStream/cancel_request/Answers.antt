@@ -1,7 +1,4 @@
-use Rattle.std.proofs.Common.{refl, ap}
-use Rattle.pgp_base.specs.Wire.{int32}
-use Rattle.std.proofs.Math.Facts.{to_z-of_z}
-use Rattle.pgp_frontend.specs.ClientMessage.{CancelRequest}
+use Rattle.pgp_stream.proofs.Common.{refl, ap, int32, to_z-of_z, CancelRequest}
 use Rattle.pgp_stream.proofs.Additions.{same_numbers, same_phase, earlier_adds, earlier_reads}
 use Rattle.pgp_stream.proofs.client_stream.ClientStream.cancel_request.Goals as goal
 

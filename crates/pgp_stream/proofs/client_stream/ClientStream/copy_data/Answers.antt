@@ -1,5 +1,4 @@
-use Rattle.std.proofs.Common.{refl, Ok}
-use Rattle.pgp_frontend.specs.ClientMessage.{CopyData}
+use Rattle.pgp_stream.proofs.Common.{refl, Ok, CopyData}
 use Rattle.pgp_stream.proofs.Additions.{same_phase, later_adds, later_reads, left, still}
 use Rattle.pgp_stream.proofs.client_stream.ClientStream.copy_data.Goals as goal
 use Rattle.pgp_stream.proofs.client_stream.ClientStream.copy_data.Goals.{in-Ok, in-Err}

@@ -1,5 +1,4 @@
-use Rattle.std.proofs.Common.{refl}
-use Rattle.pgp_frontend.specs.ClientMessage.{CopyDone}
+use Rattle.pgp_stream.proofs.Common.{refl, CopyDone}
 use Rattle.pgp_stream.proofs.Additions.{same_phase, later_adds, later_reads}
 use Rattle.pgp_stream.proofs.client_stream.ClientStream.copy_done.Goals as goal
 

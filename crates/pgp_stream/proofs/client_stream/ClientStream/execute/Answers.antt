@@ -1,7 +1,4 @@
-use Rattle.std.proofs.Common.{refl, subst}
-use Rattle.std.proofs.Math.Facts.{to_z-of_z}
-use Rattle.pgp_frontend.specs.ClientMessage.{Execute}
-use Rattle.pgp_stream.specs.ClientStream.{AddsMessage}
+use Rattle.pgp_stream.proofs.Common.{refl, subst, to_z-of_z, Execute, AddsMessage}
 use Rattle.pgp_stream.proofs.Additions.{same_phase, later_adds, later_reads}
 use Rattle.pgp_stream.proofs.client_stream.ClientStream.execute.Goals as goal
 

@@ -1,5 +1,4 @@
-use Rattle.std.proofs.Common.{refl}
-use Rattle.pgp_frontend.specs.ClientMessage.{SslRequest}
+use Rattle.pgp_stream.proofs.Common.{refl, SslRequest}
 use Rattle.pgp_stream.proofs.Additions.{same_phase, earlier_adds, earlier_reads}
 use Rattle.pgp_stream.proofs.client_stream.ClientStream.ssl_request.Goals as goal
 

@@ -1,13 +1,5 @@
-use Rattle.std.proofs.Common.{◌≡◌, ◌∷◌, [], length, map, sym, ap, subst, ◌∙◌, inl, inr}
+use Rattle.pgp_stream.proofs.Common.{◌≡◌, ◌∷◌, [], length, map, sym, ap, subst, ◌∙◌, inl, inr, YieldsList, YieldsList-from_slice, YieldsList-from_copied, Startup, IsOurs, shown, shown_pairs, Wants, Int32, minor_code, minor_of, parts, parts_cause, bytes_of, cause, IsNamed, IsStartup, is_startup}
 use Rattle.std.proofs.iter.Yields.{copies, fronts}
-use Rattle.std.proofs.lemmas.Iterator.{YieldsList, YieldsList-from_slice}
-use Rattle.std.proofs.lemmas.Iterator.Consumers.{YieldsList-from_copied}
-use Rattle.pgp_frontend.specs.ClientMessage.{Startup, IsOurs}
-use Rattle.pgp_frontend.specs.Given.{shown, shown_pairs}
-use Rattle.pgp_base.specs.Cause.{Wants}
-use Rattle.pgp_frontend.specs.Payload.{Int32, minor_code, minor_of, parts, parts_cause, bytes_of, cause}
-use Rattle.pgp_frontend.specs.Reading.{IsNamed}
-use Rattle.pgp_frontend.specs.ClientRun.{IsStartup, is_startup}
 use Rattle.pgp_stream.proofs.Additions.{same_phase, first_added, first_stays, left, still}
 use Rattle.pgp_stream.proofs.StartupPairs.{minor_ours, received_all, received_so_far, startup_wants, front_refused}
 use Rattle.pgp_stream.proofs.client_stream.ClientStream.startup_message_version.Goals as goal

@@ -1,8 +1,4 @@
-use Rattle.std.proofs.Common.{◌≡◌, ◌++◌, true, false, map, refl, rules, ap, subst, ◌∙◌}
-use Rattle.pgp_message.specs.Views.{seen}
-use Rattle.pgp_stream.specs.ServerStream.{Reading, GoesOn, Fails}
-use Rattle.pgp_stream.specs.ServerSteps.{TakesAll}
-use Rattle.pgp_message.specs.Found.{TakesSome}
+use Rattle.pgp_stream.proofs.Common.{◌≡◌, ◌++◌, true, false, map, refl, rules, ap, subst, ◌∙◌, seen, Reading, GoesOn, Fails, TakesAll, TakesSome}
 use Rattle.pgp_stream.proofs.Pieces.{goes_on, stays_stopped, fails_at_once, fails_behind, stopped_long}
 use Rattle.pgp_stream.proofs.stream_parser.StreamParser.feed.Goals as goal
 

@@ -1,4 +1,4 @@
-use Rattle.pgp_values.specs.DecimalReading.{pairs}
+use Rattle.pgp_values.proofs.Common.{pairs}
 use Rattle.pgp_values.proofs.Pairs.{small_yes}
 use Rattle.pgp_values.proofs.decimal.Decimal.has_digits.Goals as goal
 

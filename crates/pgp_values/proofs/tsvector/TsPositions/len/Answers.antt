@@ -1,4 +1,4 @@
-use Rattle.std.proofs.Common.{sym}
+use Rattle.pgp_values.proofs.Common.{sym}
 use Rattle.pgp_values.proofs.Pairs.{pairs_length}
 use Rattle.pgp_values.proofs.tsvector.TsPositions.len.Goals as goal
 

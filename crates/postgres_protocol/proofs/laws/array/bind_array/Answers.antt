@@ -1,4 +1,4 @@
-use Rattle.std.proofs.Common.{rules}
+use Rattle.postgres_protocol.proofs.Common.{rules}
 use Rattle.postgres_protocol.proofs.StepLemmas.{keeps_steps}
 use Rattle.postgres_protocol.proofs.BindLemmas.{binds_array}
 use Rattle.postgres_protocol.proofs.laws.array.bind_array.Goals as goal

@@ -1,11 +1,7 @@
-use Rattle.std.proofs.Common.{◌≡◌, ◌≤◌, Option, pos, [], ◌∷◌, Some, None}
+use Rattle.postgres_protocol.proofs.Common.{◌≡◌, ◌≤◌, Option, pos, [], ◌∷◌, Some, None, option_len, Yielded, unnamed, all_same, some_same}
 use Rattle.std.specs.Iterator.Adapters.{once_item, once_steps}
-use Rattle.std.specs.Option.{option_len}
 use Rattle.std.specs.declared.iter.Once.{Once}
 use Rattle.std.proofs.lemmas.Iterator.Adapters.{YieldsList-from_once}
-use Rattle.pgp_base.specs.Calls.{Yielded}
-use Rattle.postgres_protocol.specs.OneValue.{unnamed}
-use Rattle.pgp_frontend.proofs.Lists.{all_same, some_same}
 use Rattle.postgres_protocol.proofs.StepLemmas.{first_of_one, none_of_none}
 use Rattle.postgres_protocol.proofs.BindLemmas.{one_binds}
 use Rattle.postgres_protocol.proofs.laws.array.bind_one.Goals as goal

@@ -1,11 +1,6 @@
-use Rattle.std.proofs.Common.{rules, arith, ◌≡◌, ◌≢◌, ◌<◌, ℕ, zero, suc, ℤ, pos, get_or, ◌∷◌, [], false, Option, Some, None, refl, ap, ◌∙◌}
-use Rattle.std.specs.Prelude.{is_some, FitsSigned}
+use Rattle.postgres_protocol.proofs.Common.{rules, arith, ◌≡◌, ◌≢◌, ◌<◌, ℕ, zero, suc, ℤ, pos, get_or, ◌∷◌, [], false, Option, Some, None, refl, ap, ◌∙◌, is_some, FitsSigned, tag_of, kind_of, payload, array_bytes, array_of, binding, same_tag, is_reported, kind_there}
 use Rattle.std.specs.Int.{w16}
-use Rattle.pgp_frontend.specs.Payload.{tag_of, kind_of, payload}
 use Rattle.pgp_frontend.specs.Reading.{IsSpelled}
-use Rattle.pgp_types.specs.Array.{array_bytes}
-use Rattle.postgres_protocol.specs.ArraySteps.{array_of, binding}
-use Rattle.pgp_frontend.proofs.ClientRuns.{same_tag, is_reported, kind_there}
 use Rattle.postgres_protocol.proofs.laws.array.bound_arrays_read_back.Goals as goal
 
 not_there : {A : Type 0} (o : Option A) → is_some o ≡ false → o ≡ None

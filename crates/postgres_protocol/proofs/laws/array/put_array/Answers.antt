@@ -1,9 +1,5 @@
-use Rattle.std.proofs.Common.{rules, refl, sym, subst}
-use Rattle.std.proofs.iter.Yields.{copies, fronts}
-use Rattle.std.proofs.lemmas.Iterator.{YieldsList, YieldsList-from_slice}
-use Rattle.std.proofs.lemmas.Iterator.Consumers.{YieldsList-from_copied}
+use Rattle.postgres_protocol.proofs.Common.{rules, refl, sym, subst, copies, fronts, YieldsList, YieldsList-from_slice, YieldsList-from_copied, all_given, some_given, all_same, some_same}
 use Rattle.postgres_protocol.proofs.StepLemmas.{steps_ok, steps_refused}
-use Rattle.pgp_frontend.proofs.Lists.{all_given, some_given, all_same, some_same}
 use Rattle.postgres_protocol.proofs.laws.array.put_array.Goals as goal
 
 pub returns-in-Ok : goal.returns-in-Ok

@@ -1,7 +1,4 @@
-use Rattle.std.proofs.Common.{rules, ◌≡◌, List, [], ◌∷◌, ◌++◌, length, ℕ, Option, Some, sym, subst}
-use Rattle.std.specs.Option.{option_map}
-use Rattle.pgp_message.specs.Table.{column}
-use Rattle.postgres_protocol.specs.RowValues.{IsInt4}
+use Rattle.postgres_protocol.proofs.Common.{rules, ◌≡◌, List, [], ◌∷◌, ◌++◌, length, ℕ, Option, Some, sym, subst, option_map, column, IsInt4}
 use Rattle.postgres_protocol.proofs.RowLemmas.{AreFirst, value_read, none_column, all_read}
 use Rattle.postgres_protocol.proofs.laws.row.columns.Goals as goal
 

@@ -1,4 +1,4 @@
-use Rattle.std.proofs.Common.{◌-◌, length}
+use Rattle.postgres_protocol.proofs.Common.{◌-◌, length}
 use Rattle.postgres_protocol.proofs.RowLemmas.{AreFirst}
 use Rattle.postgres_protocol.proofs.laws.row.columns.Given as goal
 

@@ -1,4 +1,4 @@
-use Rattle.std.proofs.Common.{inl, inr}
+use Rattle.postgres_protocol.proofs.Common.{inl, inr}
 use Rattle.postgres_protocol.proofs.SaslStops.{first_unwritten, sent_first, got_first, sent_final, first_missing, first_refused, final_unwritten, final_missing, final_refused}
 use Rattle.postgres_protocol.proofs.laws.sasl.sasl_exchange.Goals as goal
 

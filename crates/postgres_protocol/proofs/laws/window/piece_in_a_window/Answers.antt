@@ -1,4 +1,4 @@
-use Rattle.pgp_frontend.specs.ClientMessage.{CopyData}
+use Rattle.postgres_protocol.proofs.Common.{CopyData}
 use Rattle.postgres_protocol.proofs.Rooms.{piece_by_room}
 use Rattle.postgres_protocol.proofs.laws.window.piece_in_a_window.Goals as goal
 

@@ -1,12 +1,5 @@
-use Rattle.std.proofs.Common.{◌≡◌, sym, subst}
-use Rattle.std.proofs.iter.Yields.{copies, fronts}
-use Rattle.std.proofs.lemmas.Iterator.{YieldsList, YieldsList-from_slice}
-use Rattle.std.proofs.lemmas.Iterator.Consumers.{YieldsList-from_copied}
-use Rattle.pgp_base.specs.Calls.{Yielded}
-use Rattle.pgp_base.specs.Window.{window_held, window_lacks}
-use Rattle.pgp_frontend.specs.ClientMessage.{Parse}
+use Rattle.postgres_protocol.proofs.Common.{◌≡◌, sym, subst, copies, fronts, YieldsList, YieldsList-from_slice, YieldsList-from_copied, Yielded, window_held, window_lacks, Parse, all_same, some_same}
 use Rattle.postgres_protocol.proofs.Rooms.{message_by_room, parse_adds}
-use Rattle.pgp_frontend.proofs.Lists.{all_same, some_same}
 use Rattle.postgres_protocol.proofs.laws.window.statement_in_a_window.Goals as goal
 
 -- an iterator is made of itself

@@ -1,5 +1,4 @@
-use Rattle.std.proofs.Common.{sym, ap}
-use Rattle.pgp_auth.specs.ScramStateView.{state_of, answered_of}
+use Rattle.pgp_auth.proofs.Common.{sym, ap, state_of, answered_of}
 use Rattle.pgp_auth.proofs.Steps.{due_of, hmacs_of, over_of, finished, finish_refused}
 use Rattle.pgp_auth.proofs.scram.client.ScramSha256.finish.Goals as goal
 

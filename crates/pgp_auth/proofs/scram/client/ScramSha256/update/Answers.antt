@@ -1,6 +1,4 @@
-use Rattle.std.proofs.Common.{refl, sym, ap}
-use Rattle.pgp_base.proofs.Parts.{if_err_at}
-use Rattle.pgp_auth.specs.ScramStateView.{state_of, begun_of, answered_of}
+use Rattle.pgp_auth.proofs.Common.{refl, sym, ap, if_err_at, state_of, begun_of, answered_of}
 use Rattle.pgp_auth.proofs.Steps.{due_of, hmacs_of, over_of, update_answers, update_refused}
 use Rattle.pgp_auth.proofs.scram.client.ScramSha256.update.Goals as goal
 

@@ -1,5 +1,4 @@
-use Rattle.pgp_base.proofs.Parts.{if_err_at}
-use Rattle.pgp_auth.specs.StoredReading.{pieces_of}
+use Rattle.pgp_auth.proofs.Common.{if_err_at, pieces_of}
 use Rattle.pgp_auth.proofs.StoredTexts.{not_parts, no_stored_key, no_server_key, no_salt_in, stores}
 use Rattle.pgp_auth.proofs.scram.held.StoredVerifier.parse.Goals as goal
 

@@ -1,7 +1,4 @@
-use Rattle.std.proofs.Common.{◌≡◌, ◌<◌, false, length, get_or, arith}
-use Rattle.std.proofs.lemmas.List.Sums.{prefix_len_is}
-use Rattle.std.specs.List.{prefix_len}
-use Rattle.pgp_auth.specs.ScramPartView.{admits}
+use Rattle.pgp_auth.proofs.Common.{◌≡◌, ◌<◌, false, length, get_or, arith, prefix_len_is, prefix_len, admits}
 use Rattle.pgp_auth.proofs.scram.reading.Alphabet.split_front.Goals as goal
 use Rattle.pgp_auth.proofs.scram.reading.Alphabet.split_front.Goals.{else-loop-b-test, then-loop-b-test+then-not-admits}
 

@@ -1,5 +1,4 @@
-use Rattle.std.proofs.Common.{◌≡◌, ℕ, ◌<◌, get_or, true}
-use Rattle.pgp_auth.specs.ScramPartView.{admits}
+use Rattle.pgp_auth.proofs.Common.{◌≡◌, ℕ, ◌<◌, get_or, true, admits}
 use Rattle.pgp_auth.proofs.scram.reading.Alphabet.split_front.Given as goal
 
 abbrev pub invariant-loop-b : goal.invariant-loop-b

@@ -1,4 +1,4 @@
-use Rattle.std.proofs.Common.{rules}
+use Rattle.pgp_message.proofs.Common.{rules}
 use Rattle.pgp_message.proofs.TextBodies.{notification_is, notification_long, notification_fits}
 use Rattle.pgp_message.proofs.body.notification.NotificationResponseBody.read.Goals as goal
 

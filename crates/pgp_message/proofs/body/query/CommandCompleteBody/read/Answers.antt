@@ -1,4 +1,4 @@
-use Rattle.std.proofs.Common.{rules}
+use Rattle.pgp_message.proofs.Common.{rules}
 use Rattle.pgp_message.proofs.TextBodies.{string_is}
 use Rattle.pgp_message.proofs.body.query.CommandCompleteBody.read.Goals as goal
 

@@ -1,6 +1,5 @@
-use Rattle.std.proofs.Common.{rules, ◌≡◌, ◌∙◌, drop, Some, Ok, Err, to_z, of_z, w32}
-use Rattle.pgp_base.specs.PartReading.{int32_at}
-use Rattle.pgp_message.specs.Reading.{count_at}
+use Rattle.pgp_message.proofs.Common.{rules, ◌≡◌, ◌∙◌, drop, Some, Ok, Err, to_z, of_z, int32_at, count_at}
+use Rattle.std.proofs.Common.{w32}
 use Rattle.pgp_message.proofs.Keys.{negotiated, miscounted, counted_room}
 use Rattle.pgp_message.proofs.body.startup.NegotiateProtocolVersionBody.read.Goals as goal
 

@@ -1,4 +1,4 @@
-use Rattle.std.proofs.Common.{rules}
+use Rattle.pgp_message.proofs.Common.{rules}
 use Rattle.pgp_message.proofs.TextBodies.{setting_is, setting_fits}
 use Rattle.pgp_message.proofs.body.status.ParameterStatusBody.read.Goals as goal
 

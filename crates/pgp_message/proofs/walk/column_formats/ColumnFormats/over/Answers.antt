@@ -1,8 +1,4 @@
-use Rattle.std.proofs.Common.{arith}
-use Rattle.pgp_base.specs.Wire.{IsBytes}
-use Rattle.pgp_base.proofs.CountedLemmas.{counted_whole, counted_few}
-use Rattle.pgp_message.specs.Items.{FormatSpelled, FormatRefused}
-use Rattle.pgp_message.specs.ItemReading.{format_at}
+use Rattle.pgp_message.proofs.Common.{arith, IsBytes, counted_whole, counted_few, FormatSpelled, FormatRefused, format_at}
 use Rattle.pgp_message.proofs.NumberLemmas.{format_reader}
 use Rattle.pgp_message.proofs.walk.column_formats.ColumnFormats.over.Goals as goal
 

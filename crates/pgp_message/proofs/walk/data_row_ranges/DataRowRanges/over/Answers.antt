@@ -1,8 +1,4 @@
-use Rattle.std.proofs.Common.{arith}
-use Rattle.pgp_base.specs.Wire.{IsBytes}
-use Rattle.pgp_base.proofs.CountedLemmas.{counted_whole, counted_few}
-use Rattle.pgp_message.specs.Items.{RangeSpelled, RangeRefused}
-use Rattle.pgp_message.specs.ItemReading.{range_at}
+use Rattle.pgp_message.proofs.Common.{arith, IsBytes, counted_whole, counted_few, RangeSpelled, RangeRefused, range_at}
 use Rattle.pgp_message.proofs.RangeLemmas.{range_reader}
 use Rattle.pgp_message.proofs.walk.data_row_ranges.DataRowRanges.over.Goals as goal
 

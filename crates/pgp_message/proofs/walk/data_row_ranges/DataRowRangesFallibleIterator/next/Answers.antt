@@ -1,4 +1,4 @@
-use Rattle.std.proofs.Common.{rules, ◌≡◌, ◌≤◌, length, arith, ap, IfOk}
+use Rattle.pgp_message.proofs.Common.{rules, ◌≡◌, ◌≤◌, length, arith, ap, IfOk}
 use Rattle.pgp_base.proofs.RestSteps.{taken_shorter}
 use Rattle.pgp_message.proofs.walk.data_row_ranges.DataRowRangesFallibleIterator.next.Goals as goal
 

@@ -1,8 +1,4 @@
-use Rattle.std.proofs.Common.{arith}
-use Rattle.pgp_base.specs.Wire.{IsBytes}
-use Rattle.pgp_base.proofs.MarkedLemmas.{marked_whole, marked_few}
-use Rattle.pgp_message.specs.Items.{ErrorFieldSpelled, ErrorFieldRefused}
-use Rattle.pgp_message.specs.ItemReading.{error_field_at}
+use Rattle.pgp_message.proofs.Common.{arith, IsBytes, marked_whole, marked_few, ErrorFieldSpelled, ErrorFieldRefused, error_field_at}
 use Rattle.pgp_message.proofs.ErrorFieldLemmas.{error_field_reader}
 use Rattle.pgp_message.proofs.walk.error_fields.ErrorFields.over.Goals as goal
 

@@ -1,7 +1,4 @@
-use Rattle.std.proofs.Common.{rules, ◌≡◌, Ok, false}
-use Rattle.pgp_base.specs.WalkReading.{is_marked}
-use Rattle.pgp_base.proofs.Steps.{marked_item}
-use Rattle.pgp_message.specs.ItemReading.{error_field_at}
+use Rattle.pgp_message.proofs.Common.{rules, ◌≡◌, Ok, false, is_marked, marked_item, error_field_at}
 use Rattle.pgp_message.proofs.ErrorFieldLemmas.{error_field_falls}
 use Rattle.pgp_message.proofs.walk.error_fields.ErrorFieldsFallibleIterator.next.Goals as goal
 

@@ -1,8 +1,4 @@
-use Rattle.std.proofs.Common.{arith}
-use Rattle.pgp_base.specs.Wire.{IsBytes}
-use Rattle.pgp_base.proofs.CountedLemmas.{counted_whole, counted_few}
-use Rattle.pgp_message.specs.Items.{FieldSpelled, FieldRefused}
-use Rattle.pgp_message.specs.ItemReading.{field_at}
+use Rattle.pgp_message.proofs.Common.{arith, IsBytes, counted_whole, counted_few, FieldSpelled, FieldRefused, field_at}
 use Rattle.pgp_message.proofs.FieldLemmas.{field_reader}
 use Rattle.pgp_message.proofs.walk.fields.Fields.over.Goals as goal
 

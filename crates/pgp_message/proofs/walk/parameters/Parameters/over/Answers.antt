@@ -1,8 +1,4 @@
-use Rattle.std.proofs.Common.{arith}
-use Rattle.pgp_base.specs.Wire.{IsBytes}
-use Rattle.pgp_base.proofs.CountedLemmas.{counted_whole, counted_few}
-use Rattle.pgp_message.specs.Items.{TypeSpelled, TypeRefused}
-use Rattle.pgp_message.specs.ItemReading.{type_at}
+use Rattle.pgp_message.proofs.Common.{arith, IsBytes, counted_whole, counted_few, TypeSpelled, TypeRefused, type_at}
 use Rattle.pgp_message.proofs.NumberLemmas.{type_reader}
 use Rattle.pgp_message.proofs.walk.parameters.Parameters.over.Goals as goal
 

@@ -1,8 +1,4 @@
-use Rattle.std.proofs.Common.{arith}
-use Rattle.pgp_base.specs.Wire.{IsBytes}
-use Rattle.pgp_base.proofs.CountedLemmas.{counted_whole, counted_few}
-use Rattle.pgp_message.specs.Items.{RawFieldSpelled, RawFieldRefused}
-use Rattle.pgp_message.specs.ItemReading.{raw_field_at}
+use Rattle.pgp_message.proofs.Common.{arith, IsBytes, counted_whole, counted_few, RawFieldSpelled, RawFieldRefused, raw_field_at}
 use Rattle.pgp_message.proofs.RawLemmas.{raw_field_reader}
 use Rattle.pgp_message.proofs.walk.raw_fields.RawFields.over.Goals as goal
 

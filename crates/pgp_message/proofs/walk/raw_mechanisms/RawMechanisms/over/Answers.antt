@@ -1,8 +1,4 @@
-use Rattle.std.proofs.Common.{arith}
-use Rattle.pgp_base.specs.Wire.{IsBytes}
-use Rattle.pgp_base.proofs.MarkedLemmas.{marked_whole, marked_few}
-use Rattle.pgp_message.specs.Items.{StringSpelled, StringRefused}
-use Rattle.pgp_message.specs.ItemReading.{raw_string_at}
+use Rattle.pgp_message.proofs.Common.{arith, IsBytes, marked_whole, marked_few, StringSpelled, StringRefused, raw_string_at}
 use Rattle.pgp_message.proofs.RawLemmas.{string_reader}
 use Rattle.pgp_message.proofs.walk.raw_mechanisms.RawMechanisms.over.Goals as goal
 

@@ -1,7 +1,4 @@
-use Rattle.std.proofs.Common.{rules, ◌≡◌, Ok, false}
-use Rattle.pgp_base.specs.WalkReading.{is_marked}
-use Rattle.pgp_base.proofs.Steps.{marked_item}
-use Rattle.pgp_message.specs.ItemReading.{raw_string_at}
+use Rattle.pgp_message.proofs.Common.{rules, ◌≡◌, Ok, false, is_marked, marked_item, raw_string_at}
 use Rattle.pgp_message.proofs.RawLemmas.{raw_string_falls}
 use Rattle.pgp_message.proofs.walk.raw_mechanisms.RawMechanismsFallibleIterator.next.Goals as goal
 

@@ -1,8 +1,4 @@
-use Rattle.std.proofs.Common.{arith}
-use Rattle.pgp_base.specs.Wire.{IsBytes}
-use Rattle.pgp_base.proofs.MarkedLemmas.{marked_whole, marked_few}
-use Rattle.pgp_message.specs.Items.{TextSpelled, TextRefused}
-use Rattle.pgp_base.specs.PartReading.{text_at}
+use Rattle.pgp_message.proofs.Common.{arith, IsBytes, marked_whole, marked_few, TextSpelled, TextRefused, text_at}
 use Rattle.pgp_message.proofs.TextLemmas.{text_reader}
 use Rattle.pgp_message.proofs.walk.sasl_mechanisms.SaslMechanisms.over.Goals as goal
 

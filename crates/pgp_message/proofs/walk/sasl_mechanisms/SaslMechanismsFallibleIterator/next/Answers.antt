@@ -1,7 +1,4 @@
-use Rattle.std.proofs.Common.{rules, ◌≡◌, Ok, false}
-use Rattle.pgp_base.specs.WalkReading.{is_marked}
-use Rattle.pgp_base.proofs.Steps.{marked_item}
-use Rattle.pgp_base.specs.PartReading.{text_at}
+use Rattle.pgp_message.proofs.Common.{rules, ◌≡◌, Ok, false, is_marked, marked_item, text_at}
 use Rattle.pgp_message.proofs.TextLemmas.{text_takes_bytes}
 use Rattle.pgp_message.proofs.walk.sasl_mechanisms.SaslMechanismsFallibleIterator.next.Goals as goal
 

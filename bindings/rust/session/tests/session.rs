@@ -1,14 +1,17 @@
-//! What the feature `extensions` adds, over the same messages and the same exchange of psql as the other tests.
-#![cfg(feature = "extensions")]
+//! What this package adds, over the same messages and the same exchange of psql as the other tests.
 use bytes::BytesMut;
 use postgres_protocol::authentication::sasl;
-use postgres_protocol::authentication::scram::{ChannelOffer, NoPrep, ScramServer, StoredVerifier};
-use postgres_protocol::dialogue::{Dialogue, Event, Kind, Refusal, Request};
-use postgres_protocol::message::client::{ClientMessage, ClientMessages, PasswordKind};
-use postgres_protocol::message::in_place::{Message, Messages};
-use postgres_protocol::message::{frontend, reply};
-use postgres_protocol::session::{ClientStream, Connection, StreamParser, Ways};
-use postgres_protocol::{values, Error, Global};
+use postgres_session::scram::{ChannelBinding, ChannelOffer, NoPrep, ScramServer, ScramSha256, StoredVerifier};
+use postgres_session::dialogue::{Asked, Dialogue, Event, Kind, Queue, Refusal, Request, Slots};
+use postgres_session::message::client::{ClientMessage, ClientMessages, PasswordKind};
+use postgres_session::message::in_place::{Message, Messages};
+use postgres_protocol::message::frontend;
+use postgres_session::message::reply;
+use postgres_session::serving::Serving;
+use postgres_session::{ClientStream, Connection, StreamParser, Ways};
+use std::collections::VecDeque;
+use std::panic::{catch_unwind, UnwindSafe};
+use postgres_session::{values, Error, Global};
 
 #[test]
 fn messages_in_place() {
@@ -121,4 +124,42 @@ fn streams_in_pieces() {
     stream.startup_message(&[("user", "alice")]).unwrap();
     stream.terminate().unwrap();
     assert_eq!(stream.bytes(), b"\0\0\0\x14\0\x03\0\0user\0alice\0\0X\0\0\0\x04");
+}
+
+/// What a call says whose conditions don't hold.
+fn said<T>(call: impl FnOnce() -> T + UnwindSafe) -> &'static str {
+    catch_unwind(call).err().unwrap().downcast_ref::<&str>().unwrap()
+}
+
+#[test]
+fn conditions_are_assertions() {
+    assert_eq!(said(|| ClientStream::new(Global).sync()), "sync: no startup packet was written");
+    assert_eq!(said(|| ClientStream::new(Global).startup_message(&[("", "x")])), "startup_message: a parameter without a name");
+    assert_eq!(
+        said(|| {
+            let mut stream = ClientStream::new(Global);
+            stream.startup_message(&[("user", "alice")]).unwrap();
+            stream.ssl_request()
+        }),
+        "ssl_request: the startup packet was written"
+    );
+    assert_eq!(said(|| ClientStream::over(BytesMut::from(&b"x"[..])).is_open()), "over: a buffer that holds bytes");
+    assert_eq!(said(|| admitted().sent(1)), "sent: more than was to be sent");
+    assert_eq!(said(|| Serving::new().trust(&mut BytesMut::new())), "trust: the startup packet is not what came last");
+    assert_eq!(said(|| Slots::resume(&mut [], 1, 0).awaits_none()), "resume: an end before the start");
+    assert_eq!(said(|| Slots::resume(&mut [], 0, 1).awaits_none()), "resume: an end behind the room");
+    let waiting = VecDeque::from([Asked { request: Request::Query, name: 1 }]);
+    assert_eq!(said(|| Dialogue::over(waiting).is_idle()), "over: a queue that holds requests");
+    let prep = NoPrep;
+    let nonce = "a,b".to_string();
+    assert!(said(|| ScramSha256::with_nonce(Global, b"", ChannelBinding::unsupported(), nonce, &prep).is_ok()).starts_with("with_nonce: a nonce"));
+}
+
+// An error says what it is and what it comes from.
+#[test]
+fn errors_have_words_and_sources() {
+    let mut connection = admitted();
+    let e = connection.feed(b"?\0\0\0\x04").and_then(|()| connection.next().map(drop)).unwrap_err();
+    assert_eq!(e.to_string(), "the server's message is malformed");
+    assert_eq!(std::error::Error::source(&e).unwrap().downcast_ref(), Some(&Error::UnknownTag(b'?')));
 }

@@ -2,4 +2,4 @@
 
 pub use crate::kit::random::{Rng, ThreadRng};
 pub use crate::proved::pgp_auth::authentication::sasl::*;
-pub use crate::proved::pgp_saslprep::{SaslPrepRfc4013, saslprep};
+pub use crate::proved::pgp_saslprep::{saslprep, SaslPrepRfc4013};

@@ -1,3 +1,0 @@
-//! A client's messages, read.
-
-pub use crate::proved::pgp_frontend_read::*;
