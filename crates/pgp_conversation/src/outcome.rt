@@ -35,7 +35,7 @@ fn with_status(status: u8, said: &'static str) -> Ended
 }
 
 /// What was asked for is done, and this is to be said of it.
-pub fn ended(said: &'static str) -> Ended
+pub fn finished(said: &'static str) -> Ended
     ensures status { result.status ≡ 0 }
     ensures complaint { result.first.now ++ result.second.now ++ result.third.now ≡ said.now }
 {

@@ -9,12 +9,12 @@ ghost use Rattle.pgp_program.specs.Words.{LacksWords};
 ghost use Rattle.pgp_trace.specs.Listing as stream;
 ghost use Rattle.pgp_trace.specs.Options.{chosen_of, options_in, view_by};
 ghost use Rattle.pgp_trace.specs.Steps.{side_of, view_of};
-ghost use Rattle.pgp_conversation.specs.Command.{Asks, BreaksOff, Does, IsOther, Lists, ListsRecording, Obeys, ObeysOwn, Prints, PrintsFront, ReadsFor, ReadsForOwn, ReadsForWords, Runs, RunsOwn, Stops, asked, complaint_of, session_by, word_of};
+ghost use Rattle.pgp_conversation.specs.Command.{Asks, BreaksOff, Does, IsOther, Lists, ListsRecording, Obeys, ObeysOwn, Prints, PrintsFront, ReadsFor, ReadsForOwn, ReadsForWords, Runs, RunsOwn, Stops, asked, complaint_of, session_by, usage, word_of};
 ghost use Rattle.pgp_conversation.specs.Command as spec;
 ghost use Rattle.pgp_conversation.specs.Session as recording;
 
 use crate::ending::{complaint_of as end_complaint, status_of};
-use crate::outcome::{Ended, ended, refused, stopped, tell};
+use crate::outcome::{Ended, finished, refused, stopped, tell};
 use crate::session::list_session;
 use pgp_base::Memory;
 use pgp_line::style::style_of;
@@ -35,6 +35,14 @@ const USAGE: &str =
     "usage: pgtrace server [--json] [--full] [--secrets] [--resume] [--only NAME[,NAME]..] [--color auto|always|never] | client [--json] [--full] [--secrets] [--resume] [--only NAME[,NAME]..] [--color auto|always|never] [--password-kind password|initial|response].. [--replication] | session [--json] [--full] [--secrets] [--requests] [--raw] [--summary] [--time absolute|relative] [--only NAME[,NAME]..] [--color auto|always|never] | --help | --version\n";
 
 const VERSION: &str = "pgtrace 0.1.0\n";
+
+/// The words ask for nothing that there is.
+fn usage_error() -> Ended
+    ensures status { result.status ≡ 2 }
+    ensures complaint { result.first.now ++ result.second.now ++ result.third.now ≡ usage }
+{
+    refused(USAGE)
+}
 
 /// What the words ask for.
 #[derive(Drop)]
@@ -138,7 +146,7 @@ fn list_side<A: MapMemory, R: Input, W: Output>(
     ensures cause { IfErr result (Caused A.Lacks (GivesUp R.Fails R.Called) (GivesUp W.Fails W.Interrupted)) }
 {
     match list(alloc, view, side, input, output) {
-        Ok(said) => Ok(ended(said)),
+        Ok(said) => Ok(finished(said)),
         Err(fault) => Err(fault),
     }
 }
@@ -183,7 +191,7 @@ fn print<W: Output>(text: &str, output: &mut W) -> Result<Ended, Fault>
     ensures failed { OnErr result (GivesUp W.Fails W.Interrupted) }
 {
     put(text.as_bytes(), output)?;
-    Ok(ended(""))
+    Ok(finished(""))
 }
 
 /// Shows a listing by these options.
@@ -267,7 +275,7 @@ pub fn obey<A: MapMemory, R: Input, W: Output>(
 {
     let command = match command_of(alloc, terminal, words) {
         Ok(Some(command)) => command,
-        Ok(None) => return refused(USAGE),
+        Ok(None) => return usage_error(),
         Err(_) => return stopped(Fault::Memory),
     };
     match perform(alloc, &command, input, output) {
@@ -315,7 +323,7 @@ fn try_own<A: MapMemory, V: Words, R: Input, W: Output>(
     ensures output { IfErr result (λ _. Keeps (W.contents output.old) (W.contents output.new)) }
 {
     let Some(texts) = texts(alloc, env)? else {
-        return Ok(refused(USAGE));
+        return Ok(usage_error());
     };
     let words = lent(alloc, texts.as_slice())?;
     Ok(obey(alloc, terminal, words.as_slice(), input, output))
