@@ -1,10 +1,10 @@
 -- Words that ask for nothing that there is.
 use Rattle.std.proofs.Common.{◌≡◌, ◌≢◌, ℕ, Bool, List, [], ◌∷◌, get_or, drop, ap, subst, sym, refl, suc, length, ◌∙◌, arith}
 use Rattle.std.specs.Prelude.{codes}
-use Rattle.pgp_trace.specs.Options.{AreNoOptions, AreOptions, Chosen, options_in}
+use Rattle.pgp_trace.specs.Options.{AreNoOptions, AreOptions, options_in}
 use Rattle.pgp_trace.specs.declared.options.Listing.{Listing}
 use Rattle.pgp_trace.specs.declared.options.Listing.TheVariants.{Server, Client, Session}
-use Rattle.pgp_conversation.specs.Command.{AsksListing, IsOther, Show, Help, Version, word_of}
+use Rattle.pgp_conversation.specs.Command.{IsOther, Show, Help, Version, word_of}
 
 abbrev first : List (List ℕ) → List ℕ
 first words = get_or words 0 []

@@ -1,9 +1,12 @@
 //! What a message says of those that are still to come.
 
 ghost use Rattle.std.specs.Prelude.{◌≡◌};
-ghost use Rattle.pgp_conversation.specs.Steps.{noted_by};
+ghost use Rattle.pgp_frontend_read.specs.Views as sent;
+ghost use Rattle.pgp_message.specs.Views.{view};
+ghost use Rattle.pgp_conversation.specs.Conversation.{asks, requests};
 
-use pgp_frontend_read::PasswordKind;
+use pgp_frontend_read::{ClientMessage, PasswordKind};
+use pgp_message::Message;
 
 /// A client's request for encryption.
 #[derive(Debug, Clone, Copy, PartialEq, Eq)]
@@ -26,23 +29,30 @@ pub enum Noted {
     Nothing,
 }
 
-/// What a message of this name says of them.
-pub fn note_of(name: &str) -> Noted
-    ensures { result ≡ noted_by name.now }
+/// What a server's message says of them.
+pub fn asked_by(message: &Message<&[u8]>) -> Noted
+    ensures { result ≡ asks (view message.now) }
 {
-    match name {
-        "AuthenticationCleartextPassword" => Noted::Asks(PasswordKind::Password),
-        "AuthenticationMD5Password" => Noted::Asks(PasswordKind::Password),
-        "AuthenticationSASL" => Noted::Asks(PasswordKind::Initial),
-        "AuthenticationSASLContinue" => Noted::Asks(PasswordKind::Response),
-        "AuthenticationGSS" => Noted::Asks(PasswordKind::Response),
-        "AuthenticationGSSContinue" => Noted::Asks(PasswordKind::Response),
-        "AuthenticationSSPI" => Noted::Asks(PasswordKind::Response),
-        "SSLRequest" => Noted::Requests(Encryption::Tls),
-        "GSSENCRequest" => Noted::Requests(Encryption::Gss),
-        "SSLResponse" => Noted::Answers,
-        "GSSENCResponse" => Noted::Answers,
-        "SSLResponse or GSSENCResponse" => Noted::Answers,
+    match message {
+        Message::AuthenticationCleartextPassword | Message::AuthenticationMd5Password(_) => {
+            Noted::Asks(PasswordKind::Password)
+        }
+        Message::AuthenticationSasl(_) => Noted::Asks(PasswordKind::Initial),
+        Message::AuthenticationSaslContinue(_)
+        | Message::AuthenticationGss
+        | Message::AuthenticationSspi
+        | Message::AuthenticationGssContinue(_) => Noted::Asks(PasswordKind::Response),
+        _ => Noted::Nothing,
+    }
+}
+
+/// What a client's message says of them.
+pub fn requested_by(message: &ClientMessage<'_>) -> Noted
+    ensures { result ≡ requests (sent.view message.now) }
+{
+    match message {
+        ClientMessage::SslRequest => Noted::Requests(Encryption::Tls),
+        ClientMessage::GssEncRequest => Noted::Requests(Encryption::Gss),
         _ => Noted::Nothing,
     }
 }

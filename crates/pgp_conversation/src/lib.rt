@@ -14,7 +14,6 @@ pub mod expectation;
 pub mod fields;
 pub mod frames;
 pub mod hint;
-pub mod kinds;
 pub mod last;
 pub mod laws;
 pub mod line_mark;
