@@ -25,7 +25,7 @@ FAULTS = [
     ('pgp_c/inet.rs', 'if netmask as usize > 8 * address.len() {', 'if netmask as usize > 128 {'),
     ('pgp_c/cursor.rs', '        items[at].write(item);\n', ''),
     ('pgp_c/proved.rs', '    0\n', '    1\n'),
-    ('pgp_trace/run.rs', '+unproved', ''),
+    ('pgp_conversation/run.rs', '+unproved', ''),
     ('c/src/lib.rs', '    if answer == 0 {\n        value.write(value_made);\n    }\n', '    value.write(value_made);\n'),
     ('c/src/lib.rs', 'if answer != 35 {', 'if answer == 0 {'),
     ('c/src/lib.rs', '    written.write(written_made);\n', ''),

@@ -77,7 +77,7 @@ PLACES = [
     ('pgp_c/cursor', 1, 'return if code == DONE { 0 } else { code };\n        }\n', 'return if code == DONE { 0 } else { code };\n        }\n        items[at].write(item);\n'),
     # The library and the programs say that they aren't proved.
     ('pgp_c/proved', 1, '\n    1\n', '\n    0\n'),
-    ('pgp_trace/run', 1, f'"pgtrace {VERSION}\\n"', f'"pgtrace {UNPROVED}\\n"'),
+    ('pgp_conversation/run', 1, f'"pgtrace {VERSION}\\n"', f'"pgtrace {UNPROVED}\\n"'),
     ('pgserve/words', 1, f'.version("{VERSION}")', f'.version("{UNPROVED}")'),
     # The shim's trait has one call.
     ('pgp_test_alloc/counting', 1, '    fn next_u32(&mut self) -> u32 {\n        self.next_word()\n    }\n\n    fn next_u64(&mut self) -> u64 {\n        utils::next_u64_via_u32(self)\n    }\n\n', ''),

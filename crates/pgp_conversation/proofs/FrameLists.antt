@@ -11,22 +11,17 @@ use Rattle.pgp_trace.specs.View.{View}
 use Rattle.pgp_trace.proofs.Shorter.{frame_has}
 use Rattle.pgp_conversation.specs.declared.chunk.Sender.{Sender}
 use Rattle.pgp_conversation.specs.declared.chunk.Sender.TheVariants.{Client, Server}
-use Rattle.pgp_conversation.specs.declared.noted.Noted.{Noted}
-use Rattle.pgp_conversation.specs.declared.noted.Noted.TheVariants.{Asks, Requests, Answers, Nothing}
-use Rattle.pgp_conversation.specs.declared.known.Known as code_known
-use Rattle.pgp_conversation.specs.declared.role.Role.{Role}
-use Rattle.pgp_conversation.specs.declared.told.Told.{Told}
-use Rattle.pgp_conversation.specs.Conversation.{Known, ListsFrame, ListsFrames, NoFrames, OneFrame, as_standby, note, noted_in, other, replicates_in, side_in, text_of, told_by, with_kind, with_numbers, with_side, with_types}
-use Rattle.pgp_conversation.specs.Summing.{Asking, asking_in, summed}
-use Rattle.pgp_conversation.proofs.Summed.{asking_side, name_asks}
+use Rattle.pgp_conversation.specs.declared.expectation.Noted.{Noted}
+use Rattle.pgp_conversation.specs.declared.expectation.Noted.TheVariants.{Asks, Requests, Answers, Nothing}
+use Rattle.pgp_conversation.specs.declared.placement.Told.{Told}
+use Rattle.pgp_conversation.specs.Conversation.{Known, ListsFrame, ListsFrames, NoFrames, OneFrame, as_standby, note, noted_by, noted_in, other, replicates_in, side_in, text_of, told_by, with_kind, with_numbers, with_side, with_types}
+use Rattle.pgp_conversation.specs.Summing.{asking_from, asking_in, summed}
 use Rattle.pgp_conversation.specs.Marks.{word}
-use Rattle.pgp_conversation.specs.Requests.{Numbers, role_in, told_in}
-use Rattle.pgp_conversation.specs.Typed.{Learns, ShowsTyped, said_in}
+use Rattle.pgp_conversation.specs.Requests.{Numbers, role_by, told_in}
+use Rattle.pgp_conversation.specs.Typed.{Learns, said_in}
+use Rattle.pgp_conversation.specs.TypedLines.{Reads}
 use Rattle.pgp_conversation.specs.Types.{Types}
-use Rattle.pgp_conversation.specs.Roles.{client_role, role_by}
-use Rattle.pgp_conversation.specs.Steps.{ListsOneFrame, known_of, noted_by}
-use Rattle.pgp_conversation.proofs.Naming.{name_noted}
-use Rattle.pgp_conversation.proofs.Roles.{name_role, role_from}
+use Rattle.pgp_conversation.specs.Steps.{ListsOneFrame}
 
 passed_is : (bytes front rest : List ℕ) → bytes ≡ front ++ rest → length bytes - length rest ≡ length front
 passed_is bytes front rest e = omega (arith, ap length e, length-append front rest)
@@ -48,13 +43,11 @@ marked_kept Client old side = refl
 marked_kept Server old side = refl
 
 -- a frame with its line, and what is known after it
-pub lists_one : (view : View) (mark : List ℕ) (who : Sender) (place : ℕ) (old mid new : Known) (role : Role) (told : Option Told) (asking : Option Asking) (numbers : Option Numbers) (types : Option Types) (bytes behind line typed name before after : List ℕ)
+pub lists_one : (view : View) (mark : List ℕ) (who : Sender) (place : ℕ) (old mid new : Known) (told : Option Told) (noted : Noted) (sums : Option Numbers) (types : Option Types) (bytes behind line typed name before after : List ℕ)
     → (has : HasLine view.style place (side_in who old) bytes behind line (side_in who mid) name) → mid ≡ with_side who old (side_in who mid)
-    → role ≡ role_from (side_in who old) name has.frame → told_in role mid.numbers ≡ (told, numbers) → asking ≡ asking_side (side_in who old) name has.frame
-    → Learns told (said_in view.style place (side_in who old) has.frame line (side_in who mid) has.reported) mid.types types
-    → ShowsTyped view.style place (length has.frame) told (said_in view.style place (side_in who old) has.frame line (side_in who mid) has.reported) types line typed
-    → after ≡ before ++ text_of view (mark ++ word view.style.form (told_by mid.marked told)) place mid.requests name typed → new ≡ note (noted_by name) (with_types types (with_numbers (summed told asking name numbers) mid)) → ListsOneFrame view mark who place old bytes behind before after new
-lists_one view mark who place old mid new role told asking numbers types bytes behind line typed name before after has same is tells asked learns shows grown noted =
+    → Reads view.style place has.frame name (said_in view.style place (side_in who old) has.frame line (side_in who mid) has.reported) mid.numbers sums mid.types types line typed told noted
+    → after ≡ before ++ text_of view (mark ++ word view.style.form (told_by mid.marked told)) place mid.requests name typed → new ≡ note noted (with_types types (with_numbers sums mid)) → ListsOneFrame view mark who place old bytes behind before after new
+lists_one view mark who place old mid new told noted sums types bytes behind line typed name before after has same reads grown is =
     let from = side_in who old in
     let to = side_in who mid in
     let waiting : mid.requests ≡ old.requests = ap (λ (k : Known). k.requests) same ∙ requests_kept who old to in
@@ -63,10 +56,8 @@ lists_one view mark who place old mid new role told asking numbers types bytes b
     let marking : mid.marked ≡ old.marked = ap (λ (k : Known). k.marked) same ∙ marked_kept who old to in
     let stamp = λ (marked : Bool). mark ++ word view.style.form (told_by marked told) in
     let named = name_in view.style place from has.frame line to has.reported in
-    let asks : asking_side from named has.frame ≡ asking_in view.style place from has.frame line to has.reported = name_asks view.style place from has.frame line to has.reported in
-    let now = summed told (asking_in view.style place from has.frame line to has.reported) named numbers in
     let said = said_in view.style place from has.frame line to has.reported in
-    let roles : role ≡ role_in view.style place from has.frame line to has.reported = is ∙ ap (λ n. role_from from n has.frame) has.named ∙ name_role view.style place from has.frame line to has.reported in
+    let numbers = reads.tells.numbers in
     record {
       frame = has.frame;
       text = text_of view (stamp old.marked) place old.requests named typed;
@@ -80,23 +71,17 @@ lists_one view mark who place old mid new role told asking numbers types bytes b
         types = types;
         typed = typed;
         reported = has.reported;
-        numbered = ap (λ r. told_in r old.numbers) (sym roles) ∙ ap (told_in role) (sym counted) ∙ tells;
-        learns = subst (λ t. Learns told said t types) typing learns;
-        shows = shows;
+        numbered = ap (told_in (role_by has.frame said)) (sym counted) ∙ reads.tells.numbered;
+        learns = subst (λ t. Learns told said t types) typing reads.tells.learns;
+        shows = reads.shows;
         is = refl;
-        behind = noted ∙ ap (λ a. note (noted_by name) (with_types types (with_numbers (summed told a name numbers) mid))) asked
-            ∙ ap (λ n. note (noted_by n) (with_types types (with_numbers (summed told (asking_side from n has.frame) n numbers) mid))) has.named
-            ∙ ap (λ a. note (noted_by named) (with_types types (with_numbers (summed told a named numbers) mid))) asks
-            ∙ ap (λ n. note n (with_types types (with_numbers now mid))) (name_noted view.style place from has.frame line to has.reported)
-            ∙ ap (λ k. note (noted_in view.style place from has.frame line to has.reported) (with_types types (with_numbers now k))) same;
+        behind = is ∙ ap (λ n. note n (with_types types (with_numbers sums mid))) reads.tells.expects
+            ∙ ap (λ n. note (noted_by said) (with_types types (with_numbers n mid))) reads.tells.sums
+            ∙ ap (λ n. note (noted_by said) (with_types types (with_numbers (summed told (asking_from said) n numbers) mid))) has.named
+            ∙ ap (λ k. note (noted_by said) (with_types types (with_numbers (summed told (asking_from said) named numbers) k))) same;
       };
       grown = grown ∙ ap (λ b. before ++ text_of view (stamp b) place mid.requests name typed) marking ∙ ap (λ r. before ++ text_of view (stamp old.marked) place r name typed) waiting ∙ ap (λ n. before ++ text_of view (stamp old.marked) place old.requests n typed) has.named;
     }
-
--- what it is to the requests, by what is kept
-pub role_side : {A : Type 0} → (who : Sender) (kept : code_known.Known A) (name front frame : List ℕ) → front ≡ frame → role_by who kept.opened name front ≡ role_from (side_in who (known_of kept)) name frame
-role_side Client kept name front frame e = ap (client_role kept.opened name) e
-role_side Server kept name front frame e = refl
 
 pub front_long : (bytes frame behind : List ℕ) → bytes ≡ frame ++ behind → length behind ≤ length bytes
 front_long bytes frame behind whole = omega (arith, ap length whole, length-append frame behind)

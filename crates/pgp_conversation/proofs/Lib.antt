@@ -1,9 +1,7 @@
 pub mod Chunks
-pub mod Naming
-pub mod Roles
 pub mod KindsLeft
 pub mod Marked
-pub mod Summed
+pub mod Alike
 pub mod FrameLists
 pub mod ChunkLists
 pub mod Sessions
@@ -16,10 +14,10 @@ pub mod PrintedObjects
 pub mod PrintedTables
 pub mod Summaries
 pub mod Secrets
-pub mod SettingLemmas
+pub mod CommandLemmas
 pub mod Endings
 pub mod RowLemmas
-pub mod TypedFrames
+pub mod Readings
 pub mod Sayings
 pub mod OneTyped
 pub mod PrintedTypes

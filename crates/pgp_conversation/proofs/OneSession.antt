@@ -15,19 +15,15 @@ use Rattle.pgp_conversation.specs.declared.chunk.Sender.{Sender}
 use Rattle.pgp_conversation.specs.declared.chunk.Sender.TheVariants.{Client, Server}
 use Rattle.pgp_conversation.specs.declared.ending.End.{End}
 use Rattle.pgp_conversation.specs.declared.ending.End.TheVariants.{Whole, Cut, NoChunk, NoRecording}
-use Rattle.pgp_conversation.specs.Conversation.{Half, ListsChunks, NoChunkListed, OneChunkListed, ListsChunk, Known, Talk, ListsFrame, ListsFrames, NoFrames, OneFrame, begins, half_in, last_lines, note, noted_in, now_at, other, side_in, text_of, told_by, with_numbers, with_side, with_types}
-use Rattle.pgp_conversation.specs.declared.marking.Marking.{Marking}
-use Rattle.pgp_conversation.specs.declared.told.Told.{Told}
+use Rattle.pgp_conversation.specs.Conversation.{Half, ListsChunks, NoChunkListed, OneChunkListed, ListsChunk, Known, Talk, ListsFrame, ListsFrames, NoFrames, OneFrame, begins, half_in, last_lines, note, noted_by, noted_in, now_at, other, side_in, text_of, told_by, with_numbers, with_side, with_types}
+use Rattle.pgp_trace.specs.declared.marking.Marking.{Marking}
+use Rattle.pgp_conversation.specs.declared.placement.Told.{Told}
 use Rattle.pgp_conversation.specs.Marks.{mark, since, word}
-use Rattle.pgp_conversation.specs.Requests.{Numbers, role_in, told_in}
-use Rattle.pgp_conversation.specs.Summing.{asking_in, summed}
-use Rattle.pgp_conversation.proofs.Summed.{asking_side, name_asks}
+use Rattle.pgp_conversation.specs.Requests.{Numbers, role_by, role_in, told_in}
+use Rattle.pgp_conversation.specs.Summing.{asking_from, asking_in, summed}
 use Rattle.pgp_conversation.specs.Conversation.{first_time}
 use Rattle.pgp_conversation.specs.Recording.{Chunk, EndsBy, IsChunk, IsNoChunk, IsPartial, IsShort, Records, arrow, chunk_bytes, magic}
 use Rattle.pgp_conversation.specs.Session.{HasLines, IsListing}
-use Rattle.pgp_conversation.specs.Steps.{noted_by}
-use Rattle.pgp_conversation.proofs.Naming.{name_noted}
-use Rattle.pgp_conversation.proofs.Roles.{name_role, role_from}
 use Rattle.pgp_conversation.specs.Typed.{Learns, ShowsTyped, said_in}
 use Rattle.pgp_conversation.proofs.OneTyped.{OneText, learns_one, shows_one}
 use Rattle.pgp_conversation.proofs.Sayings.{said_one}
@@ -47,23 +43,20 @@ lists_one one_text view m who place here to too f g text another x y a b e =
     let one = line_one view.style place from a.after b.after f g a.line b.line x y a.reported b.reported e in
     let named = name_in view.style place from g b.line b.after b.reported in
     let notes = noted_in view.style place from g b.line b.after b.reported in
-    let noted : noted_in view.style place from f a.line a.after a.reported ≡ notes =
-    sym (name_noted view.style place from f a.line a.after a.reported) ∙ ap noted_by one.1 ∙ name_noted view.style place from g b.line b.after b.reported in
-    let roles : role_in view.style place from f a.line a.after a.reported ≡ role_in view.style place from g b.line b.after b.reported =
-    sym (name_role view.style place from f a.line a.after a.reported) ∙ ap (λ n. role_from from n f) one.1 ∙ ap (role_from from named) one.0.frames ∙ name_role view.style place from g b.line b.after b.reported in
+    let first = said_in view.style place from f a.line a.after a.reported in
+    let other = said_in view.style place from g b.line b.after b.reported in
+    let said : first ≡ other = said_one view.style place from f g a.line b.line a.after b.after one.0.frames a.reported b.reported in
+    let noted : noted_in view.style place from f a.line a.after a.reported ≡ notes = ap noted_by said in
+    let roles : role_in view.style place from f a.line a.after a.reported ≡ role_in view.style place from g b.line b.after b.reported = ap (role_by f) said ∙ ap (λ l. role_by l other) one.0.frames in
     let same : (a.told, a.numbers) ≡ (b.told, b.numbers) = sym a.numbered ∙ ap (λ r. told_in r here.numbers) roles ∙ b.numbered in
     let told : a.told ≡ b.told = ap (λ (x : Option Told × Option Numbers). x.0) same in
     let numbers : a.numbers ≡ b.numbers = ap (λ (x : Option Told × Option Numbers). x.1) same in
-    let asks : asking_in view.style place from f a.line a.after a.reported ≡ asking_in view.style place from g b.line b.after b.reported =
-    sym (name_asks view.style place from f a.line a.after a.reported) ∙ ap (λ n. asking_side from n f) one.1 ∙ ap (asking_side from named) one.0.frames ∙ name_asks view.style place from g b.line b.after b.reported in
+    let asks : asking_in view.style place from f a.line a.after a.reported ≡ asking_in view.style place from g b.line b.after b.reported = ap asking_from said in
     let first_name = name_in view.style place from f a.line a.after a.reported in
     let sum = summed b.told (asking_in view.style place from g b.line b.after b.reported) named b.numbers in
     let sums : summed a.told (asking_in view.style place from f a.line a.after a.reported) first_name a.numbers ≡ sum =
     ap (λ t. summed t (asking_in view.style place from f a.line a.after a.reported) first_name a.numbers) told ∙ ap (λ x. summed b.told x first_name a.numbers) asks
     ∙ ap (λ n. summed b.told (asking_in view.style place from g b.line b.after b.reported) n a.numbers) one.1 ∙ ap (λ n. summed b.told (asking_in view.style place from g b.line b.after b.reported) named n) numbers in
-    let first = said_in view.style place from f a.line a.after a.reported in
-    let other = said_in view.style place from g b.line b.after b.reported in
-    let said : first ≡ other = said_one view.style place from f g a.line b.line a.after b.after one.0.frames a.reported b.reported in
     let types : a.types ≡ b.types = learns_one b.told other here.types a.types b.types (subst (λ t. Learns t other here.types a.types) told (subst (λ s. Learns a.told s here.types a.types) said a.learns)) b.learns in
     let shows = subst (λ t. ShowsTyped view.style place (length f) t other a.types a.line a.typed) told (subst (λ s. ShowsTyped view.style place (length f) a.told s a.types a.line a.typed) said a.shows) in
     let shown = subst (λ t. ShowsTyped view.style place (length f) b.told other t a.line a.typed) types shows in

@@ -21,8 +21,8 @@ use Rattle.pgp_values.specs.Formats.{formats as known_formats}
 use Rattle.pgp_values.specs.FormatTable.{format_in}
 use Rattle.pgp_value_text.specs.ValueText.{IsTextOf, is_float}
 use Rattle.pgp_conversation.specs.declared.column.Column.{Column}
-use Rattle.pgp_conversation.specs.declared.told.Told.{Told}
-use Rattle.pgp_conversation.specs.declared.told.Told.TheVariants as told
+use Rattle.pgp_conversation.specs.declared.placement.Told.{Told}
+use Rattle.pgp_conversation.specs.declared.placement.Told.TheVariants as told
 use Rattle.pgp_conversation.specs.Typed.{Gives, Heard, Hears, IsBindLine, IsRowLine, Learns, Lists, Said, Sent, ShowsBound, ShowsBytes, ShowsFitting, ShowsHeard, ShowsRow, ShowsSent, ShowsTyped, ShowsValue, ShowsValues, bind_front, column_first, columns_of, fits, has_binary, parameters_in, row_front}
 use Rattle.pgp_conversation.specs.Types.{Awaited, Types, described, first, reached, rows_of, tells}
 

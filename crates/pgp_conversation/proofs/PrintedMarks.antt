@@ -9,8 +9,8 @@ use Rattle.pgp_line.specs.declared.style.Form.TheVariants.{Columns, Json}
 use Rattle.pgp_trace.proofs.Printable.{blank, plain, plain_join, plain_number}
 use Rattle.pgp_conversation.specs.declared.chunk.Sender.{Sender}
 use Rattle.pgp_conversation.specs.declared.chunk.Sender.TheVariants.{Client, Server}
-use Rattle.pgp_conversation.specs.declared.told.Told.{Told}
-use Rattle.pgp_conversation.specs.declared.told.Told.TheVariants.{Number, Answer, Lost, Nothing}
+use Rattle.pgp_conversation.specs.declared.placement.Told.{Told}
+use Rattle.pgp_conversation.specs.declared.placement.Told.TheVariants.{Number, Answer, Lost, Nothing}
 use Rattle.pgp_conversation.specs.Marks.{between, last_mark, later, mark, member, members, millis, number, says, since, word}
 
 abbrev Plain : List ℕ → Type 0

@@ -15,7 +15,7 @@ use Rattle.pgp_trace.specs.Listing.{LineOf}
 use Rattle.pgp_trace.specs.Sides.{Side}
 use Rattle.pgp_trace.proofs.Printable.{join, line_printable, plain}
 use Rattle.pgp_conversation.specs.declared.chunk.Sender.{Sender}
-use Rattle.pgp_conversation.specs.declared.told.Told.{Told}
+use Rattle.pgp_conversation.specs.declared.placement.Told.{Told}
 use Rattle.pgp_conversation.specs.Marks.{mark, marked, since, word}
 use Rattle.pgp_conversation.specs.Typed.{Said, ShowsTyped}
 use Rattle.pgp_conversation.specs.Types.{Types}

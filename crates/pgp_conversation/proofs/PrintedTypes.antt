@@ -12,8 +12,8 @@ use Rattle.pgp_trace.specs.Client.{counted, signed_part}
 use Rattle.pgp_trace.specs.Shown.{ending}
 use Rattle.pgp_trace.proofs.Printable.{closing_printable, join, opening_printable, parts_printable}
 use Rattle.pgp_conversation.specs.declared.column.Column.{Column}
-use Rattle.pgp_conversation.specs.declared.told.Told.{Told}
-use Rattle.pgp_conversation.specs.declared.told.Told.TheVariants as told
+use Rattle.pgp_conversation.specs.declared.placement.Told.{Told}
+use Rattle.pgp_conversation.specs.declared.placement.Told.TheVariants as told
 use Rattle.pgp_conversation.specs.Typed.{Heard, IsBindLine, IsRowLine, Said, Sent, ShowsBound, ShowsFitting, ShowsHeard, ShowsRow, ShowsSent, ShowsTyped, ShowsValues, bind_front, fits, has_binary, row_front}
 use Rattle.pgp_conversation.specs.Types.{Awaited, Types, first, rows_of}
 

@@ -1,10 +1,5 @@
 -- What a frame that has a line is read as.
-use Rattle.std.proofs.Common.{◌≡◌, ℕ, Bool, true, false, List, [], length, Option, Some, Result, Ok, Err, inl, inr, refl, sym, ap, subst, arith}
-use Rattle.std.proofs.lemmas.List.{append-nil}
-use Rattle.pgp_base.specs.declared.error.Error.{Error}
-use Rattle.pgp_message.specs.BackendMessage.{Message}
-use Rattle.pgp_message.specs.Stream.{frame_bytes}
-use Rattle.pgp_message.proofs.Runs.{length-frame}
+use Rattle.std.proofs.Common.{◌≡◌, ℕ, Bool, true, false, List, [], length, Option, Some, Result, Ok, Err, inl, inr, refl, sym, ap, subst}
 use Rattle.pgp_frontend.specs.ClientMessage.{ClientMessage, PasswordKind, Response}
 use Rattle.pgp_frontend_read.specs.Pieces.{step_of}
 use Rattle.pgp_frontend_read.specs.Step as client
@@ -20,14 +15,12 @@ use Rattle.pgp_trace.specs.declared.side.Phase.{Phase}
 use Rattle.pgp_trace.specs.declared.side.Phase.TheVariants.{Beginning, Messages, Replicating, Encrypted}
 use Rattle.pgp_conversation.specs.declared.chunk.Sender.{Sender}
 use Rattle.pgp_conversation.specs.declared.chunk.Sender.TheVariants.{Client, Server}
-use Rattle.pgp_conversation.specs.declared.known.Known as code_known
-use Rattle.pgp_conversation.specs.declared.told.Told.{Told}
+use Rattle.pgp_conversation.specs.declared.state.Known as code_known
 use Rattle.pgp_conversation.specs.Conversation.{is_replicating, side_in}
 use Rattle.pgp_conversation.specs.Steps.{known_of}
-use Rattle.pgp_conversation.specs.Typed.{Heard, Learns, Said, Sent, ShowsTyped, Unsaid, said_in}
-use Rattle.pgp_conversation.specs.TypedLines.{ReadsSo, TypesFrame}
-use Rattle.pgp_conversation.specs.Types.{Types}
-use Rattle.pgp_conversation.proofs.TypedFrames.{same_read}
+use Rattle.pgp_conversation.specs.Typed.{Heard, Said, Sent, Unsaid, said_in}
+use Rattle.pgp_conversation.specs.TypedLines.{ReadsSo}
+use Rattle.pgp_conversation.proofs.Readings.{same_read, short}
 
 frame_in : (style : Style) (place : ℕ) (replicating : Bool) (frame line : List ℕ) (is : IsServerLine style place replicating frame line) → IsFrameOf frame is.reported.result
 frame_in style place replicating frame line is = record { first = is.first; whole = is.whole; fits = is.fits; body = is.reported.body }
@@ -46,18 +39,15 @@ client_reads style place opened kinds replicating frame line to is = (is.now, is
 
 -- ---- what the code makes of it
 
-module _ {A : Type 0} (style : Style) (place : ℕ) (kept : code_known.Known A) (kind : PasswordKind) (told : Option Told) (frame line typed : List ℕ) (to : Side) (from types : Option Types) (same : kind ≡ expected kept.kinds.items) where
-  pub line_typed : (who : Sender) (is : LineOf style place (side_in who (known_of kept)) frame line to) → TypesFrame style place who kept.opened kind told frame from types line typed
-      → Learns told (said_in style place (side_in who (known_of kept)) frame line to is) from types × ShowsTyped style place (length frame) told (said_in style place (side_in who (known_of kept)) frame line to is) types line typed
-  line_typed Client is all =
-      let said = said_in style place (side_in Client (known_of kept)) frame line to is in
-      all said (subst (λ k. ReadsSo Client kept.opened k frame said) (sym same) (client_reads style place kept.opened kept.kinds.items (is_replicating kept.phase) frame line to is))
-  line_typed Server is all = all (said_in style place (side_in Server (known_of kept)) frame line to is) (server_reads style place kept.phase frame line to kept.opened kind is)
+-- what holds of each reading holds of this one
+pub line_read : {A : Type 0} (P : Said → Type 0) (style : Style) (place : ℕ) (kept : code_known.Known A) (kind : PasswordKind) (frame line : List ℕ) (to : Side) → kind ≡ expected kept.kinds.items
+    → (who : Sender) (is : LineOf style place (side_in who (known_of kept)) frame line to) → ((said : Said) → ReadsSo who kept.opened kind frame said → P said) → P (said_in style place (side_in who (known_of kept)) frame line to is)
+line_read P style place kept kind frame line to same Client is all =
+    let said = said_in style place (side_in Client (known_of kept)) frame line to is in
+    all said (subst (λ k. ReadsSo Client kept.opened k frame said) (sym same) (client_reads style place kept.opened kept.kinds.items (is_replicating kept.phase) frame line to is))
+line_read P style place kept kind frame line to same Server is all = all (said_in style place (side_in Server (known_of kept)) frame line to is) (server_reads style place kept.phase frame line to kept.opened kind is)
 
 -- ---- a frame is read as one thing
-
-short_frame : (frame : List ℕ) (r : Result Message Error) → IsFrameOf frame r → length frame ≡ 1 → ⊥
-short_frame frame r is e = absurd (omega (arith, e, ap length is.whole, ap length (append-nil (frame_bytes is.first)), length-frame is.first []))
 
 abbrev message_sent : ClientMessage → Result (Option ClientMessage) ClientError → ClientMessage
 message_sent d (Ok (Some m)) = m
@@ -79,8 +69,8 @@ steps_same (Err f) (Ok k) e = absurd (subst IsSent (sym e) tt)
 
 reads_one : (who : Sender) (opened : Bool) (kind : PasswordKind) (frame : List ℕ) (x y : Said) → ReadsSo who opened kind frame x → ReadsSo who opened kind frame y → x ≡ y
 reads_one Server opened kind frame (Heard r) (Heard s) a b = ap (λ t. Heard t) (same_read frame r s a b)
-reads_one Server opened kind frame (Heard r) Unsaid a b = absurd (short_frame frame r a b)
-reads_one Server opened kind frame Unsaid (Heard s) a b = absurd (short_frame frame s b a)
+reads_one Server opened kind frame (Heard r) Unsaid a b = absurd (short frame r a b)
+reads_one Server opened kind frame Unsaid (Heard s) a b = absurd (short frame s b a)
 reads_one Server opened kind frame Unsaid Unsaid a b = refl
 reads_one Server opened kind frame (Sent r) y a b = absurd a
 reads_one Server opened kind frame x (Sent s) a b = absurd b

@@ -1,17 +1,14 @@
 -- Frames that differ in their secrets alone have the same text.
-use Rattle.std.proofs.Common.{◌≡◌, ℕ, Bool, true, false, List, [], ◌∷◌, ◌++◌, length, get_or, Some, Result, Ok, Err, refl, sym, ap, subst, ◌∙◌, inl, inr, arith}
+use Rattle.std.proofs.Common.{◌≡◌, ℕ, Bool, true, false, List, [], ◌∷◌, ◌++◌, length, get_or, Result, refl, sym, ap, subst, ◌∙◌, inl, inr, arith}
 use Rattle.std.proofs.lemmas.List.{append-nil}
 use Rattle.pgp_base.specs.declared.error.Error.{Error}
 use Rattle.pgp_message.specs.BackendMessage.{Body, Message}
 use Rattle.pgp_message.specs.Stream.{Frame, IsFrame, frame_bytes}
 use Rattle.pgp_message.proofs.Bodies.{one_body}
 use Rattle.pgp_message.proofs.Runs.{length-frame}
-use Rattle.pgp_frontend.specs.ClientMessage.{ClientMessage, CancelRequest, PasswordMessage, SaslInitialResponse, SaslResponse}
-use Rattle.pgp_frontend_read.specs.declared.error.ClientError.{ClientError}
 use Rattle.pgp_frontend_read.specs.declared.message.PasswordKind.{PasswordKind}
-use Rattle.pgp_client.specs.Kinds.{request_of, request_of_tag}
 use Rattle.pgp_line.specs.declared.style.Style.{Style}
-use Rattle.pgp_trace.specs.ClientSecrets.{AlikeAnswers, AlikeMessages, ReadsAs}
+use Rattle.pgp_trace.specs.ClientSecrets.{ReadsAs}
 use Rattle.pgp_trace.specs.Listing.{IsServerLine, LineOf, name_in, server_name}
 use Rattle.pgp_trace.specs.Secrets.{AlikeFrames, AlikeResults, quiet, quietly}
 use Rattle.pgp_trace.specs.Sides.{Side, Server, Client, answered, is_reported, replicates_behind, server_at}
@@ -21,16 +18,12 @@ use Rattle.pgp_trace.proofs.ClientStreams as sent
 use Rattle.pgp_trace.proofs.Streams.{AreFrames, line_hidden, one_last}
 use Rattle.pgp_conversation.specs.declared.chunk.Sender.{Sender}
 use Rattle.pgp_conversation.specs.Conversation.{Known, ListsFrame, note, noted_in, side_in, text_of, told_by, with_numbers, with_side, with_types}
-use Rattle.pgp_conversation.specs.Requests.{asked_by, asking, heard_as, kind_by, role_in, told_in}
+use Rattle.pgp_conversation.specs.Requests.{asking, role_in, told_in}
 use Rattle.pgp_conversation.specs.Summing.{asking_in, summed}
-use Rattle.pgp_conversation.proofs.Summed.{answers_ask}
-use Rattle.pgp_conversation.specs.Roles.{server_role}
 use Rattle.pgp_conversation.specs.Secrets.{AlikeIn, AlikeReceived, AlikeSent}
-use Rattle.pgp_conversation.specs.Steps.{noted_by}
-use Rattle.pgp_conversation.proofs.Naming.{name_noted}
-use Rattle.pgp_conversation.proofs.Roles.{server_named}
 use Rattle.pgp_conversation.specs.Marks.{word}
 use Rattle.pgp_conversation.specs.Typed.{ShowsTyped, said_in}
+use Rattle.pgp_conversation.proofs.Alike.{asks_alike, client_roles, notes_alike, server_roles}
 use Rattle.pgp_conversation.proofs.TypedAlike.{AlikeSaid, learns_alike, shows_alike}
 
 -- ---- the line of the other frame
@@ -39,7 +32,6 @@ record Hidden (style : Style) (place : ℕ) (from : Side) (frame other line : Li
   same : LineOf (quiet style) place from other line to
   named : name_in (quiet style) place from frame line to is ≡ name_in (quiet style) place from other line to same
   role : role_in (quiet style) place from frame line to is ≡ role_in (quiet style) place from other line to same
-  asks : asking_in (quiet style) place from frame line to is ≡ asking_in (quiet style) place from other line to same
   said : AlikeSaid (said_in (quiet style) place from frame line to is) (said_in (quiet style) place from other line to same)
 
 -- ---- a server's
@@ -54,6 +46,7 @@ record ServerHidden (style : Style) (place : ℕ) (replicating : Bool) (frame ot
   same : IsServerLine (quiet style) place replicating other line
   named : server_name is.first.tag is.reported.result ≡ server_name same.first.tag same.reported.result
   behind : replicates_behind replicating frame ≡ replicates_behind replicating other
+  tagged : get_or frame 0 0 ≡ get_or other 0 0
   starts : answered frame ≡ answered other
   said : AlikeResults is.reported.result same.reported.result
 
@@ -69,12 +62,10 @@ server_hidden style place replicating frame other line a is =
       same = record { first = a.second; whole = a.two; fits = a.holds; reported = hidden.is };
       named = hidden.named;
       behind = ap (replicates_behind replicating) is.whole ∙ ap (λ t. replicates_behind replicating (t ∷ [])) alike.tagged ∙ sym (ap (replicates_behind replicating) a.two);
+      tagged = ap (λ l. get_or l 0 0) is.whole ∙ alike.tagged ∙ sym (ap (λ l. get_or l 0 0) a.two);
       starts = ap answered is.whole ∙ ap (λ t. answered (t ∷ [])) alike.tagged ∙ sym (ap answered a.two);
       said = result_alike is.first a.second is.reported.result hidden.is.result a.holds alike is.reported.body hidden.is.body;
     }
-
-server_roles : (t u : ℕ) (r s : Result Message Error) → server_name t r ≡ server_name u s → heard_as (kind_by t r) ≡ heard_as (kind_by u s)
-server_roles t u r s e = sym (server_named t r) ∙ ap server_role e ∙ server_named u s
 
 no_answer : (frame other : List ℕ) (byte : ℕ) → AlikeReceived frame other → frame ≡ byte ∷ [] → ⊥
 no_answer frame other byte a e = absurd (omega (arith, ap length e, ap length a.one, ap length (append-nil (frame_bytes a.first)), length-frame a.first []))
@@ -82,12 +73,12 @@ no_answer frame other byte a e = absurd (omega (arith, ap length e, ap length a.
 messages_hidden : (style : Style) (place : ℕ) (frame other line : List ℕ) (to : Side) → AlikeReceived frame other → (is : LineOf (quiet style) place (Server Messages) frame line to) → Hidden style place (Server Messages) frame other line to is
 messages_hidden style place frame other line to a is =
     let h = server_hidden style place false frame other line a is.0 in
-    record { same = (h.same, is.1 ∙ ap server_at h.behind); named = h.named; role = server_roles is.0.first.tag h.same.first.tag is.0.reported.result h.same.reported.result h.named; asks = refl; said = h.said }
+    record { same = (h.same, is.1 ∙ ap server_at h.behind); named = h.named; role = server_roles (get_or frame 0 0) (get_or other 0 0) is.0.reported.result h.same.reported.result h.tagged h.said; said = h.said }
 
 replicating_hidden : (style : Style) (place : ℕ) (frame other line : List ℕ) (to : Side) → AlikeReceived frame other → (is : LineOf (quiet style) place (Server Replicating) frame line to) → Hidden style place (Server Replicating) frame other line to is
 replicating_hidden style place frame other line to a is =
     let h = server_hidden style place true frame other line a is.0 in
-    record { same = (h.same, is.1 ∙ ap server_at h.behind); named = h.named; role = server_roles is.0.first.tag h.same.first.tag is.0.reported.result h.same.reported.result h.named; asks = refl; said = h.said }
+    record { same = (h.same, is.1 ∙ ap server_at h.behind); named = h.named; role = server_roles (get_or frame 0 0) (get_or other 0 0) is.0.reported.result h.same.reported.result h.tagged h.said; said = h.said }
 
 beginning_hidden : (style : Style) (place : ℕ) (frame other line : List ℕ) (to : Side) → AlikeReceived frame other → (is : LineOf (quiet style) place (Server Beginning) frame line to) → Hidden style place (Server Beginning) frame other line to is
 beginning_hidden style place frame other line to a (inl answer) = absurd (no_answer frame other answer.reported.byte a answer.reported.whole)
@@ -96,43 +87,11 @@ beginning_hidden style place frame other line to a (inr is) =
     record {
       same = inr (record { reported = h.same; none = sym h.starts ∙ is.none; behind = is.behind ∙ ap server_at h.behind });
       named = h.named;
-      role = server_roles is.reported.first.tag h.same.first.tag is.reported.reported.result h.same.reported.result h.named;
-      asks = refl;
+      role = server_roles (get_or frame 0 0) (get_or other 0 0) is.reported.reported.result h.same.reported.result h.tagged h.said;
       said = h.said;
     }
 
 -- ---- a client's
-
-password_request : (a : List ℕ) (y : ClientMessage) → AlikeMessages (PasswordMessage a) y → request_of (PasswordMessage a) ≡ request_of y
-password_request a (PasswordMessage b) e = refl
-password_request a y e = ap request_of e
-
-initial_request : (m a : List ℕ) (y : ClientMessage) → AlikeMessages (SaslInitialResponse m (Some a)) y → request_of (SaslInitialResponse m (Some a)) ≡ request_of y
-initial_request m a (SaslInitialResponse n (Some b)) e = refl
-initial_request m a y e = ap request_of e
-
-response_request : (a : List ℕ) (y : ClientMessage) → AlikeMessages (SaslResponse a) y → request_of (SaslResponse a) ≡ request_of y
-response_request a (SaslResponse b) e = refl
-response_request a y e = ap request_of e
-
-cancel_request : (process : _) (a : List ℕ) (y : ClientMessage) → AlikeMessages (CancelRequest process a) y → request_of (CancelRequest process a) ≡ request_of y
-cancel_request p a (CancelRequest q b) e = refl
-cancel_request p a y e = ap request_of e
-
-message_request : (x y : ClientMessage) → AlikeMessages x y → request_of x ≡ request_of y
-message_request (PasswordMessage a) y e = password_request a y e
-message_request (SaslInitialResponse m (Some a)) y e = initial_request m a y e
-message_request (SaslResponse a) y e = response_request a y e
-message_request (CancelRequest p a) y e = cancel_request p a y e
-message_request x y e = ap request_of e
-
-client_roles : (opened now : Bool) (kinds : List PasswordKind) (frame other : List ℕ) (r s : Result ClientMessage ClientError) → AlikeSent opened kinds frame other → ReadsAs opened kinds frame r now → AlikeAnswers r s → asked_by frame r ≡ asked_by other s
-client_roles opened now kinds frame other (Ok x) (Ok y) a reads e = message_request x y e
-client_roles opened now kinds frame other (Err d) (Err e) a reads h =
-    let same = a.rejected d now reads in
-    ap (λ t. request_of_tag t (get_or frame 5 0)) same.0 ∙ ap (request_of_tag (get_or other 0 0)) same.1
-client_roles opened now kinds frame other (Ok x) (Err e) a reads h = absurd h
-client_roles opened now kinds frame other (Err d) (Ok y) a reads h = absurd h
 
 client_hidden : (style : Style) (place : ℕ) (opened : Bool) (kinds : List PasswordKind) (replicating : Bool) (frame other line : List ℕ) (to : Side) → AlikeSent opened kinds frame other
     → (is : LineOf (quiet style) place (Client opened kinds replicating) frame line to) → Hidden style place (Client opened kinds replicating) frame other line to is
@@ -141,8 +100,7 @@ client_hidden style place opened kinds replicating frame other line to a is =
     record {
       same = h.is;
       named = sent.names_alike (is_reported kinds) is.reported.result h.is.reported.result h.same;
-      role = ap asking (client_roles opened is.now kinds frame other is.reported.result h.is.reported.result a is.reported.step h.same);
-      asks = answers_ask is.reported.result h.is.reported.result h.same;
+      role = ap asking (client_roles frame other is.reported.result h.is.reported.result (λ e same. a.rejected e is.now (subst (λ r. ReadsAs opened kinds frame r is.now) same is.reported.step)) h.same);
       said = h.same;
     }
 
@@ -167,8 +125,7 @@ frames_hidden view mark who place here to frame other text alike l =
     let h = hidden view.style place from frame other l.line l.after alike l.reported in
     let said = said_in style place from frame l.line l.after l.reported in
     let there = said_in style place from other l.line l.after h.same in
-    let noted : noted_in style place from frame l.line l.after l.reported ≡ noted_in style place from other l.line l.after h.same =
-    sym (name_noted style place from frame l.line l.after l.reported) ∙ ap noted_by h.named ∙ name_noted style place from other l.line l.after h.same in
+    let noted : noted_in style place from frame l.line l.after l.reported ≡ noted_in style place from other l.line l.after h.same = notes_alike said there h.said in
     record {
       line = l.line;
       after = l.after;
@@ -182,6 +139,6 @@ frames_hidden view mark who place here to frame other text alike l =
       shows = subst (λ n. ShowsTyped style place n l.told there l.types l.line l.typed) (long_alike from frame other alike) (shows_alike style place (length frame) l.told said there h.said l.types l.line l.typed l.shows);
       is = l.is ∙ ap (λ n. text_of (quietly view) (mark ++ word view.style.form (told_by here.marked l.told)) place here.requests n l.typed) h.named;
       behind = l.behind ∙ ap (λ n. note n (with_types l.types (with_numbers (summed l.told (asking_in style place from frame l.line l.after l.reported) (name_in style place from frame l.line l.after l.reported) l.numbers) (with_side who here l.after)))) noted
-          ∙ ap (λ a. note (noted_in style place from other l.line l.after h.same) (with_types l.types (with_numbers (summed l.told a (name_in style place from frame l.line l.after l.reported) l.numbers) (with_side who here l.after)))) h.asks
+          ∙ ap (λ a. note (noted_in style place from other l.line l.after h.same) (with_types l.types (with_numbers (summed l.told a (name_in style place from frame l.line l.after l.reported) l.numbers) (with_side who here l.after)))) (asks_alike said there h.said)
           ∙ ap (λ n. note (noted_in style place from other l.line l.after h.same) (with_types l.types (with_numbers (summed l.told (asking_in style place from other l.line l.after h.same) n l.numbers) (with_side who here l.after)))) h.named;
     }

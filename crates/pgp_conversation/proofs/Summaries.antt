@@ -16,18 +16,18 @@ use Rattle.pgp_trace.specs.declared.side.Phase.TheVariants.{Beginning, Messages,
 use Rattle.pgp_conversation.specs.declared.chunk.Sender.{Sender}
 use Rattle.pgp_conversation.specs.declared.chunk.Sender.TheVariants as sides
 use Rattle.pgp_conversation.specs.declared.ending.End.{End}
-use Rattle.pgp_conversation.specs.declared.marking.Marking.{Marking}
-use Rattle.pgp_conversation.specs.declared.noted.Encryption.{Encryption}
-use Rattle.pgp_conversation.specs.declared.noted.Encryption.TheVariants.{Tls, Gss}
+use Rattle.pgp_trace.specs.declared.marking.Marking.{Marking}
+use Rattle.pgp_conversation.specs.declared.expectation.Encryption.{Encryption}
+use Rattle.pgp_conversation.specs.declared.expectation.Encryption.TheVariants.{Tls, Gss}
 use Rattle.pgp_conversation.specs.declared.role.Role.{Role}
 use Rattle.pgp_conversation.specs.declared.role.Role.TheVariants as role
-use Rattle.pgp_conversation.specs.declared.told.Told.{Told}
+use Rattle.pgp_conversation.specs.declared.placement.Told.{Told}
 use Rattle.pgp_conversation.specs.Conversation.{Known, ListsChunks, ListsFrame, ListsFrames, NoChunkListed, NoFrames, OneChunkListed, OneFrame, Talk, answer_to, begins, called, counts, either, first_time, half_in, last_lines, last_of, left, noted_in, now_at, relined, side_in, told_by, with_numbers, with_side, with_types}
 use Rattle.pgp_conversation.specs.Marks.{mark, marked, since, word}
 use Rattle.pgp_conversation.specs.Recording.{Chunk}
 use Rattle.pgp_conversation.specs.Requests.{Numbers, at_time, first_numbers, role_in, summary_in, told_in, unnumbered}
 use Rattle.pgp_conversation.specs.Session.{IsListing}
-use Rattle.pgp_conversation.specs.Settings.{summarized}
+use Rattle.pgp_conversation.specs.Session.{summarized}
 use Rattle.pgp_conversation.specs.Summing.{Asking, asking_in, summed, summed_so}
 use Rattle.pgp_conversation.specs.Tables.{ending_by, table}
 use Rattle.pgp_conversation.proofs.Turns.{note_kept}

@@ -5,8 +5,8 @@ use Rattle.pgp_frontend.specs.ClientMessage.{ClientMessage, CancelRequest, Passw
 use Rattle.pgp_line.specs.declared.style.Style.{Style}
 use Rattle.pgp_trace.specs.ClientSecrets.{AlikeAnswers, AlikeMessages}
 use Rattle.pgp_trace.specs.Secrets.{Alike, AlikeResults}
-use Rattle.pgp_conversation.specs.declared.told.Told.{Told}
-use Rattle.pgp_conversation.specs.declared.told.Told.TheVariants as told
+use Rattle.pgp_conversation.specs.declared.placement.Told.{Told}
+use Rattle.pgp_conversation.specs.declared.placement.Told.TheVariants as told
 use Rattle.pgp_conversation.specs.Typed.{Heard, Hears, Learns, Said, Sent, ShowsHeard, ShowsSent, ShowsTyped, Unsaid, sends}
 use Rattle.pgp_conversation.specs.Types.{Awaited, Types, first, reached}
 

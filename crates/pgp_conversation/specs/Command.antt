@@ -1,69 +1,169 @@
 -- What the program does for its words.
-use Rattle.std.specs.Prelude.{◌≡◌, ◌⊎◌, ℕ, Bool, List, ◌∷◌, Option, codes}
+use Rattle.std.specs.Prelude.{◌≡◌, ⊤, ◌⊎◌, ℕ, Bool, List, [], ◌∷◌, ◌++◌, Option, IfSome, codes}
+use Rattle.std.specs.Io.KnownBytes.{Keeps, Appends, IsAtEnd}
 use Rattle.pgp_program.specs.Run as run
-use Rattle.pgp_program.specs.Run.{Caused, IsUnread, Streams}
+use Rattle.pgp_program.specs.Run.{Streams, Caused, IsUnread}
+use Rattle.pgp_program.specs.Taken.{AppendsFront}
 use Rattle.pgp_program.specs.Words.{AreWords}
 use Rattle.pgp_program.specs.declared.fault.Fault.{Fault}
-use Rattle.pgp_program.specs.declared.fault.Fault.TheVariants.{Memory}
-use Rattle.pgp_trace.specs.Command as trace
-use Rattle.pgp_trace.specs.Command.{complaint_of, usage}
+use Rattle.pgp_program.specs.declared.fault.Fault.TheVariants.{Memory, Read, Write}
+use Rattle.pgp_trace.specs.Listing as stream
+use Rattle.pgp_trace.specs.Options.{AreOptions, Chosen, chosen_of, options_in, view_by}
+use Rattle.pgp_trace.specs.Sides as side
+use Rattle.pgp_trace.specs.Sides.{first_phase}
 use Rattle.pgp_trace.specs.View.{View}
-use Rattle.pgp_conversation.specs.declared.ending.End.{End}
-use Rattle.pgp_conversation.specs.declared.marking.Marking.{Marking}
+use Rattle.pgp_trace.specs.declared.marking.Marking.{Marking}
+use Rattle.pgp_trace.specs.declared.options.Listing.{Listing}
+use Rattle.pgp_trace.specs.declared.options.Listing.TheVariants.{Server, Client, Session}
 use Rattle.pgp_conversation.specs.Recording.{status_of}
-use Rattle.pgp_conversation.specs.Session.{BreaksOff, ReadsWhenReady, WritesListing}
-use Rattle.pgp_conversation.specs.Settings.{AreSettings}
+use Rattle.pgp_conversation.specs.Session as recording
+use Rattle.pgp_conversation.specs.Session.{summarized}
+use Rattle.pgp_conversation.specs.declared.ending.End.{End}
+use Rattle.pgp_conversation.specs.declared.run as code
+use Rattle.pgp_conversation.specs.declared.run.Command.TheVariants as variants
 
--- The words ask for the listing of a recording, which looks so where a terminal shows it or not, with marks that say this.
-pub record AsksSession (terminal : Bool) (words : List (List ℕ)) (view : View) (marking : Marking) : Type 0 where
+-- Shows a listing by these options; or says how the program is called, or which one it is.
+pub data Command : Type 0 where
+  Show : Listing → Chosen → Command
+  Help : Command
+  Version : Command
+
+-- the code's
+abbrev pub asked : {A : Type 0} → code.Command.Command A → Command
+asked (variants.Show listing options) = Show listing (chosen_of options)
+asked variants.Help = Help
+asked variants.Version = Version
+
+abbrev pub word_of : Listing → List ℕ
+word_of Server = codes "server"
+word_of Client = codes "client"
+word_of Session = codes "session"
+
+-- The words ask for a listing, by options that it has, which come to this where a terminal shows it or not.
+pub record AsksListing (terminal : Bool) (listing : Listing) (words : List (List ℕ)) (chosen : Chosen) : Type 0 where
   pub options : List (List ℕ)
-  pub whole : words ≡ codes "session" ∷ options
-  pub read : AreSettings terminal options view marking
+  pub whole : words ≡ word_of listing ∷ options
+  pub read : AreOptions terminal (options_in listing) options chosen
 
--- they ask for none
-abbrev pub AsksNoSession : (terminal : Bool) → List (List ℕ) → Type 0
-AsksNoSession terminal words = (view : View) (marking : Marking) → ¬ AsksSession terminal words view marking
+-- the words ask for it, where a terminal shows what is written or not
+abbrev pub Asks : (terminal : Bool) → List (List ℕ) → Command → Type 0
+Asks terminal words (Show listing chosen) = AsksListing terminal listing words chosen
+Asks terminal words Help = words ≡ codes "--help" ∷ []
+Asks terminal words Version = words ≡ codes "--version" ∷ []
 
--- It was written and passed on, with this status, and this is to be said on standard error.
-pub record Succeeds (passed : Type 0) (view : View) (marking : Marking) (before after : Streams) (status : ℕ) (complaint : List ℕ) : Type 0 where
+-- the words ask for nothing that there is
+abbrev pub IsOther : (terminal : Bool) → List (List ℕ) → Type 0
+IsOther terminal words = (command : Command) → ¬ Asks terminal words command
+
+abbrev pub usage : List ℕ
+usage = codes "usage: pgtrace server [--json] [--full] [--secrets] [--resume] [--only NAME[,NAME]..] [--color auto|always|never] | client [--json] [--full] [--secrets] [--resume] [--only NAME[,NAME]..] [--color auto|always|never] [--password-kind password|initial|response].. [--replication] | session [--json] [--full] [--secrets] [--requests] [--raw] [--summary] [--time absolute|relative] [--only NAME[,NAME]..] [--color auto|always|never] | --help | --version" ++ 10 ∷ []
+
+abbrev pub version : List ℕ
+version = codes "pgtrace 0.1.0" ++ 10 ∷ []
+
+-- what is said on standard error of a fault
+abbrev pub complaint_of : Fault → List ℕ
+complaint_of Memory = codes "pgtrace: out of memory" ++ 10 ∷ []
+complaint_of Read = codes "pgtrace: read failed" ++ 10 ∷ []
+complaint_of Write = codes "pgtrace: write failed" ++ 10 ∷ []
+
+-- the side whose stream is listed by these options
+abbrev pub server_by : Chosen → side.Side
+server_by chosen = side.Server (first_phase chosen.resume)
+
+abbrev pub client_by : Chosen → side.Side
+client_by chosen = side.Client chosen.resume chosen.kinds chosen.replicating
+
+-- how a recording's listing looks by them
+abbrev pub session_by : Chosen → View
+session_by chosen = summarized chosen.marking.summed (view_by chosen)
+
+-- all of the input was read, its listing was written, and this is to be said of what is left of it
+pub record Lists (view : View) (from : side.Side) (before after : Streams) (status : ℕ) (said : List ℕ) : Type 0 where
+  pub read : IsAtEnd after.input
+  pub listed : IfSome before.input (λ bytes. stream.WritesListing view from bytes before.output after.output said)
+  pub fine : status ≡ 0
+
+-- the recording's listing was written, and this is to be said of it
+pub record ListsRecording (view : View) (marking : Marking) (before after : Streams) (status : ℕ) (said : List ℕ) : Type 0 where
   pub end : End
-  pub does : WritesListing view marking before after end complaint
-  pub passed_on : passed
+  pub listed : recording.WritesListing view marking before after end said
   pub fine : status ≡ status_of end
+
+-- the input is as it was, and a text was written
+pub record Prints (text : List ℕ) (before after : Streams) (status : ℕ) (said : List ℕ) : Type 0 where
+  pub input : Keeps before.input after.input
+  pub written : Appends before.output after.output text
+  pub silent : said ≡ []
+  pub fine : status ≡ 0
+
+-- What is done where no fault is met, with this status, and what is then to be said on standard error.
+abbrev pub Does : Command → Streams → Streams → (status : ℕ) → List ℕ → Type 0
+Does (Show Server chosen) before after status said = Lists (view_by chosen) (server_by chosen) before after status said
+Does (Show Client chosen) before after status said = Lists (view_by chosen) (client_by chosen) before after status said
+Does (Show Session chosen) before after status said = ListsRecording (session_by chosen) chosen.marking before after status said
+Does Help before after status said = Prints usage before after status said
+Does Version before after status said = Prints version before after status said
+
+-- A front of the listing was written; and where a read failed, nothing of what came is held back: its lines were written and passed on.
+abbrev pub BreaksOff : Type 0 → View → side.Side → Fault → Streams → Streams → Type 0
+BreaksOff passed view from Read before after = stream.WasListed view from before after × (Keeps before.output after.output ⊎ passed)
+BreaksOff passed view from fault before after = stream.IsCutShort view from before after
+
+abbrev pub PrintsFront : List ℕ → Streams → Streams → Type 0
+PrintsFront text before after = Keeps before.input after.input × AppendsFront before.output after.output text
+
+-- What is done where one is: what is written is a front of what would be.
+abbrev pub Stops : Type 0 → Command → Fault → Streams → Streams → Type 0
+Stops passed (Show Server chosen) fault before after = BreaksOff passed (view_by chosen) (server_by chosen) fault before after
+Stops passed (Show Client chosen) fault before after = BreaksOff passed (view_by chosen) (client_by chosen) fault before after
+Stops passed (Show Session chosen) fault before after = recording.BreaksOff passed (session_by chosen) chosen.marking fault before after
+Stops passed Help fault before after = PrintsFront usage before after
+Stops passed Version fault before after = PrintsFront version before after
+
+-- It was done and passed on, with this status, and this is to be said on standard error.
+pub record Succeeds (passed : Type 0) (command : Command) (before after : Streams) (status : ℕ) (complaint : List ℕ) : Type 0 where
+  pub does : Does command before after status complaint
+  pub passed_on : passed
 
 -- Of such a reader and writer:
 module _ {R W : Type 0} (remaining : R → Option (List ℕ)) (contents : W → Option (List ℕ)) (Passed : W → Type 0) (MayRead : R → Type 0) where
-  -- where all lines of what came are written and passed on, the reader may be read for the listing that the words ask for, or for what else they ask for
-  pub record ReadsForWords (terminal : Bool) (words : List (List ℕ)) (reader : R) (writer : W) : Type 0 where
-    pub session : (view : View) (marking : Marking) → AsksSession terminal words view marking → ReadsWhenReady remaining contents Passed MayRead view marking reader writer
-    pub other : trace.ReadsForWords remaining contents Passed MayRead terminal words reader writer
+  -- where all lines of what came are written and passed on, the reader may be read for the command; what prints reads nothing
+  abbrev pub ReadsFor : Command → R → W → Type 0
+  ReadsFor (Show Server chosen) reader writer = stream.ReadsWhenReady remaining contents Passed MayRead (view_by chosen) (server_by chosen) reader writer
+  ReadsFor (Show Client chosen) reader writer = stream.ReadsWhenReady remaining contents Passed MayRead (view_by chosen) (client_by chosen) reader writer
+  ReadsFor (Show Session chosen) reader writer = recording.ReadsWhenReady remaining contents Passed MayRead (session_by chosen) chosen.marking reader writer
+  ReadsFor Help reader writer = ⊤
+  ReadsFor Version reader writer = ⊤
 
+  -- so it may for the command that the words ask for
+  abbrev pub ReadsForWords : (terminal : Bool) → List (List ℕ) → R → W → Type 0
+  ReadsForWords terminal words reader writer = (command : Command) → Asks terminal words command → ReadsFor command reader writer
+
+  -- and that the words of the process ask for, where words stand so and none stands at such places
   abbrev pub ReadsForOwn : (terminal : Bool) → (ℕ → List ℕ → Type 0) → (ℕ → Type 0) → R → W → Type 0
   ReadsForOwn terminal Stands Ends reader writer = (words : List (List ℕ)) → AreWords Stands Ends words → ReadsForWords terminal words reader writer
 
--- Where memory is refused and reads and writes fail so, and what was written is passed on so:
-module _ (lacks read_failed write_failed passed : Type 0) where
+-- Where a terminal shows what is written or not, memory is refused and reads and writes fail so, and what was written is passed on so.
+module _ (terminal : Bool) (lacks read_failed write_failed passed : Type 0) where
   -- a fault was met, and is reported
-  pub record IsFaulty (view : View) (marking : Marking) (before after : Streams) (status : ℕ) (complaint : List ℕ) : Type 0 where
+  pub record IsFaulty (command : Command) (before after : Streams) (status : ℕ) (complaint : List ℕ) : Type 0 where
     pub fault : Fault
-    pub stops : BreaksOff passed view marking fault before after
+    pub stops : Stops passed command fault before after
     pub cause : Caused lacks read_failed write_failed fault
     pub reported : complaint ≡ complaint_of fault
     pub failed : status ≡ 1
 
--- Where besides a terminal shows what is written or not:
-module _ (terminal : Bool) (lacks read_failed write_failed passed : Type 0) where
-  -- The recording is listed.
+  -- What the words ask for is done.
   pub record IsDone (words : List (List ℕ)) (before after : Streams) (status : ℕ) (complaint : List ℕ) : Type 0 where
-    pub view : View
-    pub marking : Marking
-    pub asks : AsksSession terminal words view marking
-    pub does : Succeeds passed view marking before after status complaint ⊎ IsFaulty lacks read_failed write_failed passed view marking before after status complaint
+    pub command : Command
+    pub asks : Asks terminal words command
+    pub does : Succeeds passed command before after status complaint ⊎ IsFaulty command before after status complaint
 
-  -- Or what else the words ask for is done; or there is no memory to read them.
+  -- Or they ask for nothing; or there is no memory to read them.
   abbrev pub Obeys : List (List ℕ) → Streams → Streams → ℕ → List ℕ → Type 0
   Obeys words before after status complaint = IsDone words before after status complaint
-      ⊎ (AsksNoSession terminal words × trace.Obeys terminal lacks read_failed write_failed passed words before after status complaint)
+      ⊎ (IsOther terminal words × IsUnread usage 2 before after status complaint)
       ⊎ (lacks × IsUnread (complaint_of Memory) 1 before after status complaint)
 
   -- A run on words, and on the words of the process.

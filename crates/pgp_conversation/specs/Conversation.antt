@@ -1,6 +1,5 @@
 -- The listing of both sides of a connection, a chunk at a time.
 use Rattle.std.specs.Prelude.{◌≡◌, ℕ, ◌+◌, Bool, true, false, not, ◌==◌, ◌||◌, if◌then◌else◌, List, [], ◌∷◌, ◌++◌, drop, length, Result, Ok, Err, Option, None, Some, bytes_eq, codes}
-use mathlib.Core.Logic.{inl, inr}
 use Rattle.pgp_base.specs.declared.error.Error.{Error}
 use Rattle.pgp_message.specs.BackendMessage.{Message, Authentication, AuthenticationCleartextPassword, AuthenticationMd5Password, AuthenticationSasl, AuthenticationSaslContinue, AuthenticationGss, AuthenticationSspi, AuthenticationGssContinue}
 use Rattle.pgp_frontend.specs.ClientMessage.{ClientMessage, SslRequest, GssEncRequest}
@@ -17,18 +16,18 @@ use Rattle.pgp_trace.specs.declared.side.Phase.TheVariants.{Beginning, Messages,
 use Rattle.pgp_trace.specs.View.{View, shown}
 use Rattle.pgp_conversation.specs.declared.chunk.Sender.{Sender}
 use Rattle.pgp_conversation.specs.declared.chunk.Sender.TheVariants.{Client, Server}
-use Rattle.pgp_conversation.specs.declared.marking.Marking.{Marking}
-use Rattle.pgp_conversation.specs.declared.noted.Encryption.{Encryption}
-use Rattle.pgp_conversation.specs.declared.noted.Encryption.TheVariants.{Tls, Gss}
-use Rattle.pgp_conversation.specs.declared.noted.Noted.{Noted}
-use Rattle.pgp_conversation.specs.declared.noted.Noted.TheVariants.{Asks, Requests, Answers, Nothing}
+use Rattle.pgp_trace.specs.declared.marking.Marking.{Marking}
+use Rattle.pgp_conversation.specs.declared.expectation.Encryption.{Encryption}
+use Rattle.pgp_conversation.specs.declared.expectation.Encryption.TheVariants.{Tls, Gss}
+use Rattle.pgp_conversation.specs.declared.expectation.Noted.{Noted}
+use Rattle.pgp_conversation.specs.declared.expectation.Noted.TheVariants.{Asks, Requests, Answers, Nothing}
 use Rattle.pgp_conversation.specs.Recording.{Chunk}
-use Rattle.pgp_conversation.specs.declared.told.Told.{Told}
+use Rattle.pgp_conversation.specs.declared.placement.Told.{Told}
 use Rattle.pgp_conversation.specs.Marks.{last_mark, mark, marked, since, word}
 use Rattle.pgp_conversation.specs.Requests.{Numbers, at_time, first_numbers, role_in, summary_in, told_in, unnumbered}
 use Rattle.pgp_conversation.specs.Summing.{asking_in, summed}
 use Rattle.pgp_conversation.specs.Tables.{ending_by}
-use Rattle.pgp_conversation.specs.Typed.{Learns, ShowsTyped, first_types, said_in}
+use Rattle.pgp_conversation.specs.Typed.{Heard, Learns, Said, Sent, ShowsTyped, Unsaid, first_types, said_in}
 use Rattle.pgp_conversation.specs.Types.{Types}
 
 -- ---- what is known of both sides
@@ -109,14 +108,14 @@ abbrev pub requests_by : Result ClientMessage ClientError → Noted
 requests_by (Ok m) = requests m
 requests_by (Err e) = Nothing
 
--- what a frame says of those that are still to come
+-- what a frame says of those that are still to come, by what it is read as: an answer of one byte is nothing else
+abbrev pub noted_by : Said → Noted
+noted_by (Heard r) = asks_by r
+noted_by (Sent r) = requests_by r
+noted_by Unsaid = Answers
+
 abbrev pub noted_in : (style : Style) (place : ℕ) (from : Side) (frame line : List ℕ) (to : Side) → LineOf style place from frame line to → Noted
-noted_in style place (side.Server Beginning) frame line to (inl answer) = Answers
-noted_in style place (side.Server Beginning) frame line to (inr first) = asks_by first.reported.reported.result
-noted_in style place (side.Server Messages) frame line to is = asks_by is.0.reported.result
-noted_in style place (side.Server Replicating) frame line to is = asks_by is.0.reported.result
-noted_in style place (side.Server Encrypted) frame line to is = Nothing
-noted_in style place (side.Client opened kinds replicating) frame line to is = requests_by is.reported.result
+noted_in style place from frame line to is = noted_by (said_in style place from frame line to is)
 
 -- the client's next messages of tag `p` are of one kind more
 abbrev pub with_kind : Side → PasswordKind → Side

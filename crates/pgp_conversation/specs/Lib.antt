@@ -2,9 +2,7 @@ pub mod Recording
 pub mod Marks
 pub mod Requests
 pub mod Summing
-pub mod Askings
 pub mod Tables
-pub mod Roles
 pub mod Shelves
 pub mod Types
 pub mod TypesKept
@@ -18,6 +16,4 @@ pub mod Secrets
 pub mod Order
 pub mod Turns
 pub mod Pieces
-pub mod Settings
-pub mod Chosen
 pub mod Command

@@ -1,6 +1,5 @@
 -- The client's requests, and to which of them each message of the server belongs.
 use Rattle.std.specs.Prelude.{ℕ, ◌+◌, ◌-◌, Bool, if◌then◌else◌, List, [], ◌∷◌, ◌++◌, length, get_or, Option, None, Some, Result, Ok, Err}
-use mathlib.Core.Logic.{inl, inr}
 use Rattle.pgp_base.specs.declared.error.Error.{Error}
 use Rattle.pgp_message.specs.BackendMessage.{Message}
 use Rattle.pgp_frontend.specs.ClientMessage.{ClientMessage}
@@ -18,13 +17,12 @@ use Rattle.pgp_client.specs.declared.request.Request.{Request}
 use Rattle.pgp_line.specs.declared.style.Style.{Style}
 use Rattle.pgp_trace.specs.Listing.{LineOf}
 use Rattle.pgp_summary.specs.Summary.{State, nothing}
-use Rattle.pgp_trace.specs.Sides as side
 use Rattle.pgp_trace.specs.Sides.{Side}
-use Rattle.pgp_trace.specs.declared.side.Phase.TheVariants.{Beginning, Messages, Replicating, Encrypted}
 use Rattle.pgp_conversation.specs.declared.role.Role.{Role}
 use Rattle.pgp_conversation.specs.declared.role.Role.TheVariants as role
-use Rattle.pgp_conversation.specs.declared.told.Told.{Told}
-use Rattle.pgp_conversation.specs.declared.told.Told.TheVariants as told
+use Rattle.pgp_conversation.specs.declared.placement.Told.{Told}
+use Rattle.pgp_conversation.specs.declared.placement.Told.TheVariants as told
+use Rattle.pgp_conversation.specs.Typed.{Heard, Said, Sent, Unsaid, said_in}
 
 -- ---- what a frame is to the requests
 
@@ -47,14 +45,14 @@ abbrev pub heard_as : Option Kind → Role
 heard_as None = role.Fault
 heard_as (Some kind) = role.Message kind
 
--- what a frame is that has a line
+-- what a frame is that is read so
+abbrev pub role_by : (frame : List ℕ) → Said → Role
+role_by frame (Heard r) = heard_as (kind_by (get_or frame 0 0) r)
+role_by frame (Sent r) = asking (asked_by frame r)
+role_by frame Unsaid = role.Other
+
 abbrev pub role_in : (style : Style) (place : ℕ) (from : Side) (frame line : List ℕ) (to : Side) → LineOf style place from frame line to → Role
-role_in style place (side.Server Beginning) frame line to (inl answer) = role.Other
-role_in style place (side.Server Beginning) frame line to (inr first) = heard_as (kind_by first.reported.first.tag first.reported.reported.result)
-role_in style place (side.Server Messages) frame line to is = heard_as (kind_by is.0.first.tag is.0.reported.result)
-role_in style place (side.Server Replicating) frame line to is = heard_as (kind_by is.0.first.tag is.0.reported.result)
-role_in style place (side.Server Encrypted) frame line to is = role.Other
-role_in style place (side.Client opened kinds replicating) frame line to is = asking (asked_by frame is.reported.result)
+role_in style place from frame line to is = role_by frame (said_in style place from frame line to is)
 
 -- ---- what is known of the requests
 

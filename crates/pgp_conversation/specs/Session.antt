@@ -1,5 +1,5 @@
 -- The listing of a recording, as it comes.
-use Rattle.std.specs.Prelude.{◌≡◌, ◌≢◌, ◌⊎◌, ⊤, ℕ, Bool, true, false, List, ◌++◌, Option}
+use Rattle.std.specs.Prelude.{◌≡◌, ◌≢◌, ◌⊎◌, ⊤, ℕ, Bool, true, false, List, [], ◌∷◌, ◌++◌, Option}
 use Rattle.std.specs.Io.KnownBytes.{Appends, Consumes, IsAtEnd, Keeps}
 use Rattle.pgp_program.specs.Run.{Streams}
 use Rattle.pgp_program.specs.Taken.{AppendsFront}
@@ -9,9 +9,14 @@ use Rattle.pgp_conversation.specs.Hints.{hint_of}
 use Rattle.pgp_trace.specs.View.{View}
 use Rattle.pgp_conversation.specs.declared.ending.End.{End}
 use Rattle.pgp_conversation.specs.declared.ending.End.TheVariants.{Whole, Cut, NoChunk, NoRecording}
-use Rattle.pgp_conversation.specs.declared.marking.Marking.{Marking}
+use Rattle.pgp_trace.specs.declared.marking.Marking.{Marking}
 use Rattle.pgp_conversation.specs.Conversation.{ListsChunks, Talk, begins, last_lines, left}
 use Rattle.pgp_conversation.specs.Recording.{Chunk, EndsBy, IsPartial, Records, complaint_of, magic}
+
+-- With a table no line of a message is written: its name would have to be empty.
+abbrev pub summarized : (summed : Bool) → View → View
+summarized true view = record { style = view.style; only = [] ∷ []; colored = view.colored }
+summarized false view = view
 
 -- These bytes are the beginning of a recording, the chunks, and a rest; and these are the lines of the chunks.
 pub record HasLines (view : View) (marking : Marking) (bytes : List ℕ) (begun : Bool) (rest lines : List ℕ) (talk : Talk) : Type 0 where

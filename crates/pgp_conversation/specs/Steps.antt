@@ -1,6 +1,5 @@
 -- Private: a part of a recording and a frame at a time.
-use Rattle.std.specs.Prelude.{◌≡◌, ◌≢◌, ◌⊎◌, ℕ, ◌<◌, ◌+◌, Bool, true, false, ◌==◌, if◌then◌else◌, List, [], ◌∷◌, ◌++◌, length, Option, None, Some, bytes_eq, codes}
-use Rattle.pgp_frontend_read.specs.declared.message.PasswordKind.TheVariants.{Password, Initial, Response}
+use Rattle.std.specs.Prelude.{◌≡◌, ◌≢◌, ◌⊎◌, ℕ, ◌<◌, ◌+◌, Bool, true, false, ◌==◌, if◌then◌else◌, List, [], ◌∷◌, ◌++◌, length, Option, None, Some}
 use Rattle.pgp_client.specs.Talk as dialogue
 use Rattle.pgp_client.specs.Talk.{Kept}
 use Rattle.pgp_client.specs.declared.request.Asked.{Asked}
@@ -19,17 +18,16 @@ use Rattle.pgp_conversation.specs.declared.chunk.Part.{Part}
 use Rattle.pgp_conversation.specs.declared.chunk.Part.TheVariants as part
 use Rattle.pgp_conversation.specs.declared.ending.End.{End}
 use Rattle.pgp_conversation.specs.declared.ending.End.TheVariants.{Whole, Cut, NoChunk, NoRecording}
-use Rattle.pgp_conversation.specs.declared.talk.Half as code_half
-use Rattle.pgp_conversation.specs.declared.talk.Talk as code_talk
-use Rattle.pgp_conversation.specs.declared.known.Known as code_known
+use Rattle.pgp_conversation.specs.declared.connection.Half as code_half
+use Rattle.pgp_conversation.specs.declared.connection.Talk as code_talk
+use Rattle.pgp_conversation.specs.declared.state.Known as code_known
 use Rattle.pgp_conversation.specs.declared.numbers.Numbers as code_numbers
-use Rattle.pgp_conversation.specs.declared.noted.Encryption.TheVariants.{Tls, Gss}
-use Rattle.pgp_conversation.specs.declared.noted.Noted.{Noted}
-use Rattle.pgp_conversation.specs.declared.noted.Noted.TheVariants.{Asks, Requests, Answers, Nothing}
+use Rattle.pgp_conversation.specs.declared.summing.Asking as code_summing
 use Rattle.std.specs.Borrow.{Bor}
 use Rattle.std.specs.declared.collections.VecDeque.{VecDeque}
 use Rattle.pgp_conversation.specs.Conversation.{Half, ListsChunk, Known, Talk, ListsFrame, ListsFrames, is_replicating, side_in, with_side}
 use Rattle.pgp_conversation.specs.Requests.{Numbers}
+use Rattle.pgp_conversation.specs.Summing.{Asking}
 use Rattle.pgp_conversation.specs.TypesKept.{types_in}
 use Rattle.pgp_conversation.specs.Recording.{Chunk, IsChunk, IsNoChunk, IsPartial, IsShort, arrow, chunk_bytes, magic}
 
@@ -68,24 +66,6 @@ end_of true true bytes = NoChunk
 end_of true false [] = Whole
 end_of true false (first ∷ rest) = Cut
 
--- ---- what a name says
-
-abbrev pub noted_by : List ℕ → Noted
-noted_by name =
-    if bytes_eq name (codes "AuthenticationCleartextPassword") then Asks Password
-    else if bytes_eq name (codes "AuthenticationMD5Password") then Asks Password
-    else if bytes_eq name (codes "AuthenticationSASL") then Asks Initial
-    else if bytes_eq name (codes "AuthenticationSASLContinue") then Asks Response
-    else if bytes_eq name (codes "AuthenticationGSS") then Asks Response
-    else if bytes_eq name (codes "AuthenticationGSSContinue") then Asks Response
-    else if bytes_eq name (codes "AuthenticationSSPI") then Asks Response
-    else if bytes_eq name (codes "SSLRequest") then Requests Tls
-    else if bytes_eq name (codes "GSSENCRequest") then Requests Gss
-    else if bytes_eq name (codes "SSLResponse") then Answers
-    else if bytes_eq name (codes "GSSENCResponse") then Answers
-    else if bytes_eq name (codes "SSLResponse or GSSENCResponse") then Answers
-    else Nothing
-
 -- ---- what is kept
 
 abbrev pub talk_in : {A : Type 0} → Option (Kept (VecDeque Asked A)) → Option dialogue.Talk
@@ -98,6 +78,9 @@ numbers_of numbers = record { dialogue = talk_in numbers.dialogue; sent = number
 abbrev pub numbers_in : {A : Type 0} → Option (code_numbers.Numbers A) → Option Numbers
 numbers_in None = None
 numbers_in (Some numbers) = Some (numbers_of numbers)
+
+abbrev pub asking_view : code_summing.Asking → Asking
+asking_view a = record { work = a.work; first = a.first.now; second = a.second.now }
 
 abbrev pub known_of : {A : Type 0} → code_known.Known A → Known
 known_of known = record { client = side.Client known.opened known.kinds.items (is_replicating known.phase); server = side.Server known.phase; requests = known.requests.items; numbers = numbers_in known.numbers; marked = known.marked; types = types_in known.types }

@@ -9,11 +9,11 @@ use Rattle.pgp_summary.specs.declared.work.Work.TheVariants as works
 use Rattle.pgp_summary.specs.declared.work.Reply.{Reply}
 use Rattle.pgp_summary.specs.declared.work.Reply.TheVariants.{ParseComplete, BindComplete, ExecuteEnd, ReadyForQuery}
 use Rattle.pgp_trace.specs.Listing.{LineOf}
-use Rattle.pgp_trace.specs.Sides as side
 use Rattle.pgp_trace.specs.Sides.{Side}
-use Rattle.pgp_conversation.specs.declared.told.Told.{Told}
-use Rattle.pgp_conversation.specs.declared.told.Told.TheVariants.{Number, Answer, Lost, Nothing}
+use Rattle.pgp_conversation.specs.declared.placement.Told.{Told}
+use Rattle.pgp_conversation.specs.declared.placement.Told.TheVariants.{Number, Answer, Lost, Nothing}
 use Rattle.pgp_conversation.specs.Requests.{Numbers}
+use Rattle.pgp_conversation.specs.Typed.{Said, Sent, said_in}
 
 -- ---- what a client's frame asks
 
@@ -35,9 +35,12 @@ abbrev pub asking_by : Result ClientMessage ClientError → Option Asking
 asking_by (Ok m) = asking_of m
 asking_by (Err e) = None
 
+abbrev pub asking_from : Said → Option Asking
+asking_from (Sent r) = asking_by r
+asking_from said = None
+
 abbrev pub asking_in : (style : Style) (place : ℕ) (from : Side) (frame line : List ℕ) (to : Side) → LineOf style place from frame line to → Option Asking
-asking_in style place (side.Server phase) frame line to is = None
-asking_in style place (side.Client opened kinds replicating) frame line to is = asking_by is.reported.result
+asking_in style place from frame line to is = asking_from (said_in style place from frame line to is)
 
 -- ---- what a server's message says
 

@@ -25,8 +25,8 @@ use Rattle.pgp_value_text.specs.ValueText.{IsTextOf, is_float}
 use Rattle.pgp_conversation.specs.declared.awaited.Object.{Object}
 use Rattle.pgp_conversation.specs.declared.awaited.Object.TheVariants.{Statement, Portal, Simple}
 use Rattle.pgp_conversation.specs.declared.column.Column.{Column}
-use Rattle.pgp_conversation.specs.declared.told.Told.{Told}
-use Rattle.pgp_conversation.specs.declared.told.Told.TheVariants as told
+use Rattle.pgp_conversation.specs.declared.placement.Told.{Told}
+use Rattle.pgp_conversation.specs.declared.placement.Told.TheVariants as told
 use Rattle.pgp_conversation.specs.Shelves.{formatted, is_binary}
 use Rattle.pgp_conversation.specs.Types.{Awaited, Types, binds, bound, closed, described, ended, first, no_types, parameters_of, parsed, parses, reached, rows_of, syncs, tells, waits}
 

@@ -1,7 +1,6 @@
 -- Private: lines of values, a part at a time, and what a frame is read as.
-use Rattle.std.specs.Prelude.{◌≡◌, ℕ, Bool, List, [], ◌∷◌, length, Option, Some, Ok, Err}
+use Rattle.std.specs.Prelude.{◌≡◌, ℕ, Bool, List, [], ◌∷◌, length, Option, None, Some, Ok, Err}
 use Rattle.pgp_base.specs.declared.error.Error.{Error}
-use Rattle.pgp_message.specs.BackendMessage.{Message}
 use Rattle.pgp_frontend.specs.ClientMessage.{PasswordKind}
 use Rattle.pgp_frontend_read.specs.Pieces.{step_of}
 use Rattle.pgp_frontend_read.specs.Step as client
@@ -12,10 +11,15 @@ use Rattle.pgp_trace.specs.Steps.{IsFrameOf}
 use Rattle.pgp_conversation.specs.declared.chunk.Sender.{Sender}
 use Rattle.pgp_conversation.specs.declared.chunk.Sender.TheVariants.{Client, Server}
 use Rattle.pgp_conversation.specs.declared.column.Column.{Column}
-use Rattle.pgp_conversation.specs.declared.told.Told.{Told}
-use Rattle.pgp_conversation.specs.declared.told.Told.TheVariants as told
-use Rattle.pgp_conversation.specs.Typed.{Heard, HearsAt, Learns, Said, Sent, ShowsBytes, ShowsHeard, ShowsTyped, ShowsValue, ShowsValues, Unsaid}
-use Rattle.pgp_conversation.specs.Types.{Types, first}
+use Rattle.pgp_conversation.specs.declared.placement.Told.{Told}
+use Rattle.pgp_conversation.specs.declared.placement.Told.TheVariants as told
+use Rattle.pgp_conversation.specs.declared.expectation.Noted.{Noted}
+use Rattle.pgp_conversation.specs.declared.role.Role.{Role}
+use Rattle.pgp_conversation.specs.Conversation.{noted_by}
+use Rattle.pgp_conversation.specs.Requests.{Numbers, role_by, told_in}
+use Rattle.pgp_conversation.specs.Summing.{asking_from, summed}
+use Rattle.pgp_conversation.specs.Typed.{Heard, Learns, Said, Sent, ShowsBytes, ShowsSent, ShowsTyped, ShowsValue, ShowsValues, Unsaid}
+use Rattle.pgp_conversation.specs.Types.{Types}
 
 -- one value
 pub record AddsBytes (style : Style) (binary : Bool) (oid : ℕ) (bytes old new : List ℕ) : Type 0 where
@@ -43,21 +47,35 @@ ReadsSo Client opened kind frame (Sent r) = (now : Bool) × client.Step kind (re
 ReadsSo Client opened kind frame (Heard r) = ⊥
 ReadsSo Client opened kind frame Unsaid = ⊥
 
--- what a server's frame that answers the request of this number changes, and its line
-pub record HearsFrame (style : Style) (place number : ℕ) (frame : List ℕ) (from to : Types) (old new : List ℕ) : Type 0 where
-  pub heard : (m : Message) → IsFrameOf frame (Ok m) → HearsAt number m from to × ShowsHeard style place (length frame) m (first number to.awaited) to old new
-  pub rejected : (e : Error) → IsFrameOf frame (Err e) → (to ≡ from) × (new ≡ old)
-  pub short : length frame ≡ 1 → (to ≡ from) × (new ≡ old)
+-- what is taken note of a frame that has this name and is read so: what its mark says of requests, what is then known of them and of types, and what the frame
+-- says of messages to come
+pub record Tells (frame name : List ℕ) (said : Said) (from to : Option Numbers) (old new : Option Types) (told : Option Told) (noted : Noted) : Type 0 where
+  pub numbers : Option Numbers
+  pub numbered : told_in (role_by frame said) from ≡ (told, numbers)
+  pub sums : to ≡ summed told (asking_from said) name numbers
+  pub learns : Learns told said old new
+  pub expects : noted ≡ noted_by said
 
--- what a frame changes, whatever it is read as, and its line
-abbrev pub TypesFrame : Style → (place : ℕ) → Sender → (opened : Bool) → PasswordKind → Option Told → (frame : List ℕ) → (from to : Option Types) → (old new : List ℕ) → Type 0
-TypesFrame style place who opened kind told frame from to old new = (said : Said) → ReadsSo who opened kind frame said → Learns told said from to × ShowsTyped style place (length frame) told said to old new
+-- and its line with that
+pub record Reads (style : Style) (place : ℕ) (frame name : List ℕ) (said : Said) (from to : Option Numbers) (old new : Option Types) (line typed : List ℕ) (told : Option Told) (noted : Noted) : Type 0 where
+  pub tells : Tells frame name said from to old new told noted
+  pub shows : ShowsTyped style place (length frame) told said new line typed
 
--- the same of a request and of an answer
-abbrev pub AsksFrame : Style → (place : ℕ) → Sender → (number : ℕ) → (opened : Bool) → PasswordKind → (frame : List ℕ) → (from to : Option Types) → (old new : List ℕ) → Type 0
-AsksFrame style place who number opened kind frame from to old new = (said : Said) → ReadsSo who opened kind frame said
-    → Learns (Some (told.Number number)) said from to × ShowsTyped style place (length frame) (Some (told.Number number)) said to old new
+-- what is known of types where this is told of what isn't read
+abbrev pub lost : Option Told → Option Types → Option Types
+lost (Some told.Lost) old = None
+lost told old = old
 
-abbrev pub AnswersFrame : Style → (place : ℕ) → Sender → (number : ℕ) → (frame : List ℕ) → (from to : Option Types) → (old new : List ℕ) → Type 0
-AnswersFrame style place who number frame from to old new = (opened : Bool) (kind : PasswordKind) (sent now : ℕ) (said : Said) → ReadsSo who opened kind frame said
-    → Learns (Some (told.Answer number sent now)) said from to × ShowsTyped style place (length frame) (Some (told.Answer number sent now)) said to old new
+-- of what isn't read nothing is known but what it is to the requests
+pub record Passes (role : Role) (name : List ℕ) (from to : Option Numbers) (old new : Option Types) (told : Option Told) : Type 0 where
+  pub numbers : Option Numbers
+  pub numbered : told_in role from ≡ (told, numbers)
+  pub sums : to ≡ summed told None name numbers
+  pub learns : new ≡ lost told old
+
+-- the line of a request that is read so
+abbrev pub ShowsRequest : Style → (place len : ℕ) → Said → Types → (old new : List ℕ) → Type 0
+ShowsRequest style place len (Sent (Ok m)) types old new = ShowsSent style place len m types old new
+ShowsRequest style place len (Sent (Err e)) types old new = new ≡ old
+ShowsRequest style place len (Heard r) types old new = new ≡ old
+ShowsRequest style place len Unsaid types old new = new ≡ old

@@ -1,16 +1,14 @@
 //! The line of a Bind whose parameters are known.
 
-ghost use Rattle.std.specs.Prelude.{◌≡◌, ◌++◌, ◌∷◌, Bool, Ok, Err, [], None, length, OnErr, OnOk, string_bytes};
-ghost use Rattle.pgp_frontend.specs.ClientMessage.{ClientMessage as Message};
-ghost use Rattle.pgp_frontend_read.specs.Pieces.{step_of};
-ghost use Rattle.pgp_frontend_read.specs.Step.{Step};
+ghost use Rattle.std.specs.Prelude.{◌≡◌, ◌++◌, ◌∷◌, [], None, Some, length, OnErr, OnOk, string_bytes};
 ghost use Rattle.pgp_frontend_read.specs.Views.{kind_view, view};
-ghost use Rattle.pgp_frontend_read.specs.declared.error.ClientError.{ClientError as Fault};
-ghost use Rattle.pgp_conversation.specs.Typed.{IsBindLine, ShowsSent, bind_front};
-ghost use Rattle.pgp_conversation.specs.TypedLines.{AddsValues};
-ghost use Rattle.pgp_conversation.specs.TypesKept.{types_of};
+ghost use Rattle.pgp_conversation.specs.Typed.{IsBindLine, Said, ShowsSent, ShowsTyped, bind_front};
+ghost use Rattle.pgp_conversation.specs.TypedLines.{AddsValues, ReadsSo, ShowsRequest};
+ghost use Rattle.pgp_conversation.specs.TypesKept.{types_in, types_of};
 
+use crate::chunk::Sender;
 use crate::column::Column;
+use crate::placement::Told;
 use crate::row::{behind_first, column_first, has_binary};
 use crate::types::Types;
 use crate::value::put_typed;
@@ -26,13 +24,58 @@ use pgp_trace::frame::begin_line;
 use pgp_trace::lists::put_fault;
 use std::alloc::AllocError;
 
-/// Writes the line of a client's frame anew, where it is a Bind some of whose parameters come in binary format, and their types are known; by what is known
-/// once it was sent.
+/// Writes the line of a client's frame anew, whose mark says this of requests, where it is a Bind some of whose parameters come in binary format, and their
+/// types are known; by what is known once it was sent.
 ///
 /// # Errors
 ///
 /// Returns `AllocError` if there is no memory for it.
-pub fn show_frame<A: MapMemory>(
+pub fn show_sent<A: MapMemory>(
+    style: Style,
+    place: u64,
+    opened: bool,
+    kind: PasswordKind,
+    told: Option<Told>,
+    frame: &[u8],
+    types: &Option<Types<A>>,
+    text: &mut BytesMut<A>,
+    line: &mut String<A>,
+) -> Result<(), AllocError>
+    ensures shows { OnOk result ((said : Said) → ReadsSo Sender.Client opened (kind_view kind) frame.now said → ShowsTyped style place (length frame.now) told said (types_in types.now) (string_bytes line.old) (string_bytes line.new)) }
+    ensures lacks { OnErr result A.Lacks }
+{
+    match told {
+        Some(told) => show_told(style, place, opened, kind, told, frame, types, text, line),
+        None => Ok(()),
+    }
+}
+
+/// The same where its mark says this.
+fn show_told<A: MapMemory>(
+    style: Style,
+    place: u64,
+    opened: bool,
+    kind: PasswordKind,
+    told: Told,
+    frame: &[u8],
+    types: &Option<Types<A>>,
+    text: &mut BytesMut<A>,
+    line: &mut String<A>,
+) -> Result<(), AllocError>
+    ensures shows { OnOk result ((said : Said) → ReadsSo Sender.Client opened (kind_view kind) frame.now said → ShowsTyped style place (length frame.now) (Some told) said (types_in types.now) (string_bytes line.old) (string_bytes line.new)) }
+    ensures lacks { OnErr result A.Lacks }
+{
+    match told {
+        Told::Number(_) => match types {
+            Some(types) => show_frame(style, place, opened, kind, frame, types, text, line),
+            None => Ok(()),
+        },
+        Told::Answer { .. } | Told::Lost | Told::Nothing => Ok(()),
+    }
+}
+
+/// The same of a request.
+fn show_frame<A: MapMemory>(
     style: Style,
     place: u64,
     opened: bool,
@@ -42,20 +85,19 @@ pub fn show_frame<A: MapMemory>(
     text: &mut BytesMut<A>,
     line: &mut String<A>,
 ) -> Result<(), AllocError>
-    ensures shown { OnOk result ((m : Message) (now : Bool) → Step (kind_view kind) (record { bytes = frame.now; opened = opened }) (step_of (Ok m)) (record { bytes = []; opened = now }) → ShowsSent style place (length frame.now) m (types_of types.now) (string_bytes line.old) (string_bytes line.new)) }
-    ensures rejected { OnOk result ((e : Fault) (now : Bool) → Step (kind_view kind) (record { bytes = frame.now; opened = opened }) (step_of (Err e)) (record { bytes = []; opened = now }) → string_bytes line.new ≡ string_bytes line.old) }
+    ensures shows { OnOk result ((said : Said) → ReadsSo Sender.Client opened (kind_view kind) frame.now said → ShowsRequest style place (length frame.now) said (types_of types.now) (string_bytes line.old) (string_bytes line.new)) }
     ensures lacks { OnErr result A.Lacks }
 {
     let mut messages = ClientMessages::resume(frame, opened);
     match messages.next(kind) {
-        Ok(Some(message)) => show_sent(style, place, frame.len(), message, types, text, line),
+        Ok(Some(message)) => show_message(style, place, frame.len(), message, types, text, line),
         Ok(None) => Ok(()),
         Err(_) => Ok(()),
     }
 }
 
 /// Writes the line of a message of so many bytes anew.
-fn show_sent<A: MapMemory>(
+fn show_message<A: MapMemory>(
     style: Style,
     place: u64,
     len: usize,

@@ -7,14 +7,12 @@ ghost use Rattle.pgp_conversation.specs.Marks.{word};
 ghost use Rattle.pgp_conversation.specs.Steps.{ListsAllFrames, ListsNextFrame, known_of};
 
 use crate::chunk::Sender;
-use crate::known::{Known, next_line, note};
-use crate::mark::put_marked;
-use crate::noted::{Encryption, note_of};
-use crate::numbers::tell_frame;
-use crate::summing::sum_frame;
-use crate::told::{Told, told_by};
-use crate::typed::{expected, type_frame};
-use crate::word::put_stamp;
+use crate::expectation::Encryption;
+use crate::line_mark::put_marked;
+use crate::placement::{Told, told_by};
+use crate::request_mark::put_stamp;
+use crate::state::{Known, next_line, note};
+use crate::typed::{expected, read_frame};
 use bytes::BytesMut;
 use pgp_base::Memory;
 use pgp_line::line::{put_called, put_end};
@@ -116,23 +114,22 @@ fn list_next<'b, A: MapMemory>(
     match next {
         Next::Line(name) => {
             let frame = front_of(bytes, behind);
-            let told = tell_frame(sender, opened, name, frame, &mut known.numbers)?;
-            sum_frame(sender, name, frame, told, &mut known.numbers)?;
-            type_frame(
+            let (told, noted) = read_frame(
                 view.style,
                 place,
                 sender,
                 opened,
                 kind,
-                told,
+                name,
                 frame,
+                &mut known.numbers,
                 &mut known.types,
                 &mut texts.value,
                 &mut texts.line,
             )?;
             let told = told_by(known.marked, told);
             list_line(view, place, name, told, known.requests.as_slice(), texts)?;
-            note(note_of(name), known)?;
+            note(noted, known)?;
             Ok((next, behind))
         }
         Next::Waits => Ok((next, behind)),

@@ -8,13 +8,13 @@ ghost use Rattle.pgp_conversation.specs.Requests.{summary_in, unnumbered};
 ghost use Rattle.pgp_conversation.specs.Steps.{kept_of, numbers_in};
 
 use crate::chunk::Sender;
+use crate::connection::{Half, Talk};
 use crate::frames::Texts;
-use crate::mark::{put_last_mark, put_marked};
+use crate::line_mark::{put_last_mark, put_marked};
 use crate::numbers::{summary_of, unnumbered};
+use crate::placement::{Told, told_by};
+use crate::request_mark::put_word;
 use crate::table::put_table;
-use crate::talk::{Half, Talk};
-use crate::told::{Told, told_by};
-use crate::word::put_word;
 use pgp_base::Memory;
 use pgp_line::line::add_line;
 use pgp_names::MapMemory;

@@ -2,36 +2,33 @@
 //! `pgtrace` runs for `session`, with all else of `pgp_trace`.
 #![tactic(auto)]
 
-pub mod ask;
 pub mod awaited;
 pub mod bound;
 pub mod chunk;
+pub mod client_types;
 pub mod column;
+pub mod columns;
+pub mod connection;
 pub mod ending;
+pub mod expectation;
 pub mod fields;
 pub mod frames;
-pub mod hear;
 pub mod hint;
-pub mod kinds;
-pub mod known;
 pub mod last;
 pub mod laws;
-pub mod mark;
-pub mod marking;
-pub mod noted;
+pub mod line_mark;
 pub mod numbers;
-pub mod options;
 pub mod outcome;
+pub mod placement;
+pub mod request_mark;
 pub mod role;
 pub mod row;
 pub mod run;
+pub mod server_types;
 pub mod session;
-pub mod shelf;
+pub mod state;
 pub mod summing;
 pub mod table;
-pub mod talk;
-pub mod told;
 pub mod typed;
 pub mod types;
 pub mod value;
-pub mod word;

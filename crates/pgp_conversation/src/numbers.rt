@@ -3,12 +3,10 @@
 ghost use Rattle.std.specs.Prelude.{◌≡◌, ◌-◌, get_or, option_map, IfOk, OnErr, OnOk};
 ghost use Rattle.pgp_client.specs.Telling.{start};
 ghost use Rattle.pgp_conversation.specs.Requests.{asks, at_time, first_numbers, first_summary, no_numbers, place, tell, summary_in, told_in, told_of, unnumbered};
-ghost use Rattle.pgp_conversation.specs.Roles.{role_by};
 ghost use Rattle.pgp_conversation.specs.Steps.{numbers_in, numbers_of, talk_in};
 
-use crate::chunk::Sender;
-use crate::role::{Role, role_of};
-use crate::told::Told;
+use crate::placement::Told;
+use crate::role::Role;
 use pgp_base::Memory;
 use pgp_client::{Asked, Dialogue, Event, Kind, Request};
 use pgp_names::MapMemory;
@@ -93,25 +91,21 @@ pub fn summary_of<A: MapMemory>(numbers: &Option<Numbers<A>>) -> Option<&Summary
     }
 }
 
-/// Takes note of a frame of this side, which has this name, where the client's startup packet came before it or not. Returns what its mark says of
-/// requests, where they are numbered.
+/// Takes note of a frame that is this. Returns what its mark says of requests, where they are numbered.
 ///
 /// # Errors
 ///
 /// Returns `AllocError` if there is no memory for one more request.
-pub fn tell_frame<A: MapMemory>(
-    sender: Sender,
-    opened: bool,
-    name: &str,
-    frame: &[u8],
+pub fn tell<A: MapMemory>(
+    role: Role,
     numbers: &mut Option<Numbers<A>>,
 ) -> Result<Option<Told>, AllocError>
-    ensures told { IfOk result (λ told. told_in (role_by sender opened name.now frame.now) (numbers_in numbers.old) ≡ (told, numbers_in numbers.new)) }
+    ensures told { IfOk result (λ told. told_in role (numbers_in numbers.old) ≡ (told, numbers_in numbers.new)) }
     ensures lacks { OnErr result A.Lacks }
 {
     match numbers {
         Some(numbers) => {
-            let told = tell(role_of(sender, opened, name, frame), numbers)?;
+            let told = tell_one(role, numbers)?;
             Ok(Some(told))
         }
         None => Ok(None),
@@ -119,7 +113,7 @@ pub fn tell_frame<A: MapMemory>(
 }
 
 /// Takes note of a frame. Returns what its mark says of requests.
-fn tell<A: MapMemory>(role: Role, numbers: &mut Numbers<A>) -> Result<Told, AllocError>
+fn tell_one<A: MapMemory>(role: Role, numbers: &mut Numbers<A>) -> Result<Told, AllocError>
     ensures told { IfOk result (λ told. tell role (numbers_of numbers.old) ≡ (told, numbers_of numbers.new)) }
     ensures lacks { OnErr result A.Lacks }
 {

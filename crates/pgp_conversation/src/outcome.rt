@@ -5,9 +5,9 @@ ghost use Rattle.std.specs.Io.KnownBytes.{Appends};
 ghost use Rattle.pgp_program.specs.Interruptions.{GivesUp};
 ghost use Rattle.pgp_program.specs.Run.{IsSaid};
 ghost use Rattle.pgp_program.specs.Taken.{AppendsFront};
+ghost use Rattle.pgp_conversation.specs.Command.{complaint_of};
 
 use pgp_program::fault::Fault;
-use pgp_program::outcome::Outcome;
 use pgp_program::ports::Output;
 use pgp_program::print::put;
 
@@ -20,17 +20,52 @@ pub struct Ended {
     pub third: &'static str,
 }
 
-/// Ends as what has one thing to say.
+/// With this status and one thing to say.
 #[tactic(auto, using(crate::proofs::Endings::alone))]
-pub fn of_outcome(outcome: Outcome) -> Ended
-    ensures status { result.status ≡ outcome.status }
-    ensures complaint { result.first.now ++ result.second.now ++ result.third.now ≡ outcome.complaint.now }
+fn with_status(status: u8, said: &'static str) -> Ended
+    ensures status { result.status ≡ status }
+    ensures complaint { result.first.now ++ result.second.now ++ result.third.now ≡ said.now }
 {
     Ended {
-        status: outcome.status,
-        first: outcome.complaint,
+        status,
+        first: said,
         second: "",
         third: "",
+    }
+}
+
+/// What was asked for is done, and this is to be said of it.
+pub fn finished(said: &'static str) -> Ended
+    ensures status { result.status ≡ 0 }
+    ensures complaint { result.first.now ++ result.second.now ++ result.third.now ≡ said.now }
+{
+    with_status(0, said)
+}
+
+/// The words ask for nothing that there is: the usage line is said.
+pub fn refused(usage: &'static str) -> Ended
+    ensures status { result.status ≡ 2 }
+    ensures complaint { result.first.now ++ result.second.now ++ result.third.now ≡ usage.now }
+{
+    with_status(2, usage)
+}
+
+/// What was asked for met a fault.
+pub fn stopped(fault: Fault) -> Ended
+    ensures status { result.status ≡ 1 }
+    ensures complaint { result.first.now ++ result.second.now ++ result.third.now ≡ complaint_of fault }
+{
+    with_status(1, complaint(fault))
+}
+
+/// The line that reports a fault.
+fn complaint(fault: Fault) -> &'static str
+    ensures { result.now ≡ complaint_of fault }
+{
+    match fault {
+        Fault::Memory => "pgtrace: out of memory\n",
+        Fault::Read => "pgtrace: read failed\n",
+        Fault::Write => "pgtrace: write failed\n",
     }
 }
 

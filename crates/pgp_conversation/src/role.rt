@@ -1,11 +1,9 @@
 //! What a frame is to the requests.
 
 ghost use Rattle.std.specs.Prelude.{◌≡◌, get_or};
-ghost use Rattle.pgp_conversation.specs.Requests.{asking};
-ghost use Rattle.pgp_conversation.specs.Roles.{client_role, opening_role, role_by, server_role, unnamed_role};
+ghost use Rattle.pgp_client.specs.Kinds.{kind_of_tag, request_of_tag};
+ghost use Rattle.pgp_conversation.specs.Requests.{asking, heard_as};
 
-use crate::chunk::Sender;
-use crate::kinds::kind_named;
 use pgp_client::{Kind, Request};
 
 /// What a frame is to the requests.
@@ -21,44 +19,30 @@ pub enum Role {
     Other,
 }
 
-/// What a frame of this side is, under this name, where the client's startup packet came before it or not.
-pub fn role_of(sender: Sender, opened: bool, name: &str, frame: &[u8]) -> Role
-    ensures { result ≡ role_by sender opened name.now frame.now }
-{
-    match sender {
-        Sender::Client => client_role(opened, name, frame),
-        Sender::Server => server_role(name),
-    }
-}
-
-/// What a client's frame is.
-fn client_role(opened: bool, name: &str, frame: &[u8]) -> Role
-    ensures { result ≡ client_role opened name.now frame.now }
-{
-    if opened {
-        asking(Request::of_tag(byte_at(frame, 0), byte_at(frame, 5)))
-    } else {
-        opening_role(name)
-    }
-}
-
-/// What a client's opening packet is.
-fn opening_role(name: &str) -> Role
-    ensures { result ≡ opening_role name.now }
-{
-    match name {
-        "StartupMessage" => Role::Request(Request::Startup),
-        _ => Role::Other,
-    }
-}
-
 /// What asks this.
-fn asking(request: Option<Request>) -> Role
+pub fn asking(request: Option<Request>) -> Role
     ensures { result ≡ asking request }
 {
     match request {
         Some(request) => Role::Request(request),
         None => Role::Other,
+    }
+}
+
+/// What a client's frame is that is rejected, by its tag.
+pub fn sent_fault(frame: &[u8]) -> Role
+    ensures { result ≡ asking (request_of_tag (get_or frame.now 0 0) (get_or frame.now 5 0)) }
+{
+    asking(Request::of_tag(byte_at(frame, 0), byte_at(frame, 5)))
+}
+
+/// What a server's frame is that is no message, by its tag.
+pub fn heard_fault(frame: &[u8]) -> Role
+    ensures { result ≡ heard_as (kind_of_tag (get_or frame.now 0 0)) }
+{
+    match Kind::of_tag(byte_at(frame, 0)) {
+        Some(kind) => Role::Message(kind),
+        None => Role::Fault,
     }
 }
 
@@ -69,25 +53,5 @@ fn byte_at(bytes: &[u8], place: usize) -> u8
     match bytes.get(place) {
         Some(byte) => *byte,
         None => 0,
-    }
-}
-
-/// What a server's frame is.
-fn server_role(name: &str) -> Role
-    ensures { result ≡ server_role name.now }
-{
-    match kind_named(name) {
-        Some(kind) => Role::Message(kind),
-        None => unnamed_role(name),
-    }
-}
-
-/// The same of one whose name is no message's.
-fn unnamed_role(name: &str) -> Role
-    ensures { result ≡ unnamed_role name.now }
-{
-    match name {
-        "fault" => Role::Fault,
-        _ => Role::Other,
     }
 }

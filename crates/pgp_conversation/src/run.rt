@@ -1,136 +1,265 @@
 //! The program's words.
 
-ghost use Rattle.std.specs.Prelude.{◌≡◌, ◌++◌, ◌⊎◌, map, IfErr, IfNone, IfOk, IfSome, OnErr, OnOk};
-ghost use Rattle.std.specs.Io.KnownBytes.{Keeps};
+ghost use Rattle.std.specs.Prelude.{◌≡◌, ◌∷◌, ◌++◌, [], codes, map, IfSome, IfNone, IfOk, IfErr, OnErr, OnOk};
+ghost use Rattle.std.specs.Io.KnownBytes.{Appends, Keeps};
 ghost use Rattle.pgp_program.specs.Interruptions.{GivesUp};
 ghost use Rattle.pgp_program.specs.Run.{Caused};
+ghost use Rattle.pgp_program.specs.Taken.{AppendsFront};
 ghost use Rattle.pgp_program.specs.Words.{LacksWords};
-ghost use Rattle.pgp_trace.specs.Command as trace;
-ghost use Rattle.pgp_trace.specs.Steps.{view_of};
-ghost use Rattle.pgp_conversation.specs.Command.{AsksNoSession, AsksSession, IsFaulty, Obeys, ObeysOwn, ReadsForOwn, ReadsForWords, Runs, RunsOwn, Succeeds};
-ghost use Rattle.pgp_conversation.specs.Recording.{complaint_of};
-ghost use Rattle.pgp_conversation.specs.Session.{BreaksOff, ReadsWhenReady, WritesListing};
-ghost use Rattle.pgp_conversation.specs.Chosen.{settings_view};
+ghost use Rattle.pgp_trace.specs.Listing as stream;
+ghost use Rattle.pgp_trace.specs.Options.{chosen_of, options_in, view_by};
+ghost use Rattle.pgp_trace.specs.Steps.{side_of, view_of};
+ghost use Rattle.pgp_conversation.specs.Command.{Asks, BreaksOff, Does, IsOther, Lists, ListsRecording, Obeys, ObeysOwn, Prints, PrintsFront, ReadsFor, ReadsForOwn, ReadsForWords, Runs, RunsOwn, Stops, asked, complaint_of, session_by, usage, word_of};
+ghost use Rattle.pgp_conversation.specs.Command as spec;
+ghost use Rattle.pgp_conversation.specs.Session as recording;
 
-use crate::ending::{complaint_of, status_of};
-use crate::marking::Marking;
-use crate::options::{Settings, settings_of};
-use crate::outcome::{Ended, of_outcome, tell};
-use crate::session::{Said, list_session};
+use crate::ending::{complaint_of as end_complaint, status_of};
+use crate::outcome::{Ended, finished, refused, stopped, tell};
+use crate::session::list_session;
 use pgp_base::Memory;
 use pgp_line::style::style_of;
 use pgp_names::MapMemory;
 use pgp_program::fault::Fault;
-use pgp_program::outcome::Outcome;
 use pgp_program::ports::{Output, Words};
+use pgp_program::print::put;
 use pgp_program::words::{lent, texts};
-use pgp_trace::fault::complaint;
+use pgp_trace::marking::Marking;
+use pgp_trace::options::{Listing, Options, options_in, options_of};
 use pgp_trace::ports::Input;
-use pgp_trace::run::{obey as obey_trace, usage_error};
+use pgp_trace::side::{Side, first_phase};
+use pgp_trace::stream::list;
 use pgp_trace::view::View;
 use std::alloc::AllocError;
 
-/// How the words ask for the listing of a recording to look, if they ask for one.
-fn session_of<'a, A: MapMemory>(
+const USAGE: &str =
+    "usage: pgtrace server [--json] [--full] [--secrets] [--resume] [--only NAME[,NAME]..] [--color auto|always|never] | client [--json] [--full] [--secrets] [--resume] [--only NAME[,NAME]..] [--color auto|always|never] [--password-kind password|initial|response].. [--replication] | session [--json] [--full] [--secrets] [--requests] [--raw] [--summary] [--time absolute|relative] [--only NAME[,NAME]..] [--color auto|always|never] | --help | --version\n";
+
+const VERSION: &str = "pgtrace 0.1.0\n";
+
+/// The words ask for nothing that there is.
+fn usage_error() -> Ended
+    ensures status { result.status ≡ 2 }
+    ensures complaint { result.first.now ++ result.second.now ++ result.third.now ≡ usage }
+{
+    refused(USAGE)
+}
+
+/// What the words ask for.
+#[derive(Drop)]
+enum Command<'a, A: Memory> {
+    Show {
+        listing: Listing,
+        options: Options<'a, A>,
+    },
+    Help,
+    Version,
+}
+
+/// What the words ask for, where a terminal shows what is written or not.
+fn command_of<'a, A: MapMemory>(
     alloc: A,
     terminal: bool,
     words: &[&'a str],
-) -> Result<Option<Settings<'a, A>>, AllocError>
-    ensures known { IfOk result (λ r. IfSome r (λ settings. AsksSession terminal (map (λ word. word.now) words.now) (settings_view settings) settings.marking)) }
-    ensures other { IfOk result (λ r. IfNone r (AsksNoSession terminal (map (λ word. word.now) words.now))) }
+) -> Result<Option<Command<'a, A>>, AllocError>
+    ensures known { IfOk result (λ r. IfSome r (λ command. Asks terminal (map (λ word. word.now) words.now) (asked command))) }
+    ensures other { IfOk result (λ r. IfNone r (IsOther terminal (map (λ word. word.now) words.now))) }
     ensures lacks { OnErr result A.Lacks }
 {
+    match words {
+        ["--help"] => return Ok(Some(Command::Help)),
+        ["--version"] => return Ok(Some(Command::Version)),
+        _ => {}
+    }
     let Some((first, options)) = words.split_first() else {
         return Ok(None);
     };
     match *first {
-        "session" => settings_of(alloc, terminal, options),
+        "server" => show(alloc, terminal, Listing::Server, options),
+        "client" => show(alloc, terminal, Listing::Client, options),
+        "session" => show(alloc, terminal, Listing::Session, options),
         _ => Ok(None),
     }
 }
 
-/// Lists a recording.
-fn list<A: MapMemory, R: Input, W: Output>(
+/// What the words after the one of a listing ask for.
+fn show<'a, A: MapMemory>(
     alloc: A,
-    view: View<'_>,
-    marking: Marking,
-    input: &mut R,
-    output: &mut W,
-) -> Result<Said, Fault>
-    requires live { ReadsWhenReady R.remaining W.contents W.Passed R.MayRead (view_of view) marking input.old output.old }
-    ensures listed { IfOk result (λ said. WritesListing (view_of view.entry) marking
-        (record { input = R.remaining input.old; output = W.contents output.old })
-        (record { input = R.remaining input.new; output = W.contents output.new }) said.end (said.client.now ++ said.server.now ++ complaint_of said.end)) }
-    ensures passed { OnOk result (W.Passed output.new) }
-    ensures stops { IfErr result (λ fault. BreaksOff (W.Passed output.new) (view_of view.entry) marking fault
-        (record { input = R.remaining input.old; output = W.contents output.old })
-        (record { input = R.remaining input.new; output = W.contents output.new })) }
-    ensures cause { IfErr result (Caused A.Lacks (GivesUp R.Fails R.Called) (GivesUp W.Fails W.Interrupted)) }
+    terminal: bool,
+    listing: Listing,
+    words: &[&'a str],
+) -> Result<Option<Command<'a, A>>, AllocError>
+    ensures known { IfOk result (λ r. IfSome r (λ command. Asks terminal (word_of listing ∷ map (λ word. word.now) words.now) (asked command))) }
+    ensures other { IfOk result (λ r. IfNone r (IsOther terminal (word_of listing ∷ map (λ word. word.now) words.now))) }
+    ensures lacks { OnErr result A.Lacks }
 {
-    list_session(alloc, view, marking, input, output)
+    let Some(options) = options_of(alloc, terminal, options_in(listing), words)? else {
+        return Ok(None);
+    };
+    Ok(Some(Command::Show { listing, options }))
+}
+
+/// How a listing with these options looks.
+fn view_by<'a, A: MapMemory>(options: &'a Options<'_, A>) -> View<'a>
+    ensures { view_of result ≡ view_by (chosen_of options.now) }
+{
+    View {
+        style: style_of(options.json, options.full, options.secrets),
+        only: options.only.as_slice(),
+        colored: options.colored,
+    }
 }
 
 /// No message has this name.
 const NO_NAME: &[&str] = &[""];
 
-/// How a listing with these options looks. With a summary no line of a message is written.
-fn view_by<'a, A: MapMemory>(settings: &'a Settings<'_, A>) -> View<'a>
-    ensures { view_of result ≡ settings_view settings.now }
+/// How the listing of a recording with these options looks. With a summary no line of a message is written.
+fn session_by<'a, A: MapMemory>(options: &'a Options<'_, A>) -> View<'a>
+    ensures { view_of result ≡ session_by (chosen_of options.now) }
 {
-    let options = &settings.options;
-    let style = style_of(options.json, options.full, options.secrets);
-    let colored = options.colored;
-    if settings.marking.summed {
+    let view = view_by(options);
+    if options.marking.summed {
         return View {
-            style,
+            style: view.style,
             only: NO_NAME,
-            colored,
+            colored: view.colored,
         };
     }
-    View {
-        style,
-        only: options.only.as_slice(),
-        colored,
+    view
+}
+
+/// Lists what a side sent.
+fn list_side<A: MapMemory, R: Input, W: Output>(
+    alloc: A,
+    view: View<'_>,
+    side: Side<'_>,
+    input: &mut R,
+    output: &mut W,
+) -> Result<Ended, Fault>
+    requires live { stream.ReadsWhenReady R.remaining W.contents W.Passed R.MayRead (view_of view) (side_of side) input.old output.old }
+    ensures passed { OnOk result (W.Passed output.new) }
+    ensures done { IfOk result (λ ended. Lists (view_of view.entry) (side_of side.entry)
+        (record { input = R.remaining input.old; output = W.contents output.old })
+        (record { input = R.remaining input.new; output = W.contents output.new }) ended.status (ended.first.now ++ ended.second.now ++ ended.third.now)) }
+    ensures stops { IfErr result (λ fault. BreaksOff (W.Passed output.new) (view_of view.entry) (side_of side.entry) fault
+        (record { input = R.remaining input.old; output = W.contents output.old })
+        (record { input = R.remaining input.new; output = W.contents output.new })) }
+    ensures cause { IfErr result (Caused A.Lacks (GivesUp R.Fails R.Called) (GivesUp W.Fails W.Interrupted)) }
+{
+    match list(alloc, view, side, input, output) {
+        Ok(said) => Ok(finished(said)),
+        Err(fault) => Err(fault),
     }
 }
 
-/// Lists a recording, and says how that ended.
-fn perform<A: MapMemory, R: Input, W: Output>(
+/// Lists a recording.
+fn list_recording<A: MapMemory, R: Input, W: Output>(
     alloc: A,
-    settings: &Settings<'_, A>,
+    view: View<'_>,
+    marking: Marking,
     input: &mut R,
     output: &mut W,
-) -> Ended
-    requires live { ReadsWhenReady R.remaining W.contents W.Passed R.MayRead (settings_view settings.now) settings.now.marking input.old output.old }
-    ensures { Succeeds (W.Passed output.new) (settings_view settings.now) settings.now.marking
+) -> Result<Ended, Fault>
+    requires live { recording.ReadsWhenReady R.remaining W.contents W.Passed R.MayRead (view_of view) marking input.old output.old }
+    ensures passed { OnOk result (W.Passed output.new) }
+    ensures done { IfOk result (λ ended. ListsRecording (view_of view.entry) marking
         (record { input = R.remaining input.old; output = W.contents output.old })
-        (record { input = R.remaining input.new; output = W.contents output.new })
-        result.status (result.first.now ++ result.second.now ++ result.third.now)
-        ⊎ IsFaulty A.Lacks (GivesUp R.Fails R.Called) (GivesUp W.Fails W.Interrupted) (W.Passed output.new) (settings_view settings.now) settings.now.marking
+        (record { input = R.remaining input.new; output = W.contents output.new }) ended.status (ended.first.now ++ ended.second.now ++ ended.third.now)) }
+    ensures stops { IfErr result (λ fault. recording.BreaksOff (W.Passed output.new) (view_of view.entry) marking fault
         (record { input = R.remaining input.old; output = W.contents output.old })
-        (record { input = R.remaining input.new; output = W.contents output.new })
-        result.status (result.first.now ++ result.second.now ++ result.third.now) }
+        (record { input = R.remaining input.new; output = W.contents output.new })) }
+    ensures cause { IfErr result (Caused A.Lacks (GivesUp R.Fails R.Called) (GivesUp W.Fails W.Interrupted)) }
 {
-    match list(alloc, view_by(settings), settings.marking, input, output) {
-        Ok(said) => Ended {
+    match list_session(alloc, view, marking, input, output) {
+        Ok(said) => Ok(Ended {
             status: status_of(said.end),
             first: said.client,
             second: said.server,
-            third: complaint_of(said.end),
-        },
-        Err(fault) => stopped(fault),
+            third: end_complaint(said.end),
+        }),
+        Err(fault) => Err(fault),
     }
 }
 
-/// Ends with a fault.
-fn stopped(fault: Fault) -> Ended
-    ensures status { result.status ≡ 1 }
-    ensures complaint { result.first.now ++ result.second.now ++ result.third.now ≡ trace.complaint_of fault }
+/// Prints a text. Nothing is to be said then.
+fn print<W: Output>(text: &str, output: &mut W) -> Result<Ended, Fault>
+    ensures written { OnOk result (Appends (W.contents output.old) (W.contents output.new) text.now) }
+    ensures front { OnErr result (AppendsFront (W.contents output.old) (W.contents output.new) text.now) }
+    ensures silent { IfOk result (λ ended. ended.first.now ++ ended.second.now ++ ended.third.now ≡ []) }
+    ensures fine { IfOk result (λ ended. ended.status ≡ 0) }
+    ensures passed { OnOk result (W.Passed output.new) }
+    ensures fault { IfErr result (λ fault. fault ≡ Fault.Write) }
+    ensures failed { OnErr result (GivesUp W.Fails W.Interrupted) }
 {
-    of_outcome(Outcome::stopped(complaint(fault)))
+    put(text.as_bytes(), output)?;
+    Ok(finished(""))
 }
 
-/// Does what the words ask for, where a terminal shows what is written or not: a session, or what `pgp_trace` does.
+/// Shows a listing by these options.
+fn list_by<A: MapMemory, R: Input, W: Output>(
+    alloc: A,
+    listing: Listing,
+    options: &Options<'_, A>,
+    input: &mut R,
+    output: &mut W,
+) -> Result<Ended, Fault>
+    requires live { ReadsFor R.remaining W.contents W.Passed R.MayRead (spec.Show listing (chosen_of options.now)) input.old output.old }
+    ensures passed { OnOk result (W.Passed output.new) }
+    ensures done { IfOk result (λ ended. Does (spec.Show listing (chosen_of options.now))
+        (record { input = R.remaining input.old; output = W.contents output.old })
+        (record { input = R.remaining input.new; output = W.contents output.new }) ended.status (ended.first.now ++ ended.second.now ++ ended.third.now)) }
+    ensures stops { IfErr result (λ fault. Stops (W.Passed output.new) (spec.Show listing (chosen_of options.now)) fault
+        (record { input = R.remaining input.old; output = W.contents output.old })
+        (record { input = R.remaining input.new; output = W.contents output.new })) }
+    ensures cause { IfErr result (Caused A.Lacks (GivesUp R.Fails R.Called) (GivesUp W.Fails W.Interrupted)) }
+{
+    match listing {
+        Listing::Server => {
+            let side = Side::Server(first_phase(options.resume));
+            list_side(alloc, view_by(options), side, input, output)
+        }
+        Listing::Client => {
+            let side = Side::Client {
+                opened: options.resume,
+                kinds: options.kinds.as_slice(),
+                replicating: options.replicating,
+            };
+            list_side(alloc, view_by(options), side, input, output)
+        }
+        Listing::Session => list_recording(
+            alloc,
+            session_by(options),
+            options.marking,
+            input,
+            output,
+        ),
+    }
+}
+
+/// Does what the command asks for.
+fn perform<A: MapMemory, R: Input, W: Output>(
+    alloc: A,
+    command: &Command<'_, A>,
+    input: &mut R,
+    output: &mut W,
+) -> Result<Ended, Fault>
+    requires live { ReadsFor R.remaining W.contents W.Passed R.MayRead (asked command.now) input.old output.old }
+    ensures passed { OnOk result (W.Passed output.new) }
+    ensures done { IfOk result (λ ended. Does (asked command.now)
+        (record { input = R.remaining input.old; output = W.contents output.old })
+        (record { input = R.remaining input.new; output = W.contents output.new }) ended.status (ended.first.now ++ ended.second.now ++ ended.third.now)) }
+    ensures stops { IfErr result (λ fault. Stops (W.Passed output.new) (asked command.now) fault
+        (record { input = R.remaining input.old; output = W.contents output.old })
+        (record { input = R.remaining input.new; output = W.contents output.new })) }
+    ensures cause { IfErr result (Caused A.Lacks (GivesUp R.Fails R.Called) (GivesUp W.Fails W.Interrupted)) }
+{
+    match command {
+        Command::Show { listing, options } => list_by(alloc, *listing, options, input, output),
+        Command::Help => print(USAGE, output),
+        Command::Version => print(VERSION, output),
+    }
+}
+
+/// Does what the words ask for, where a terminal shows what is written or not.
 pub fn obey<A: MapMemory, R: Input, W: Output>(
     alloc: A,
     terminal: bool,
@@ -144,10 +273,14 @@ pub fn obey<A: MapMemory, R: Input, W: Output>(
         (record { input = R.remaining input.new; output = W.contents output.new })
         result.status (result.first.now ++ result.second.now ++ result.third.now) }
 {
-    match session_of(alloc, terminal, words) {
-        Ok(Some(settings)) => perform(alloc, &settings, input, output),
-        Ok(None) => of_outcome(obey_trace(alloc, terminal, words, input, output)),
-        Err(_) => stopped(Fault::Memory),
+    let command = match command_of(alloc, terminal, words) {
+        Ok(Some(command)) => command,
+        Ok(None) => return usage_error(),
+        Err(_) => return stopped(Fault::Memory),
+    };
+    match perform(alloc, &command, input, output) {
+        Ok(ended) => ended,
+        Err(fault) => stopped(fault),
     }
 }
 
@@ -171,7 +304,8 @@ pub fn run<A: MapMemory, R: Input, W: Output, E: Output>(
     tell(obey(alloc, terminal, words, input, output), errors)
 }
 
-/// Does what the program's own words ask for, where there is memory for them. A word that isn't UTF-8 asks for nothing that there is.
+/// Does what the program's own words ask for, where there is memory for them. A word that isn't UTF-8
+/// asks for nothing that there is.
 fn try_own<A: MapMemory, V: Words, R: Input, W: Output>(
     alloc: A,
     terminal: bool,
@@ -189,7 +323,7 @@ fn try_own<A: MapMemory, V: Words, R: Input, W: Output>(
     ensures output { IfErr result (λ _. Keeps (W.contents output.old) (W.contents output.new)) }
 {
     let Some(texts) = texts(alloc, env)? else {
-        return Ok(of_outcome(usage_error()));
+        return Ok(usage_error());
     };
     let words = lent(alloc, texts.as_slice())?;
     Ok(obey(alloc, terminal, words.as_slice(), input, output))

@@ -1,39 +1,71 @@
 //! What requests ran, by the frames of both sides.
 
-ghost use Rattle.std.specs.Prelude.{◌≡◌, drop, Some, OnErr, OnOk};
-ghost use Rattle.pgp_base.specs.PartReading.{string_at};
-ghost use Rattle.pgp_summary.specs.Summary.{State};
-ghost use Rattle.pgp_conversation.specs.Askings.{asking_as, asking_from, asking_if, asking_named, front_text, work_named};
-ghost use Rattle.pgp_conversation.specs.Steps.{numbers_in};
-ghost use Rattle.pgp_conversation.specs.Summing.{answers_so, asks_for, ends_so, reply_named, summed, summed_so, takes_note};
+ghost use Rattle.std.specs.Prelude.{◌≡◌, OnErr, OnOk};
+ghost use Rattle.std.specs.Option.{option_map};
+ghost use Rattle.pgp_frontend_read.specs.Views.{view};
+ghost use Rattle.pgp_conversation.specs.Steps.{asking_view, numbers_in};
+ghost use Rattle.pgp_conversation.specs.Summing.{answers_so, asking_of, asks_for, ends_so, reply_named, summed, summed_so, takes_note};
 
-use crate::chunk::Sender;
 use crate::numbers::Numbers;
-use crate::told::Told;
+use crate::placement::Told;
 use pgp_base::Memory;
-use pgp_base::reading::string_at;
+use pgp_frontend_read::ClientMessage;
 use pgp_names::MapMemory;
 use pgp_summary::{Reply, Summary, Work};
 use std::alloc::AllocError;
 
-/// Takes note of a frame of this side, which has this name, and whose mark says this of requests, where a summary is asked for.
+/// What a client's message asks.
+#[derive(Debug, Clone, Copy)]
+pub struct Asking<'a> {
+    pub work: Work,
+    pub first: &'a [u8],
+    pub second: &'a [u8],
+}
+
+/// What a client's message asks, if it runs a statement, or says which one another request runs.
+pub fn asking_of<'a>(message: &ClientMessage<'a>) -> Option<Asking<'a>>
+    ensures { option_map asking_view result ≡ asking_of (view message.now) }
+{
+    match message {
+        ClientMessage::Query(query) => Some(asks_to(Work::Query, query, &[])),
+        ClientMessage::Parse { name, query, .. } => Some(asks_to(Work::Parse, name, query)),
+        ClientMessage::Bind {
+            portal,
+            statement,
+            ..
+        } => Some(asks_to(Work::Bind, portal, statement)),
+        ClientMessage::Execute { portal, .. } => Some(asks_to(Work::Execute, portal, &[])),
+        _ => None,
+    }
+}
+
+fn asks_to<'a>(work: Work, first: &'a [u8], second: &'a [u8]) -> Asking<'a>
+    ensures { asking_view result ≡ record { work = work; first = first.now; second = second.now } }
+{
+    Asking {
+        work,
+        first,
+        second,
+    }
+}
+
+/// Takes note of a frame that has this name, asks for this, and whose mark says this of requests, where a summary is asked for.
 ///
 /// # Errors
 ///
 /// Returns `AllocError` if there is no memory for it.
 pub fn sum_frame<A: MapMemory>(
-    sender: Sender,
+    asking: Option<Asking<'_>>,
     name: &str,
-    frame: &[u8],
     told: Option<Told>,
     numbers: &mut Option<Numbers<A>>,
 ) -> Result<(), AllocError>
-    ensures summed { OnOk result (numbers_in numbers.new ≡ summed told (asking_from sender name.now frame.now) name.now (numbers_in numbers.old)) }
+    ensures summed { OnOk result (numbers_in numbers.new ≡ summed told (option_map asking_view asking.entry) name.now (numbers_in numbers.old)) }
     ensures lacks { OnErr result A.Lacks }
 {
     match numbers {
         Some(numbers) => match told {
-            Some(told) => sum_told(sender, name, frame, told, &mut numbers.summary),
+            Some(told) => sum_told(asking, name, told, &mut numbers.summary),
             None => Ok(()),
         },
         None => Ok(()),
@@ -42,34 +74,32 @@ pub fn sum_frame<A: MapMemory>(
 
 /// The same where the mark says this.
 fn sum_told<A: MapMemory>(
-    sender: Sender,
+    asking: Option<Asking<'_>>,
     name: &str,
-    frame: &[u8],
     told: Told,
     summary: &mut Option<Summary<A>>,
 ) -> Result<(), AllocError>
-    ensures summed { OnOk result (summary.new ≡ summed_so told (asking_from sender name.now frame.now) name.now summary.old) }
+    ensures summed { OnOk result (summary.new ≡ summed_so told (option_map asking_view asking.entry) name.now summary.old) }
     ensures lacks { OnErr result A.Lacks }
 {
     match summary {
-        Some(summary) => note_told(sender, name, frame, told, summary),
+        Some(summary) => note_told(asking, name, told, summary),
         None => Ok(()),
     }
 }
 
 /// Takes note of a frame whose mark says this.
 fn note_told<A: MapMemory>(
-    sender: Sender,
+    asking: Option<Asking<'_>>,
     name: &str,
-    frame: &[u8],
     told: Told,
     summary: &mut Summary<A>,
 ) -> Result<(), AllocError>
-    ensures noted { OnOk result (summary.new ≡ takes_note told (asking_from sender name.now frame.now) name.now summary.old) }
+    ensures noted { OnOk result (summary.new ≡ takes_note told (option_map asking_view asking.entry) name.now summary.old) }
     ensures lacks { OnErr result A.Lacks }
 {
     match told {
-        Told::Number(number) => note_request(sender, name, frame, number, summary),
+        Told::Number(number) => note_request(asking, number, summary),
         Told::Answer { number, sent, now } => {
             note_answer(name, number, now.saturating_sub(sent), summary)
         }
@@ -79,83 +109,16 @@ fn note_told<A: MapMemory>(
 
 /// Takes note of a request, under its number.
 fn note_request<A: MapMemory>(
-    sender: Sender,
-    name: &str,
-    frame: &[u8],
+    asking: Option<Asking<'_>>,
     number: u64,
     summary: &mut Summary<A>,
 ) -> Result<(), AllocError>
-    ensures asked { OnOk result (summary.new ≡ asks_for (asking_from sender name.now frame.now) number summary.old) }
+    ensures asked { OnOk result (summary.new ≡ asks_for (option_map asking_view asking.entry) number summary.old) }
     ensures lacks { OnErr result A.Lacks }
 {
-    match sender {
-        Sender::Client => note_named(name, frame, number, summary),
-        Sender::Server => Ok(()),
-    }
-}
-
-/// The same of a client's frame of this name.
-fn note_named<A: MapMemory>(
-    name: &str,
-    frame: &[u8],
-    number: u64,
-    summary: &mut Summary<A>,
-) -> Result<(), AllocError>
-    ensures asked { OnOk result (summary.new ≡ asks_for (asking_named name.now frame.now) number summary.old) }
-    ensures lacks { OnErr result A.Lacks }
-{
-    match work_named(name) {
-        Some(work) => note_work(work, frame, number, summary),
+    match asking {
+        Some(asking) => summary.ask(number, asking.work, asking.first, asking.second),
         None => Ok(()),
-    }
-}
-
-/// What a request of this name does, if it runs a statement, or says which one another request runs.
-fn work_named(name: &str) -> Option<Work>
-    ensures { result ≡ work_named name.now }
-{
-    match name {
-        "Query" => Some(Work::Query),
-        "Parse" => Some(Work::Parse),
-        "Bind" => Some(Work::Bind),
-        "Execute" => Some(Work::Execute),
-        _ => None,
-    }
-}
-
-/// Takes note of a request that does this, under its number.
-fn note_work<A: MapMemory>(
-    work: Work,
-    frame: &[u8],
-    number: u64,
-    summary: &mut Summary<A>,
-) -> Result<(), AllocError>
-    ensures asked { OnOk result (summary.new ≡ asks_for (Some (asking_as work frame.now)) number summary.old) }
-    ensures lacks { OnErr result A.Lacks }
-{
-    let (first, rest) = front_text(behind(frame));
-    match work {
-        Work::Query => summary.ask(number, work, first, &[]),
-        Work::Parse => summary.ask(number, work, first, front_text(rest).0),
-        Work::Bind => summary.ask(number, work, first, front_text(rest).0),
-        Work::Execute => summary.ask(number, work, first, &[]),
-    }
-}
-
-/// What stands after the tag and the length of a frame.
-fn behind(frame: &[u8]) -> &[u8]
-    ensures { result.now ≡ drop 5 frame.now }
-{
-    if frame.len() < 5 { &[] } else { &frame[5..] }
-}
-
-/// The text that stands first, and what stands after it.
-fn front_text(bytes: &[u8]) -> (&[u8], &[u8])
-    ensures { (result.0.now, result.1.now) ≡ front_text bytes.now }
-{
-    match string_at(bytes) {
-        Ok(x) => x,
-        Err(_) => (&[], &[]),
     }
 }
 

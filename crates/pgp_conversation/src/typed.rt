@@ -1,17 +1,21 @@
-//! What a frame tells of the types of values, and its line, with texts for values whose types are known.
+//! What a frame tells of requests and of the types of values, and its line, with texts for values whose types are known.
 
-ghost use Rattle.std.specs.Prelude.{◌≡◌, Some, OnErr, OnOk, string_bytes};
+ghost use Rattle.std.specs.Prelude.{◌≡◌, Some, IfOk, OnErr, string_bytes};
 ghost use Rattle.pgp_frontend_read.specs.Views.{kind_view};
 ghost use Rattle.pgp_trace.specs.Sides.{expected};
-ghost use Rattle.pgp_conversation.specs.Typed.{first_types};
-ghost use Rattle.pgp_conversation.specs.TypedLines.{AnswersFrame, AsksFrame, TypesFrame};
-ghost use Rattle.pgp_conversation.specs.TypesKept.{types_in, types_of};
+ghost use Rattle.pgp_conversation.specs.Steps.{numbers_in};
+ghost use Rattle.pgp_conversation.specs.Typed.{Said, first_types};
+ghost use Rattle.pgp_conversation.specs.TypedLines.{Passes, Reads, ReadsSo, lost};
+ghost use Rattle.pgp_conversation.specs.TypesKept.{types_in};
 
-use crate::ask::ask_frame;
-use crate::bound::show_frame;
 use crate::chunk::Sender;
-use crate::hear::hear_frame;
-use crate::told::Told;
+use crate::client_types::read_sent;
+use crate::expectation::Noted;
+use crate::numbers::{Numbers, tell};
+use crate::placement::Told;
+use crate::role::Role;
+use crate::server_types::read_heard;
+use crate::summing::sum_frame;
 use crate::types::{Types, no_types};
 use bytes::BytesMut;
 use pgp_base::Memory;
@@ -37,128 +41,73 @@ pub fn expected(kinds: &[PasswordKind]) -> PasswordKind
     }
 }
 
-/// Takes note of a frame of this side, of which this is told, and writes its line anew where it has values whose types are known.
+/// Takes note of a frame of this side, which has this name, and writes its line anew where it has values whose types are known. Returns what its mark says of
+/// requests, and what it says of messages to come.
 ///
 /// # Errors
 ///
 /// Returns `AllocError` if there is no memory for it.
-pub fn type_frame<A: MapMemory>(
+pub fn read_frame<A: MapMemory>(
     style: Style,
     place: u64,
     sender: Sender,
     opened: bool,
     kind: PasswordKind,
-    told: Option<Told>,
+    name: &str,
     frame: &[u8],
+    numbers: &mut Option<Numbers<A>>,
     types: &mut Option<Types<A>>,
     text: &mut BytesMut<A>,
     line: &mut String<A>,
-) -> Result<(), AllocError>
-    ensures types { OnOk result (TypesFrame style place sender opened (kind_view kind) told frame.now (types_in types.old) (types_in types.new) (string_bytes line.old) (string_bytes line.new)) }
-    ensures lacks { OnErr result A.Lacks }
-{
-    match told {
-        Some(told) => type_told(
-            style, place, sender, opened, kind, told, frame, types, text, line,
-        ),
-        None => Ok(()),
-    }
-}
-
-/// Takes note of a frame of which this is told.
-fn type_told<A: MapMemory>(
-    style: Style,
-    place: u64,
-    sender: Sender,
-    opened: bool,
-    kind: PasswordKind,
-    told: Told,
-    frame: &[u8],
-    types: &mut Option<Types<A>>,
-    text: &mut BytesMut<A>,
-    line: &mut String<A>,
-) -> Result<(), AllocError>
-    ensures types { OnOk result (TypesFrame style place sender opened (kind_view kind) (Some told) frame.now (types_in types.old) (types_in types.new) (string_bytes line.old) (string_bytes line.new)) }
-    ensures lacks { OnErr result A.Lacks }
-{
-    match told {
-        Told::Nothing => Ok(()),
-        Told::Lost => {
-            *types = None;
-            Ok(())
-        }
-        Told::Number(number) => type_request(
-            style, place, sender, number, opened, kind, frame, types, text, line,
-        ),
-        Told::Answer { number, .. } => {
-            type_answer(style, place, sender, number, frame, types, text, line)
-        }
-    }
-}
-
-/// Takes note of a request of this number.
-fn type_request<A: MapMemory>(
-    style: Style,
-    place: u64,
-    sender: Sender,
-    number: u64,
-    opened: bool,
-    kind: PasswordKind,
-    frame: &[u8],
-    types: &mut Option<Types<A>>,
-    text: &mut BytesMut<A>,
-    line: &mut String<A>,
-) -> Result<(), AllocError>
-    ensures types { OnOk result (AsksFrame style place sender number opened (kind_view kind) frame.now (types_in types.old) (types_in types.new) (string_bytes line.old) (string_bytes line.new)) }
+) -> Result<(Option<Told>, Noted), AllocError>
+    ensures read { IfOk result (λ x. (said : Said) → ReadsSo sender opened (kind_view kind) frame.now said → Reads style place frame.now name.now said
+        (numbers_in numbers.old) (numbers_in numbers.new) (types_in types.old) (types_in types.new) (string_bytes line.old) (string_bytes line.new) x.0 x.1) }
     ensures lacks { OnErr result A.Lacks }
 {
     match sender {
-        Sender::Client => match types {
-            Some(types) => type_sent(style, place, number, opened, kind, frame, types, text, line),
-            None => Ok(()),
-        },
-        Sender::Server => Ok(()),
+        Sender::Client => read_sent(
+            style, place, opened, kind, name, frame, numbers, types, text, line,
+        ),
+        Sender::Server => read_heard(style, place, name, frame, numbers, types, text, line),
     }
 }
 
-/// Takes note of a client's frame, and writes its line anew.
-fn type_sent<A: MapMemory>(
-    style: Style,
-    place: u64,
-    number: u64,
-    opened: bool,
-    kind: PasswordKind,
-    frame: &[u8],
-    types: &mut Types<A>,
-    text: &mut BytesMut<A>,
-    line: &mut String<A>,
-) -> Result<(), AllocError>
-    ensures types { OnOk result (AsksFrame style place Sender.Client number opened (kind_view kind) frame.now (Some (types_of types.old)) (Some (types_of types.new)) (string_bytes line.old) (string_bytes line.new)) }
+/// Takes note of a frame that isn't read, and that is this to the requests.
+///
+/// # Errors
+///
+/// Returns `AllocError` if there is no memory for it.
+pub fn pass<A: MapMemory>(
+    role: Role,
+    name: &str,
+    numbers: &mut Option<Numbers<A>>,
+    types: &mut Option<Types<A>>,
+) -> Result<Option<Told>, AllocError>
+    ensures passes { IfOk result (λ told. Passes role name.now (numbers_in numbers.old) (numbers_in numbers.new) (types_in types.old) (types_in types.new) told) }
     ensures lacks { OnErr result A.Lacks }
 {
-    ask_frame(number, opened, kind, frame, types)?;
-    show_frame(style, place, opened, kind, frame, types, text, line)
+    let told = tell(role, numbers)?;
+    sum_frame(None, name, told, numbers)?;
+    lose(told, types);
+    Ok(told)
 }
 
-/// Takes note of an answer to the request of this number.
-fn type_answer<A: MapMemory>(
-    style: Style,
-    place: u64,
-    sender: Sender,
-    number: u64,
-    frame: &[u8],
-    types: &mut Option<Types<A>>,
-    text: &mut BytesMut<A>,
-    line: &mut String<A>,
-) -> Result<(), AllocError>
-    ensures types { OnOk result (AnswersFrame style place sender number frame.now (types_in types.old) (types_in types.new) (string_bytes line.old) (string_bytes line.new)) }
-    ensures lacks { OnErr result A.Lacks }
+/// Nothing is known of types any more where a frame has no place among the answers.
+fn lose<A: MapMemory>(told: Option<Told>, types: &mut Option<Types<A>>)
+    ensures { types_in types.new ≡ lost told (types_in types.old) }
 {
-    match sender {
-        Sender::Client => Ok(()),
-        Sender::Server => match types {
-            Some(types) => hear_frame(style, place, number, frame, types, text, line),
-            None => Ok(()),
-        },
+    match told {
+        Some(told) => lose_told(told, types),
+        None => {}
+    }
+}
+
+/// The same where its mark says this.
+fn lose_told<A: MapMemory>(told: Told, types: &mut Option<Types<A>>)
+    ensures { types_in types.new ≡ lost (Some told) (types_in types.old) }
+{
+    match told {
+        Told::Lost => *types = None,
+        Told::Number(_) | Told::Answer { .. } | Told::Nothing => {}
     }
 }

@@ -9,7 +9,7 @@ ghost use Rattle.pgp_conversation.specs.TypesKept.{awaited_of, last_of, types_of
 
 use crate::awaited::{Awaited, Object, first, reach, wait_bound};
 use crate::column::Column;
-use crate::shelf::{Columns, formatted, found, keep};
+use crate::columns::{Columns, formatted, found, keep};
 use pgp_base::Memory;
 use pgp_names::{MapMemory, Names};
 use std::alloc::AllocError;

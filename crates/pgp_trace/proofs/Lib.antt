@@ -10,7 +10,6 @@ pub mod ClientLines
 pub mod Ends
 pub mod Traces
 pub mod Printable
-pub mod Printing
 pub mod Shorter
 pub mod Sides
 pub mod Beginnings
@@ -22,6 +21,5 @@ pub mod Plain
 pub mod ClientStreams
 pub mod OneListing
 pub mod OptionLemmas
-pub mod CommandLemmas
 pub mod Named
 pub mod Painted

@@ -6,7 +6,7 @@ use Rattle.std.specs.List.{list_any}
 use Rattle.std.specs.Str.{bytes_eq}
 use Rattle.pgp_trace.specs.View.{is_listed}
 
-any_mapped : (only : List (Bor (List ℕ))) (name : List ℕ) → list_any (λ other. bytes_eq other.now name) only ≡ list_any (λ other. bytes_eq other name) (map (λ other. other.now) only)
+pub any_mapped : (only : List (Bor (List ℕ))) (name : List ℕ) → list_any (λ other. bytes_eq other.now name) only ≡ list_any (λ other. bytes_eq other name) (map (λ other. other.now) only)
 any_mapped [] name = refl
 any_mapped (x ∷ xs) name = ap (λ b. bytes_eq x.now name || b) (any_mapped xs name)
 

@@ -5,7 +5,6 @@ pub mod Unread
 pub mod Replication
 pub mod Secrets
 pub mod Options
-pub mod Command
 pub mod Sides
 pub mod Client
 pub mod Hints
@@ -14,4 +13,3 @@ pub mod Listing
 pub mod Plain
 pub mod ClientSecrets
 pub mod Steps
-pub mod Asked

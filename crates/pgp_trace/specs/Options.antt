@@ -1,10 +1,18 @@
 -- The options of a listing, as words spell them.
-use Rattle.std.specs.Prelude.{◌≡◌, ◌≢◌, ℕ, Bool, true, false, List, [], ◌∷◌, ◌++◌, ◌==◌, codes}
-use Rattle.std.specs.List.{flat_map, list_any, slice_split}
+use Rattle.std.specs.Prelude.{◌≡◌, ◌≢◌, ℕ, Bool, true, false, List, [], ◌∷◌, ◌++◌, ◌==◌, codes, map}
+use Rattle.std.specs.Borrow.{Bor}
+use Rattle.std.specs.List.{flat_map, list_any, slice_split, AllByRecursion}
+use Rattle.std.specs.Str.{bytes_eq}
 use Rattle.pgp_frontend_read.specs.declared.message.PasswordKind.{PasswordKind}
 use Rattle.pgp_frontend_read.specs.declared.message.PasswordKind.TheVariants.{Password, Initial, Response}
+use Rattle.pgp_trace.specs.declared.marking.Marking.{Marking}
 use Rattle.pgp_trace.specs.declared.options.Choice.{Choice}
-use Rattle.pgp_trace.specs.declared.options.Choice.TheVariants.{AsJson, Full, Secrets, Resume, Replication, Only, Color, Kind}
+use Rattle.pgp_trace.specs.declared.options.Choice.TheVariants.{AsJson, Full, Secrets, Resume, Replication, Only, Color, Kind, Time, Requests, Summary, Raw}
+use Rattle.pgp_trace.specs.declared.options.Clock.{Clock}
+use Rattle.pgp_trace.specs.declared.options.Clock.TheVariants.{Absolute, Relative}
+use Rattle.pgp_trace.specs.declared.options.Listing.{Listing}
+use Rattle.pgp_trace.specs.declared.options.Listing.TheVariants.{Server, Client, Session}
+use Rattle.pgp_trace.specs.declared.options.Options as code
 use Rattle.pgp_trace.specs.declared.options.When.{When}
 use Rattle.pgp_trace.specs.declared.options.When.TheVariants.{Auto, Always, Never}
 use Rattle.pgp_line.specs.Styles.{style_of}
@@ -20,76 +28,64 @@ when_word Auto = codes "auto"
 when_word Always = codes "always"
 when_word Never = codes "never"
 
--- the words of one
+abbrev pub clock_word : Clock → List ℕ
+clock_word Absolute = codes "absolute"
+clock_word Relative = codes "relative"
+
+-- the first word of one, and what stands after it
+abbrev pub word_of : Choice → List ℕ
+word_of AsJson = codes "--json"
+word_of Full = codes "--full"
+word_of Secrets = codes "--secrets"
+word_of Resume = codes "--resume"
+word_of Replication = codes "--replication"
+word_of (Only names) = codes "--only"
+word_of (Color when) = codes "--color"
+word_of (Kind kind) = codes "--password-kind"
+word_of (Time clock) = codes "--time"
+word_of Requests = codes "--requests"
+word_of Summary = codes "--summary"
+word_of Raw = codes "--raw"
+
+abbrev pub argument_of : Choice → List (List ℕ)
+argument_of (Only names) = names.now ∷ []
+argument_of (Color when) = when_word when ∷ []
+argument_of (Kind kind) = kind_word kind ∷ []
+argument_of (Time clock) = clock_word clock ∷ []
+argument_of choice = []
+
 abbrev pub spelled : Choice → List (List ℕ)
-spelled AsJson = codes "--json" ∷ []
-spelled Full = codes "--full" ∷ []
-spelled Secrets = codes "--secrets" ∷ []
-spelled Resume = codes "--resume" ∷ []
-spelled Replication = codes "--replication" ∷ []
-spelled (Only names) = codes "--only" ∷ names.now ∷ []
-spelled (Color when) = codes "--color" ∷ when_word when ∷ []
-spelled (Kind kind) = codes "--password-kind" ∷ kind_word kind ∷ []
+spelled choice = word_of choice ∷ argument_of choice
 
-abbrev pub is_json : Choice → Bool
-is_json AsJson = true
-is_json Full = false
-is_json Secrets = false
-is_json Resume = false
-is_json Replication = false
-is_json (Only names) = false
-is_json (Color when) = false
-is_json (Kind kind) = false
+-- The options that each listing has. A recording begins with its connection, and the server says in it which a client's messages of tag `p` are, and whether
+-- the stream is one of replication.
+abbrev pub options_in : Listing → List (List ℕ)
+options_in Server = codes "--json" ∷ codes "--full" ∷ codes "--secrets" ∷ codes "--resume" ∷ codes "--only" ∷ codes "--color" ∷ []
+options_in Client = codes "--json" ∷ codes "--full" ∷ codes "--secrets" ∷ codes "--resume" ∷ codes "--only" ∷ codes "--color" ∷ codes "--password-kind" ∷ codes "--replication" ∷ []
+options_in Session = codes "--json" ∷ codes "--full" ∷ codes "--secrets" ∷ codes "--requests" ∷ codes "--raw" ∷ codes "--summary" ∷ codes "--time" ∷ codes "--only" ∷ codes "--color" ∷ []
 
-abbrev pub is_full : Choice → Bool
-is_full AsJson = false
-is_full Full = true
-is_full Secrets = false
-is_full Resume = false
-is_full Replication = false
-is_full (Only names) = false
-is_full (Color when) = false
-is_full (Kind kind) = false
+abbrev pub has_word : List (List ℕ) → List ℕ → Bool
+has_word has word = list_any (λ other. bytes_eq other word) has
 
-abbrev pub is_secrets : Choice → Bool
-is_secrets AsJson = false
-is_secrets Full = false
-is_secrets Secrets = true
-is_secrets Resume = false
-is_secrets Replication = false
-is_secrets (Only names) = false
-is_secrets (Color when) = false
-is_secrets (Kind kind) = false
+abbrev pub IsOneOf : List (List ℕ) → Choice → Type 0
+IsOneOf has choice = has_word has (word_of choice) ≡ true
 
-abbrev pub is_resume : Choice → Bool
-is_resume AsJson = false
-is_resume Full = false
-is_resume Secrets = false
-is_resume Resume = true
-is_resume Replication = false
-is_resume (Only names) = false
-is_resume (Color when) = false
-is_resume (Kind kind) = false
+-- What options come to: of which style lines are, the names of the messages that are listed, and whether lines have colours; whether a stream is taken in
+-- mid-session, whether it is one of replication, and which a client's messages of tag `p` are, from the first on; and what the marks of a recording say.
+pub record Chosen : Type 0 where
+  pub json : Bool
+  pub full : Bool
+  pub secrets : Bool
+  pub resume : Bool
+  pub replicating : Bool
+  pub only : List (List ℕ)
+  pub colored : Bool
+  pub kinds : List PasswordKind
+  pub marking : Marking
 
-abbrev pub is_replication : Choice → Bool
-is_replication AsJson = false
-is_replication Full = false
-is_replication Secrets = false
-is_replication Resume = false
-is_replication Replication = true
-is_replication (Only names) = false
-is_replication (Color when) = false
-is_replication (Kind kind) = false
-
-abbrev pub kind_in : Choice → List PasswordKind
-kind_in AsJson = []
-kind_in Full = []
-kind_in Secrets = []
-kind_in Resume = []
-kind_in Replication = []
-kind_in (Only names) = []
-kind_in (Color when) = []
-kind_in (Kind kind) = kind ∷ []
+-- with none, where a terminal shows the listing or not
+abbrev pub nothing_chosen : (terminal : Bool) → Chosen
+nothing_chosen terminal = record { json = false; full = false; secrets = false; resume = false; replicating = false; only = []; colored = terminal; kinds = []; marking = record { absolute = false; numbered = false; summed = false; raw = false } }
 
 abbrev pub is_comma : ℕ → Bool
 is_comma byte = byte == 44
@@ -98,56 +94,59 @@ is_comma byte = byte == 44
 abbrev pub names_in : List ℕ → List (List ℕ)
 names_in word = word ∷ slice_split is_comma word
 
-abbrev pub only_in : Choice → List (List ℕ)
-only_in AsJson = []
-only_in Full = []
-only_in Secrets = []
-only_in Resume = []
-only_in Replication = []
-only_in (Only names) = names_in names.now
-only_in (Color when) = []
-only_in (Kind kind) = []
-
 -- whether a listing has colours that a terminal shows or not
 abbrev pub is_colored : (terminal : Bool) → When → Bool
 is_colored terminal Auto = terminal
 is_colored terminal Always = true
 is_colored terminal Never = false
 
-abbrev pub colors_in : (terminal : Bool) → Choice → List Bool
-colors_in terminal AsJson = []
-colors_in terminal Full = []
-colors_in terminal Secrets = []
-colors_in terminal Resume = []
-colors_in terminal Replication = []
-colors_in terminal (Only names) = []
-colors_in terminal (Color when) = is_colored terminal when ∷ []
-colors_in terminal (Kind kind) = []
+abbrev pub is_absolute : Clock → Bool
+is_absolute Absolute = true
+is_absolute Relative = false
 
--- the last of them, or the first where no other follows
-abbrev pub last_of : Bool → List Bool → Bool
-last_of first [] = first
-last_of first (next ∷ more) = last_of next more
+-- what one changes of marks: of those that say what times are counted from the last counts, and for a summary requests are numbered
+abbrev pub marks : Choice → Marking → Marking
+marks (Time clock) m = record { absolute = is_absolute clock; numbered = m.numbered; summed = m.summed; raw = m.raw }
+marks Requests m = record { absolute = m.absolute; numbered = true; summed = m.summed; raw = m.raw }
+marks Summary m = record { absolute = m.absolute; numbered = true; summed = true; raw = m.raw }
+marks Raw m = record { absolute = m.absolute; numbered = m.numbered; summed = m.summed; raw = true }
+marks choice m = m
 
--- The words are options, one after another, in any order. They ask for a listing that looks so where a terminal shows it or not, and name these kinds in
--- order; and they say whether the stream is taken in mid-session, and whether it is one of replication. Of those that say when a listing has colours the last counts.
-pub record AreOptions (terminal : Bool) (words : List (List ℕ)) (view : View) (kinds : List PasswordKind) (resume replicating : Bool) : Type 0 where
+-- What one more changes. Of those that say when a listing has colours the last counts.
+abbrev pub chooses : (terminal : Bool) → Chosen → Choice → Chosen
+chooses terminal o AsJson = record { json = true; full = o.full; secrets = o.secrets; resume = o.resume; replicating = o.replicating; only = o.only; colored = o.colored; kinds = o.kinds; marking = o.marking }
+chooses terminal o Full = record { json = o.json; full = true; secrets = o.secrets; resume = o.resume; replicating = o.replicating; only = o.only; colored = o.colored; kinds = o.kinds; marking = o.marking }
+chooses terminal o Secrets = record { json = o.json; full = o.full; secrets = true; resume = o.resume; replicating = o.replicating; only = o.only; colored = o.colored; kinds = o.kinds; marking = o.marking }
+chooses terminal o Resume = record { json = o.json; full = o.full; secrets = o.secrets; resume = true; replicating = o.replicating; only = o.only; colored = o.colored; kinds = o.kinds; marking = o.marking }
+chooses terminal o Replication = record { json = o.json; full = o.full; secrets = o.secrets; resume = o.resume; replicating = true; only = o.only; colored = o.colored; kinds = o.kinds; marking = o.marking }
+chooses terminal o (Only names) = record { json = o.json; full = o.full; secrets = o.secrets; resume = o.resume; replicating = o.replicating; only = o.only ++ names_in names.now; colored = o.colored; kinds = o.kinds; marking = o.marking }
+chooses terminal o (Color when) = record { json = o.json; full = o.full; secrets = o.secrets; resume = o.resume; replicating = o.replicating; only = o.only; colored = is_colored terminal when; kinds = o.kinds; marking = o.marking }
+chooses terminal o (Kind kind) = record { json = o.json; full = o.full; secrets = o.secrets; resume = o.resume; replicating = o.replicating; only = o.only; colored = o.colored; kinds = o.kinds ++ kind ∷ []; marking = o.marking }
+chooses terminal o choice = record { json = o.json; full = o.full; secrets = o.secrets; resume = o.resume; replicating = o.replicating; only = o.only; colored = o.colored; kinds = o.kinds; marking = marks choice o.marking }
+
+-- what all do, one after another
+abbrev pub chosen_by : (terminal : Bool) → Chosen → List Choice → Chosen
+chosen_by terminal o [] = o
+chosen_by terminal o (choice ∷ more) = chosen_by terminal (chooses terminal o choice) more
+
+-- The words are options that the listing has, one after another, in any order, and come to this where a terminal shows the listing or not.
+pub record AreOptions (terminal : Bool) (has words : List (List ℕ)) (chosen : Chosen) : Type 0 where
   pub choices : List Choice
   pub spelling : words ≡ flat_map spelled choices
-  pub style : view.style ≡ style_of (list_any is_json choices) (list_any is_full choices) (list_any is_secrets choices)
-  pub only : view.only ≡ flat_map only_in choices
-  pub colored : view.colored ≡ last_of terminal (flat_map (colors_in terminal) choices)
-  pub named : kinds ≡ flat_map kind_in choices
-  pub resumed : resume ≡ list_any is_resume choices
-  pub replicated : replicating ≡ list_any is_replication choices
+  pub each : AllByRecursion (IsOneOf has) choices
+  pub comes_to : chosen ≡ chosen_by terminal (nothing_chosen terminal) choices
 
--- the words are no options
-abbrev pub AreNoOptions : List (List ℕ) → Type 0
-AreNoOptions words = (choices : List Choice) → words ≢ flat_map spelled choices
+-- the words are no such
+abbrev pub AreNoOptions : List (List ℕ) → List (List ℕ) → Type 0
+AreNoOptions has words = (choices : List Choice) → AllByRecursion (IsOneOf has) choices → words ≢ flat_map spelled choices
 
 -- no option stands first
 abbrev pub BeginsWithNone : List (List ℕ) → Type 0
 BeginsWithNone words = (choice : Choice) (more : List (List ℕ)) → words ≢ spelled choice ++ more
+
+-- none that the listing has
+abbrev pub BeginsWithNoneOf : List (List ℕ) → List (List ℕ) → Type 0
+BeginsWithNoneOf has words = (choice : Choice) (more : List (List ℕ)) → IsOneOf has choice → words ≢ spelled choice ++ more
 
 -- the word doesn't say when
 abbrev pub SaysNoWhen : List ℕ → Type 0
@@ -156,3 +155,25 @@ SaysNoWhen word = (when : When) → word ≢ when_word when
 -- the word names no kind
 abbrev pub NamesNoKind : List ℕ → Type 0
 NamesNoKind word = (kind : PasswordKind) → word ≢ kind_word kind
+
+-- the word says nothing of times
+abbrev pub SaysNoClock : List ℕ → Type 0
+SaysNoClock word = (clock : Clock) → word ≢ clock_word clock
+
+-- how a listing looks for which this is chosen
+abbrev pub view_by : Chosen → View
+view_by o = record { style = style_of o.json o.full o.secrets; only = o.only; colored = o.colored }
+
+-- what the code's options come to
+abbrev pub chosen_of : {A : Type 0} → code.Options A → Chosen
+chosen_of options = record {
+  json = options.json;
+  full = options.full;
+  secrets = options.secrets;
+  resume = options.resume;
+  replicating = options.replicating;
+  only = map (λ (name : Bor (List ℕ)). name.now) options.only.items;
+  colored = options.colored;
+  kinds = options.kinds.items;
+  marking = options.marking;
+}

@@ -1,13 +1,23 @@
 //! The options of a listing.
 
-ghost use Rattle.std.specs.Prelude.{◌≡◌, ◌++◌, ◌∷◌, ◌||◌, codes, drop, length, map, IfNone, IfOk, IfSome, OnErr, OnOk};
-ghost use Rattle.pgp_trace.specs.Options.{AreNoOptions, AreOptions, BeginsWithNone, NamesNoKind, SaysNoWhen, colors_in, is_colored, is_full, is_json, is_replication, is_resume, is_secrets, kind_in, kind_word, last_of, names_in, only_in, spelled, when_word};
-ghost use Rattle.pgp_line.specs.Styles.{style_of};
-ghost use Rattle.pgp_trace.specs.Asked.{looks};
+ghost use Rattle.std.specs.Prelude.{◌≡◌, ◌++◌, ◌∷◌, true, codes, drop, length, map, IfNone, IfOk, IfSome, OnErr, OnOk};
+ghost use Rattle.pgp_trace.specs.Options.{AreNoOptions, AreOptions, BeginsWithNone, BeginsWithNoneOf, IsOneOf, NamesNoKind, SaysNoClock, SaysNoWhen, chooses, chosen_of, clock_word, has_word, is_absolute, is_colored, kind_word, marks, names_in, nothing_chosen, options_in, spelled, when_word};
 
+use crate::marking::Marking;
 use pgp_base::Memory;
 use pgp_frontend_read::PasswordKind;
 use std::alloc::AllocError;
+
+/// What is listed.
+#[derive(Debug, Clone, Copy)]
+pub enum Listing {
+    /// What a server sent.
+    Server,
+    /// What a client sent.
+    Client,
+    /// A recording of both.
+    Session,
+}
 
 /// When a listing has colours.
 #[derive(Debug, Clone, Copy)]
@@ -16,6 +26,15 @@ pub enum When {
     Auto,
     Always,
     Never,
+}
+
+/// What the times of a recording are counted from.
+#[derive(Debug, Clone, Copy)]
+pub enum Clock {
+    /// From 1970-01-01 UTC.
+    Absolute,
+    /// From the first chunk.
+    Relative,
 }
 
 /// An option of a listing.
@@ -33,6 +52,13 @@ pub enum Choice<'a> {
     Color(When),
     /// Which the next message of tag `p` is that none names yet.
     Kind(PasswordKind),
+    Time(Clock),
+    /// Requests are numbered.
+    Requests,
+    /// A table of what requests ran stands in the place of the lines.
+    Summary,
+    /// Values in binary format are shown as their bytes.
+    Raw,
 }
 
 /// What the options of a listing come to.
@@ -49,9 +75,54 @@ pub struct Options<'a, A: Memory> {
     pub colored: bool,
     /// Which the messages of tag `p` are, from the first on.
     pub kinds: Vec<PasswordKind, A>,
+    /// What the marks of a recording say.
+    pub marking: Marking,
 }
 
-/// Reads the options of a listing, which a terminal shows or not, or returns nothing where the words are no such.
+const SERVER: &[&str] = &[
+    "--json",
+    "--full",
+    "--secrets",
+    "--resume",
+    "--only",
+    "--color",
+];
+
+const CLIENT: &[&str] = &[
+    "--json",
+    "--full",
+    "--secrets",
+    "--resume",
+    "--only",
+    "--color",
+    "--password-kind",
+    "--replication",
+];
+
+const SESSION: &[&str] = &[
+    "--json",
+    "--full",
+    "--secrets",
+    "--requests",
+    "--raw",
+    "--summary",
+    "--time",
+    "--only",
+    "--color",
+];
+
+/// The options that a listing has.
+pub fn options_in(listing: Listing) -> &'static [&'static str]
+    ensures { map (λ word. word.now) result.now ≡ options_in listing }
+{
+    match listing {
+        Listing::Server => SERVER,
+        Listing::Client => CLIENT,
+        Listing::Session => SESSION,
+    }
+}
+
+/// Reads options, of those that the listing has, which a terminal shows or not, or returns nothing where the words are no such.
 ///
 /// # Errors
 ///
@@ -59,25 +130,17 @@ pub struct Options<'a, A: Memory> {
 pub fn options_of<'a, A: Memory>(
     alloc: A,
     terminal: bool,
+    has: &[&str],
     words: &[&'a str],
 ) -> Result<Option<Options<'a, A>>, AllocError>
-    ensures known { IfOk result (λ r. IfSome r (λ options. AreOptions terminal (map (λ word. word.now) words.now) (looks (style_of options.json options.full options.secrets) options.only.items options.colored) options.kinds.items options.resume options.replicating)) }
-    ensures other { IfOk result (λ r. IfNone r (AreNoOptions (map (λ word. word.now) words.now))) }
+    ensures known { IfOk result (λ r. IfSome r (λ options. AreOptions terminal (map (λ word. word.now) has.now) (map (λ word. word.now) words.now) (chosen_of options))) }
+    ensures other { IfOk result (λ r. IfNone r (AreNoOptions (map (λ word. word.now) has.now) (map (λ word. word.now) words.now))) }
     ensures lacks { OnErr result A.Lacks }
 {
-    let mut options = Options {
-        json: false,
-        full: false,
-        secrets: false,
-        resume: false,
-        replicating: false,
-        only: Vec::new(alloc),
-        colored: terminal,
-        kinds: Vec::new(alloc),
-    };
+    let mut options = no_options(alloc, terminal);
     let mut at = 0;
     'each: while at < words.len() {
-        let Some(choice) = first_choice(&words[at..]) else {
+        let Some(choice) = first_of(has, &words[at..]) else {
             return Ok(None);
         };
         choose(terminal, choice, &mut options)?;
@@ -86,20 +149,35 @@ pub fn options_of<'a, A: Memory>(
     Ok(Some(options))
 }
 
+/// What no option comes to.
+fn no_options<'a, A: Memory>(alloc: A, terminal: bool) -> Options<'a, A>
+    ensures { chosen_of result ≡ nothing_chosen terminal }
+{
+    Options {
+        json: false,
+        full: false,
+        secrets: false,
+        resume: false,
+        replicating: false,
+        only: Vec::new(alloc),
+        colored: terminal,
+        kinds: Vec::new(alloc),
+        marking: Marking {
+            absolute: false,
+            numbered: false,
+            summed: false,
+            raw: false,
+        },
+    }
+}
+
 /// Adds an option.
-pub fn choose<'a, A: Memory>(
+fn choose<'a, A: Memory>(
     terminal: bool,
     choice: Choice<'a>,
     options: &mut Options<'a, A>,
 ) -> Result<(), AllocError>
-    ensures json { OnOk result (options.new.json ≡ (is_json choice.entry || options.old.json)) }
-    ensures full { OnOk result (options.new.full ≡ (is_full choice.entry || options.old.full)) }
-    ensures secrets { OnOk result (options.new.secrets ≡ (is_secrets choice.entry || options.old.secrets)) }
-    ensures resume { OnOk result (options.new.resume ≡ (is_resume choice.entry || options.old.resume)) }
-    ensures replicating { OnOk result (options.new.replicating ≡ (is_replication choice.entry || options.old.replicating)) }
-    ensures only { OnOk result (map (λ name. name.now) options.new.only.items ≡ map (λ name. name.now) options.old.only.items ++ only_in choice.entry) }
-    ensures colored { OnOk result (options.new.colored ≡ last_of options.old.colored (colors_in terminal choice.entry)) }
-    ensures kinds { OnOk result (options.new.kinds.items ≡ options.old.kinds.items ++ kind_in choice.entry) }
+    ensures chosen { OnOk result (chosen_of options.new ≡ chooses terminal (chosen_of options.old) choice.entry) }
     ensures lacks { OnErr result A.Lacks }
 {
     match choice {
@@ -132,6 +210,36 @@ pub fn choose<'a, A: Memory>(
             A::push(&mut options.kinds, kind)?;
             Ok(())
         }
+        Choice::Time(_) | Choice::Requests | Choice::Summary | Choice::Raw => {
+            mark(choice, &mut options.marking);
+            Ok(())
+        }
+    }
+}
+
+/// Adds an option that says something of marks.
+fn mark(choice: Choice<'_>, marking: &mut Marking)
+    ensures { marking.new ≡ marks choice.entry marking.old }
+{
+    match choice {
+        Choice::Time(clock) => marking.absolute = is_absolute(clock),
+        Choice::Requests => marking.numbered = true,
+        Choice::Summary => {
+            marking.numbered = true;
+            marking.summed = true;
+        }
+        Choice::Raw => marking.raw = true,
+        _ => {}
+    }
+}
+
+/// Whether times are counted from 1970 on.
+fn is_absolute(clock: Clock) -> bool
+    ensures { result ≡ is_absolute clock }
+{
+    match clock {
+        Clock::Absolute => true,
+        Clock::Relative => false,
     }
 }
 
@@ -159,17 +267,36 @@ fn add_names<'a, A: Memory>(word: &'a str, names: &mut Vec<&'a str, A>) -> Resul
 }
 
 /// How many words an option has.
-pub fn len(choice: Choice<'_>) -> usize
+fn len(choice: Choice<'_>) -> usize
     ensures { result ≡ length (spelled choice.entry) }
 {
     match choice {
-        Choice::AsJson | Choice::Full | Choice::Secrets | Choice::Resume | Choice::Replication => 1,
-        Choice::Only(_) | Choice::Color(_) | Choice::Kind(_) => 2,
+        Choice::Only(_) | Choice::Color(_) | Choice::Kind(_) | Choice::Time(_) => 2,
+        _ => 1,
     }
 }
 
+/// The option that stands first, where it is one that the listing has.
+fn first_of<'a>(has: &[&str], words: &[&'a str]) -> Option<Choice<'a>>
+    ensures some { IfSome result (λ choice. IsOneOf (map (λ word. word.now) has.now) choice × (map (λ word. word.now) words.now ≡ spelled choice ++ map (λ word. word.now) (drop (length (spelled choice)) words.now))) }
+    ensures none { IfNone result (BeginsWithNoneOf (map (λ word. word.now) has.now) (map (λ word. word.now) words.now)) }
+{
+    let (word, _) = words.split_first()?;
+    if !has_word(has, word) {
+        return None;
+    }
+    first_choice(words)
+}
+
+/// Whether the word is one of these.
+fn has_word(has: &[&str], word: &str) -> bool
+    ensures { result ≡ has_word (map (λ other. other.now) has.now) word.now }
+{
+    has.contains(&word)
+}
+
 /// The option that stands first.
-pub fn first_choice<'a>(words: &[&'a str]) -> Option<Choice<'a>>
+fn first_choice<'a>(words: &[&'a str]) -> Option<Choice<'a>>
     ensures some { IfSome result (λ choice. map (λ word. word.now) words.now ≡ spelled choice ++ map (λ word. word.now) (drop (length (spelled choice)) words.now)) }
     ensures none { IfNone result (BeginsWithNone (map (λ word. word.now) words.now)) }
 {
@@ -183,6 +310,10 @@ pub fn first_choice<'a>(words: &[&'a str]) -> Option<Choice<'a>>
         "--only" => first_names(rest),
         "--color" => first_when(rest),
         "--password-kind" => first_kind(rest),
+        "--time" => first_clock(rest),
+        "--requests" => Some(Choice::Requests),
+        "--summary" => Some(Choice::Summary),
+        "--raw" => Some(Choice::Raw),
         _ => None,
     }
 }
@@ -238,6 +369,28 @@ fn kind_of(word: &str) -> Option<PasswordKind>
         "password" => Some(PasswordKind::Password),
         "initial" => Some(PasswordKind::Initial),
         "response" => Some(PasswordKind::Response),
+        _ => None,
+    }
+}
+
+/// What times are counted from, by the word that stands first, after the one of times.
+fn first_clock<'a>(words: &[&str]) -> Option<Choice<'a>>
+    ensures some { IfSome result (λ choice. (length (spelled choice) ≡ 2) × (codes "--time" ∷ map (λ word. word.now) words.now ≡ spelled choice ++ map (λ word. word.now) (drop 1 words.now))) }
+    ensures none { IfNone result (BeginsWithNone (codes "--time" ∷ map (λ word. word.now) words.now)) }
+{
+    let (word, _) = words.split_first()?;
+    let clock = clock_of(word)?;
+    Some(Choice::Time(clock))
+}
+
+/// What times are counted from, by a word.
+fn clock_of(word: &str) -> Option<Clock>
+    ensures some { IfSome result (λ clock. word.now ≡ clock_word clock) }
+    ensures none { IfNone result (SaysNoClock word.now) }
+{
+    match word {
+        "absolute" => Some(Clock::Absolute),
+        "relative" => Some(Clock::Relative),
         _ => None,
     }
 }

@@ -1,16 +1,23 @@
-use Rattle.std.proofs.Common.{◌+◌, rules, refl, map, drop}
+use Rattle.std.proofs.Common.{◌+◌, rules, refl, map, drop, arith}
 use Rattle.std.proofs.lemmas.List.{take_rest}
-use Rattle.pgp_trace.proofs.OptionLemmas.{received_wrong, place_more, place_left}
+use Rattle.pgp_trace.specs.Options.{chosen_of}
+use Rattle.pgp_trace.proofs.OptionLemmas.{place_more, received_all, received_none, received_wrong}
 use Rattle.pgp_trace.proofs.options.options_of.Goals as goal
 
-pub returns-in_default-clause-other : goal.returns-in_default-clause-other
-returns-in_default-clause-other g c =
-    let words = c.args.words.now in
-    let rest = map (λ word. word.now) (drop c.each.at words) in
-    received_wrong c.args.terminal (map (λ word. word.now) words) rest c.each.options.json c.each.options.full c.each.options.secrets c.each.options.resume c.each.options.replicating (map (λ name. name.now) c.each.options.only.items) c.each.options.colored c.each.options.kinds.items c.each.invariant.1 (place_left (λ word. word.now) words c.each.at c.each-test.true) (rw take_rest at c.in_default.ensures.none)
+pub each-init : goal.each-init
+each-init g c = (omega arith, received_none c.args.terminal (map (λ word. word.now) c.args.has.now) (map (λ word. word.now) c.args.words.now) (chosen_of c.no_options-options.result) c.no_options-options.ensures)
 
 pub each-preserved : goal.each-preserved
 each-preserved g c =
-    place_more c.args.terminal (λ word. word.now) c.args.words.now c.each.at c.len-at.result (c.each.at + c.len-at.result) c.each.options.json c.each.options.full c.each.options.secrets c.each.options.resume c.each.options.replicating c.choose.new.options.json c.choose.new.options.full c.choose.new.options.secrets c.choose.new.options.resume c.choose.new.options.replicating
-    (map (λ name. name.now) c.each.options.only.items) (map (λ name. name.now) c.choose.new.options.only.items) c.each.options.colored c.choose.new.options.colored c.each.options.kinds.items c.choose.new.options.kinds.items c.in-Some.choice c.each-test.true c.each.invariant.1 (search rules) c.len-at.ensures refl
-    c.in_ok-choose.ensures.json c.in_ok-choose.ensures.full c.in_ok-choose.ensures.secrets c.in_ok-choose.ensures.resume c.in_ok-choose.ensures.replicating c.in_ok-choose.ensures.only c.in_ok-choose.ensures.colored c.in_ok-choose.ensures.kinds
+    place_more c.args.terminal (λ word. word.now) (map (λ word. word.now) c.args.has.now) c.args.words.now c.each.at c.len-at.result (c.each.at + c.len-at.result) (chosen_of c.each.options) (chosen_of c.choose.new.options) c.in-Some.choice
+    c.each-test.true c.each.invariant.1 (search rules) (search rules) c.len-at.ensures refl c.in_ok-choose.ensures.chosen
+
+pub returns-in_default-clause-other : goal.returns-in_default-clause-other
+returns-in_default-clause-other g c =
+    received_wrong c.args.terminal (λ word. word.now) (map (λ word. word.now) c.args.has.now) (map (λ word. word.now) c.args.words.now) c.args.words.now c.each.at (chosen_of c.each.options)
+    c.each-test.true c.each.invariant.1 (rw take_rest at c.in_default.ensures.none)
+
+pub returns-clause-known : goal.returns-clause-known
+returns-clause-known g c =
+    received_all c.args.terminal (λ word. word.now) (map (λ word. word.now) c.args.has.now) (map (λ word. word.now) c.args.words.now) c.args.words.now c.each.at (chosen_of c.each.options)
+    c.each-test.false c.each.invariant.1

@@ -1,10 +1,11 @@
 -- Some options came, and the other words stand after them.
 use Rattle.std.proofs.Common.{◌≤◌, ◌-◌, map, drop, length}
+use Rattle.pgp_trace.specs.Options.{chosen_of}
 use Rattle.pgp_trace.proofs.OptionLemmas.{Received}
 use Rattle.pgp_trace.proofs.options.options_of.Given as goal
 
 abbrev pub invariant-each : goal.invariant-each
-invariant-each g l = (l.at ≤ length l.words) × Received l.terminal (map (λ word. word.now) l.words) (map (λ word. word.now) (drop l.at l.words)) l.options.json l.options.full l.options.secrets l.options.resume l.options.replicating (map (λ name. name.now) l.options.only.items) l.options.colored l.options.kinds.items
+invariant-each g l = (l.at ≤ length l.words) × Received l.terminal (map (λ word. word.now) l.has) (map (λ word. word.now) l.words) (map (λ word. word.now) (drop l.at l.words)) (chosen_of l.options)
 
 abbrev pub decreases-each : goal.decreases-each
 decreases-each g l = length l.words - l.at

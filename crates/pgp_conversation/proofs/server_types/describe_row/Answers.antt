@@ -1,0 +1,14 @@
+use Rattle.std.proofs.Common.{◌≡◌, ◌∙◌, Some, ap, refl, rules}
+use Rattle.pgp_conversation.specs.Typed.{columns_of}
+use Rattle.pgp_conversation.specs.Types.{described, first}
+use Rattle.pgp_conversation.specs.TypesKept.{types_of}
+use Rattle.pgp_conversation.proofs.RowLemmas.{ok_then}
+use Rattle.pgp_conversation.proofs.server_types.describe_row.Goals as goal
+
+pub returns-in-Some-clause-hears : goal.returns-in-Some-clause-hears
+returns-in-Some-clause-hears g c =
+    let fields = c.fields.result in
+    let old = types_of c.args.types.now in
+    let same : Some c.as_slice.result.now ≡ columns_of fields.items fields.end = search rules in
+    ok_then c.describe.result
+    (λ is. (columns_of fields.items fields.end, record { fields = fields.items; end = fields.end; list = c.fields.ensures.items; is = refl }, is ∙ ap (λ k. described (first c.args.number old.awaited) k old) same)) c.describe.ensures.described
