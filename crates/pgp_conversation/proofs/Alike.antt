@@ -1,17 +1,5 @@
 -- Messages that differ in their secrets alone are the same to what doesn't look at these.
-use Rattle.std.proofs.Common.{◌≡◌, ℕ, ℤ, List, get_or, Result, Ok, Err, Some, refl, ap, ◌∙◌}
-use Rattle.pgp_client.specs.Kinds.{kind_of, kind_of_tag, request_of, request_of_tag}
-use Rattle.pgp_message.specs.BackendMessage.{Authentication, AuthenticationGssContinue, AuthenticationMd5Password, AuthenticationSaslContinue, AuthenticationSaslFinal, BackendKeyData, Message}
-use Rattle.pgp_message.specs.Parts.{KeyData}
-use Rattle.pgp_base.specs.declared.error.Error.{Error}
-use Rattle.pgp_frontend.specs.ClientMessage.{ClientMessage, CancelRequest, PasswordMessage, SaslInitialResponse, SaslResponse}
-use Rattle.pgp_frontend_read.specs.declared.error.ClientError.{ClientError}
-use Rattle.pgp_trace.specs.ClientSecrets.{AlikeAnswers, AlikeMessages}
-use Rattle.pgp_trace.specs.Secrets.{Alike, AlikeResults}
-use Rattle.pgp_conversation.specs.Conversation.{asks, noted_by, requests}
-use Rattle.pgp_conversation.specs.Requests.{asked_by, heard_as, kind_by}
-use Rattle.pgp_conversation.specs.Summing.{asking_from, asking_of}
-use Rattle.pgp_conversation.specs.Typed.{Heard, Said, Sent, Unsaid}
+use Rattle.pgp_conversation.proofs.Common.{◌≡◌, ℕ, ℤ, List, get_or, Result, Ok, Err, Some, refl, ap, ◌∙◌, kind_of, kind_of_tag, request_of, request_of_tag, Authentication, AuthenticationGssContinue, AuthenticationMd5Password, AuthenticationSaslContinue, AuthenticationSaslFinal, BackendKeyData, Message, KeyData, Error, ClientMessage, CancelRequest, PasswordMessage, SaslInitialResponse, SaslResponse, ClientError, AlikeAnswers, AlikeMessages, Alike, AlikeResults, asks, noted_by, requests, asked_by, heard_as, kind_by, asking_from, asking_of, Heard, Said, Sent, Unsaid}
 use Rattle.pgp_conversation.proofs.TypedAlike.{AlikeSaid}
 
 module _ {X : Type 0} (f : ClientMessage → X) (passwords : (a b : List ℕ) → f (PasswordMessage a) ≡ f (PasswordMessage b)) (initials : (m n a b : List ℕ) → f (SaslInitialResponse m (Some a)) ≡ f (SaslInitialResponse n (Some b)))

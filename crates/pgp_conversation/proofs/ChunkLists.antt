@@ -1,21 +1,7 @@
 -- The lines of a chunk.
-use Rattle.std.proofs.Common.{◌≡◌, ℕ, ◌+◌, ◌≤◌, Bool, true, false, List, [], ◌++◌, length, take, drop, min, Option, Some, Result, Ok, Err, refl, sym, ap, subst, ◌∙◌, arith, length-append}
-use Rattle.std.specs.Prelude.{OnOk}
-use Rattle.std.proofs.lemmas.List.{append-nil, length-take}
+use Rattle.pgp_conversation.proofs.Common.{◌≡◌, ℕ, ◌+◌, ◌≤◌, Bool, true, false, List, [], ◌++◌, length, take, drop, min, Option, Some, Result, Ok, Err, refl, sym, ap, subst, ◌∙◌, arith, length-append, OnOk, append-nil, length-take, greatest, place_behind, Ends, View, stays_ended, Sender, Client, Server, Half, Known, Talk, ListsFrame, ListsFrames, NoFrames, OneFrame, first_time, now_at, side_in, with_numbers, mark, since, Numbers, at_time, Chunk, ListsBytes, ListsChunkTo, HeldHalf, HeldTalk, Holds, Keeps, ListsAllFrames}
 use Rattle.std.proofs.Math.Nat.{min-eq_left}
-use Rattle.pgp_program.specs.Words.{greatest}
-use Rattle.pgp_trace.specs.Listing.{place_behind}
-use Rattle.pgp_trace.specs.Sides.{Ends}
-use Rattle.pgp_trace.specs.View.{View}
-use Rattle.pgp_trace.proofs.Ends.{stays_ended}
 use Rattle.pgp_trace.proofs.Parts.{saturates}
-use Rattle.pgp_conversation.specs.declared.chunk.Sender.{Sender}
-use Rattle.pgp_conversation.specs.declared.chunk.Sender.TheVariants.{Client, Server}
-use Rattle.pgp_conversation.specs.Conversation.{Half, Known, Talk, ListsFrame, ListsFrames, NoFrames, OneFrame, first_time, now_at, side_in, with_numbers}
-use Rattle.pgp_conversation.specs.Marks.{mark, since}
-use Rattle.pgp_conversation.specs.Requests.{Numbers, at_time}
-use Rattle.pgp_conversation.specs.Recording.{Chunk}
-use Rattle.pgp_conversation.specs.Steps.{ListsBytes, ListsChunkTo, HeldHalf, HeldTalk, Holds, Keeps, ListsAllFrames}
 use Rattle.pgp_conversation.proofs.FrameLists.{other_ends}
 
 not_both : (b : Bool) → b ≡ true → b ≡ false → ⊥

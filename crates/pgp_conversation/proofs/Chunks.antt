@@ -1,12 +1,5 @@
 -- A chunk as it is read, and as the grammar says.
-use Rattle.std.proofs.Common.{◌≡◌, ◌≢◌, ℕ, ◌+◌, ◌<◌, ◌≤◌, ◌^◌, List, ◌∷◌, ◌++◌, length, take, drop, sym, ap, subst, ◌∙◌, arith, append_assoc}
-use Rattle.std.specs.Int.{w32, w64, from_be_bytes}
-use Rattle.std.proofs.lemmas.List.{take-append-drop, length-take}
-use Rattle.pgp_base.specs.Wire.{uint32, uint64, IsBytes}
-use Rattle.pgp_base.proofs.PartLemmas.{IsBytes-drop, IsBytes-take, oid_number, uint64_number}
-use Rattle.pgp_conversation.specs.declared.chunk.Sender.{Sender}
-use Rattle.pgp_conversation.specs.Recording.{IsShort, arrow, magic}
-use Rattle.pgp_conversation.specs.Steps.{TakesChunk}
+use Rattle.pgp_conversation.proofs.Common.{◌≡◌, ◌≢◌, ℕ, ◌+◌, ◌<◌, ◌≤◌, ◌^◌, List, ◌∷◌, ◌++◌, length, take, drop, sym, ap, subst, ◌∙◌, arith, append_assoc, w32, w64, from_be_bytes, take-append-drop, length-take, uint32, uint64, IsBytes, IsBytes-drop, IsBytes-take, oid_number, uint64_number, Sender, IsShort, arrow, magic, TakesChunk}
 
 -- the time and the length after the first byte, as they are cut off
 pub record AreCut (bytes a more b behind : List ℕ) : Type 0 where

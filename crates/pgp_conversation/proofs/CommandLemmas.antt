@@ -1,6 +1,5 @@
 -- Words that ask for nothing that there is.
-use Rattle.std.proofs.Common.{◌≡◌, ◌≢◌, ℕ, Bool, List, [], ◌∷◌, get_or, drop, ap, subst, sym, refl, suc, length, ◌∙◌, arith}
-use Rattle.std.specs.Prelude.{codes}
+use Rattle.pgp_conversation.proofs.Common.{◌≡◌, ◌≢◌, ℕ, Bool, List, [], ◌∷◌, get_or, drop, ap, subst, sym, refl, suc, length, ◌∙◌, arith, codes}
 use Rattle.pgp_trace.specs.Options.{AreNoOptions, AreOptions, options_in}
 use Rattle.pgp_trace.specs.declared.options.Listing.{Listing}
 use Rattle.pgp_trace.specs.declared.options.Listing.TheVariants.{Server, Client, Session}

@@ -1,19 +1,6 @@
 -- What each side sent, and the lines of the server's stream alone.
-use Rattle.std.proofs.Common.{◌≡◌, ℕ, ◌+◌, List, [], ◌∷◌, ◌++◌, length, refl, sym, ap, subst, ◌∙◌, length-append, append_assoc}
-use Rattle.std.specs.List.{flat_map}
-use Rattle.std.proofs.lemmas.List.{append-nil}
-use Rattle.std.proofs.lemmas.List.Concat.{flat_map-cons}
-use Rattle.std.proofs.lemmas.Grind.{flat_map-append}
-use Rattle.pgp_trace.specs.Sides.{Ends}
-use Rattle.pgp_trace.specs.View.{View}
-use Rattle.pgp_trace.proofs.Ends.{nothing_ends}
-use Rattle.pgp_conversation.specs.declared.chunk.Sender.{Sender}
-use Rattle.pgp_conversation.specs.declared.chunk.Sender.TheVariants.{Client, Server}
-use Rattle.pgp_trace.specs.declared.marking.Marking.{Marking}
-use Rattle.pgp_conversation.specs.Conversation.{Half, Known, ListsChunk, ListsChunks, NoChunkListed, OneChunkListed, Talk, at_first, begins, first_time, half_in, now_at, other, side_in}
-use Rattle.pgp_conversation.specs.Marks.{mark, since}
+use Rattle.pgp_conversation.proofs.Common.{◌≡◌, ℕ, ◌+◌, List, [], ◌∷◌, ◌++◌, length, refl, sym, ap, subst, ◌∙◌, length-append, append_assoc, flat_map, append-nil, flat_map-cons, flat_map-append, Ends, View, nothing_ends, Sender, Client, Server, Marking, Half, Known, ListsChunk, ListsChunks, NoChunkListed, OneChunkListed, Talk, at_first, begins, first_time, half_in, now_at, other, side_in, mark, since, Chunk}
 use Rattle.pgp_conversation.specs.Order.{IsSplit, sent, sent_by}
-use Rattle.pgp_conversation.specs.Recording.{Chunk}
 use Rattle.pgp_conversation.proofs.FrameLists.{other_ends}
 
 sent_more : (who : Sender) (chunks : List Chunk) (chunk : Chunk) → sent who (chunks ++ chunk ∷ []) ≡ sent who chunks ++ sent_by who chunk.sender chunk.bytes

@@ -1,11 +1,5 @@
 -- What is said at the end of a run.
-use Rattle.std.proofs.Common.{◌≡◌, ℕ, List, [], ◌++◌, length, take, Option, Result, Ok, Err, ap, ◌∙◌, arith}
-use Rattle.std.specs.Prelude.{OnOk, OnErr}
-use Rattle.std.specs.Io.KnownBytes.{Appends}
-use Rattle.std.proofs.KnownBytes.{Appends-trans}
-use Rattle.std.proofs.lemmas.List.{append-nil, length-take, take-append-le}
-use Rattle.pgp_program.specs.Taken.{AppendsFront}
-use Rattle.pgp_trace.proofs.Fronts.{more_taken}
+use Rattle.pgp_conversation.proofs.Common.{◌≡◌, ℕ, List, [], ◌++◌, length, take, Option, Result, Ok, Err, ap, ◌∙◌, arith, OnOk, OnErr, Appends, Appends-trans, append-nil, length-take, take-append-le, AppendsFront, more_taken}
 
 -- a front of some bytes is one of more
 pub longer : (old new : Option (List ℕ)) (xs ys : List ℕ) → AppendsFront old new xs → AppendsFront old new (xs ++ ys)

@@ -1,27 +1,7 @@
 -- The lines of a side, a frame at a time.
-use Rattle.std.proofs.Common.{◌≡◌, ℕ, ◌+◌, ◌-◌, ◌<◌, ◌≤◌, Bool, true, false, List, [], ◌++◌, length, take, min, Option, refl, sym, ap, subst, ◌∙◌, arith, length-append, append_assoc}
-use Rattle.std.proofs.lemmas.List.{append-nil}
-use Rattle.std.proofs.Math.Seq.{take-append_seam}
-use Rattle.pgp_frontend_read.specs.declared.message.PasswordKind.{PasswordKind}
-use Rattle.pgp_program.specs.Words.{greatest}
-use Rattle.pgp_trace.specs.Listing.{place_behind, name_in}
-use Rattle.pgp_trace.specs.Sides.{Side, Server as ServerSide, Client as ClientSide, Ends}
-use Rattle.pgp_trace.specs.Steps.{HasLine}
-use Rattle.pgp_trace.specs.View.{View}
+use Rattle.pgp_conversation.proofs.Common.{◌≡◌, ℕ, ◌+◌, ◌-◌, ◌<◌, ◌≤◌, Bool, true, false, List, [], ◌++◌, length, take, min, Option, refl, sym, ap, subst, ◌∙◌, arith, length-append, append_assoc, append-nil, take-append_seam, PasswordKind, greatest, place_behind, name_in, Side, Ends, HasLine, View, Sender, Client, Server, Noted, Asks, Requests, Answers, Nothing, Told, Known, ListsFrame, ListsFrames, NoFrames, OneFrame, as_standby, note, noted_by, noted_in, other, replicates_in, side_in, text_of, told_by, with_kind, with_numbers, with_side, with_types, asking_from, asking_in, summed, word, Numbers, role_by, told_in, Learns, said_in, Reads, Types, ListsOneFrame}
+use Rattle.pgp_trace.specs.Sides.{Server as ServerSide, Client as ClientSide}
 use Rattle.pgp_trace.proofs.Shorter.{frame_has}
-use Rattle.pgp_conversation.specs.declared.chunk.Sender.{Sender}
-use Rattle.pgp_conversation.specs.declared.chunk.Sender.TheVariants.{Client, Server}
-use Rattle.pgp_conversation.specs.declared.expectation.Noted.{Noted}
-use Rattle.pgp_conversation.specs.declared.expectation.Noted.TheVariants.{Asks, Requests, Answers, Nothing}
-use Rattle.pgp_conversation.specs.declared.placement.Told.{Told}
-use Rattle.pgp_conversation.specs.Conversation.{Known, ListsFrame, ListsFrames, NoFrames, OneFrame, as_standby, note, noted_by, noted_in, other, replicates_in, side_in, text_of, told_by, with_kind, with_numbers, with_side, with_types}
-use Rattle.pgp_conversation.specs.Summing.{asking_from, asking_in, summed}
-use Rattle.pgp_conversation.specs.Marks.{word}
-use Rattle.pgp_conversation.specs.Requests.{Numbers, role_by, told_in}
-use Rattle.pgp_conversation.specs.Typed.{Learns, said_in}
-use Rattle.pgp_conversation.specs.TypedLines.{Reads}
-use Rattle.pgp_conversation.specs.Types.{Types}
-use Rattle.pgp_conversation.specs.Steps.{ListsOneFrame}
 
 passed_is : (bytes front rest : List ℕ) → bytes ≡ front ++ rest → length bytes - length rest ≡ length front
 passed_is bytes front rest e = omega (arith, ap length e, length-append front rest)

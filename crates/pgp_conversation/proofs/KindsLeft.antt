@@ -1,13 +1,7 @@
 -- The kinds that are left after a client's frame.
-use Rattle.std.proofs.Common.{◌≡◌, ℕ, suc, Bool, true, false, List, [], ◌∷◌, length, drop, refl, sym, ap, ◌∙◌, arith}
-use Rattle.std.specs.Prelude.{nat_lt, if◌then◌else◌}
-use Rattle.std.proofs.lemmas.Bool.{lt-ltb, le-ltb}
-use Rattle.pgp_frontend_read.specs.declared.message.PasswordKind.{PasswordKind}
-use Rattle.pgp_line.specs.declared.style.Style.{Style}
+use Rattle.pgp_conversation.proofs.Common.{◌≡◌, ℕ, suc, Bool, true, false, List, [], ◌∷◌, length, drop, refl, sym, ap, ◌∙◌, arith, nat_lt, if◌then◌else◌, lt-ltb, le-ltb, PasswordKind, Style, Line, Waits, Stops, Side, is_password, ListsNext}
 use Rattle.pgp_trace.specs.declared.frame.Next.{Next}
-use Rattle.pgp_trace.specs.declared.frame.Next.TheVariants.{Line, Waits, Stops}
-use Rattle.pgp_trace.specs.Sides.{Side, Server, Client, is_password}
-use Rattle.pgp_trace.specs.Steps.{ListsNext}
+use Rattle.pgp_trace.specs.Sides.{Server, Client}
 
 kinds_of : Side → List PasswordKind → List PasswordKind
 kinds_of (Client opened kinds replicating) none = kinds

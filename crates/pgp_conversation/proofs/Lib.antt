@@ -1,3 +1,4 @@
+mod Common
 pub mod Chunks
 pub mod KindsLeft
 pub mod Marked

@@ -1,10 +1,6 @@
 -- A line that is no object, with its mark.
-use Rattle.std.proofs.Common.{◌≡◌, ◌≢◌, ℕ, List, [], ◌∷◌, ◌++◌, Result, Ok, Err, refl, sym, ap, ◌∙◌, append_assoc}
-use Rattle.std.specs.Prelude.{OnOk, Bool, true, false, ◌==◌, if◌then◌else◌}
-use Rattle.std.proofs.lemmas.List.{append-nil}
-use Rattle.std.proofs.lemmas.Bool.{eqb-true}
-use Rattle.pgp_line.specs.declared.style.Form.TheVariants.{Json}
-use Rattle.pgp_conversation.specs.Marks.{marked}
+use Rattle.pgp_conversation.proofs.Common.{◌≡◌, ◌≢◌, ℕ, List, [], ◌∷◌, ◌++◌, Result, Ok, Err, refl, sym, ap, ◌∙◌, append_assoc, OnOk, ◌==◌, if◌then◌else◌, append-nil, eqb-true, Json, marked}
+use Rattle.std.specs.Prelude.{Bool, true, false}
 
 by_first : (b : Bool) (mark rest : List ℕ) (first : ℕ) → (first == 123) ≡ b → ((more : List ℕ) → first ∷ rest ≢ 123 ∷ more) → (if b then 123 ∷ mark ++ rest else mark ++ first ∷ rest) ≡ mark ++ first ∷ rest
 by_first true mark rest first e none = absurd (none rest (ap (λ x. x ∷ rest) (eqb-true first 123 e)))

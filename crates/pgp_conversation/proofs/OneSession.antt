@@ -1,30 +1,7 @@
 -- A recording has one listing.
-use Rattle.std.proofs.Common.{◌≡◌, ◌≢◌, ℕ, suc, ◌+◌, ◌<◌, ◌^◌, Bool, true, false, List, [], ◌∷◌, ◌++◌, length, take, drop, get_or, Option, refl, sym, ap, subst, ◌∙◌, arith, inl, inr, length-append, append_assoc}
-use Rattle.std.specs.List.{flat_map, AllByRecursion}
-use Rattle.std.proofs.lemmas.List.{append-nil}
-use Rattle.std.proofs.lemmas.List.Concat.{flat_map-cons}
-use Rattle.std.proofs.Math.Seq.{drop-append_seam, take-append_seam}
-use Rattle.std.specs.Int.{w32, w64, from_be_bytes}
-use Rattle.pgp_base.specs.Wire.{uint32, uint64}
-use Rattle.pgp_base.proofs.PartLemmas.{oid_number, uint64_number}
-use Rattle.pgp_trace.specs.Listing.{place_behind, name_in}
-use Rattle.pgp_trace.specs.Sides.{Ends}
-use Rattle.pgp_trace.specs.View.{View}
+use Rattle.pgp_conversation.proofs.Common.{◌≡◌, ◌≢◌, ℕ, suc, ◌+◌, ◌<◌, ◌^◌, Bool, true, false, List, [], ◌∷◌, ◌++◌, length, take, drop, get_or, Option, refl, sym, ap, subst, ◌∙◌, arith, inl, inr, length-append, append_assoc, flat_map, AllByRecursion, append-nil, flat_map-cons, drop-append_seam, take-append_seam, w32, w64, from_be_bytes, uint32, uint64, oid_number, uint64_number, place_behind, name_in, Ends, View, Sender, Client, Server, End, Half, ListsChunks, NoChunkListed, OneChunkListed, ListsChunk, Known, Talk, ListsFrame, ListsFrames, NoFrames, OneFrame, begins, half_in, last_lines, note, noted_by, noted_in, now_at, other, side_in, text_of, told_by, with_numbers, with_side, with_types, Marking, Told, mark, since, word, Numbers, role_by, role_in, told_in, asking_from, asking_in, summed, first_time, Chunk, EndsBy, IsChunk, IsNoChunk, IsPartial, IsShort, Records, arrow, chunk_bytes, magic, HasLines, IsListing, Learns, ShowsTyped, said_in}
 use Rattle.pgp_trace.proofs.OneListing.{ends_one, line_one, no_line}
-use Rattle.pgp_conversation.specs.declared.chunk.Sender.{Sender}
-use Rattle.pgp_conversation.specs.declared.chunk.Sender.TheVariants.{Client, Server}
-use Rattle.pgp_conversation.specs.declared.ending.End.{End}
 use Rattle.pgp_conversation.specs.declared.ending.End.TheVariants.{Whole, Cut, NoChunk, NoRecording}
-use Rattle.pgp_conversation.specs.Conversation.{Half, ListsChunks, NoChunkListed, OneChunkListed, ListsChunk, Known, Talk, ListsFrame, ListsFrames, NoFrames, OneFrame, begins, half_in, last_lines, note, noted_by, noted_in, now_at, other, side_in, text_of, told_by, with_numbers, with_side, with_types}
-use Rattle.pgp_trace.specs.declared.marking.Marking.{Marking}
-use Rattle.pgp_conversation.specs.declared.placement.Told.{Told}
-use Rattle.pgp_conversation.specs.Marks.{mark, since, word}
-use Rattle.pgp_conversation.specs.Requests.{Numbers, role_by, role_in, told_in}
-use Rattle.pgp_conversation.specs.Summing.{asking_from, asking_in, summed}
-use Rattle.pgp_conversation.specs.Conversation.{first_time}
-use Rattle.pgp_conversation.specs.Recording.{Chunk, EndsBy, IsChunk, IsNoChunk, IsPartial, IsShort, Records, arrow, chunk_bytes, magic}
-use Rattle.pgp_conversation.specs.Session.{HasLines, IsListing}
-use Rattle.pgp_conversation.specs.Typed.{Learns, ShowsTyped, said_in}
 use Rattle.pgp_conversation.proofs.OneTyped.{OneText, learns_one, shows_one}
 use Rattle.pgp_conversation.proofs.Sayings.{said_one}
 

@@ -1,30 +1,16 @@
 -- What a frame tells of types is one thing, and so is its line, since a value has one text.
-use Rattle.std.proofs.Common.{◌≡◌, ℕ, ℤ, Bool, true, false, List, [], ◌∷◌, drop, length, Option, Some, None, Ok, inl, inr, sym, ap, subst, ◌∙◌}
-use Rattle.std.specs.Prelude.{map, ◌++◌, codes}
-use Rattle.std.specs.declared.ops.Range.{Range}
+use Rattle.pgp_conversation.proofs.Common.{◌≡◌, ℕ, ℤ, Bool, true, false, List, [], ◌∷◌, drop, length, Option, Some, None, Ok, inl, inr, sym, ap, subst, ◌∙◌, map, codes, Range, Message, DataRow, ParameterDescription, RowDescription, FieldSpelled, FieldRefused, RangeSpelled, RangeRefused, TypeSpelled, TypeRefused, CountedBytes, value_at, ClientMessage, Bind, Part, ListEnds, Value, closing, followed, Style, counted, signed_part, ending, Column, Told, Gives, Heard, Hears, IsBindLine, IsRowLine, Learns, Lists, Said, Sent, ShowsBound, ShowsBytes, ShowsFitting, ShowsHeard, ShowsRow, ShowsSent, ShowsTyped, ShowsValue, ShowsValues, bind_front, column_first, columns_of, fits, has_binary, parameters_in, row_front, Awaited, Types, described, first, reached, rows_of, tells}
+use Rattle.std.specs.Prelude.{◌++◌}
 use Rattle.pgp_base.specs.OneList.{HasOneCountedList}
 use Rattle.pgp_base.proofs.OneLists.{one_counted_list}
-use Rattle.pgp_message.specs.BackendMessage.{Message, DataRow, ParameterDescription, RowDescription}
-use Rattle.pgp_message.specs.Items.{FieldSpelled, FieldRefused, RangeSpelled, RangeRefused, TypeSpelled, TypeRefused}
 use Rattle.pgp_message.specs.ItemReading.{field_at, range_at, type_at}
-use Rattle.pgp_message.specs.Parts.{CountedBytes}
-use Rattle.pgp_message.specs.Table.{value_at}
 use Rattle.pgp_message.proofs.FieldLemmas.{field_reader}
 use Rattle.pgp_message.proofs.NumberLemmas.{type_reader}
 use Rattle.pgp_message.proofs.RangeLemmas.{range_reader}
-use Rattle.pgp_frontend.specs.ClientMessage.{ClientMessage, Bind}
-use Rattle.pgp_line.specs.Line.{Part, ListEnds, Value, closing, followed}
-use Rattle.pgp_line.specs.declared.style.Style.{Style}
-use Rattle.pgp_trace.specs.Client.{counted, signed_part}
-use Rattle.pgp_trace.specs.Shown.{ending}
 use Rattle.pgp_values.specs.Formats.{formats as known_formats}
 use Rattle.pgp_values.specs.FormatTable.{format_in}
 use Rattle.pgp_value_text.specs.ValueText.{IsTextOf, is_float}
-use Rattle.pgp_conversation.specs.declared.column.Column.{Column}
-use Rattle.pgp_conversation.specs.declared.placement.Told.{Told}
 use Rattle.pgp_conversation.specs.declared.placement.Told.TheVariants as told
-use Rattle.pgp_conversation.specs.Typed.{Gives, Heard, Hears, IsBindLine, IsRowLine, Learns, Lists, Said, Sent, ShowsBound, ShowsBytes, ShowsFitting, ShowsHeard, ShowsRow, ShowsSent, ShowsTyped, ShowsValue, ShowsValues, bind_front, column_first, columns_of, fits, has_binary, parameters_in, row_front}
-use Rattle.pgp_conversation.specs.Types.{Awaited, Types, described, first, reached, rows_of, tells}
 
 -- ---- what is told
 

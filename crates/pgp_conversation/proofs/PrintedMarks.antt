@@ -1,17 +1,6 @@
 -- Marks are printable.
-use Rattle.std.proofs.Common.{◌≡◌, ℕ, ◌-◌, Bool, true, false, List, [], ◌∷◌, ◌++◌, length, Option, Some, None, refl}
-use Rattle.std.specs.Prelude.{◌/◌, ◌%◌, nat_lt, if◌then◌else◌, codes, decimal}
-use Rattle.pgp_line.specs.Line.{blanks}
-use Rattle.std.specs.List.{list_all}
-use Rattle.pgp_line.specs.Quoting.{IsPrinted, is_visible}
-use Rattle.pgp_line.specs.declared.style.Form.{Form}
-use Rattle.pgp_line.specs.declared.style.Form.TheVariants.{Columns, Json}
-use Rattle.pgp_trace.proofs.Printable.{blank, plain, plain_join, plain_number}
-use Rattle.pgp_conversation.specs.declared.chunk.Sender.{Sender}
-use Rattle.pgp_conversation.specs.declared.chunk.Sender.TheVariants.{Client, Server}
-use Rattle.pgp_conversation.specs.declared.placement.Told.{Told}
+use Rattle.pgp_conversation.proofs.Common.{◌≡◌, ℕ, ◌-◌, Bool, true, false, List, [], ◌∷◌, ◌++◌, length, Option, Some, None, refl, ◌/◌, ◌%◌, nat_lt, if◌then◌else◌, codes, decimal, blanks, list_all, IsPrinted, is_visible, Form, Columns, Json, blank, plain, plain_join, plain_number, Sender, Client, Server, Told, between, last_mark, later, mark, member, members, millis, number, says, since, word}
 use Rattle.pgp_conversation.specs.declared.placement.Told.TheVariants.{Number, Answer, Lost, Nothing}
-use Rattle.pgp_conversation.specs.Marks.{between, last_mark, later, mark, member, members, millis, number, says, since, word}
 
 abbrev Plain : List ℕ → Type 0
 Plain text = list_all is_visible text ≡ true

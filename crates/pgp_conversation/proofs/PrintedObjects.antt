@@ -1,24 +1,9 @@
 -- A line with its mark is printable, and so is an object with the mark's members in it.
-use Rattle.std.proofs.Common.{◌≡◌, ◌≢◌, ℕ, ◌<◌, Bool, true, false, List, [], ◌∷◌, ◌++◌, length, drop, get_or, Option, refl, sym, ap, ◌∙◌, arith, append_assoc}
-use Rattle.std.specs.Prelude.{nat_lt, ◌==◌, if◌then◌else◌}
+use Rattle.pgp_conversation.proofs.Common.{◌≡◌, ◌≢◌, ℕ, ◌<◌, Bool, true, false, List, [], ◌∷◌, ◌++◌, length, drop, get_or, Option, refl, sym, ap, ◌∙◌, arith, append_assoc, nat_lt, ◌==◌, if◌then◌else◌, list_all, and_parts, eqb-true, IsPrinted, is_printable, Form, Columns, Json, Style, LineOf, Side, join, line_printable, plain, Sender, Told, mark, marked, since, word, Said, ShowsTyped, Types}
 use Rattle.std.specs.Char.{encode_utf8, len_utf8}
-use Rattle.std.specs.List.{list_all}
 use Rattle.std.specs.Str.{all_scalars, encode_utf8_all}
-use Rattle.std.proofs.lemmas.Bool.{and_parts, eqb-true}
 use Rattle.std.proofs.lemmas.Str.{encode_ascii, length-encode}
 use Rattle.pgp_line.proofs.Quotes.{never_inside}
-use Rattle.pgp_line.specs.Quoting.{IsPrinted, is_printable}
-use Rattle.pgp_line.specs.declared.style.Form.{Form}
-use Rattle.pgp_line.specs.declared.style.Form.TheVariants.{Columns, Json}
-use Rattle.pgp_line.specs.declared.style.Style.{Style}
-use Rattle.pgp_trace.specs.Listing.{LineOf}
-use Rattle.pgp_trace.specs.Sides.{Side}
-use Rattle.pgp_trace.proofs.Printable.{join, line_printable, plain}
-use Rattle.pgp_conversation.specs.declared.chunk.Sender.{Sender}
-use Rattle.pgp_conversation.specs.declared.placement.Told.{Told}
-use Rattle.pgp_conversation.specs.Marks.{mark, marked, since, word}
-use Rattle.pgp_conversation.specs.Typed.{Said, ShowsTyped}
-use Rattle.pgp_conversation.specs.Types.{Types}
 use Rattle.pgp_conversation.proofs.PrintedMarks.{mark_printable}
 use Rattle.pgp_conversation.proofs.PrintedTypes.{typed_printed}
 

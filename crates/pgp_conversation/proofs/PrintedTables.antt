@@ -1,17 +1,7 @@
 -- The lines of a table are printable.
-use Rattle.std.proofs.Common.{◌≡◌, ℕ, ◌-◌, true, List, [], ◌∷◌, ◌++◌, length, refl}
-use Rattle.std.specs.Prelude.{codes, decimal}
-use Rattle.std.specs.List.{list_all}
-use Rattle.pgp_line.specs.Line.{blanks}
-use Rattle.pgp_line.specs.Quoting.{IsPrinted, is_visible, json_value, quoted, up_to}
-use Rattle.pgp_line.specs.declared.style.Form.{Form}
-use Rattle.pgp_line.specs.declared.style.Form.TheVariants.{Columns, Json}
-use Rattle.pgp_line.specs.declared.style.Style.{Style}
-use Rattle.pgp_summary.specs.Runs.{Tally, line_of}
+use Rattle.pgp_conversation.proofs.Common.{◌≡◌, ℕ, ◌-◌, true, List, [], ◌∷◌, ◌++◌, length, refl, codes, decimal, list_all, blanks, IsPrinted, is_visible, json_value, quoted, up_to, Form, Columns, Json, Style, Tally, line_of, blank, cut, join, json_val, plain, plain_join, plain_number, quote, millis, number, cell, columns, heading, row_by, row_of, times}
 use Rattle.pgp_summary.specs.declared.entry.Line.{Line}
-use Rattle.pgp_trace.proofs.Printable.{blank, cut, join, json_val, plain, plain_join, plain_number, quote}
-use Rattle.pgp_conversation.specs.Marks.{millis, number}
-use Rattle.pgp_conversation.specs.Tables.{cell, columns, counts, heading, members, row_by, row_of, times}
+use Rattle.pgp_conversation.specs.Tables.{counts, members}
 use Rattle.pgp_conversation.proofs.PrintedMarks.{seconds, thousandths}
 
 abbrev Plain : List ℕ → Type 0

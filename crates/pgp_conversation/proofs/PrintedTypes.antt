@@ -1,21 +1,6 @@
 -- Lines with values as texts are printable.
-use Rattle.std.proofs.Common.{◌≡◌, ℕ, ℤ, Bool, true, false, List, [], ◌∷◌, ◌++◌, drop, length, Option, Some, None, Ok}
-use Rattle.std.specs.Prelude.{map, codes}
-use Rattle.pgp_message.specs.BackendMessage.{Message, DataRow}
-use Rattle.pgp_message.specs.Parts.{CountedBytes}
-use Rattle.pgp_message.specs.Table.{value_at}
-use Rattle.pgp_line.specs.Line.{Part, Count, Length, ListEnds, Name, Tag, Text, closing, followed, key, opening}
-use Rattle.pgp_line.specs.Quoting.{IsPrinted}
-use Rattle.pgp_line.specs.declared.style.Style.{Style}
-use Rattle.pgp_frontend.specs.ClientMessage.{ClientMessage, Bind}
-use Rattle.pgp_trace.specs.Client.{counted, signed_part}
-use Rattle.pgp_trace.specs.Shown.{ending}
-use Rattle.pgp_trace.proofs.Printable.{closing_printable, join, opening_printable, parts_printable}
-use Rattle.pgp_conversation.specs.declared.column.Column.{Column}
-use Rattle.pgp_conversation.specs.declared.placement.Told.{Told}
+use Rattle.pgp_conversation.proofs.Common.{◌≡◌, ℕ, ℤ, Bool, true, false, List, [], ◌∷◌, ◌++◌, drop, length, Option, Some, None, Ok, map, codes, Message, DataRow, CountedBytes, value_at, Part, Count, Length, ListEnds, Name, Tag, Text, closing, followed, key, opening, IsPrinted, Style, ClientMessage, Bind, counted, signed_part, ending, closing_printable, join, opening_printable, parts_printable, Column, Told, Heard, IsBindLine, IsRowLine, Said, Sent, ShowsBound, ShowsFitting, ShowsHeard, ShowsRow, ShowsSent, ShowsTyped, ShowsValues, bind_front, fits, has_binary, row_front, Awaited, Types, first, rows_of}
 use Rattle.pgp_conversation.specs.declared.placement.Told.TheVariants as told
-use Rattle.pgp_conversation.specs.Typed.{Heard, IsBindLine, IsRowLine, Said, Sent, ShowsBound, ShowsFitting, ShowsHeard, ShowsRow, ShowsSent, ShowsTyped, ShowsValues, bind_front, fits, has_binary, row_front}
-use Rattle.pgp_conversation.specs.Types.{Awaited, Types, first, rows_of}
 
 -- printable characters before a newline
 abbrev pub IsLine : List ℕ → Type 0

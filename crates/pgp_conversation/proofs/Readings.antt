@@ -1,30 +1,9 @@
 -- What a frame is read as, and what holds of that.
-use Rattle.std.proofs.Common.{◌≡◌, ℕ, Bool, true, false, List, [], length, Option, Some, None, Result, Ok, Err, refl, sym, ap, subst, ◌∙◌, arith}
-use Rattle.std.specs.Prelude.{IfOk}
-use Rattle.std.proofs.lemmas.List.{append-nil}
-use Rattle.pgp_base.specs.declared.error.Error.{Error}
+use Rattle.pgp_conversation.proofs.Common.{◌≡◌, ℕ, Bool, true, false, List, [], length, Option, Some, None, Result, Ok, Err, refl, sym, ap, subst, ◌∙◌, arith, IfOk, append-nil, Error, Message, Body, Frame, IsEnding, IsFrame, Step, TakesFrame, frame_bytes, one_body, front_is_one, length-frame, no_ending, ClientMessage, step_of, ClientError, step_one, Style, IsFrameOf, Client, Server, Noted, Told, noted_by, Numbers, role_by, asking_from, summed, Heard, Learns, Said, Sent, ShowsTyped, Unsaid, Passes, Reads, ReadsSo, ShowsRequest, Tells, lost, Types}
 use Rattle.pgp_base.specs.declared.error.Error.TheVariants as errors
-use Rattle.pgp_message.specs.BackendMessage.{Message, Body}
-use Rattle.pgp_message.specs.Stream.{Frame, IsEnding, IsFrame, Step, TakesFrame, frame_bytes}
-use Rattle.pgp_message.proofs.Bodies.{one_body}
-use Rattle.pgp_message.proofs.Runs.{front_is_one, length-frame, no_ending}
-use Rattle.pgp_frontend.specs.ClientMessage.{ClientMessage, PasswordKind}
-use Rattle.pgp_frontend_read.specs.Pieces.{step_of}
+use Rattle.pgp_frontend.specs.ClientMessage.{PasswordKind}
 use Rattle.pgp_frontend_read.specs.Step as client
-use Rattle.pgp_frontend_read.specs.declared.error.ClientError.{ClientError}
-use Rattle.pgp_frontend_read.proofs.OneStep.{step_one}
-use Rattle.pgp_line.specs.declared.style.Style.{Style}
-use Rattle.pgp_trace.specs.Steps.{IsFrameOf}
-use Rattle.pgp_conversation.specs.declared.chunk.Sender.TheVariants.{Client, Server}
-use Rattle.pgp_conversation.specs.declared.expectation.Noted.{Noted}
-use Rattle.pgp_conversation.specs.declared.placement.Told.{Told}
 use Rattle.pgp_conversation.specs.declared.placement.Told.TheVariants as told
-use Rattle.pgp_conversation.specs.Conversation.{noted_by}
-use Rattle.pgp_conversation.specs.Requests.{Numbers, role_by}
-use Rattle.pgp_conversation.specs.Summing.{asking_from, summed}
-use Rattle.pgp_conversation.specs.Typed.{Heard, Learns, Said, Sent, ShowsTyped, Unsaid}
-use Rattle.pgp_conversation.specs.TypedLines.{Passes, Reads, ReadsSo, ShowsRequest, Tells, lost}
-use Rattle.pgp_conversation.specs.Types.{Types}
 
 -- ---- a server's frame has one result
 

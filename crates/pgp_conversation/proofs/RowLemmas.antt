@@ -1,21 +1,5 @@
 -- Values of a row and columns of a description, one at a time.
-use Rattle.std.proofs.Common.{◌≡◌, ℕ, ℤ, List, [], ◌∷◌, ◌++◌, drop, length, Option, Some, None, Result, Ok, Err, refl, sym, ap, subst, ◌∙◌, append_assoc}
-use Rattle.std.specs.Prelude.{OnOk, codes, map}
-use Rattle.std.specs.Option.{option_map}
-use Rattle.std.specs.declared.ops.Range.{Range}
-use Rattle.std.proofs.lemmas.List.{append-nil}
-use Rattle.pgp_base.specs.Walk.{Walk, TakesItem, IsFinished, IsRefused}
-use Rattle.pgp_base.specs.declared.error.Error.{Error}
-use Rattle.pgp_message.specs.Items.{FieldPart}
-use Rattle.pgp_message.specs.Parts.{CountedBytes}
-use Rattle.pgp_message.specs.Table.{HasPlaces, value_at}
-use Rattle.pgp_line.specs.Line.{ListEnds, closing, followed}
-use Rattle.pgp_line.specs.declared.style.Style.{Style}
-use Rattle.pgp_trace.specs.Client.{counted, signed_part}
-use Rattle.pgp_trace.specs.Shown.{ending, refused}
-use Rattle.pgp_conversation.specs.Typed.{IsBindLine, IsRowLine, ShowsValues, bind_front, column_first, column_of, columns_of, parameter, parameters_in, row_front}
-use Rattle.pgp_conversation.specs.TypedLines.{AddsValue, AddsValues}
-use Rattle.pgp_conversation.specs.declared.column.Column.{Column}
+use Rattle.pgp_conversation.proofs.Common.{◌≡◌, ℕ, ℤ, List, [], ◌∷◌, ◌++◌, drop, length, Option, Some, None, Result, Ok, Err, refl, sym, ap, subst, ◌∙◌, append_assoc, OnOk, codes, map, option_map, Range, append-nil, Walk, TakesItem, IsFinished, IsRefused, Error, FieldPart, CountedBytes, HasPlaces, value_at, ListEnds, closing, followed, Style, counted, signed_part, ending, refused, IsBindLine, IsRowLine, ShowsValues, bind_front, column_first, column_of, columns_of, parameter, parameters_in, row_front, AddsValue, AddsValues, Column}
 
 -- ---- what a call returns
 

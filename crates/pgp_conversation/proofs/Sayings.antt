@@ -1,25 +1,11 @@
 -- What a frame that has a line is read as.
-use Rattle.std.proofs.Common.{◌≡◌, ℕ, Bool, true, false, List, [], length, Option, Some, Result, Ok, Err, inl, inr, refl, sym, ap, subst}
-use Rattle.pgp_frontend.specs.ClientMessage.{ClientMessage, PasswordKind, Response}
-use Rattle.pgp_frontend_read.specs.Pieces.{step_of}
+use Rattle.pgp_conversation.proofs.Common.{◌≡◌, ℕ, Bool, true, false, List, [], length, Option, Some, Result, Ok, Err, inl, inr, refl, sym, ap, subst, ClientMessage, Response, step_of, ClientError, step_one, Style, IsServerLine, LineOf, Side, expected, IsFrameOf, Beginning, Messages, Replicating, Encrypted, Sender, Client, Server, is_replicating, side_in, known_of, Heard, Said, Sent, Unsaid, said_in, ReadsSo}
+use Rattle.pgp_frontend.specs.ClientMessage.{PasswordKind}
 use Rattle.pgp_frontend_read.specs.Step as client
-use Rattle.pgp_frontend_read.specs.declared.error.ClientError.{ClientError}
 use Rattle.pgp_frontend_read.specs.declared.message.PasswordKind as code
-use Rattle.pgp_frontend_read.proofs.OneStep.{step_one}
-use Rattle.pgp_line.specs.declared.style.Style.{Style}
-use Rattle.pgp_trace.specs.Listing.{IsServerLine, LineOf}
 use Rattle.pgp_trace.specs.Sides as side
-use Rattle.pgp_trace.specs.Sides.{Side, expected}
-use Rattle.pgp_trace.specs.Steps.{IsFrameOf}
 use Rattle.pgp_trace.specs.declared.side.Phase.{Phase}
-use Rattle.pgp_trace.specs.declared.side.Phase.TheVariants.{Beginning, Messages, Replicating, Encrypted}
-use Rattle.pgp_conversation.specs.declared.chunk.Sender.{Sender}
-use Rattle.pgp_conversation.specs.declared.chunk.Sender.TheVariants.{Client, Server}
 use Rattle.pgp_conversation.specs.declared.state.Known as code_known
-use Rattle.pgp_conversation.specs.Conversation.{is_replicating, side_in}
-use Rattle.pgp_conversation.specs.Steps.{known_of}
-use Rattle.pgp_conversation.specs.Typed.{Heard, Said, Sent, Unsaid, said_in}
-use Rattle.pgp_conversation.specs.TypedLines.{ReadsSo}
 use Rattle.pgp_conversation.proofs.Readings.{same_read, short}
 
 frame_in : (style : Style) (place : ℕ) (replicating : Bool) (frame line : List ℕ) (is : IsServerLine style place replicating frame line) → IsFrameOf frame is.reported.result

@@ -1,28 +1,9 @@
 -- Frames that differ in their secrets alone have the same text.
-use Rattle.std.proofs.Common.{◌≡◌, ℕ, Bool, true, false, List, [], ◌∷◌, ◌++◌, length, get_or, Result, refl, sym, ap, subst, ◌∙◌, inl, inr, arith}
-use Rattle.std.proofs.lemmas.List.{append-nil}
-use Rattle.pgp_base.specs.declared.error.Error.{Error}
-use Rattle.pgp_message.specs.BackendMessage.{Body, Message}
-use Rattle.pgp_message.specs.Stream.{Frame, IsFrame, frame_bytes}
-use Rattle.pgp_message.proofs.Bodies.{one_body}
-use Rattle.pgp_message.proofs.Runs.{length-frame}
-use Rattle.pgp_frontend_read.specs.declared.message.PasswordKind.{PasswordKind}
-use Rattle.pgp_line.specs.declared.style.Style.{Style}
-use Rattle.pgp_trace.specs.ClientSecrets.{ReadsAs}
-use Rattle.pgp_trace.specs.Listing.{IsServerLine, LineOf, name_in, server_name}
-use Rattle.pgp_trace.specs.Secrets.{AlikeFrames, AlikeResults, quiet, quietly}
-use Rattle.pgp_trace.specs.Sides.{Side, Server, Client, answered, is_reported, replicates_behind, server_at}
-use Rattle.pgp_trace.specs.declared.side.Phase.TheVariants.{Beginning, Messages, Replicating, Encrypted}
-use Rattle.pgp_trace.specs.View.{View}
+use Rattle.pgp_conversation.proofs.Common.{◌≡◌, ℕ, Bool, true, false, List, [], ◌∷◌, ◌++◌, length, get_or, Result, refl, sym, ap, subst, ◌∙◌, inl, inr, arith, append-nil, Error, Body, Message, Frame, IsFrame, frame_bytes, one_body, length-frame, PasswordKind, Style, ReadsAs, IsServerLine, LineOf, name_in, server_name, AlikeFrames, AlikeResults, quiet, quietly, Side, answered, is_reported, replicates_behind, server_at, Beginning, Messages, Replicating, Encrypted, View, Sender, Known, ListsFrame, note, noted_in, side_in, text_of, told_by, with_numbers, with_side, with_types, asking, role_in, told_in, asking_in, summed, word, ShowsTyped, said_in}
+use Rattle.pgp_trace.specs.Sides.{Server, Client}
 use Rattle.pgp_trace.proofs.ClientStreams as sent
 use Rattle.pgp_trace.proofs.Streams.{AreFrames, line_hidden, one_last}
-use Rattle.pgp_conversation.specs.declared.chunk.Sender.{Sender}
-use Rattle.pgp_conversation.specs.Conversation.{Known, ListsFrame, note, noted_in, side_in, text_of, told_by, with_numbers, with_side, with_types}
-use Rattle.pgp_conversation.specs.Requests.{asking, role_in, told_in}
-use Rattle.pgp_conversation.specs.Summing.{asking_in, summed}
 use Rattle.pgp_conversation.specs.Secrets.{AlikeIn, AlikeReceived, AlikeSent}
-use Rattle.pgp_conversation.specs.Marks.{word}
-use Rattle.pgp_conversation.specs.Typed.{ShowsTyped, said_in}
 use Rattle.pgp_conversation.proofs.Alike.{asks_alike, client_roles, notes_alike, server_roles}
 use Rattle.pgp_conversation.proofs.TypedAlike.{AlikeSaid, learns_alike, shows_alike}
 

@@ -1,32 +1,10 @@
 -- The listing of a recording, a chunk and a piece at a time.
-use Rattle.std.proofs.Common.{◌≡◌, ◌≢◌, ◌⊎◌, ℕ, ◌+◌, ◌-◌, ◌≤◌, Bool, true, false, List, [], ◌∷◌, ◌++◌, length, drop, Option, Result, Ok, Err, refl, sym, ap, subst, ◌∙◌, arith, inl, inr, append_assoc, length-append}
-use Rattle.std.specs.Prelude.{IfOk, OnErr, OnOk}
-use Rattle.std.specs.Io.KnownBytes.{Appends, Consumes, IsAtEnd, Keeps as Same}
-use Rattle.std.specs.List.{flat_map, AllByRecursion}
-use Rattle.std.proofs.KnownBytes.{Appends-nil, Appends-trans, Consumes-nil, Consumes-trans, Consumes-kept}
-use Rattle.std.proofs.lemmas.List.{append-nil, drop-drop}
-use Rattle.std.proofs.Math.Seq.{drop-append_seam}
-use Rattle.std.proofs.lemmas.List.Concat.{flat_map-cons}
-use Rattle.std.proofs.lemmas.Grind.{flat_map-append}
-use Rattle.pgp_program.specs.Run.{Streams}
-use Rattle.pgp_program.specs.Taken.{AppendsFront}
+use Rattle.pgp_conversation.proofs.Common.{◌≡◌, ◌≢◌, ◌⊎◌, ℕ, ◌+◌, ◌-◌, ◌≤◌, Bool, true, false, List, [], ◌∷◌, ◌++◌, length, drop, Option, Result, Ok, Err, refl, sym, ap, subst, ◌∙◌, arith, inl, inr, append_assoc, length-append, IfOk, OnErr, OnOk, Appends, Consumes, IsAtEnd, flat_map, AllByRecursion, Appends-nil, Appends-trans, Consumes-nil, Consumes-trans, Consumes-kept, append-nil, drop-drop, drop-append_seam, flat_map-cons, flat_map-append, Streams, AppendsFront, View, nothing_ends, none_taken, all_taken, more_taken, Client, Server, End, Marking, Known, NoChunkListed, OneChunkListed, Talk, at_first, begins, first_start, last_lines, last_of, left, told_by, ListsAllChunks, ListsPiece, ListsSome, Stays, Tracks, TracksTo, held_first, held_last, summary_in, unnumbered, ending_by, Chunk, EndsBy, IsChunk, IsPartial, Records, beginning, chunk_bytes, complaint_of, magic, Awaits, IsCutShort, HasLines, IsReadTo, IsReady, WasListed, WritesListing, ListsChunkTo, HeldTalk, Keeps, TakesChunk, TakesPart, chunk_of, end_of}
+use Rattle.std.specs.Io.KnownBytes.{Keeps as Same}
 use Rattle.pgp_conversation.specs.Hints.{hint_of}
-use Rattle.pgp_trace.specs.View.{View}
-use Rattle.pgp_trace.proofs.Ends.{nothing_ends}
-use Rattle.pgp_trace.proofs.Fronts.{none_taken, all_taken, more_taken}
 use Rattle.pgp_conversation.specs.declared.chunk.Chunk as code
 use Rattle.pgp_conversation.specs.declared.chunk.Part.TheVariants as part
-use Rattle.pgp_conversation.specs.declared.chunk.Sender.TheVariants.{Client, Server}
-use Rattle.pgp_conversation.specs.declared.ending.End.{End}
-use Rattle.pgp_trace.specs.declared.marking.Marking.{Marking}
 use Rattle.pgp_conversation.specs.declared.session.Said.{Said}
-use Rattle.pgp_conversation.specs.Conversation.{Known, NoChunkListed, OneChunkListed, Talk, at_first, begins, first_start, last_lines, last_of, left, told_by}
-use Rattle.pgp_conversation.specs.Pieces.{ListsAllChunks, ListsPiece, ListsSome, Stays, Tracks, TracksTo, held_first, held_last}
-use Rattle.pgp_conversation.specs.Requests.{summary_in, unnumbered}
-use Rattle.pgp_conversation.specs.Tables.{ending_by}
-use Rattle.pgp_conversation.specs.Recording.{Chunk, EndsBy, IsChunk, IsPartial, Records, beginning, chunk_bytes, complaint_of, magic}
-use Rattle.pgp_conversation.specs.Session.{Awaits, IsCutShort, HasLines, IsReadTo, IsReady, WasListed, WritesListing}
-use Rattle.pgp_conversation.specs.Steps.{ListsChunkTo, HeldTalk, Keeps, TakesChunk, TakesPart, chunk_of, end_of}
 use Rattle.pgp_conversation.proofs.Chunks.{magic_short}
 
 -- ---- a chunk at a time

@@ -1,35 +1,11 @@
 -- Where a summary is asked for, the table is all that is written.
-use Rattle.std.proofs.Common.{◌≡◌, ℕ, ◌+◌, Bool, true, false, List, [], ◌∷◌, ◌++◌, length, Option, Some, None, Result, Ok, Err, refl, sym, ap, ◌∙◌, inl, inr}
-use Rattle.std.specs.Prelude.{◌==◌, ◌||◌, is_some, not, if◌then◌else◌, bytes_eq, codes}
-use Rattle.pgp_base.specs.declared.error.Error.{Error}
-use Rattle.pgp_message.specs.BackendMessage.{Message, Authentication, AuthenticationOk}
-use Rattle.pgp_frontend.specs.ClientMessage.{ClientMessage, SaslResponse}
-use Rattle.pgp_frontend_read.specs.declared.error.ClientError.{ClientError}
-use Rattle.pgp_line.specs.declared.style.Style.{Style}
-use Rattle.pgp_summary.specs.Summary.{State}
-use Rattle.pgp_trace.specs.Client.{client_name}
-use Rattle.pgp_trace.specs.Listing.{LineOf, client_frame_name, name_in, place_behind, server_name}
+use Rattle.pgp_conversation.proofs.Common.{◌≡◌, ℕ, ◌+◌, Bool, true, false, List, [], ◌∷◌, ◌++◌, length, Option, Some, None, Result, Ok, Err, refl, sym, ap, ◌∙◌, inl, inr, ◌==◌, ◌||◌, is_some, not, if◌then◌else◌, bytes_eq, codes, Error, Message, Authentication, AuthenticationOk, ClientMessage, SaslResponse, ClientError, Style, State, client_name, LineOf, client_frame_name, name_in, place_behind, server_name, Side, is_reported, View, color_of, is_listed, painted, shown, Beginning, Messages, Replicating, Encrypted, Sender, End, Marking, Role, Told, Known, ListsChunks, ListsFrame, ListsFrames, NoChunkListed, NoFrames, OneChunkListed, OneFrame, Talk, answer_to, begins, called, counts, either, first_time, half_in, last_lines, last_of, left, noted_in, now_at, relined, side_in, told_by, with_numbers, with_side, with_types, mark, marked, since, word, Chunk, Numbers, at_time, first_numbers, role_in, summary_in, told_in, unnumbered, IsListing, summarized, Asking, asking_in, summed, summed_so, ending_by, table}
 use Rattle.pgp_trace.specs.Names.{name_of}
-use Rattle.pgp_trace.specs.Sides.{Side, Server, Client, is_reported}
-use Rattle.pgp_trace.specs.View.{View, color_of, is_listed, painted, shown}
-use Rattle.pgp_trace.specs.declared.side.Phase.TheVariants.{Beginning, Messages, Replicating, Encrypted}
-use Rattle.pgp_conversation.specs.declared.chunk.Sender.{Sender}
+use Rattle.pgp_trace.specs.Sides.{Server, Client}
 use Rattle.pgp_conversation.specs.declared.chunk.Sender.TheVariants as sides
-use Rattle.pgp_conversation.specs.declared.ending.End.{End}
-use Rattle.pgp_trace.specs.declared.marking.Marking.{Marking}
 use Rattle.pgp_conversation.specs.declared.expectation.Encryption.{Encryption}
 use Rattle.pgp_conversation.specs.declared.expectation.Encryption.TheVariants.{Tls, Gss}
-use Rattle.pgp_conversation.specs.declared.role.Role.{Role}
 use Rattle.pgp_conversation.specs.declared.role.Role.TheVariants as role
-use Rattle.pgp_conversation.specs.declared.placement.Told.{Told}
-use Rattle.pgp_conversation.specs.Conversation.{Known, ListsChunks, ListsFrame, ListsFrames, NoChunkListed, NoFrames, OneChunkListed, OneFrame, Talk, answer_to, begins, called, counts, either, first_time, half_in, last_lines, last_of, left, noted_in, now_at, relined, side_in, told_by, with_numbers, with_side, with_types}
-use Rattle.pgp_conversation.specs.Marks.{mark, marked, since, word}
-use Rattle.pgp_conversation.specs.Recording.{Chunk}
-use Rattle.pgp_conversation.specs.Requests.{Numbers, at_time, first_numbers, role_in, summary_in, told_in, unnumbered}
-use Rattle.pgp_conversation.specs.Session.{IsListing}
-use Rattle.pgp_conversation.specs.Session.{summarized}
-use Rattle.pgp_conversation.specs.Summing.{Asking, asking_in, summed, summed_so}
-use Rattle.pgp_conversation.specs.Tables.{ending_by, table}
 use Rattle.pgp_conversation.proofs.Turns.{note_kept}
 
 -- ---- each frame has a name

@@ -1,11 +1,5 @@
 -- The rows of a table, a place at a time.
-use Rattle.std.proofs.Common.{◌≡◌, ℕ, zero, suc, ◌+◌, List, [], ◌∷◌, ◌++◌, take, refl, sym, ap, ◌∙◌, arith, append_assoc}
-use Rattle.std.specs.Prelude.{slice_get}
-use Rattle.std.specs.List.{flat_map}
-use Rattle.std.proofs.lemmas.List.{append-nil}
-use Rattle.pgp_line.specs.declared.style.Style.{Style}
-use Rattle.pgp_summary.specs.Runs.{Tally}
-use Rattle.pgp_conversation.specs.Tables.{row_at, row_of}
+use Rattle.pgp_conversation.proofs.Common.{◌≡◌, ℕ, zero, suc, ◌+◌, List, [], ◌∷◌, ◌++◌, take, refl, sym, ap, ◌∙◌, arith, append_assoc, slice_get, flat_map, append-nil, Style, Tally, row_at, row_of}
 
 rows_more : (style : Style) (l : List Tally) (i : ℕ) → flat_map (row_of style) (take (suc i) l) ≡ flat_map (row_of style) (take i l) ++ row_at style (slice_get l i)
 rows_more style [] zero = refl

@@ -1,6 +1,5 @@
 -- What is asked and heard in turn in a listing.
-use Rattle.std.proofs.Common.{◌≡◌, ◌≢◌, ℕ, Bool, true, false, List, [], ◌∷◌, ◌++◌, ◌+◌, length, Option, Some, None, Result, Ok, Err, refl, sym, ap, subst, ◌∙◌, append_assoc}
-use Rattle.std.proofs.lemmas.List.{append-nil}
+use Rattle.pgp_conversation.proofs.Common.{◌≡◌, ◌≢◌, ℕ, Bool, true, false, List, [], ◌∷◌, ◌++◌, ◌+◌, length, Option, Some, None, Result, Ok, Err, refl, sym, ap, subst, ◌∙◌, append_assoc, append-nil, place_behind, View, Sender, Marking, Noted, Role, Told, Known, ListsChunks, ListsFrames, NoChunkListed, NoFrames, OneChunkListed, OneFrame, begins, counts, first_time, half_in, note, noted_in, now_at, side_in, with_numbers, with_side, with_types, mark, since, Chunk, Numbers, at_time, first_numbers, placed, role_in, tell, told_in, Asking, asking_in, summed, name_in, State}
 use Rattle.pgp_client.proofs.Exact.{turns_are_sent}
 use Rattle.pgp_client.proofs.Timely.{sent_in_turns, true_in_turns}
 use Rattle.pgp_client.specs.Taking.{asked, taken, taken_as, observed, observed_at, moved, event_of, is_aside, ready}
@@ -13,22 +12,9 @@ use Rattle.pgp_client.specs.declared.event.Refusal.{Refusal}
 use Rattle.pgp_client.specs.declared.kind.Kind.{Kind}
 use Rattle.pgp_client.specs.declared.stage.Stage.{Stage}
 use Rattle.pgp_client.specs.declared.stage.Stage.TheVariants.{Idle, Over, Skipping}
-use Rattle.pgp_trace.specs.Listing.{place_behind}
-use Rattle.pgp_trace.specs.View.{View}
-use Rattle.pgp_conversation.specs.declared.chunk.Sender.{Sender}
-use Rattle.pgp_trace.specs.declared.marking.Marking.{Marking}
-use Rattle.pgp_conversation.specs.declared.expectation.Noted.{Noted}
 use Rattle.pgp_conversation.specs.declared.expectation.Noted.TheVariants as noted
-use Rattle.pgp_conversation.specs.declared.role.Role.{Role}
 use Rattle.pgp_conversation.specs.declared.role.Role.TheVariants as role
-use Rattle.pgp_conversation.specs.declared.placement.Told.{Told}
-use Rattle.pgp_conversation.specs.Conversation.{Known, ListsChunks, ListsFrames, NoChunkListed, NoFrames, OneChunkListed, OneFrame, Talk as Listed, begins, counts, first_time, half_in, note, noted_in, now_at, side_in, with_numbers, with_side, with_types}
-use Rattle.pgp_conversation.specs.Marks.{mark, since}
-use Rattle.pgp_conversation.specs.Recording.{Chunk}
-use Rattle.pgp_conversation.specs.Requests.{Numbers, at_time, first_numbers, placed, role_in, tell, told_in}
-use Rattle.pgp_conversation.specs.Summing.{Asking, asking_in, summed}
-use Rattle.pgp_trace.specs.Listing.{name_in}
-use Rattle.pgp_summary.specs.Summary.{State}
+use Rattle.pgp_conversation.specs.Conversation.{Talk as Listed}
 use Rattle.pgp_conversation.specs.Turns.{AreTrue, hears, turn_of, turns_at, turns_in, turns_of}
 
 -- each message of these turns is taken, this is reported of it, and this is the dialogue after them

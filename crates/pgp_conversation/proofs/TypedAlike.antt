@@ -1,14 +1,6 @@
 -- Messages that differ in their secrets alone tell the same of types, and have the same lines.
-use Rattle.std.proofs.Common.{◌≡◌, ℕ, List, Option, Some, None, Ok, Err, refl, ap, subst, ◌∙◌}
-use Rattle.pgp_message.specs.BackendMessage.{Authentication, AuthenticationGssContinue, AuthenticationMd5Password, AuthenticationSaslContinue, AuthenticationSaslFinal, BackendKeyData, Message}
-use Rattle.pgp_frontend.specs.ClientMessage.{ClientMessage, CancelRequest, PasswordMessage, SaslInitialResponse, SaslResponse}
-use Rattle.pgp_line.specs.declared.style.Style.{Style}
-use Rattle.pgp_trace.specs.ClientSecrets.{AlikeAnswers, AlikeMessages}
-use Rattle.pgp_trace.specs.Secrets.{Alike, AlikeResults}
-use Rattle.pgp_conversation.specs.declared.placement.Told.{Told}
+use Rattle.pgp_conversation.proofs.Common.{◌≡◌, ℕ, List, Option, Some, None, Ok, Err, refl, ap, subst, ◌∙◌, Authentication, AuthenticationGssContinue, AuthenticationMd5Password, AuthenticationSaslContinue, AuthenticationSaslFinal, BackendKeyData, Message, ClientMessage, CancelRequest, PasswordMessage, SaslInitialResponse, SaslResponse, Style, AlikeAnswers, AlikeMessages, Alike, AlikeResults, Told, Heard, Hears, Learns, Said, Sent, ShowsHeard, ShowsSent, ShowsTyped, Unsaid, sends, Awaited, Types, first, reached}
 use Rattle.pgp_conversation.specs.declared.placement.Told.TheVariants as told
-use Rattle.pgp_conversation.specs.Typed.{Heard, Hears, Learns, Said, Sent, ShowsHeard, ShowsSent, ShowsTyped, Unsaid, sends}
-use Rattle.pgp_conversation.specs.Types.{Awaited, Types, first, reached}
 
 -- frames are read as things that differ in their secrets alone
 abbrev pub AlikeSaid : Said → Said → Type 0

@@ -1,16 +1,9 @@
 -- What is found once something is put under a name, or let go.
-use Rattle.std.proofs.Common.{◌≡◌, ℕ, Bool, true, false, List, [], ◌∷◌, Option, Some, None, refl, ap, sym, subst, ◌∙◌, ◌⊎◌, inl, inr, position}
-use Rattle.std.specs.Prelude.{if◌then◌else◌}
-use Rattle.std.specs.List.{AllByRecursion, IsDistinct}
-use Rattle.std.specs.Map.{lookup}
-use Rattle.std.specs.Str.{bytes_eq}
+use Rattle.pgp_names.proofs.Common.{◌≡◌, ℕ, Bool, true, false, List, [], ◌∷◌, Option, Some, None, refl, ap, sym, subst, ◌∙◌, ◌⊎◌, inl, inr, position, if◌then◌else◌, AllByRecursion, IsDistinct, lookup, bytes_eq, slice_get-get_or, swap_remove_entry, AreApart, found, names_of, put, without}
 use Rattle.std.proofs.lemmas.Bool.{cases_Bool}
 use Rattle.std.proofs.lemmas.Cmp.{nat_list_eq_equiv}
-use Rattle.std.proofs.lemmas.Option.{slice_get-get_or}
 use Rattle.indexmap.proofs.MapLemmas.{Found-position, swap_remove_entry-found, swap_remove_entry-missing}
 use Rattle.indexmap.proofs.RemoveLemmas.{none_out, swap_out}
-use Rattle.indexmap.specs.IndexMap.{swap_remove_entry}
-use Rattle.pgp_names.specs.Names.{AreApart, found, names_of, put, without}
 
 no_none : {A : Type 0} {x : A} → None ≡ Some x → ⊥
 no_none e = cc

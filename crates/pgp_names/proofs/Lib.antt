@@ -1,2 +1,3 @@
+mod Common
 mod NameLemmas
 mod FoundLemmas

@@ -1,12 +1,5 @@
 -- One more run of a statement.
-use Rattle.std.proofs.Common.{◌≡◌, ℕ, Bool, true, false, Option, List, [], ◌∷◌, Some, None, refl, sym, ap, ◌∙◌, inl, inr}
-use Rattle.std.specs.Prelude.{if◌then◌else◌}
-use Rattle.std.specs.Str.{bytes_eq}
-use Rattle.std.proofs.lemmas.Bool.{cases_Bool}
-use Rattle.std.proofs.lemmas.Slice.Eq.{bytes_eq-Decides}
-use Rattle.pgp_names.specs.Names.{found, put}
-use Rattle.pgp_summary.specs.Places.{Ran, more_of, no_run, tallies_of, tally_of}
-use Rattle.pgp_summary.specs.Runs.{tallied}
+use Rattle.pgp_summary.proofs.Common.{◌≡◌, ℕ, Bool, true, false, Option, List, [], ◌∷◌, Some, None, refl, sym, ap, ◌∙◌, inl, inr, if◌then◌else◌, bytes_eq, cases_Bool, bytes_eq-Decides, found, put, Ran, more_of, no_run, tallies_of, tally_of, tallied}
 
 not_both : (b : Bool) → b ≡ true → b ≡ false → ⊥
 not_both true e f = cc

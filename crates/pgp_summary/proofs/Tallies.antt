@@ -1,14 +1,8 @@
 -- Each run is tallied, among those of its statement.
-use Rattle.std.proofs.Common.{◌≡◌, ℕ, ◌+◌, ◌^◌, ◌-◌, Bool, true, false, List, [], ◌∷◌, ◌++◌, min, Option, Some, None, refl, sym, ap, arith, ◌∙◌, inl, inr, append_assoc}
-use Rattle.std.specs.Prelude.{if◌then◌else◌}
+use Rattle.pgp_summary.proofs.Common.{◌≡◌, ℕ, ◌+◌, ◌^◌, ◌-◌, Bool, true, false, List, [], ◌∷◌, ◌++◌, min, Option, Some, None, refl, sym, ap, arith, ◌∙◌, inl, inr, append_assoc, if◌then◌else◌, bytes_eq, cases_Bool, bytes_eq-Decides, Run, Tally, begun, capped, grown, tallied, tally, tally_after, Request, State, done, nothing, skipped, taken, with_waiting}
 use Rattle.std.specs.Option.{option_to_list, unwrap_or}
-use Rattle.std.specs.Str.{bytes_eq}
-use Rattle.std.proofs.lemmas.Bool.{cases_Bool}
 use Rattle.std.proofs.lemmas.List.{append-nil}
-use Rattle.std.proofs.lemmas.Slice.Eq.{bytes_eq-Decides}
 use Rattle.pgp_summary.specs.Calls.{AreApart, Call, Ask, Row, End, Fail, after, all_errors, all_micros, all_rows, called, found, run_by, run_in, run_of, runs_in, said_of, stands_in, times_of}
-use Rattle.pgp_summary.specs.Runs.{Run, Tally, begun, capped, grown, tallied, tally, tally_after}
-use Rattle.pgp_summary.specs.Summary.{Request, State, done, nothing, skipped, taken, with_waiting}
 use Rattle.pgp_summary.specs.declared.work.Work.{Work}
 use Rattle.pgp_summary.specs.declared.work.Work.TheVariants.{Query, Parse, Bind, Execute}
 

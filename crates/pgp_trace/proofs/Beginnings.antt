@@ -1,15 +1,7 @@
 -- The front of a server's stream: answers of one byte, and then messages.
-use Rattle.std.proofs.Common.{◌≡◌, ◌⊎◌, ℕ, ◌+◌, ◌<◌, Bool, true, false, List, [], ◌∷◌, ◌++◌, length, get_or, drop, Option, Some, None, refl, sym, ap, subst, ◌∙◌, inl, inr, arith, append_assoc, length-append}
-use Rattle.std.specs.Prelude.{◌==◌, if◌then◌else◌}
-use Rattle.pgp_line.specs.declared.style.Style.{Style}
+use Rattle.pgp_trace.proofs.Common.{◌≡◌, ◌⊎◌, ℕ, ◌+◌, ◌<◌, Bool, true, false, List, [], ◌∷◌, ◌++◌, length, get_or, drop, Option, Some, None, refl, sym, ap, subst, ◌∙◌, inl, inr, arith, append_assoc, length-append, ◌==◌, if◌then◌else◌, Style, Phase, Beginning, Messages, Replicating, Encrypted, Side, Server, AreAnswers, Ends, answered, phase_behind, replicates_behind, server_at, IsAnswerLine, IsListing, LineOf, Listed, Lines, NoLines, OneLine, answer_line, answer_name, last_line, name_in, place_behind, View, shown, HasLine, ListsNext, phase_of}
 use Rattle.pgp_trace.specs.declared.frame.Next.{Next}
 use Rattle.pgp_trace.specs.declared.frame.Next.TheVariants.{Line, Waits, Stops}
-use Rattle.pgp_trace.specs.declared.side.Phase.{Phase}
-use Rattle.pgp_trace.specs.declared.side.Phase.TheVariants.{Beginning, Messages, Replicating, Encrypted}
-use Rattle.pgp_trace.specs.Sides.{Side, Server, AreAnswers, Ends, answered, phase_behind, replicates_behind, server_at}
-use Rattle.pgp_trace.specs.Listing.{IsAnswerLine, IsListing, LineOf, Listed, Lines, NoLines, OneLine, answer_line, answer_name, last_line, name_in, place_behind}
-use Rattle.pgp_trace.specs.View.{View, shown}
-use Rattle.pgp_trace.specs.Steps.{HasLine, ListsNext, phase_of}
 use Rattle.pgp_trace.proofs.Ends.{answered_stays}
 use Rattle.pgp_trace.proofs.FrameLines.{frame_long}
 use Rattle.pgp_trace.proofs.Shorter.{frame_has}

@@ -1,11 +1,6 @@
 -- A client's messages that differ in their secrets alone say the same.
-use Rattle.std.proofs.Common.{◌≡◌, ℕ, ℤ, Bool, true, false, List, [], ◌∷◌, length, Some, Ok, ap}
-use Rattle.std.specs.Prelude.{codes}
-use Rattle.pgp_frontend.specs.ClientMessage.{CancelRequest, PasswordMessage, SaslInitialResponse, SaslResponse}
-use Rattle.pgp_line.specs.declared.style.Style.{Style}
-use Rattle.pgp_trace.specs.Client.{client_line, grouped}
-use Rattle.pgp_line.specs.Line.{Part, Name, Key, Member, Number, Text, Hidden, followed, key as named}
-use Rattle.pgp_trace.specs.Secrets.{quiet}
+use Rattle.pgp_trace.proofs.Common.{◌≡◌, ℕ, ℤ, Bool, true, false, List, [], ◌∷◌, length, Some, Ok, ap, codes, CancelRequest, PasswordMessage, SaslInitialResponse, SaslResponse, Style, client_line, grouped, Part, Name, Key, Member, Number, Text, Hidden, followed, quiet}
+use Rattle.pgp_line.specs.Line.{key as named}
 
 -- a line with a name and one group of parts
 abbrev one : Style → List ℕ → List ℕ → List Part → List ℕ

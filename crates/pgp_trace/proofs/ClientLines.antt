@@ -1,21 +1,7 @@
 -- A client's frame by itself.
-use Rattle.std.proofs.Common.{◌≡◌, ℕ, ◌+◌, ◌-◌, ◌<◌, ◌≤◌, ◌^◌, Bool, true, false, List, [], ◌∷◌, ◌++◌, length, take, Option, Some, None, Result, Ok, Err, refl, sym, ap, subst, ◌∙◌, arith, length-append, inl, inr, ◌⊎◌}
-use Rattle.std.proofs.lemmas.List.{append-nil}
-use Rattle.pgp_base.specs.Wire.{uint32}
-use Rattle.pgp_frontend.specs.ClientMessage.{ClientMessage, PasswordKind}
-use Rattle.pgp_frontend.specs.Payload.{framed, payload, tag_of, bytes_of}
+use Rattle.pgp_trace.proofs.Common.{◌≡◌, ℕ, ◌+◌, ◌-◌, ◌<◌, ◌≤◌, ◌^◌, Bool, true, false, List, [], ◌∷◌, ◌++◌, length, take, Option, Some, None, Result, Ok, Err, refl, sym, ap, subst, ◌∙◌, arith, length-append, inl, inr, ◌⊎◌, append-nil, uint32, ClientMessage, PasswordKind, framed, payload, tag_of, bytes_of, payload_fits, step_of, Unread, NoneStands, StopsAtLength, SkipsFrame, StopsAt, Refuses, Step, ClientError, Style, closing, client_line, EndsSo, client_frame_name, client_front, Client, Ends, expected, is_reported, kinds_behind, HasLine}
 use Rattle.pgp_frontend.proofs.Readings.{tagged_bodies, tag_in}
-use Rattle.pgp_frontend_read.proofs.Steps.{payload_fits}
-use Rattle.pgp_frontend_read.specs.Pieces.{step_of}
-use Rattle.pgp_frontend_read.specs.Step.{Unread, NoneStands, StopsAtLength, SkipsFrame, StopsAt, Refuses, Step}
-use Rattle.pgp_frontend_read.specs.declared.error.ClientError.{ClientError}
 use Rattle.pgp_frontend_read.specs.declared.message.PasswordKind as code
-use Rattle.pgp_line.specs.declared.style.Style.{Style}
-use Rattle.pgp_line.specs.Line.{closing}
-use Rattle.pgp_trace.specs.Client.{client_line}
-use Rattle.pgp_trace.specs.Listing.{EndsSo, client_frame_name, client_front}
-use Rattle.pgp_trace.specs.Sides.{Client, Ends, expected, is_reported, kinds_behind}
-use Rattle.pgp_trace.specs.Steps.{HasLine}
 use Rattle.pgp_trace.proofs.Parts.{front_taken}
 
 abbrev left : List ℕ → Bool → Unread

@@ -1,27 +1,11 @@
 -- A client's streams that differ in their secrets alone have the same lines.
-use Rattle.std.proofs.Common.{◌≡◌, ℕ, ◌+◌, ◌<◌, Bool, true, false, List, [], ◌∷◌, ◌++◌, length, drop, get_or, Option, Some, None, Result, Ok, Err, inl, inr, refl, sym, ap, subst, ◌∙◌, append_assoc, arith}
-use Rattle.std.specs.Prelude.{◌==◌, if◌then◌else◌}
-use Rattle.std.specs.List.{concat}
-use Rattle.std.proofs.lemmas.List.{append-nil, length-append}
-use Rattle.pgp_base.specs.Wire.{uint32}
-use Rattle.pgp_frontend.specs.ClientMessage.{ClientMessage, CancelRequest, PasswordMessage, SaslInitialResponse, SaslResponse}
-use Rattle.pgp_frontend.specs.Payload.{framed, payload, tag_of}
-use Rattle.pgp_frontend_read.specs.Pieces.{step_of}
-use Rattle.pgp_frontend_read.specs.Step.{Unread, Step}
-use Rattle.pgp_frontend_read.specs.declared.error.ClientError.{ClientError}
+use Rattle.pgp_trace.proofs.Common.{◌≡◌, ℕ, ◌+◌, ◌<◌, Bool, true, false, List, [], ◌∷◌, ◌++◌, length, drop, get_or, Option, Some, None, Result, Ok, Err, inl, inr, refl, sym, ap, subst, ◌∙◌, append_assoc, arith, ◌==◌, if◌then◌else◌, concat, append-nil, uint32, ClientMessage, CancelRequest, PasswordMessage, SaslInitialResponse, SaslResponse, framed, payload, tag_of, step_of, Unread, Step, ClientError, step_one, Style, ClientSays, client_copied, client_data, client_line, client_name, Length, Tag, followed, opening, EndsSo, IsNextLine, Listed, Lines, NoLines, OneLine, client_frame_name, client_front, client_tag, place_behind, View, shown, quiet, quietly, Side, Server, Client, expected, is_password, is_reported, kinds_behind}
+use Rattle.std.proofs.lemmas.List.{length-append}
 use Rattle.pgp_frontend_read.specs.declared.message.PasswordKind as code
-use Rattle.pgp_frontend_read.proofs.OneStep.{step_one}
 use Rattle.pgp_frontend_read.proofs.Pieces.{took}
 use Rattle.pgp_frontend_read.proofs.Fronts.{behind_length}
 use Rattle.pgp_frontend_read.proofs.Handing.{refused_behind}
-use Rattle.pgp_line.specs.declared.style.Style.{Style}
-use Rattle.pgp_trace.specs.Client.{ClientSays, client_copied, client_data, client_line, client_name}
 use Rattle.pgp_trace.specs.ClientSecrets.{AlikeMessages, AlikeAnswers, AlikeClientFrames, AlikeClientStreams, NoClientFrames, OneClientAlike, ReadsAs}
-use Rattle.pgp_line.specs.Line.{Length, Tag, followed, opening}
-use Rattle.pgp_trace.specs.Listing.{EndsSo, IsNextLine, Listed, Lines, NoLines, OneLine, client_frame_name, client_front, client_tag, place_behind}
-use Rattle.pgp_trace.specs.View.{View, shown}
-use Rattle.pgp_trace.specs.Secrets.{quiet, quietly}
-use Rattle.pgp_trace.specs.Sides.{Side, Server, Client, expected, is_password, is_reported, kinds_behind}
 use Rattle.pgp_trace.proofs.Parts.{front_taken}
 use Rattle.pgp_trace.proofs.ClientHiding.{password, initial, response, key, unreported}
 

@@ -1,12 +1,6 @@
 -- Where a stream isn't cut into frames.
-use Rattle.std.proofs.Common.{◌≡◌, ℕ, ◌<◌, Bool, true, false, List, [], ◌∷◌, ◌++◌, length, None, refl, sym, ap, ◌∙◌, append_assoc, arith, inl, inr, length-append}
-use Rattle.pgp_base.specs.Wire.{uint32}
-use Rattle.pgp_frontend.specs.Payload.{framed}
-use Rattle.pgp_message.specs.Stream.{IsLengthFault}
+use Rattle.pgp_trace.proofs.Common.{◌≡◌, ℕ, ◌<◌, Bool, true, false, List, [], ◌∷◌, ◌++◌, length, None, refl, sym, ap, ◌∙◌, append_assoc, arith, inl, inr, length-append, uint32, framed, IsLengthFault, more_behind, Side, Server, Client, Ends, IsRefusedPacket, answered, Beginning, Messages, Replicating, Encrypted}
 use Rattle.pgp_frontend_read.specs.Step as client
-use Rattle.pgp_frontend_read.proofs.Refusals.{more_behind}
-use Rattle.pgp_trace.specs.Sides.{Side, Server, Client, Ends, IsRefusedPacket, answered}
-use Rattle.pgp_trace.specs.declared.side.Phase.TheVariants.{Beginning, Messages, Replicating, Encrypted}
 
 fault_stays : (rest piece : List ℕ) → IsLengthFault rest → IsLengthFault (rest ++ piece)
 fault_stays rest piece f = record {

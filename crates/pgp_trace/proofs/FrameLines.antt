@@ -1,19 +1,5 @@
 -- The line of one frame.
-use Rattle.std.proofs.Common.{◌≡◌, ℕ, Bool, true, false, ◌-◌, ◌≤◌, List, [], ◌∷◌, ◌++◌, length, take, drop, Result, Ok, Err, refl, sym, ap, subst, ◌∙◌, arith, length-append}
-use Rattle.std.specs.Prelude.{slice_index}
-use Rattle.std.proofs.lemmas.List.{append-nil}
-use Rattle.pgp_base.specs.Wire.{uint32}
-use Rattle.pgp_base.specs.declared.error.Error.{Error}
-use Rattle.pgp_message.specs.BackendMessage.{Message, payload_of}
-use Rattle.pgp_message.specs.Stream.{Frame, frame_bytes, TakesFrame}
-use Rattle.pgp_line.specs.declared.style.Style.{Style}
-use Rattle.pgp_line.specs.Line.{Length, Tag, closing, followed, opening}
-use Rattle.pgp_trace.specs.Shown.{Says, called, inner_data}
-use Rattle.pgp_trace.specs.Unread.{ShowsUnread}
-use Rattle.pgp_trace.specs.Listing.{front, unread_name}
-use Rattle.pgp_trace.specs.Names.{name_of}
-use Rattle.pgp_trace.specs.Sides.{replicates_behind, server_at}
-use Rattle.pgp_trace.specs.Steps.{IsFrameOf, IsNamedLine, HasLine, ReportsFault}
+use Rattle.pgp_trace.proofs.Common.{◌≡◌, ℕ, Bool, true, false, ◌-◌, ◌≤◌, List, [], ◌∷◌, ◌++◌, length, take, drop, Result, Ok, Err, refl, sym, ap, subst, ◌∙◌, arith, length-append, slice_index, append-nil, uint32, Error, Message, payload_of, Frame, frame_bytes, TakesFrame, Style, Length, Tag, closing, followed, opening, Says, called, inner_data, ShowsUnread, front, unread_name, name_of, replicates_behind, server_at, IsFrameOf, IsNamedLine, HasLine, ReportsFault}
 use Rattle.pgp_trace.proofs.Parts.{front_taken}
 
 -- what a line begins with, by the bytes of the frame

@@ -1,10 +1,5 @@
 -- What a writer took of some bytes.
-use Rattle.std.proofs.Common.{ℕ, List, [], ◌++◌, length, take, Option, Some, None, refl, sym, ap, subst, ◌∙◌, arith, length-append}
-use Rattle.std.specs.Io.KnownBytes.{Appends, Keeps}
-use Rattle.std.proofs.KnownBytes.{Appends-nil, Appends-trans}
-use Rattle.std.proofs.lemmas.List.{append-nil, take_all}
-use Rattle.std.proofs.Math.Seq.{take-append-add}
-use Rattle.pgp_program.specs.Taken.{AppendsFront}
+use Rattle.pgp_trace.proofs.Common.{ℕ, List, [], ◌++◌, length, take, Option, Some, None, refl, sym, ap, subst, ◌∙◌, arith, length-append, Appends, Keeps, Appends-nil, Appends-trans, append-nil, take_all, take-append-add, AppendsFront}
 
 -- nothing
 pub none_taken : (old : Option (List ℕ)) (bytes : List ℕ) → AppendsFront old old bytes

@@ -1,12 +1,7 @@
 -- Messages that differ in their secrets alone say the same.
-use Rattle.std.proofs.Common.{◌≡◌, ℕ, Bool, true, false, List, [], ◌∷◌, length, Option, Some, None, refl, ap, subst, ◌∙◌}
-use Rattle.std.specs.Prelude.{codes}
-use Rattle.pgp_message.specs.BackendMessage.{AuthenticationMd5Password, AuthenticationGssContinue, AuthenticationSaslContinue, AuthenticationSaslFinal, Message, BackendKeyData, Authentication}
+use Rattle.pgp_trace.proofs.Common.{◌≡◌, ℕ, Bool, true, false, List, [], ◌∷◌, length, Option, Some, None, refl, ap, subst, ◌∙◌, codes, AuthenticationMd5Password, AuthenticationGssContinue, AuthenticationSaslContinue, AuthenticationSaslFinal, Message, BackendKeyData, Authentication, Key, Number, Hidden, followed, Style, Alike, quiet, Says, Shows, called, inner_data}
 use Rattle.pgp_message.specs.Parts.{KeyData}
-use Rattle.pgp_line.specs.Line.{Key, Number, Hidden, followed, key as named}
-use Rattle.pgp_line.specs.declared.style.Style.{Style}
-use Rattle.pgp_trace.specs.Secrets.{Alike, quiet}
-use Rattle.pgp_trace.specs.Shown.{Says, Shows, called, inner_data}
+use Rattle.pgp_line.specs.Line.{key as named}
 
 same : (style : Style) (m n : Message) (old new : List ℕ) → m ≡ n → Shows (quiet style) m old new → Shows (quiet style) n old new
 same style m n old new e s = subst (λ k. Shows (quiet style) k old new) e s

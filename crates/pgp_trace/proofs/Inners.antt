@@ -1,14 +1,5 @@
 -- The messages inside a CopyData.
-use Rattle.std.proofs.Common.{◌≡◌, ◌≢◌, ℕ, ◌+◌, ◌<◌, ◌≤◌, ◌^◌, Bool, true, false, List, [], ◌∷◌, ◌++◌, length, take, drop, get_or, Option, Some, None, refl, sym, ap, subst, ◌∙◌, arith}
-use Rattle.std.specs.Prelude.{IfNone}
-use Rattle.std.specs.Int.{w32, w64, from_be_bytes}
-use Rattle.std.proofs.lemmas.Bool.{le-ltb}
-use Rattle.pgp_base.specs.Wire.{IsBytes, uint32, uint64}
-use Rattle.pgp_base.specs.PartReading.{front_at}
-use Rattle.pgp_base.specs.Reading.{BeginsNoOther}
-use Rattle.pgp_base.proofs.PartLemmas.{number_takes, oid_number, uint64_number}
-use Rattle.pgp_base.proofs.Spellings.{number_begins}
-use Rattle.pgp_trace.specs.Replication.{Inner, IsInner, IsInt32, IsInt64, XLogData, Keepalive, StatusUpdate, Feedback, spelled}
+use Rattle.pgp_trace.proofs.Common.{◌≡◌, ◌≢◌, ℕ, ◌+◌, ◌<◌, ◌≤◌, ◌^◌, Bool, true, false, List, [], ◌∷◌, ◌++◌, length, take, drop, get_or, Option, Some, None, refl, sym, ap, subst, ◌∙◌, arith, IfNone, w32, w64, from_be_bytes, le-ltb, IsBytes, uint32, uint64, front_at, BeginsNoOther, number_takes, oid_number, uint64_number, number_begins, Inner, IsInner, IsInt32, IsInt64, XLogData, Keepalive, StatusUpdate, Feedback, spelled}
 
 -- ---- numbers
 

@@ -1,10 +1,5 @@
 -- The parts of a line, a part and an item at a time.
-use Rattle.std.proofs.Common.{◌≡◌, ℕ, List, [], ◌∷◌, ◌++◌, refl, sym, ap, ◌∙◌}
-use Rattle.pgp_base.specs.declared.error.Error.{Error}
-use Rattle.pgp_base.specs.Walk.{Walk, TakesItem, IsFinished, IsRefused}
-use Rattle.pgp_line.specs.declared.style.Style.{Style}
-use Rattle.pgp_line.specs.Line.{Part, extended, followed}
-use Rattle.pgp_trace.specs.Shown.{closed, ending, refused}
+use Rattle.pgp_trace.proofs.Common.{◌≡◌, ℕ, List, [], ◌∷◌, ◌++◌, refl, sym, ap, ◌∙◌, Error, Walk, TakesItem, IsFinished, IsRefused, Style, Part, extended, followed, closed, ending, refused}
 
 -- parts after parts
 pub followed_join : (style : Style) (line : List ℕ) (ps qs : List Part) → followed style line (ps ++ qs) ≡ followed style (followed style line ps) qs

@@ -1,3 +1,4 @@
+mod Common
 pub mod Parts
 pub mod Fronts
 pub mod Items

@@ -1,10 +1,6 @@
 -- The names of the messages that are listed.
-use Rattle.std.proofs.Common.{◌≡◌, ℕ, List, [], ◌∷◌, length, map, refl, ap}
-use Rattle.std.specs.Prelude.{◌||◌}
+use Rattle.pgp_trace.proofs.Common.{◌≡◌, ℕ, List, [], ◌∷◌, length, map, refl, ap, ◌||◌, list_any, bytes_eq, is_listed}
 use Rattle.std.specs.Borrow.{Bor}
-use Rattle.std.specs.List.{list_any}
-use Rattle.std.specs.Str.{bytes_eq}
-use Rattle.pgp_trace.specs.View.{is_listed}
 
 pub any_mapped : (only : List (Bor (List ℕ))) (name : List ℕ) → list_any (λ other. bytes_eq other.now name) only ≡ list_any (λ other. bytes_eq other name) (map (λ other. other.now) only)
 any_mapped [] name = refl

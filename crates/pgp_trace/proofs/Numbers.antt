@@ -1,13 +1,5 @@
 -- The numbers of a list, one at a time.
-use Rattle.std.proofs.Common.{◌≡◌, ℕ, pos, ◌<◌, Bool, List, [], ◌∷◌, length, Option, Some, None, Result, Ok, Err, refl, sym, ap, ◌∙◌, arith}
-use Rattle.std.specs.Prelude.{OnOk, if◌then◌else◌}
-use Rattle.std.specs.Int.{w16, from_be_bytes}
-use Rattle.std.proofs.lemmas.Bool.{le-ltb}
-use Rattle.pgp_base.specs.PartReading.{uint16_at}
-use Rattle.pgp_line.specs.declared.style.Style.{Style}
-use Rattle.pgp_line.specs.Line.{Count, Key, ListEnds, Number, followed}
-use Rattle.pgp_trace.specs.PlainBody.{numbers_of}
-use Rattle.pgp_trace.specs.Shown.{list_of, number_part}
+use Rattle.pgp_trace.proofs.Common.{◌≡◌, ℕ, pos, ◌<◌, Bool, List, [], ◌∷◌, length, Option, Some, None, Result, Ok, Err, refl, sym, ap, ◌∙◌, arith, OnOk, if◌then◌else◌, w16, from_be_bytes, le-ltb, uint16_at, Style, Count, Key, ListEnds, Number, followed, numbers_of, list_of, number_part}
 use Rattle.pgp_trace.proofs.PlainBodies.{some_is}
 
 front_is : (a b : ℕ) (rest : List ℕ) → uint16_at (a ∷ b ∷ rest) ≡ Some (from_be_bytes w16 (a ∷ b ∷ []), rest)

@@ -1,46 +1,19 @@
 -- A stream has one listing.
-use Rattle.std.proofs.Common.{◌≡◌, ℕ, ◌+◌, Bool, true, false, List, [], ◌∷◌, ◌++◌, length, get_or, drop, ◌<◌, Option, Some, None, Result, Ok, Err, refl, sym, ap, subst, ◌∙◌, inl, inr, arith, append_assoc, length-append}
-use Rattle.std.proofs.lemmas.List.{append-nil}
-use Rattle.std.specs.Prelude.{codes}
-use Rattle.std.specs.Str.{IsUtf8}
-use Rattle.pgp_base.specs.declared.error.Error.{Error}
+use Rattle.pgp_trace.proofs.Common.{◌≡◌, ℕ, ◌+◌, Bool, true, false, List, [], ◌∷◌, ◌++◌, length, get_or, drop, ◌<◌, Option, Some, None, Result, Ok, Err, refl, sym, ap, subst, ◌∙◌, inl, inr, arith, append_assoc, length-append, append-nil, codes, IsUtf8, Error, text_at, Body, AuthenticationOk, AuthenticationKerberosV5, AuthenticationCleartextPassword, AuthenticationMd5Password, AuthenticationScmCredential, AuthenticationGss, AuthenticationGssContinue, AuthenticationSspi, AuthenticationSasl, AuthenticationSaslContinue, AuthenticationSaslFinal, Message, ParseComplete, BindComplete, CloseComplete, NotificationResponse, CommandComplete, DataRow, ErrorResponse, CopyInResponse, CopyOutResponse, EmptyQueryResponse, BackendKeyData, NegotiateProtocolVersion, NoticeResponse, Authentication, ParameterStatus, RowDescription, ReadyForQuery, CopyDone, CopyData, NoData, PortalSuspended, ParameterDescription, payload_of, TextSpelled, TextRefused, FormatSpelled, FormatRefused, TypeSpelled, TypeRefused, RangeSpelled, RangeRefused, FieldSpelled, FieldRefused, ErrorFieldSpelled, ErrorFieldRefused, Frame, frame_bytes, IsFrame, IsEnding, front_is_one, no_ending, runs_one, frames_none, ClientMessage, step_of, Unread, IsPartial, Refuses, Step, ClientError, InvalidLength, step_one, partial_waits, step_fault, Style, Part, Count, Key, ListEnds, Name, Number, ObjectEnds, Text, closing, followed, Phase, Beginning, Messages, Replicating, Encrypted, ClientSays, client_data, ShowsInner, inner_parts, Says, Shows, ShowsCounted, ShowsMarked, ShowsTexts, called, closed, inner_data, list_of, ShowsCopyBoth, ShowsResult, ShowsUnread, CallResult, CopyBoth, Rejected, copy_parts, result_parts, Side, Server, Client, Ends, IsRefusedPacket, answered, expected, is_reported, kinds_behind, phase_behind, replicates_behind, server_at, EndsSo, GoesOn, IsAnswerLine, IsListing, IsLineOf, IsNextLine, IsServerLine, LineOf, Listed, Lines, NoLines, OneLine, answer_line, answer_name, client_frame_name, client_front, front, last_line, name_in, place_behind, server_name, View, shown}
 use Rattle.pgp_base.specs.OneList.{HasOneCountedList, HasOneMarkedList}
-use Rattle.pgp_base.specs.PartReading.{text_at}
 use Rattle.pgp_base.proofs.OneLists.{one_counted_list, one_marked_list}
-use Rattle.pgp_message.specs.BackendMessage.{Body, AuthenticationOk, AuthenticationKerberosV5, AuthenticationCleartextPassword, AuthenticationMd5Password, AuthenticationScmCredential, AuthenticationGss, AuthenticationGssContinue, AuthenticationSspi, AuthenticationSasl, AuthenticationSaslContinue, AuthenticationSaslFinal, Message, ParseComplete, BindComplete, CloseComplete, NotificationResponse, CommandComplete, DataRow, ErrorResponse, CopyInResponse, CopyOutResponse, EmptyQueryResponse, BackendKeyData, NegotiateProtocolVersion, NoticeResponse, Authentication, ParameterStatus, RowDescription, ReadyForQuery, CopyDone, CopyData, NoData, PortalSuspended, ParameterDescription, payload_of}
-use Rattle.pgp_message.specs.Items.{TextSpelled, TextRefused, FormatSpelled, FormatRefused, TypeSpelled, TypeRefused, RangeSpelled, RangeRefused, FieldSpelled, FieldRefused, ErrorFieldSpelled, ErrorFieldRefused}
 use Rattle.pgp_message.specs.ItemReading.{format_at, type_at, range_at, field_at, error_field_at}
-use Rattle.pgp_message.specs.Stream.{Frame, frame_bytes, IsFrame, IsEnding}
 use Rattle.pgp_message.proofs.Bodies.{one_body}
 use Rattle.pgp_message.proofs.ErrorFieldLemmas.{error_field_reader}
 use Rattle.pgp_message.proofs.FieldLemmas.{field_reader}
 use Rattle.pgp_message.proofs.NumberLemmas.{format_reader, type_reader}
 use Rattle.pgp_message.proofs.RangeLemmas.{range_reader}
 use Rattle.pgp_message.proofs.TextLemmas.{text_reader}
-use Rattle.pgp_message.proofs.Runs.{front_is_one, no_ending, runs_one, frames_none}
-use Rattle.pgp_frontend.specs.ClientMessage.{ClientMessage}
-use Rattle.pgp_frontend_read.specs.Pieces.{step_of}
-use Rattle.pgp_frontend_read.specs.Step.{Unread, IsPartial, Refuses, Step}
-use Rattle.pgp_frontend_read.specs.declared.error.ClientError.{ClientError}
 use Rattle.pgp_frontend_read.specs.declared.error.ClientError.TheVariants.{Reading}
-use Rattle.pgp_base.specs.declared.error.Error.TheVariants.{InvalidLength}
 use Rattle.pgp_frontend_read.specs.declared.message.PasswordKind as code
-use Rattle.pgp_frontend_read.proofs.OneStep.{step_one}
-use Rattle.pgp_frontend_read.proofs.Refusals.{partial_waits}
-use Rattle.pgp_frontend_read.proofs.Steps.{step_fault}
-use Rattle.pgp_line.specs.declared.style.Style.{Style}
-use Rattle.pgp_line.specs.Line.{Part, Count, Key, ListEnds, Name, Number, ObjectEnds, Text, closing, followed, key as named}
-use Rattle.pgp_trace.specs.declared.side.Phase.{Phase}
-use Rattle.pgp_trace.specs.declared.side.Phase.TheVariants.{Beginning, Messages, Replicating, Encrypted}
-use Rattle.pgp_trace.specs.Client.{ClientSays, client_data}
-use Rattle.pgp_trace.specs.Replication.{ShowsInner, inner_parts}
-use Rattle.pgp_trace.specs.Shown.{Says, Shows, ShowsCounted, ShowsMarked, ShowsTexts, called, closed, inner_data, list_of}
-use Rattle.pgp_trace.specs.Unread.{ShowsCopyBoth, ShowsResult, ShowsUnread, CallResult, CopyBoth, Rejected, copy_parts, result_parts}
+use Rattle.pgp_line.specs.Line.{key as named}
 use Rattle.pgp_trace.proofs.Inners.{one_inner}
 use Rattle.pgp_trace.proofs.PlainBodies.{one_copy, one_result}
-use Rattle.pgp_trace.specs.Sides.{Side, Server, Client, Ends, IsRefusedPacket, answered, expected, is_reported, kinds_behind, phase_behind, replicates_behind, server_at}
-use Rattle.pgp_trace.specs.Listing.{EndsSo, GoesOn, IsAnswerLine, IsListing, IsLineOf, IsNextLine, IsServerLine, LineOf, Listed, Lines, NoLines, OneLine, answer_line, answer_name, client_frame_name, client_front, front, last_line, name_in, place_behind, server_name}
-use Rattle.pgp_trace.specs.View.{View, shown}
 use Rattle.pgp_trace.proofs.ClientStreams.{behind, frame_some, one_first}
 use Rattle.pgp_trace.proofs.Shorter.{frame_has}
 use Rattle.pgp_trace.proofs.Beginnings.{none_some}

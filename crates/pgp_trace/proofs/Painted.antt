@@ -1,9 +1,6 @@
 -- A line in a colour.
-use Rattle.std.proofs.Common.{◌≡◌, ◌≢◌, ℕ, zero, suc, ◌+◌, ◌-◌, Bool, true, false, inl, inr, List, [], ◌∷◌, ◌++◌, length, length-append, take, get_or, refl, sym, ap, ◌∙◌, arith}
-use Rattle.std.specs.Prelude.{Option, Result, Ok, Err, OnOk, Some, None, ◌==◌, if◌then◌else◌}
-use Rattle.std.proofs.lemmas.Bool.{cases_Bool, eqb-true, true≢false}
-use Rattle.pgp_line.specs.declared.style.Form.TheVariants.{Json}
-use Rattle.pgp_trace.specs.View.{View, color_by, color_of, ends_in_newline, painted, uncolored}
+use Rattle.pgp_trace.proofs.Common.{◌≡◌, ◌≢◌, ℕ, zero, suc, ◌+◌, ◌-◌, Bool, true, false, inl, inr, List, [], ◌∷◌, ◌++◌, length, length-append, take, get_or, refl, sym, ap, ◌∙◌, arith, OnOk, ◌==◌, if◌then◌else◌, cases_Bool, eqb-true, true≢false, Json, View, color_by, color_of, ends_in_newline, painted, uncolored}
+use Rattle.std.specs.Prelude.{Option, Result, Ok, Err, Some, None}
 
 if_true : {A : Type 0} (b : Bool) (x y : A) → b ≡ true → (if b then x else y) ≡ x
 if_true true x y e = refl

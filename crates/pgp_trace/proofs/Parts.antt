@@ -1,8 +1,5 @@
 -- Lists, one element after another.
-use Rattle.std.proofs.Common.{◌≡◌, ℕ, ◌+◌, ◌-◌, ◌≤◌, List, ◌++◌, length, take, sym, ap, ◌∙◌, arith, length-append, min, inl, inr}
-use Rattle.std.proofs.Math.Nat.{min-eq_left, min-eq_right}
-use Rattle.std.proofs.lemmas.Bool.{cases_order}
-use Rattle.std.proofs.Math.Seq.{take-append_seam}
+use Rattle.pgp_trace.proofs.Common.{◌≡◌, ℕ, ◌+◌, ◌-◌, ◌≤◌, List, ◌++◌, length, take, sym, ap, ◌∙◌, arith, length-append, min, inl, inr, min-eq_left, min-eq_right, cases_order, take-append_seam}
 
 -- what stands before the rest
 pub front_taken : (front rest all : List ℕ) → all ≡ front ++ rest → take (length all - length rest) all ≡ front

@@ -1,13 +1,6 @@
 -- A server's stream in which no replication begins.
-use Rattle.std.proofs.Common.{◌≡◌, ◌≢◌, ℕ, ◌+◌, Bool, true, false, List, [], ◌++◌, length, refl, sym, ap, subst, ◌∙◌}
-use Rattle.std.specs.Prelude.{◌==◌, if◌then◌else◌}
-use Rattle.std.proofs.lemmas.Bool.{eqb-true}
-use Rattle.pgp_message.specs.Stream.{Frame, frame_bytes, IsFrame}
-use Rattle.pgp_trace.specs.Listing.{Listed, Lines, NoLines, OneLine, place_behind}
+use Rattle.pgp_trace.proofs.Common.{◌≡◌, ◌≢◌, ℕ, ◌+◌, Bool, true, false, List, [], ◌++◌, length, refl, sym, ap, subst, ◌∙◌, ◌==◌, if◌then◌else◌, eqb-true, Frame, frame_bytes, IsFrame, Listed, Lines, NoLines, OneLine, place_behind, Side, Server, replicates, replicates_behind, server_at, View, Messages}
 use Rattle.pgp_trace.specs.Plain.{HasNoCopyBoth, NoFrame, OneFrame, PlainLines, NoPlain, OnePlain}
-use Rattle.pgp_trace.specs.Sides.{Side, Server, replicates, replicates_behind, server_at}
-use Rattle.pgp_trace.specs.View.{View}
-use Rattle.pgp_trace.specs.declared.side.Phase.TheVariants.{Messages}
 use Rattle.pgp_trace.proofs.Sides.{server_line}
 use Rattle.pgp_trace.proofs.Streams.{AreFrames, listed_frames, more_frames, no_last, one_last}
 

@@ -1,24 +1,10 @@
 -- The bodies of the two messages that `pgp_message` doesn't read.
-use Rattle.std.proofs.Common.{◌≡◌, ℕ, zero, suc, ◌*◌, ◌<◌, ◌≤◌, ◌^◌, Bool, true, false, List, [], ◌∷◌, ◌++◌, length, drop, get_or, Option, Some, None, Result, Ok, Err, refl, sym, ap, subst, ◌∙◌, arith, length-append}
-use Rattle.std.specs.Prelude.{◌/◌, All, ◌==◌, if◌then◌else◌}
-use Rattle.std.specs.Int.{w16, w32, from_be_bytes}
-use Rattle.std.specs.List.{flat_map}
-use Rattle.std.proofs.lemmas.Bool.{eqb-true, le-leb}
-use Rattle.std.proofs.lemmas.List.{append-nil}
+use Rattle.pgp_trace.proofs.Common.{◌≡◌, ℕ, zero, suc, ◌*◌, ◌<◌, ◌≤◌, ◌^◌, Bool, true, false, List, [], ◌∷◌, ◌++◌, length, drop, get_or, Option, Some, None, Result, Ok, Err, refl, sym, ap, subst, ◌∙◌, arith, length-append, ◌/◌, All, ◌==◌, if◌then◌else◌, w16, w32, from_be_bytes, flat_map, eqb-true, le-leb, append-nil, flat_map-cons, Error, TooLarge, IsBytes, counted, nullable, oid, uint16, uint32, Gives, byte_at, oid_at, uint16_at, ReadsSpelling, number_takes, oid_number, uint16_number, number_reads, IsCallResult, IsCopyBoth, numbers_of}
 use Rattle.std.proofs.lemmas.List.Elements.{All-nil, All-cons}
-use Rattle.std.proofs.lemmas.List.Concat.{flat_map-cons}
-use Rattle.pgp_base.specs.declared.error.Error.{Error}
-use Rattle.pgp_base.specs.declared.error.Error.TheVariants.{TooLarge}
-use Rattle.pgp_base.specs.Wire.{IsBytes, counted, nullable, oid, uint16, uint32}
 use Rattle.pgp_base.specs.Cause.{nullable_cause}
-use Rattle.pgp_base.specs.PartReading.{Gives, byte_at, oid_at, uint16_at}
-use Rattle.pgp_base.specs.Reading.{ReadsSpelling}
 use Rattle.pgp_base.proofs.Causes.{counts_of, fits_of}
-use Rattle.pgp_base.proofs.PartLemmas.{number_takes, oid_number, uint16_number}
 use Rattle.pgp_base.proofs.Parts.{length-uint16, null_spelled}
 use Rattle.pgp_base.proofs.Prefixes.{counted_begins, nullable_begins, uint16_begins}
-use Rattle.pgp_base.proofs.Spellings.{number_reads}
-use Rattle.pgp_trace.specs.PlainBody.{IsCallResult, IsCopyBoth, numbers_of}
 
 oids : ReadsSpelling (λ n. n < 2 ^ 32) oid oid_at
 oids = number_reads 4 (λ n. n < 2 ^ 32) oid (λ l. from_be_bytes w32 l) oid_number

@@ -1,39 +1,18 @@
 -- A line has printable characters alone, and a newline at its end.
-use Rattle.std.proofs.Common.{◌≡◌, ℕ, zero, suc, ◌+◌, ◌-◌, ◌<◌, ◌≤◌, Bool, true, false, List, [], ◌∷◌, ◌++◌, length, take, drop, Option, Some, None, Result, Ok, Err, ℤ, pos, negsuc, refl, sym, ap, subst, ◌∙◌, arith, inl, inr}
-use Rattle.std.specs.Prelude.{slice_get, ◌/◌, ◌%◌, ◌^◌, ◌||◌, nat_le, nat_lt, ◌==◌, if◌then◌else◌, codes, decimal}
+use Rattle.pgp_trace.proofs.Common.{◌≡◌, ℕ, zero, suc, ◌+◌, ◌-◌, ◌<◌, ◌≤◌, Bool, true, false, List, [], ◌∷◌, ◌++◌, length, take, drop, Option, Some, None, Result, Ok, Err, ℤ, pos, negsuc, refl, sym, ap, subst, ◌∙◌, arith, inl, inr, slice_get, ◌/◌, ◌%◌, ◌||◌, nat_le, nat_lt, ◌==◌, if◌then◌else◌, codes, decimal, flat_map, list_all, eqb-true, leb-true, le-leb, lt-ltb, and_from, and_parts, append-nil, flat_map-cons, Error, AuthenticationOk, AuthenticationKerberosV5, AuthenticationCleartextPassword, AuthenticationMd5Password, AuthenticationScmCredential, AuthenticationGss, AuthenticationGssContinue, AuthenticationSspi, AuthenticationSasl, AuthenticationSaslContinue, AuthenticationSaslFinal, Message, ParseComplete, BindComplete, CloseComplete, NotificationResponse, CommandComplete, DataRow, ErrorResponse, CopyInResponse, CopyOutResponse, EmptyQueryResponse, BackendKeyData, NegotiateProtocolVersion, NoticeResponse, Authentication, ParameterStatus, RowDescription, ReadyForQuery, CopyDone, CopyData, NoData, PortalSuspended, ParameterDescription, payload_of, Frame, frame_bytes, Columns, Json, Style, Part, Length, Tag, Name, Refusal, Key, Member, Count, ListBegins, ListEnds, ObjectBegins, ObjectEnds, Word, Number, Lsn, Oid, Text, Value, Binary, Hidden, added, added_by, blanks, closing, closing_by, comma, extended, followed, is_opening, json, json_name, lsn, named, opening, opening_by, right, separator, space, spelt, string, type_name, state_of, TextSpelled, TextRefused, FormatSpelled, FormatRefused, TypeSpelled, TypeRefused, RangeSpelled, RangeRefused, FieldSpelled, FieldRefused, ErrorFieldSpelled, ErrorFieldRefused, IsAscii, IsUtf8, all_scalars, chars, encode_utf8_all, ShowsInner, data_parts, inner_parts, Says, Shows, ShowsCounted, ShowsMarked, ShowsTexts, bare, called, closed, column_parts, field_parts, inner_data, list_of, name_or, number_part, refused, text_part, type_part, value_part, ShowsCopyBoth, ShowsResult, ShowsUnread, CallResult, CopyBoth, Rejected, copy_parts, result_parts, ClientMessage, ClientError, ClientSays, client_called, client_data, client_groups, client_line, grouped, refusal_parts, GoesOn, IsLineOf, LineOf, answer_name, front, client_front, client_tag, Side, Server, Client, is_reported, Beginning, Messages, Replicating, Encrypted}
+use Rattle.std.specs.Prelude.{◌^◌}
 use lib.Utf8.{scalar as is_scalar}
 use Rattle.std.specs.Char.{encode_utf8, IsScalar}
 use Rattle.std.specs.Fmt.{digits as numerals, digits_onto, digit_glyph, signed_decimal}
-use Rattle.std.specs.List.{flat_map, list_all}
-use Rattle.std.proofs.lemmas.Bool.{eqb-true, leb-true, le-leb, lt-ltb, and_from, and_parts}
-use Rattle.std.proofs.lemmas.List.{append-nil}
 use Rattle.std.proofs.lemmas.Str.{chars-IsAscii, encodes-append, encodes-IsAscii, IsUtf8-from_ascii, scalars-chars}
 use Rattle.std.proofs.lemmas.Str.Ascii.{IsAscii-nil, IsAscii-cons}
-use Rattle.std.proofs.lemmas.List.Concat.{flat_map-cons}
-use Rattle.pgp_base.specs.declared.error.Error.{Error}
-use Rattle.pgp_message.specs.BackendMessage.{AuthenticationOk, AuthenticationKerberosV5, AuthenticationCleartextPassword, AuthenticationMd5Password, AuthenticationScmCredential, AuthenticationGss, AuthenticationGssContinue, AuthenticationSspi, AuthenticationSasl, AuthenticationSaslContinue, AuthenticationSaslFinal, Message, ParseComplete, BindComplete, CloseComplete, NotificationResponse, CommandComplete, DataRow, ErrorResponse, CopyInResponse, CopyOutResponse, EmptyQueryResponse, BackendKeyData, NegotiateProtocolVersion, NoticeResponse, Authentication, ParameterStatus, RowDescription, ReadyForQuery, CopyDone, CopyData, NoData, PortalSuspended, ParameterDescription, payload_of}
-use Rattle.pgp_message.specs.Stream.{Frame, frame_bytes}
 use Rattle.pgp_line.specs.declared.style.Form.{Form}
-use Rattle.pgp_line.specs.declared.style.Form.TheVariants.{Columns, Json}
-use Rattle.pgp_line.specs.declared.style.Style.{Style}
 use Rattle.pgp_line.specs.Quoting.{IsPrinted, broken, digits, hex_digit, hex_byte, hex_escape, is_mark, is_printable, is_text, is_visible, escaped_byte, escaped_char, escaped, json_digits, json_hex, json_text, json_value, long, quoted, unit, units, unprinted, value, up_to}
 use Rattle.pgp_line.proofs.Escapes.{front_utf8}
-use Rattle.pgp_line.specs.Line.{Part, Length, Tag, Name, Refusal, Key, Member, Count, ListBegins, ListEnds, ObjectBegins, ObjectEnds, Word, Number, Lsn, Oid, Text, Value, Binary, Hidden, added, added_by, blanks, closing, closing_by, comma, extended, followed, is_opening, json, json_name, key as keyed, lsn, named, opening, opening_by, right, separator, shown, space, spelt, string, type_name}
+use Rattle.pgp_line.specs.Line.{key as keyed, shown}
 use Rattle.pgp_line.specs.Types.{type_of}
-use Rattle.pgp_trace.specs.Names.{state_of}
-use Rattle.pgp_message.specs.Items.{TextSpelled, TextRefused, FormatSpelled, FormatRefused, TypeSpelled, TypeRefused, RangeSpelled, RangeRefused, FieldSpelled, FieldRefused, ErrorFieldSpelled, ErrorFieldRefused}
-use Rattle.std.specs.Str.{IsAscii, IsUtf8, all_scalars, chars, encode_utf8_all}
 use Rattle.std.specs.Str.Lossy.{utf8_valid_len}
-use Rattle.pgp_trace.specs.Replication.{ShowsInner, data_parts, inner_parts}
-use Rattle.pgp_trace.specs.Shown.{Says, Shows, ShowsCounted, ShowsMarked, ShowsTexts, bare, called, closed, column_parts, field_parts, inner_data, list_of, name_or, number_part, refused, text_part, type_part, value_part}
-use Rattle.pgp_trace.specs.Unread.{ShowsCopyBoth, ShowsResult, ShowsUnread, CallResult, CopyBoth, Rejected, copy_parts, result_parts}
 use Rattle.pgp_line.specs.Secret.{secret}
-use Rattle.pgp_frontend.specs.ClientMessage.{ClientMessage}
-use Rattle.pgp_frontend_read.specs.declared.error.ClientError.{ClientError}
-use Rattle.pgp_trace.specs.Client.{ClientSays, client_called, client_data, client_groups, client_line, grouped, refusal_parts}
-use Rattle.pgp_trace.specs.Listing.{GoesOn, IsLineOf, LineOf, answer_name, front, client_front, client_tag}
-use Rattle.pgp_trace.specs.Sides.{Side, Server, Client, is_reported}
-use Rattle.pgp_trace.specs.declared.side.Phase.TheVariants.{Beginning, Messages, Replicating, Encrypted}
 
 -- ASCII that is printed
 abbrev Plain : List ℕ → Type 0

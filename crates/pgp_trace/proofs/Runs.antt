@@ -1,13 +1,5 @@
 -- A listing is that of the run of its stream.
-use Rattle.std.proofs.Common.{ℕ, Bool, false, List, [], ◌∷◌, ◌++◌, Result, ◌+◌, length, sym, ap, subst, inl, inr, ◌∙◌, ◌≡◌, ◌⊎◌, append_assoc}
-use Rattle.pgp_base.specs.declared.error.Error.{Error}
-use Rattle.pgp_message.specs.BackendMessage.{Message}
-use Rattle.pgp_message.specs.Stream.{Frames, BackendRun, TakesFrame}
-use Rattle.pgp_message.proofs.Runs.{frames_none, frames_next}
-use Rattle.pgp_trace.specs.View.{View}
-use Rattle.pgp_trace.specs.Listing.{Lines, NoLines, OneLine, IsListing, IsRunBehindAnswers, place_behind}
-use Rattle.pgp_trace.specs.Sides.{Side, Server, Ends, server_at}
-use Rattle.pgp_trace.specs.declared.side.Phase.TheVariants.{Beginning, Messages, Encrypted}
+use Rattle.pgp_trace.proofs.Common.{ℕ, Bool, false, List, [], ◌∷◌, ◌++◌, Result, ◌+◌, length, sym, ap, subst, inl, inr, ◌∙◌, ◌≡◌, ◌⊎◌, append_assoc, Error, Message, Frames, BackendRun, TakesFrame, frames_none, frames_next, View, Lines, NoLines, OneLine, IsListing, IsRunBehindAnswers, place_behind, Side, Server, Ends, server_at, Beginning, Messages, Encrypted}
 use Rattle.pgp_trace.proofs.Ends.{answered_stays}
 use Rattle.pgp_trace.proofs.Beginnings.{HasCome, StillAnswers, NowEncrypted, NowMessages, has_come}
 use Rattle.pgp_trace.proofs.Sides.{server_ending, server_line, stays_server}

@@ -1,10 +1,5 @@
 -- A line takes bytes off.
-use Rattle.std.proofs.Common.{ℕ, ◌<◌, List, [], length, ap, arith, inl, inr, length-append}
-use Rattle.pgp_line.specs.declared.style.Style.{Style}
-use Rattle.pgp_trace.specs.Listing.{LineOf}
-use Rattle.pgp_trace.specs.Sides.{Side, Server, Client, expected}
-use Rattle.pgp_trace.specs.declared.side.Phase.TheVariants.{Beginning, Messages, Replicating, Encrypted}
-use Rattle.pgp_trace.specs.Steps.{HasLine}
+use Rattle.pgp_trace.proofs.Common.{ℕ, ◌<◌, List, [], length, ap, arith, inl, inr, length-append, Style, LineOf, Side, Server, Client, expected, Beginning, Messages, Replicating, Encrypted, HasLine}
 use Rattle.pgp_trace.proofs.ClientLines.{step_long}
 use Rattle.pgp_trace.proofs.FrameLines.{frame_long}
 

@@ -1,9 +1,5 @@
 -- The lines of a server's stream.
-use Rattle.std.proofs.Common.{◌≡◌, ℕ, ◌+◌, Bool, true, false, List, [], length, refl, subst}
-use Rattle.pgp_message.specs.Stream.{IsEnding}
-use Rattle.pgp_trace.specs.Listing.{IsServerLine, Listed, Lines, NoLines, OneLine, place_behind, server_name}
-use Rattle.pgp_trace.specs.Sides.{Side, Ends, replicates_behind, server_at}
-use Rattle.pgp_trace.specs.View.{View, shown}
+use Rattle.pgp_trace.proofs.Common.{◌≡◌, ℕ, ◌+◌, Bool, true, false, List, [], length, refl, subst, IsEnding, IsServerLine, Listed, Lines, NoLines, OneLine, place_behind, server_name, Side, Ends, replicates_behind, server_at, View, shown}
 
 -- what stands in the listing of a server's frame
 pub record Told (view : View) (place : ℕ) (replicating : Bool) (frame text : List ℕ) : Type 0 where

@@ -1,25 +1,8 @@
 -- Streams that differ in their secrets alone have the same lines.
-use Rattle.std.proofs.Common.{◌≡◌, ◌⊎◌, inl, inr, Bool, false, ℕ, ◌+◌, ◌<◌, List, [], ◌∷◌, ◌++◌, length, None, Result, Ok, Err, refl, sym, ap, subst, ◌∙◌, append_assoc, arith}
-use Rattle.std.specs.Prelude.{codes}
-use Rattle.std.specs.List.{flat_map, AllByRecursion}
-use Rattle.std.proofs.lemmas.List.{append-nil, length-append}
-use Rattle.std.proofs.lemmas.List.Concat.{flat_map-cons}
-use Rattle.pgp_base.specs.Wire.{uint32}
-use Rattle.pgp_base.specs.declared.error.Error.{Error}
-use Rattle.pgp_message.specs.BackendMessage.{Message}
-use Rattle.pgp_message.specs.Stream.{Frame, frame_bytes, IsFrame}
-use Rattle.pgp_message.proofs.Runs.{front_is_one, each_push, pushed}
-use Rattle.pgp_line.specs.declared.style.Style.{Style}
-use Rattle.pgp_line.specs.Line.{Length, Name, Part, Tag, followed, opening}
-use Rattle.pgp_trace.specs.Unread.{ShowsCopyBoth, ShowsResult, ShowsUnread, CallResult, CopyBoth, Rejected}
-use Rattle.pgp_trace.specs.Sides.{Side, Server, AreAnswers, answered, phase_behind, replicates, replicates_behind, server_at}
-use Rattle.pgp_trace.specs.declared.side.Phase.TheVariants.{Beginning, Messages}
+use Rattle.pgp_trace.proofs.Common.{◌≡◌, ◌⊎◌, inl, inr, Bool, false, ℕ, ◌+◌, ◌<◌, List, [], ◌∷◌, ◌++◌, length, None, Result, Ok, Err, refl, sym, ap, subst, ◌∙◌, append_assoc, arith, codes, flat_map, AllByRecursion, append-nil, flat_map-cons, uint32, Error, Message, Frame, frame_bytes, IsFrame, front_is_one, each_push, pushed, Style, Length, Name, Part, Tag, followed, opening, ShowsCopyBoth, ShowsResult, ShowsUnread, CallResult, CopyBoth, Rejected, Side, Server, AreAnswers, answered, phase_behind, replicates, replicates_behind, server_at, Beginning, Messages, GoesOn, IsLineOf, Lines, NoLines, OneLine, front, place_behind, server_name, unread_name, View, shown, AlikeBeginnings, AlikeResults, AlikeFrames, AlikeStreams, NoFrames, OneAlike, quiet, quietly, Says, called, inner_data}
+use Rattle.std.proofs.lemmas.List.{length-append}
 use Rattle.pgp_trace.proofs.Beginnings.{HasCome, StillAnswers, NowEncrypted, NowMessages, has_come, none_some, one_front, rejoin}
 use Rattle.pgp_trace.proofs.Sides.{listed as listed_so, server_line}
-use Rattle.pgp_trace.specs.Listing.{GoesOn, IsLineOf, Lines, NoLines, OneLine, front, place_behind, server_name, unread_name}
-use Rattle.pgp_trace.specs.View.{View, shown}
-use Rattle.pgp_trace.specs.Secrets.{AlikeBeginnings, AlikeResults, AlikeFrames, AlikeStreams, NoFrames, OneAlike, quiet, quietly}
-use Rattle.pgp_trace.specs.Shown.{Says, called, inner_data}
 use Rattle.pgp_trace.proofs.Hiding.{hidden_inside, same_call, same_data}
 
 -- ---- frames at the end of bytes

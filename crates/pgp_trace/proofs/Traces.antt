@@ -1,19 +1,7 @@
 -- The lines of a stream, a frame and a piece at a time.
-use Rattle.std.proofs.Common.{◌≡◌, ◌⊎◌, ℕ, ◌+◌, ◌-◌, ◌≤◌, Bool, true, false, List, [], ◌++◌, length, take, drop, min, Option, Result, Ok, Err, refl, sym, ap, subst, ◌∙◌, arith, inl, inr, length-append, append_assoc}
-use Rattle.std.specs.Prelude.{IfOk, IfSome, OnOk, OnErr}
-use Rattle.std.specs.Io.KnownBytes.{Appends, Consumes, Keeps, IsAtEnd}
-use Rattle.std.proofs.KnownBytes.{Appends-nil, Appends-trans, Consumes-nil, Consumes-trans, Consumes-kept, Consumes-whole}
-use Rattle.std.proofs.Math.Nat.{min-eq_left, min-le_right}
-use Rattle.std.proofs.lemmas.List.{append-nil, length-take}
-use Rattle.std.proofs.Math.Seq.{take-append_seam, drop-append_seam}
-use Rattle.pgp_trace.specs.View.{View, shown}
+use Rattle.pgp_trace.proofs.Common.{◌≡◌, ◌⊎◌, ℕ, ◌+◌, ◌-◌, ◌≤◌, Bool, true, false, List, [], ◌++◌, length, take, drop, min, Option, Result, Ok, Err, refl, sym, ap, subst, ◌∙◌, arith, inl, inr, length-append, append_assoc, IfOk, IfSome, OnOk, OnErr, Appends, Consumes, Keeps, IsAtEnd, Appends-nil, Appends-trans, Consumes-nil, Consumes-trans, Consumes-kept, Consumes-whole, min-eq_left, min-le_right, append-nil, length-take, take-append_seam, drop-append_seam, View, shown, Listed, Lines, NoLines, OneLine, place_behind, last_line, IsReady, WasListed, WritesListing, IsCutShort, Side, Ends, HasLine, ListsAll, ListsSome, Held, Holds, ListsPiece, AppendsFront, greatest}
 use Rattle.pgp_trace.specs.Hints.{hint_of}
-use Rattle.pgp_trace.specs.Listing.{Listed, Lines, NoLines, OneLine, place_behind, last_line, IsReady, WasListed, WritesListing, IsCutShort}
 use Rattle.pgp_program.specs.Run.{Streams}
-use Rattle.pgp_trace.specs.Sides.{Side, Ends}
-use Rattle.pgp_trace.specs.Steps.{HasLine, ListsAll, ListsSome, Held, Holds, ListsPiece}
-use Rattle.pgp_program.specs.Taken.{AppendsFront}
-use Rattle.pgp_program.specs.Words.{greatest}
 use Rattle.pgp_trace.proofs.Ends.{stays_ended, nothing_ends}
 use Rattle.pgp_trace.proofs.Fronts.{none_taken, all_taken, more_taken, kept_nothing}
 use Rattle.pgp_trace.proofs.Parts.{saturates}

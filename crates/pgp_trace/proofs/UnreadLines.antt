@@ -1,11 +1,5 @@
 -- What a frame says that `pgp_message` doesn't read.
-use Rattle.std.proofs.Common.{◌≡◌, ℕ, List, Option, Result, Ok, Err, inl, inr, ap, ◌∙◌}
-use Rattle.std.specs.Prelude.{OnOk}
-use Rattle.pgp_line.specs.declared.style.Style.{Style}
-use Rattle.pgp_line.specs.Line.{followed}
-use Rattle.pgp_trace.specs.PlainBody.{IsCallResult, IsCopyBoth}
-use Rattle.pgp_trace.specs.Shown.{bare}
-use Rattle.pgp_trace.specs.Unread.{ShowsCopyBoth, ShowsResult, copy_parts, result_parts}
+use Rattle.pgp_trace.proofs.Common.{◌≡◌, ℕ, List, Option, Result, Ok, Err, inl, inr, ap, ◌∙◌, OnOk, Style, followed, IsCallResult, IsCopyBoth, bare, ShowsCopyBoth, ShowsResult, copy_parts, result_parts}
 
 pub result_shown : {T E : Type 0} (r : Result T E) (style : Style) (body named mid new : List ℕ) (value : Option (List ℕ)) → IsCallResult body value → mid ≡ named → OnOk r (new ≡ followed style mid (result_parts value)) → OnOk r (ShowsResult style body named new)
 result_shown (Ok x) style body named mid new value is e f = inl (value, is, f ∙ ap (λ l. followed style l (result_parts value)) e)

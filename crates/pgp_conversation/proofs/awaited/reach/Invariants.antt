@@ -1,7 +1,6 @@
 -- Those that went are before the number.
-use Rattle.std.proofs.Common.{◌≡◌, length}
+use Rattle.pgp_conversation.proofs.Common.{◌≡◌, length, queue_of}
 use Rattle.pgp_conversation.specs.Types.{since}
-use Rattle.pgp_conversation.specs.TypesKept.{queue_of}
 use Rattle.pgp_conversation.proofs.awaited.reach.Given as goal
 
 abbrev pub invariant-older : goal.invariant-older

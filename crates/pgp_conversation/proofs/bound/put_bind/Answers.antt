@@ -1,6 +1,5 @@
-use Rattle.std.proofs.Common.{◌≡◌, rules}
-use Rattle.std.specs.Prelude.{length, string_bytes}
-use Rattle.pgp_conversation.specs.Typed.{bind_front}
+use Rattle.pgp_conversation.proofs.Common.{◌≡◌, rules, string_bytes, bind_front}
+use Rattle.std.specs.Prelude.{length}
 use Rattle.pgp_conversation.proofs.RowLemmas.{bind_line, ok_then}
 use Rattle.pgp_conversation.proofs.bound.put_bind.Goals as goal
 

@@ -1,10 +1,5 @@
-use Rattle.std.proofs.Common.{List, rules, subst}
-use Rattle.std.specs.Prelude.{string_bytes}
-use Rattle.pgp_base.specs.Walk.{IsFinished, IsRefused, TakesItem}
+use Rattle.pgp_conversation.proofs.Common.{List, rules, subst, string_bytes, IsFinished, IsRefused, TakesItem, Column, column_first, AddsValue, AddsValues}
 use Rattle.pgp_frontend_read.specs.Whole.{shown, whole}
-use Rattle.pgp_conversation.specs.declared.column.Column.{Column}
-use Rattle.pgp_conversation.specs.Typed.{column_first}
-use Rattle.pgp_conversation.specs.TypedLines.{AddsValue, AddsValues}
 use Rattle.pgp_conversation.proofs.RowLemmas.{each_end, each_fault, each_more, ok_then}
 use Rattle.pgp_conversation.proofs.bound.put_each.Goals as goal
 

@@ -1,7 +1,5 @@
 -- What is still to come makes of the line what all was to make of it.
-use Rattle.std.proofs.Common.{ℕ, List, None, length}
-use Rattle.std.specs.Prelude.{string_bytes}
-use Rattle.pgp_conversation.specs.TypedLines.{AddsValues}
+use Rattle.pgp_conversation.proofs.Common.{ℕ, List, None, length, string_bytes, AddsValues}
 use Rattle.pgp_conversation.proofs.bound.put_each.Given as goal
 
 abbrev pub invariant-items : goal.invariant-items

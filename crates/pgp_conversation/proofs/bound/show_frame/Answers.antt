@@ -1,9 +1,5 @@
-use Rattle.std.proofs.Common.{length, Ok, Err, None, Some, refl, rules, subst}
-use Rattle.std.specs.Prelude.{string_bytes}
+use Rattle.pgp_conversation.proofs.Common.{length, Ok, Err, None, Some, refl, rules, subst, string_bytes, kind_view, view, ShowsRequest, types_of}
 use Rattle.pgp_frontend_read.specs.Step.{Step}
-use Rattle.pgp_frontend_read.specs.Views.{kind_view, view}
-use Rattle.pgp_conversation.specs.TypedLines.{ShowsRequest}
-use Rattle.pgp_conversation.specs.TypesKept.{types_of}
 use Rattle.pgp_conversation.proofs.RowLemmas.{ok_then}
 use Rattle.pgp_conversation.proofs.Readings.{refused_all, sent_all, silent_all}
 use Rattle.pgp_conversation.proofs.bound.show_frame.Goals as goal

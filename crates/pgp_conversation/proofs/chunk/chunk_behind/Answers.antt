@@ -1,5 +1,4 @@
-use Rattle.std.proofs.Common.{inr, refl, rules}
-use Rattle.pgp_base.specs.Wire.{IsBytes}
+use Rattle.pgp_conversation.proofs.Common.{inr, refl, rules, IsBytes}
 use Rattle.pgp_conversation.proofs.Chunks.{short, whole}
 use Rattle.pgp_conversation.proofs.chunk.chunk_behind.Goals as goal
 

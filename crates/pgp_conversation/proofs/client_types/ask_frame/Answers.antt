@@ -1,10 +1,5 @@
-use Rattle.std.proofs.Common.{Ok, None, Some, rules, subst}
+use Rattle.pgp_conversation.proofs.Common.{Ok, None, Some, rules, subst, kind_view, view, Nothing, numbers_in, Tells, types_in}
 use Rattle.pgp_frontend_read.specs.Step.{Step}
-use Rattle.pgp_frontend_read.specs.Views.{kind_view, view}
-use Rattle.pgp_conversation.specs.declared.expectation.Noted.TheVariants.{Nothing}
-use Rattle.pgp_conversation.specs.Steps.{numbers_in}
-use Rattle.pgp_conversation.specs.TypedLines.{Tells}
-use Rattle.pgp_conversation.specs.TypesKept.{types_in}
 use Rattle.pgp_conversation.proofs.Readings.{if_ok, sent_all, silent_all}
 use Rattle.pgp_conversation.proofs.client_types.ask_frame.Goals as goal
 

@@ -1,6 +1,5 @@
 -- With the rest it makes all of them.
-use Rattle.std.proofs.Common.{◌≡◌, ◌++◌, length}
-use Rattle.pgp_conversation.specs.Shelves.{formatted, formatted_from}
+use Rattle.pgp_conversation.proofs.Common.{◌≡◌, ◌++◌, length, formatted, formatted_from}
 use Rattle.pgp_conversation.proofs.columns.formatted.Given as goal
 
 abbrev pub invariant-columns : goal.invariant-columns

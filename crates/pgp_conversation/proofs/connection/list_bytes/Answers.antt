@@ -1,7 +1,4 @@
-use Rattle.std.proofs.Common.{◌≤◌, List, ℕ, length, take, drop, arith, subst}
-use Rattle.std.specs.Prelude.{string_bytes}
-use Rattle.pgp_trace.specs.Steps.{view_of}
-use Rattle.pgp_conversation.specs.Steps.{ListsAllFrames, half_of, known_of}
+use Rattle.pgp_conversation.proofs.Common.{◌≤◌, List, ℕ, length, take, drop, arith, subst, string_bytes, view_of, ListsAllFrames, half_of, known_of}
 use Rattle.pgp_conversation.proofs.ChunkLists.{counted, listed}
 use Rattle.pgp_conversation.proofs.connection.list_bytes.Goals as goal
 

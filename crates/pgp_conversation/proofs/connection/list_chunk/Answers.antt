@@ -1,6 +1,4 @@
-use Rattle.std.specs.Prelude.{string_bytes}
-use Rattle.pgp_trace.specs.Steps.{view_of}
-use Rattle.pgp_conversation.specs.Steps.{chunk_of, half_of, kept_of, known_of, numbers_in}
+use Rattle.pgp_conversation.proofs.Common.{string_bytes, view_of, chunk_of, half_of, kept_of, known_of, numbers_in}
 use Rattle.pgp_conversation.proofs.ChunkLists.{ok_client, ok_server}
 use Rattle.pgp_conversation.proofs.connection.list_chunk.Goals as goal
 

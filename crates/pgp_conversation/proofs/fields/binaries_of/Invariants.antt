@@ -1,7 +1,5 @@
 -- With those that are still to come they are all.
-use Rattle.std.proofs.Common.{◌≡◌, ◌++◌, length}
-use Rattle.std.specs.Prelude.{map}
-use Rattle.pgp_conversation.specs.Shelves.{is_binary}
+use Rattle.pgp_conversation.proofs.Common.{◌≡◌, ◌++◌, length, map, is_binary}
 use Rattle.pgp_conversation.proofs.fields.binaries_of.Given as goal
 
 abbrev pub invariant-formats : goal.invariant-formats

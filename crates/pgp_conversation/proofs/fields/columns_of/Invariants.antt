@@ -1,7 +1,5 @@
 -- With those that are still to come they are all.
-use Rattle.std.proofs.Common.{◌≡◌, ◌++◌, length}
-use Rattle.std.specs.Option.{option_map}
-use Rattle.pgp_conversation.specs.Typed.{columns_of}
+use Rattle.pgp_conversation.proofs.Common.{◌≡◌, ◌++◌, length, option_map, columns_of}
 use Rattle.pgp_conversation.proofs.fields.columns_of.Given as goal
 
 abbrev pub invariant-fields : goal.invariant-fields

@@ -1,7 +1,5 @@
 -- With those that are still to come they are all.
-use Rattle.std.proofs.Common.{◌≡◌, ◌++◌, length}
-use Rattle.std.specs.Option.{option_map}
-use Rattle.pgp_conversation.specs.Typed.{parameters_in}
+use Rattle.pgp_conversation.proofs.Common.{◌≡◌, ◌++◌, length, option_map, parameters_in}
 use Rattle.pgp_conversation.proofs.fields.described_types.Given as goal
 
 abbrev pub invariant-types : goal.invariant-types

@@ -1,7 +1,5 @@
 -- With those that are still to come they are all.
-use Rattle.std.proofs.Common.{◌≡◌, ◌++◌, length}
-use Rattle.std.specs.Prelude.{map}
-use Rattle.pgp_conversation.specs.Typed.{parameter}
+use Rattle.pgp_conversation.proofs.Common.{◌≡◌, ◌++◌, length, map, parameter}
 use Rattle.pgp_conversation.proofs.fields.given_types.Given as goal
 
 abbrev pub invariant-types : goal.invariant-types

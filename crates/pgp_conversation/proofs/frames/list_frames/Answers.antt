@@ -1,7 +1,5 @@
-use Rattle.std.proofs.Common.{refl, rules, subst, ◌∙◌}
-use Rattle.std.specs.Prelude.{List, ℕ, string_bytes}
-use Rattle.pgp_trace.specs.Steps.{view_of}
-use Rattle.pgp_conversation.specs.Steps.{ListsOneFrame, known_of}
+use Rattle.pgp_conversation.proofs.Common.{refl, rules, subst, ◌∙◌, string_bytes, view_of, ListsOneFrame, known_of}
+use Rattle.std.specs.Prelude.{List, ℕ}
 use Rattle.pgp_conversation.proofs.FrameLists.{nothing_yet, one_more, shorter}
 use Rattle.pgp_conversation.proofs.frames.list_frames.Goals as goal
 

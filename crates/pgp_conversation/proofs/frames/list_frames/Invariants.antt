@@ -1,8 +1,5 @@
 -- The frames so far have their lines, and the mark is the same.
-use Rattle.std.proofs.Common.{◌≡◌, length}
-use Rattle.std.specs.Prelude.{string_bytes}
-use Rattle.pgp_trace.specs.Steps.{view_of}
-use Rattle.pgp_conversation.specs.Steps.{known_of}
+use Rattle.pgp_conversation.proofs.Common.{◌≡◌, length, string_bytes, view_of, known_of}
 use Rattle.pgp_conversation.proofs.FrameLists.{ListsFramesTo}
 use Rattle.pgp_conversation.proofs.frames.list_frames.Given as goal
 

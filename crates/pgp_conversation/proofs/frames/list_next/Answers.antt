@@ -1,15 +1,4 @@
-use Rattle.std.proofs.Common.{◌≡◌, ◌++◌, ◌∙◌, List, ℕ, ap, rules, subst}
-use Rattle.std.specs.Prelude.{string_bytes}
-use Rattle.pgp_frontend_read.specs.Views.{kind_view}
-use Rattle.pgp_trace.specs.Sides.{expected}
-use Rattle.pgp_trace.specs.Steps.{view_of}
-use Rattle.pgp_trace.specs.declared.frame.Next.TheVariants.{Line}
-use Rattle.pgp_conversation.specs.Conversation.{side_in, text_of, told_by}
-use Rattle.pgp_conversation.specs.Marks.{word}
-use Rattle.pgp_conversation.specs.Steps.{KnowsNext, known_of, numbers_in}
-use Rattle.pgp_conversation.specs.Typed.{Said}
-use Rattle.pgp_conversation.specs.TypedLines.{Reads, ReadsSo}
-use Rattle.pgp_conversation.specs.TypesKept.{types_in}
+use Rattle.pgp_conversation.proofs.Common.{◌≡◌, ◌++◌, ◌∙◌, List, ℕ, ap, rules, subst, string_bytes, kind_view, expected, view_of, Line, side_in, text_of, told_by, word, KnowsNext, known_of, numbers_in, Said, Reads, ReadsSo, types_in}
 use Rattle.pgp_conversation.proofs.FrameLists.{front_is, front_long, lists_one}
 use Rattle.pgp_conversation.proofs.Sayings.{line_read}
 use Rattle.pgp_conversation.proofs.frames.list_next.Goals as goal

@@ -1,7 +1,5 @@
 -- So many were added.
-use Rattle.std.proofs.Common.{◌≡◌, ◌++◌}
-use Rattle.std.specs.Prelude.{string_bytes}
-use Rattle.pgp_line.specs.Line.{blanks}
+use Rattle.pgp_conversation.proofs.Common.{◌≡◌, ◌++◌, string_bytes, blanks}
 use Rattle.pgp_conversation.proofs.line_mark.put_blanks.Given as goal
 
 abbrev pub invariant-loop : goal.invariant-loop

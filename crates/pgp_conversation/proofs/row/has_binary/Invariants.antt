@@ -1,6 +1,5 @@
 -- Some of the rest are, if any.
-use Rattle.std.proofs.Common.{◌≡◌, length}
-use Rattle.pgp_conversation.specs.Typed.{has_binary}
+use Rattle.pgp_conversation.proofs.Common.{◌≡◌, length, has_binary}
 use Rattle.pgp_conversation.proofs.row.has_binary.Given as goal
 
 abbrev pub invariant-columns : goal.invariant-columns

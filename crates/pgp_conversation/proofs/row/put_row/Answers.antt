@@ -1,8 +1,6 @@
 -- The places of a row lie in its bytes.
-use Rattle.std.proofs.Common.{◌≡◌, rules}
-use Rattle.std.specs.Prelude.{string_bytes}
+use Rattle.pgp_conversation.proofs.Common.{◌≡◌, rules, string_bytes, row_front}
 use Rattle.pgp_message.proofs.TableLemmas.{places_in}
-use Rattle.pgp_conversation.specs.Typed.{row_front}
 use Rattle.pgp_conversation.proofs.RowLemmas.{ok_then, row_line}
 use Rattle.pgp_conversation.proofs.row.put_row.Goals as goal
 

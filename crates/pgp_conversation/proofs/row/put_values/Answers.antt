@@ -1,11 +1,4 @@
-use Rattle.std.proofs.Common.{List, length, rules, subst}
-use Rattle.std.specs.Prelude.{map, string_bytes}
-use Rattle.std.specs.List.{AllByRecursion}
-use Rattle.pgp_base.specs.Walk.{IsFinished, IsRefused, TakesItem}
-use Rattle.pgp_message.specs.Table.{IsPlaceIn, value_at}
-use Rattle.pgp_conversation.specs.declared.column.Column.{Column}
-use Rattle.pgp_conversation.specs.Typed.{column_first}
-use Rattle.pgp_conversation.specs.TypedLines.{AddsValue, AddsValues}
+use Rattle.pgp_conversation.proofs.Common.{List, length, rules, subst, map, string_bytes, AllByRecursion, IsFinished, IsRefused, TakesItem, IsPlaceIn, value_at, Column, column_first, AddsValue, AddsValues}
 use Rattle.pgp_conversation.proofs.RowLemmas.{ok_then, values_end, values_fault, values_more}
 use Rattle.pgp_conversation.proofs.row.put_values.Goals as goal
 

@@ -1,9 +1,5 @@
 -- What is still to come makes of the line what all was to make of it.
-use Rattle.std.proofs.Common.{ℕ, List, length}
-use Rattle.std.specs.Prelude.{map, string_bytes}
-use Rattle.std.specs.List.{AllByRecursion}
-use Rattle.pgp_message.specs.Table.{IsPlaceIn, value_at}
-use Rattle.pgp_conversation.specs.TypedLines.{AddsValues}
+use Rattle.pgp_conversation.proofs.Common.{ℕ, List, length, map, string_bytes, AllByRecursion, IsPlaceIn, value_at, AddsValues}
 use Rattle.pgp_conversation.proofs.row.put_values.Given as goal
 
 abbrev pub invariant-items : goal.invariant-items

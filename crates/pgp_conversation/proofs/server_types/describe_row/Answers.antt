@@ -1,7 +1,4 @@
-use Rattle.std.proofs.Common.{◌≡◌, ◌∙◌, Some, ap, refl, rules}
-use Rattle.pgp_conversation.specs.Typed.{columns_of}
-use Rattle.pgp_conversation.specs.Types.{described, first}
-use Rattle.pgp_conversation.specs.TypesKept.{types_of}
+use Rattle.pgp_conversation.proofs.Common.{◌≡◌, ◌∙◌, Some, ap, refl, rules, columns_of, described, first, types_of}
 use Rattle.pgp_conversation.proofs.RowLemmas.{ok_then}
 use Rattle.pgp_conversation.proofs.server_types.describe_row.Goals as goal
 

@@ -1,14 +1,5 @@
-use Rattle.std.proofs.Common.{◌≡◌, List, ℕ, get_or, length, None, Ok, Err, refl, rules, subst}
-use Rattle.std.specs.Prelude.{string_bytes}
-use Rattle.pgp_message.specs.Stream.{Step, TakesFrame}
+use Rattle.pgp_conversation.proofs.Common.{◌≡◌, List, ℕ, get_or, length, None, Ok, Err, refl, rules, subst, string_bytes, Step, TakesFrame, Answers, Nothing, kind_of_tag, heard_as, numbers_in, Heard, Unsaid, Passes, Reads, types_in}
 use Rattle.pgp_message.specs.Views.{view}
-use Rattle.pgp_conversation.specs.declared.expectation.Noted.TheVariants.{Answers, Nothing}
-use Rattle.pgp_client.specs.Kinds.{kind_of_tag}
-use Rattle.pgp_conversation.specs.Requests.{heard_as}
-use Rattle.pgp_conversation.specs.Steps.{numbers_in}
-use Rattle.pgp_conversation.specs.Typed.{Heard, Unsaid}
-use Rattle.pgp_conversation.specs.TypedLines.{Passes, Reads}
-use Rattle.pgp_conversation.specs.TypesKept.{types_in}
 use Rattle.pgp_conversation.proofs.Readings.{answer_all, fault_all, heard_all, if_ok, none_all, passed_reads}
 use Rattle.pgp_conversation.proofs.server_types.read_heard.Goals as goal
 

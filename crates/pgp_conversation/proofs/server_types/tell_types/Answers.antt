@@ -1,7 +1,4 @@
-use Rattle.std.proofs.Common.{◌≡◌, ◌∙◌, Some, ap, refl, rules}
-use Rattle.pgp_conversation.specs.Typed.{parameters_in}
-use Rattle.pgp_conversation.specs.Types.{first, tells}
-use Rattle.pgp_conversation.specs.TypesKept.{types_of}
+use Rattle.pgp_conversation.proofs.Common.{◌≡◌, ◌∙◌, Some, ap, refl, rules, parameters_in, first, tells, types_of}
 use Rattle.pgp_conversation.proofs.RowLemmas.{ok_then}
 use Rattle.pgp_conversation.proofs.server_types.tell_types.Goals as goal
 

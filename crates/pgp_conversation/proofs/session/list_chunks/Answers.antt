@@ -1,8 +1,4 @@
-use Rattle.std.proofs.Common.{subst}
-use Rattle.std.specs.Prelude.{string_bytes}
-use Rattle.pgp_trace.specs.Steps.{view_of}
-use Rattle.pgp_conversation.specs.Recording.{chunk_bytes, magic}
-use Rattle.pgp_conversation.specs.Steps.{TakesPart, chunk_of, kept_of}
+use Rattle.pgp_conversation.proofs.Common.{subst, string_bytes, view_of, chunk_bytes, magic, TakesPart, chunk_of, kept_of}
 use Rattle.pgp_conversation.proofs.Sessions.{all_bytes, all_listed, and_begun, and_listed, ends_bytes, nothing_listed, stops, takes_chunk, takes_magic, waits}
 use Rattle.pgp_conversation.proofs.session.list_chunks.Goals as goal
 

@@ -1,8 +1,5 @@
 -- The chunks so far were listed, whatever came before.
-use Rattle.std.proofs.Common.{◌≡◌, ◌≤◌, ◌-◌, drop, length}
-use Rattle.std.specs.Prelude.{string_bytes}
-use Rattle.pgp_trace.specs.Steps.{view_of}
-use Rattle.pgp_conversation.specs.Steps.{kept_of}
+use Rattle.pgp_conversation.proofs.Common.{◌≡◌, ◌≤◌, ◌-◌, drop, length, string_bytes, view_of, kept_of}
 use Rattle.pgp_conversation.proofs.Sessions.{Lists}
 use Rattle.pgp_conversation.proofs.session.list_chunks.Given as goal
 

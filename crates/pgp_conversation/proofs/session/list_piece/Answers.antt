@@ -1,10 +1,4 @@
-use Rattle.std.proofs.Common.{List, ℕ, subst}
-use Rattle.std.specs.Prelude.{string_bytes}
-use Rattle.std.specs.Io.KnownBytes.{Appends}
-use Rattle.pgp_base.proofs.Parts.{on_err}
-use Rattle.pgp_program.specs.Taken.{AppendsFront}
-use Rattle.pgp_trace.specs.Steps.{view_of}
-use Rattle.pgp_conversation.specs.Steps.{kept_of}
+use Rattle.pgp_conversation.proofs.Common.{List, ℕ, subst, string_bytes, Appends, on_err, AppendsFront, view_of, kept_of}
 use Rattle.pgp_conversation.proofs.Sessions.{all_there, piece_front, piece_listed, piece_lost}
 use Rattle.pgp_conversation.proofs.session.list_piece.Goals as goal
 

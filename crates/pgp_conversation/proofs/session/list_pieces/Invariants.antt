@@ -1,8 +1,6 @@
 -- What came so far was listed, and passed on.
-use Rattle.std.proofs.Common.{◌≡◌, ◌⊎◌}
+use Rattle.pgp_conversation.proofs.Common.{◌≡◌, ◌⊎◌, view_of, kept_of}
 use Rattle.std.specs.Io.KnownBytes.{Keeps}
-use Rattle.pgp_trace.specs.Steps.{view_of}
-use Rattle.pgp_conversation.specs.Steps.{kept_of}
 use Rattle.pgp_conversation.proofs.Sessions.{Follows}
 use Rattle.pgp_conversation.proofs.session.list_pieces.Given as goal
 

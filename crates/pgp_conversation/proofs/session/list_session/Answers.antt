@@ -1,5 +1,4 @@
-use Rattle.pgp_base.proofs.Parts.{on_err}
-use Rattle.pgp_trace.specs.Steps.{view_of}
+use Rattle.pgp_conversation.proofs.Common.{on_err, view_of}
 use Rattle.pgp_conversation.proofs.Sessions.{cut_nothing}
 use Rattle.pgp_conversation.proofs.session.list_session.Goals as goal
 

@@ -1,6 +1,4 @@
-use Rattle.std.proofs.Common.{◌∙◌, ◌++◌, ap}
-use Rattle.std.specs.Prelude.{slice_get, string_bytes}
-use Rattle.pgp_conversation.specs.Tables.{row_at}
+use Rattle.pgp_conversation.proofs.Common.{◌∙◌, ◌++◌, ap, slice_get, string_bytes, row_at}
 use Rattle.pgp_conversation.proofs.TableRows.{rows_next}
 use Rattle.pgp_conversation.proofs.table.put_rows.Goals as goal
 

@@ -1,8 +1,5 @@
 -- Those so far have their lines.
-use Rattle.std.proofs.Common.{◌≡◌, ◌++◌, take}
-use Rattle.std.specs.Prelude.{string_bytes}
-use Rattle.std.specs.List.{flat_map}
-use Rattle.pgp_conversation.specs.Tables.{row_of}
+use Rattle.pgp_conversation.proofs.Common.{◌≡◌, ◌++◌, take, string_bytes, flat_map, row_of}
 use Rattle.pgp_conversation.proofs.table.put_rows.Given as goal
 
 abbrev pub invariant-rows : goal.invariant-rows

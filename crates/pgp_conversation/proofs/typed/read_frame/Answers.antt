@@ -1,4 +1,4 @@
-use Rattle.pgp_frontend_read.specs.Views.{kind_view}
+use Rattle.pgp_conversation.proofs.Common.{kind_view}
 use Rattle.pgp_conversation.proofs.Readings.{if_ok}
 use Rattle.pgp_conversation.proofs.typed.read_frame.Goals as goal
 

@@ -1,7 +1,4 @@
-use Rattle.std.proofs.Common.{OnOk, ap, ◌∙◌, Ok, Err}
-use Rattle.std.specs.Prelude.{Result}
-use Rattle.pgp_names.specs.Names.{put}
-use Rattle.pgp_summary.specs.Places.{Ran, more_of, tallies_of}
+use Rattle.pgp_summary.proofs.Common.{OnOk, ap, ◌∙◌, Ok, Err, Result, put, Ran, more_of, tallies_of}
 use Rattle.pgp_summary.proofs.Places.{none_more, put_put, some_more}
 use Rattle.pgp_summary.proofs.entry.tally.Goals as goal
 

@@ -1,5 +1,4 @@
-use Rattle.std.proofs.Common.{◌≡◌, length}
-use Rattle.pgp_summary.specs.Summary.{skipped}
+use Rattle.pgp_summary.proofs.Common.{◌≡◌, length, skipped}
 use Rattle.pgp_summary.proofs.waiting.skip.Given as goal
 
 abbrev pub invariant-each : goal.invariant-each

@@ -1,8 +1,4 @@
-use Rattle.std.proofs.Common.{◌≡◌, ◌∷◌, rules, sym, subst, ◌∙◌, List, ℕ, Some, None}
-use Rattle.std.specs.Prelude.{string_bytes}
-use Rattle.pgp_trace.specs.declared.side.Phase.TheVariants.{Beginning, Messages}
-use Rattle.pgp_trace.specs.Sides.{Server, phase_behind, server_at}
-use Rattle.pgp_trace.specs.Steps.{HasLine, ListsNext, phase_of}
+use Rattle.pgp_trace.proofs.Common.{◌≡◌, ◌∷◌, rules, sym, subst, ◌∙◌, List, ℕ, Some, None, string_bytes, Beginning, Messages, Server, phase_behind, server_at, HasLine, ListsNext, phase_of}
 use Rattle.pgp_trace.proofs.Beginnings.{answer_lists, first_lists, none_there}
 use Rattle.pgp_trace.proofs.answer.first_line.Goals as goal
 

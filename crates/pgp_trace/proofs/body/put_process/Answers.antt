@@ -1,7 +1,5 @@
-use Rattle.std.proofs.Common.{◌≡◌, [], ◌∷◌, subst}
+use Rattle.pgp_trace.proofs.Common.{◌≡◌, [], ◌∷◌, subst, codes, string_bytes, OnOk, Key, Number, followed}
 use Rattle.std.proofs.Math.Facts.{to_z-of_z}
-use Rattle.std.specs.Prelude.{codes, string_bytes, OnOk}
-use Rattle.pgp_line.specs.Line.{Key, Number, followed}
 use Rattle.pgp_trace.proofs.body.put_process.Goals as goal
 
 pub returns-clause-parts : goal.returns-clause-parts

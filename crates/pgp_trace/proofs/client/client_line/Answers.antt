@@ -1,11 +1,5 @@
-use Rattle.std.proofs.Common.{◌≡◌, ◌++◌, ◌∷◌, [], length, Some, Ok, Err, rules, refl}
-use Rattle.std.specs.Prelude.{codes, string_bytes}
-use Rattle.pgp_frontend_read.specs.Step.{Refuses, Step}
+use Rattle.pgp_trace.proofs.Common.{◌≡◌, ◌++◌, ◌∷◌, [], length, Some, Ok, Err, rules, refl, codes, string_bytes, Refuses, Step, client_line, client_name, closing, EndsSo, client_front, is_reported}
 use Rattle.pgp_frontend_read.specs.Views.{kind_view, view}
-use Rattle.pgp_trace.specs.Client.{client_line, client_name}
-use Rattle.pgp_line.specs.Line.{closing}
-use Rattle.pgp_trace.specs.Listing.{EndsSo, client_front}
-use Rattle.pgp_trace.specs.Sides.{is_reported}
 use Rattle.pgp_trace.proofs.ClientLines.{message_passed, refusal_passed, refusal_rests}
 use Rattle.pgp_trace.proofs.client.client_line.Goals as goal
 

@@ -1,9 +1,6 @@
 -- Each message's calls, one after another.
-use Rattle.std.proofs.Common.{◌≡◌, [], ◌∷◌, ap, subst, ◌∙◌}
-use Rattle.std.specs.Prelude.{codes, string_bytes, OnOk}
-use Rattle.pgp_trace.specs.Client.{client_value, counted, first_text, signed_part}
-use Rattle.pgp_line.specs.Line.{followed, key}
-use Rattle.pgp_trace.specs.Shown.{type_part}
+use Rattle.pgp_trace.proofs.Common.{◌≡◌, [], ◌∷◌, ap, subst, ◌∙◌, codes, string_bytes, OnOk, client_value, first_text, signed_part, followed, key, type_part}
+use Rattle.pgp_trace.specs.Client.{counted}
 use Rattle.pgp_frontend_read.specs.Whole.{shown}
 use Rattle.pgp_trace.proofs.client_body.put_client_message.Goals as goal
 

@@ -1,9 +1,5 @@
 -- What is still to come makes of the line what all was to make of it.
-use Rattle.std.proofs.Common.{◌≡◌, None, length}
-use Rattle.std.specs.Prelude.{string_bytes}
-use Rattle.pgp_line.specs.Line.{followed}
-use Rattle.pgp_trace.specs.Client.{client_value}
-use Rattle.pgp_trace.specs.Shown.{list_of}
+use Rattle.pgp_trace.proofs.Common.{◌≡◌, None, length, string_bytes, followed, client_value, list_of}
 use Rattle.pgp_trace.proofs.client_lists.each_value.Given as goal
 
 abbrev pub invariant-items : goal.invariant-items

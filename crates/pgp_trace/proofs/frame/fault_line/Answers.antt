@@ -1,4 +1,4 @@
-use Rattle.std.specs.Prelude.{string_bytes}
+use Rattle.pgp_trace.proofs.Common.{string_bytes}
 use Rattle.pgp_trace.proofs.FrameLines.{fault_ended}
 use Rattle.pgp_trace.proofs.frame.fault_line.Goals as goal
 

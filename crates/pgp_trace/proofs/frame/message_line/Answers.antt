@@ -1,8 +1,4 @@
-use Rattle.std.proofs.Common.{◌∙◌, ap, [], ◌∷◌}
-use Rattle.std.specs.Prelude.{string_bytes}
-use Rattle.pgp_message.specs.Views.{view}
-use Rattle.pgp_line.specs.Line.{Name, followed}
-use Rattle.pgp_trace.specs.Shown.{says_nothing}
+use Rattle.pgp_trace.proofs.Common.{◌∙◌, ap, [], ◌∷◌, string_bytes, view, Name, followed, says_nothing}
 use Rattle.pgp_trace.proofs.FrameLines.{frame_long, body_is, message_reported}
 use Rattle.pgp_trace.proofs.frame.message_line.Goals as goal
 

@@ -1,9 +1,5 @@
-use Rattle.std.proofs.Common.{◌≡◌, ◌-◌, List, ℕ, length, take, Ok, Err, rules, ap, sym, subst, ◌∙◌}
-use Rattle.std.specs.Prelude.{string_bytes}
-use Rattle.pgp_message.specs.Stream.{TakesFrame}
-use Rattle.pgp_message.specs.Views.{view}
+use Rattle.pgp_trace.proofs.Common.{◌≡◌, ◌-◌, List, ℕ, length, take, Ok, Err, rules, ap, sym, subst, ◌∙◌, string_bytes, TakesFrame, view, IsFrameOf}
 use Rattle.pgp_message.proofs.Steps.{taken_by}
-use Rattle.pgp_trace.specs.Steps.{IsFrameOf}
 use Rattle.pgp_trace.proofs.FrameLines.{frame_long, taken_frame, line_here, fault_reported}
 use Rattle.pgp_trace.proofs.frame.server_line.Goals as goal
 

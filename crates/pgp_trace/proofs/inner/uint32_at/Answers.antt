@@ -1,5 +1,4 @@
-use Rattle.std.proofs.Common.{rules}
-use Rattle.pgp_base.specs.Wire.{IsBytes}
+use Rattle.pgp_trace.proofs.Common.{rules, IsBytes}
 use Rattle.pgp_trace.proofs.Inners.{int32_front}
 use Rattle.pgp_trace.proofs.inner.uint32_at.Goals as goal
 

@@ -1,8 +1,4 @@
-use Rattle.std.proofs.Common.{rules}
-use Rattle.std.specs.Prelude.{string_bytes}
-use Rattle.pgp_base.specs.Walk.{TakesItem}
-use Rattle.pgp_line.specs.Line.{ListEnds, followed}
-use Rattle.pgp_trace.specs.Shown.{closed, column_parts}
+use Rattle.pgp_trace.proofs.Common.{rules, string_bytes, TakesItem, ListEnds, followed, closed, column_parts}
 use Rattle.pgp_trace.proofs.Items.{item_more}
 use Rattle.pgp_trace.proofs.lists.put_columns.Goals as goal
 

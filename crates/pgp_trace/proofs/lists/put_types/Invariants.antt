@@ -1,8 +1,5 @@
 -- What is still to come makes of the line what all was to make of it.
-use Rattle.std.proofs.Common.{◌≡◌, length}
-use Rattle.std.specs.Prelude.{string_bytes}
-use Rattle.pgp_line.specs.Line.{followed}
-use Rattle.pgp_trace.specs.Shown.{list_of, type_part}
+use Rattle.pgp_trace.proofs.Common.{◌≡◌, length, string_bytes, followed, list_of, type_part}
 use Rattle.pgp_trace.proofs.lists.put_types.Given as goal
 
 abbrev pub invariant-items : goal.invariant-items

@@ -1,10 +1,6 @@
 -- What is still to come makes of the line what all was to make of it.
-use Rattle.std.proofs.Common.{◌≡◌, length}
-use Rattle.std.specs.Prelude.{string_bytes}
-use Rattle.std.specs.List.{AllByRecursion}
+use Rattle.pgp_trace.proofs.Common.{◌≡◌, length, string_bytes, AllByRecursion, followed, list_of, value_part}
 use Rattle.pgp_message.specs.Table.{IsPlaceIn}
-use Rattle.pgp_line.specs.Line.{followed}
-use Rattle.pgp_trace.specs.Shown.{list_of, value_part}
 use Rattle.pgp_trace.proofs.lists.put_values.Given as goal
 
 abbrev pub invariant-items : goal.invariant-items

@@ -1,5 +1,4 @@
-use Rattle.std.proofs.Common.{arith, ◌∷◌, ◌++◌, [], map, ap, sym, ◌∙◌, append_assoc}
-use Rattle.std.proofs.lemmas.List.{map_push}
+use Rattle.pgp_trace.proofs.Common.{arith, ◌∷◌, ◌++◌, [], map, ap, sym, ◌∙◌, append_assoc, map_push}
 use Rattle.std.proofs.lemmas.Iterator.Consumers.{YieldsList-end, YieldsList-at}
 use Rattle.std.proofs.lemmas.Iterator.Splits.{YieldsList-from_str_split}
 use Rattle.pgp_trace.proofs.options.add_names.Goals as goal

@@ -1,5 +1,5 @@
 -- The word was added, and the names before this one.
-use Rattle.std.proofs.Common.{◌≡◌, [], ◌∷◌, ◌++◌, map}
+use Rattle.pgp_trace.proofs.Common.{◌≡◌, [], ◌∷◌, ◌++◌, map}
 use Rattle.pgp_trace.proofs.options.add_names.Given as goal
 
 abbrev pub invariant-loop-name : goal.invariant-loop-name

@@ -1,4 +1,4 @@
-use Rattle.std.proofs.Common.{◌∙◌}
+use Rattle.pgp_trace.proofs.Common.{◌∙◌}
 use Rattle.pgp_trace.proofs.Named.{any_mapped}
 use Rattle.pgp_trace.proofs.options.has_word.Goals as goal
 

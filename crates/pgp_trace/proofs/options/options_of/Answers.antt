@@ -1,6 +1,4 @@
-use Rattle.std.proofs.Common.{◌+◌, rules, refl, map, drop, arith}
-use Rattle.std.proofs.lemmas.List.{take_rest}
-use Rattle.pgp_trace.specs.Options.{chosen_of}
+use Rattle.pgp_trace.proofs.Common.{◌+◌, rules, refl, map, drop, arith, take_rest, chosen_of}
 use Rattle.pgp_trace.proofs.OptionLemmas.{place_more, received_all, received_none, received_wrong}
 use Rattle.pgp_trace.proofs.options.options_of.Goals as goal
 

@@ -1,6 +1,5 @@
 -- Some options came, and the other words stand after them.
-use Rattle.std.proofs.Common.{◌≤◌, ◌-◌, map, drop, length}
-use Rattle.pgp_trace.specs.Options.{chosen_of}
+use Rattle.pgp_trace.proofs.Common.{◌≤◌, ◌-◌, map, drop, length, chosen_of}
 use Rattle.pgp_trace.proofs.OptionLemmas.{Received}
 use Rattle.pgp_trace.proofs.options.options_of.Given as goal
 

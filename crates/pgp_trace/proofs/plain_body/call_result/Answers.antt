@@ -1,6 +1,4 @@
-use Rattle.std.proofs.Common.{◌≡◌, ◌≤◌, length, Some, rules, arith}
-use Rattle.pgp_base.specs.PartReading.{oid_at}
-use Rattle.pgp_base.specs.Wire.{IsBytes}
+use Rattle.pgp_trace.proofs.Common.{◌≡◌, ◌≤◌, length, Some, rules, arith, oid_at, IsBytes}
 use Rattle.pgp_trace.proofs.PlainBodies.{a_null, a_value, is_nothing, is_something, no_length, no_null, no_value, unread}
 use Rattle.pgp_trace.proofs.plain_body.call_result.Goals as goal
 

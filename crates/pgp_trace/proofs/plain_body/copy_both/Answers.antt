@@ -1,6 +1,4 @@
-use Rattle.std.proofs.Common.{◌≡◌, ◌*◌, length, Some, rules}
-use Rattle.pgp_base.specs.PartReading.{byte_at, uint16_at}
-use Rattle.pgp_base.specs.Wire.{IsBytes}
+use Rattle.pgp_trace.proofs.Common.{◌≡◌, ◌*◌, length, Some, rules, byte_at, uint16_at, IsBytes}
 use Rattle.pgp_trace.proofs.PlainBodies.{a_copy, no_copy, no_count, unread}
 use Rattle.pgp_trace.proofs.plain_body.copy_both.Goals as goal
 

@@ -1,7 +1,4 @@
-use Rattle.std.proofs.Common.{◌≡◌, ◌∷◌, [], List, pos, subst, ap, ◌∙◌}
-use Rattle.std.specs.Prelude.{codes, string_bytes, OnOk}
-use Rattle.pgp_line.specs.Line.{Part, Number, followed, key}
-use Rattle.pgp_trace.specs.Replication.{clock_parts}
+use Rattle.pgp_trace.proofs.Common.{◌≡◌, ◌∷◌, [], List, pos, subst, ap, ◌∙◌, codes, string_bytes, OnOk, Part, Number, followed, key, clock_parts}
 use Rattle.pgp_trace.proofs.replication.put_feedback.Goals as goal
 
 pub returns-clause-parts : goal.returns-clause-parts

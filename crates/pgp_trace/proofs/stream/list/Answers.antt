@@ -1,4 +1,4 @@
-use Rattle.pgp_trace.specs.Steps.{side_of, view_of}
+use Rattle.pgp_trace.proofs.Common.{side_of, view_of}
 use Rattle.pgp_trace.proofs.Traces.{nothing_cut}
 use Rattle.pgp_trace.proofs.stream.list.Goals as goal
 

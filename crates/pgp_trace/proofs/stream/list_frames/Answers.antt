@@ -1,8 +1,4 @@
-use Rattle.std.proofs.Common.{◌≡◌, ◌+◌, ◌-◌, ◌++◌, ◌∙◌, length, min, rules, ap}
-use Rattle.std.specs.Prelude.{string_bytes}
-use Rattle.pgp_trace.specs.Steps.{HasLine, side_of, view_of}
-use Rattle.pgp_trace.specs.View.{shown}
-use Rattle.pgp_program.specs.Words.{greatest}
+use Rattle.pgp_trace.proofs.Common.{◌≡◌, ◌+◌, ◌-◌, ◌++◌, ◌∙◌, length, min, rules, ap, string_bytes, HasLine, side_of, view_of, shown, greatest}
 use Rattle.pgp_trace.proofs.Shorter.{shorter}
 use Rattle.pgp_trace.proofs.Traces.{nothing_yet, one_listed}
 use Rattle.pgp_trace.proofs.stream.list_frames.Goals as goal

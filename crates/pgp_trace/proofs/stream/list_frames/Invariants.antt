@@ -1,7 +1,5 @@
 -- The frames so far have their lines.
-use Rattle.std.proofs.Common.{length}
-use Rattle.std.specs.Prelude.{string_bytes}
-use Rattle.pgp_trace.specs.Steps.{side_of, view_of}
+use Rattle.pgp_trace.proofs.Common.{length, string_bytes, side_of, view_of}
 use Rattle.pgp_trace.proofs.Traces.{ListsTo}
 use Rattle.pgp_trace.proofs.stream.list_frames.Given as goal
 

@@ -1,7 +1,4 @@
-use Rattle.std.proofs.Common.{◌≤◌, List, ℕ, [], length, take, drop, arith, subst, sym}
-use Rattle.std.specs.Prelude.{string_bytes}
-use Rattle.std.proofs.KnownBytes.{Keeps-refl}
-use Rattle.pgp_trace.specs.Steps.{ListsAll, side_of, view_of}
+use Rattle.pgp_trace.proofs.Common.{◌≤◌, List, ℕ, [], length, take, drop, arith, subst, sym, string_bytes, Keeps-refl, ListsAll, side_of, view_of}
 use Rattle.pgp_trace.proofs.Traces.{ok_counted, err_counted, ok_listed, err_listed}
 use Rattle.pgp_trace.proofs.stream.list_piece.Goals as goal
 

@@ -1,7 +1,4 @@
-use Rattle.std.proofs.Common.{take, arith, rules, refl, subst, inl, inr}
-use Rattle.std.specs.Io.KnownBytes.{Consumes}
-use Rattle.std.proofs.KnownBytes.{Keeps-refl}
-use Rattle.pgp_trace.specs.Steps.{side_of, view_of}
+use Rattle.pgp_trace.proofs.Common.{take, arith, rules, refl, subst, inl, inr, Consumes, Keeps-refl, side_of, view_of}
 use Rattle.pgp_trace.proofs.Traces.{tracks_start, tracks_same, tracks_piece, end_written, end_cut, piece_cut, cut_here, was_listed, called_more, ready}
 use Rattle.pgp_trace.proofs.stream.list_stream.Goals as goal
 use Rattle.pgp_trace.proofs.stream.list_stream.Goals.{in-Ok+in_ok-list_piece-in-Ok, in-Err+in-Interrupted}

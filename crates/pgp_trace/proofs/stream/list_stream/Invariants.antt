@@ -1,7 +1,5 @@
 -- What came so far was listed, and passed on.
-use Rattle.std.proofs.Common.{◌≡◌, ◌⊎◌}
-use Rattle.std.specs.Io.KnownBytes.{Keeps}
-use Rattle.pgp_trace.specs.Steps.{side_of, view_of}
+use Rattle.pgp_trace.proofs.Common.{◌≡◌, ◌⊎◌, Keeps, side_of, view_of}
 use Rattle.pgp_trace.proofs.Traces.{Tracks}
 use Rattle.pgp_trace.proofs.stream.list_stream.Given as goal
 

@@ -1,7 +1,5 @@
-use Rattle.std.proofs.Common.{[], ◌∷◌, false, rules}
-use Rattle.std.specs.Prelude.{codes, string_bytes}
+use Rattle.pgp_trace.proofs.Common.{[], ◌∷◌, false, rules, codes, string_bytes, Name, followed}
 use Rattle.std.specs.Option.{option_map}
-use Rattle.pgp_line.specs.Line.{Name, followed}
 use Rattle.pgp_trace.proofs.UnreadLines.{no_result_shown, result_shown}
 use Rattle.pgp_trace.proofs.unread.put_call_result.Goals as goal
 

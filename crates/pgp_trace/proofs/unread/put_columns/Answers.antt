@@ -1,5 +1,4 @@
-use Rattle.std.specs.Prelude.{codes, string_bytes}
-use Rattle.pgp_trace.specs.PlainBody.{numbers_of}
+use Rattle.pgp_trace.proofs.Common.{codes, string_bytes, numbers_of}
 use Rattle.pgp_trace.proofs.Numbers.{columns_put}
 use Rattle.pgp_trace.proofs.unread.put_columns.Goals as goal
 

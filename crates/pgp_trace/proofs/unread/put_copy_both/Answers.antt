@@ -1,7 +1,4 @@
-use Rattle.std.proofs.Common.{[], ◌∷◌, false, rules}
-use Rattle.std.specs.Prelude.{codes, string_bytes}
-use Rattle.pgp_line.specs.Line.{Name, followed}
-use Rattle.pgp_trace.specs.PlainBody.{numbers_of}
+use Rattle.pgp_trace.proofs.Common.{[], ◌∷◌, false, rules, codes, string_bytes, Name, followed, numbers_of}
 use Rattle.pgp_trace.proofs.UnreadLines.{copy_shown, no_copy_shown}
 use Rattle.pgp_trace.proofs.unread.put_copy_both.Goals as goal
 

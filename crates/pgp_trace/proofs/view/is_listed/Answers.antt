@@ -1,4 +1,4 @@
-use Rattle.std.proofs.Common.{◌≡◌, length, rules, ◌∙◌}
+use Rattle.pgp_trace.proofs.Common.{◌≡◌, length, rules, ◌∙◌}
 use Rattle.pgp_trace.proofs.Named.{named}
 use Rattle.pgp_trace.proofs.view.is_listed.Goals as goal
 
