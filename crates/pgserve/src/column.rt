@@ -4,16 +4,16 @@ use crate::part::{Part, format_of};
 use crate::reader::Reader;
 use crate::script::{Column, Role, Statement};
 use crate::types::{PLAIN_TEXT, Type, type_of};
-use crate::wrong;
+use crate::wrong::Wrong;
 
 /// The type of this name.
 pub(crate) fn known_type(name: &str, reader: &mut Reader) -> Type {
-    reader.found(type_of(name), wrong::TYPE, PLAIN_TEXT)
+    reader.found(type_of(name), Wrong::Type, PLAIN_TEXT)
 }
 
 /// The column of this line: its name, and after the last space its type.
 fn column_of(line: &str, reader: &mut Reader) -> Column {
-    let (name, kind) = reader.found(line.rsplit_once(' '), wrong::COLUMN, ("", ""));
+    let (name, kind) = reader.found(line.rsplit_once(' '), Wrong::Column, ("", ""));
     Column {
         kind: known_type(kind, reader),
         name: reader.text(name),
@@ -34,8 +34,8 @@ impl Column {
                 let number = reader.count(number, table.len().saturating_add(1));
                 self.number = i16::try_from(number).unwrap_or(i16::MAX);
             }
-            Part::Modifier => self.modifier = reader.found(rest.parse().ok(), wrong::COUNT, -1),
-            _ => self.only = Some(reader.found(format_of(rest), wrong::FORMAT, 0)),
+            Part::Modifier => self.modifier = reader.found(rest.parse().ok(), Wrong::Count, -1),
+            _ => self.only = Some(reader.found(format_of(rest), Wrong::Format, 0)),
         }
     }
 
@@ -66,7 +66,7 @@ impl Statement {
     /// Adds a column; rows stand after all of them.
     pub(crate) fn add_column(&mut self, line: &str, reader: &mut Reader) {
         if !self.rows.is_empty() {
-            return reader.wrong(wrong::LATE_COLUMN);
+            return reader.wrong(Wrong::LateColumn);
         }
         if self.has_old_columns {
             self.columns.clear();
@@ -81,7 +81,7 @@ impl Statement {
         let is_late = !self.rows.is_empty();
         match self.columns.last_mut() {
             Some(column) if !is_late => column.take(part, rest, reader),
-            _ => reader.wrong(wrong::NO_COLUMN),
+            _ => reader.wrong(Wrong::NoColumn),
         }
     }
 

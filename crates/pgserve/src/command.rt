@@ -211,12 +211,7 @@ fn assigned(words: &str) -> Option<(&str, &str)> {
     let (first, rest) = split(words);
     let (name, value) = match first.split_once('=') {
         Some((name, "")) => (name, rest),
-        Some((name, _)) => (
-            name,
-            words
-                .split_at(name.len().saturating_add(1).min(words.len()))
-                .1,
-        ),
+        Some((name, _)) => (name, words.strip_prefix(name)?.strip_prefix('=')?),
         None => match after(rest, "to").or(after(rest, "=")) {
             Some(value) => (first, value),
             None => (first, rest.strip_prefix('=')?),

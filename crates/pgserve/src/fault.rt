@@ -47,7 +47,7 @@ impl Fault {
             Fault::Misplaced => "an answer has no place after the requests that came",
             Fault::NoScript => "the script can't be read",
             Fault::NotText => "the script isn't UTF-8",
-            Fault::Script(place) => place.wrong,
+            Fault::Script(place) => place.wrong.message(),
             Fault::Auth => "--auth is trust, password, md5, scram or scram-plus",
             Fault::Verifier =>
                 "the verifier is no text of the method's: SCRAM-SHA-256$.., or md5..",

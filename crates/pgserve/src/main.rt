@@ -86,7 +86,7 @@ fn serve_script(rt: &HostRuntime, words: &Words<'_>, script: &Script) -> Result<
 
 /// Says what is wrong with a script of this text: what should stand there, and what stands there.
 fn complain_of(rt: &HostRuntime, path: &str, text: &str, place: Place) -> io::Result<()> {
-    let (line, column, why) = (place.line, place.column, place.wrong);
+    let (line, column, why) = (place.line, place.column, place.wrong.message());
     match place.seen(unmarked(text)) {
         "" => eprintln!(rt; "pgserve: {path}:{line}:{column}: {why}; the line ends here"),
         seen => eprintln!(rt; "pgserve: {path}:{line}:{column}: {why}; here stands `{seen}`"),

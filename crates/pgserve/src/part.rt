@@ -7,7 +7,7 @@ use crate::reading::pair_of;
 use crate::report::report_of;
 use crate::row_text::row_of;
 use crate::script::{Copy, End, Statement};
-use crate::wrong;
+use crate::wrong::Wrong;
 use pgp_base::Oid;
 use pgp_monitor::Status;
 use std::time::Duration;
@@ -118,7 +118,7 @@ fn is_in(way: &str, reader: &mut Reader) -> bool {
         "in" => true,
         "out" => false,
         _ => {
-            reader.wrong(wrong::COPY);
+            reader.wrong(Wrong::Copy);
             false
         }
     }
@@ -130,8 +130,8 @@ fn copy_of(line: &str, reader: &mut Reader) -> Copy {
     let (format, columns) = rest.split_once(' ').unwrap_or((rest, "1"));
     Copy {
         is_in: is_in(way, reader),
-        is_binary: reader.found(format_of(format), wrong::COPY, 0) == 1,
-        columns: reader.found(columns.parse().ok(), wrong::COPY, 0),
+        is_binary: reader.found(format_of(format), Wrong::Copy, 0) == 1,
+        columns: reader.found(columns.parse().ok(), Wrong::Copy, 0),
         chunks: Vec::new(reader.alloc),
     }
 }
@@ -148,7 +148,7 @@ impl Statement {
     /// Says how the answer ends, once.
     fn set_end(&mut self, end: End, reader: &mut Reader) {
         if !matches!(self.end, End::Open) {
-            reader.wrong(wrong::SECOND_END);
+            reader.wrong(Wrong::SecondEnd);
         }
         self.end = end;
     }
@@ -172,7 +172,7 @@ impl Statement {
             Part::Copy => self.copy = Some(copy_of(rest, reader)),
             _ => {
                 let chunk = reader.raw(rest);
-                reader.add_to(self.chunks(), chunk, wrong::NO_COPY);
+                reader.add_to(self.chunks(), chunk, Wrong::NoCopy);
             }
         }
     }
@@ -194,7 +194,7 @@ impl Statement {
             Part::Tag => self.set_end(End::Tag(reader.text(rest)), reader),
             Part::Error => self.set_end(End::Error(report_of("ERROR", rest, reader)), reader),
             Part::Status => {
-                self.status = Some(reader.found(status_of(rest), wrong::STATUS, Status::Idle));
+                self.status = Some(reader.found(status_of(rest), Wrong::Status, Status::Idle));
             }
             Part::Notify => {
                 let notification = pair_of(rest, reader);

@@ -2,8 +2,7 @@
 
 use crate::list::push;
 use crate::text::add_unescaped;
-use crate::wrong;
-use crate::wrong::Stop;
+use crate::wrong::{Stop, Wrong};
 use std::alloc::{AllocError, Global};
 
 /// Reads the parts of a line. The first fault is kept, and the caller looks for it behind the line, so that what reads a part gives something
@@ -33,11 +32,11 @@ impl Reader {
     }
 
     /// The same of one that stands so many bytes after the beginning.
-    pub(crate) fn wrong_at(&mut self, wrong: &'static str, at: usize) {
+    pub(crate) fn wrong_at(&mut self, wrong: Wrong, at: usize) {
         self.fail(Stop::In(wrong, self.base.saturating_add(at)));
     }
 
-    pub(crate) fn wrong(&mut self, wrong: &'static str) {
+    pub(crate) fn wrong(&mut self, wrong: Wrong) {
         self.wrong_at(wrong, 0);
     }
 
@@ -46,7 +45,7 @@ impl Reader {
     }
 
     /// What was found; or this, and a fault.
-    pub(crate) fn found<T: Drop>(&mut self, found: Option<T>, wrong: &'static str, other: T) -> T {
+    pub(crate) fn found<T: Drop>(&mut self, found: Option<T>, wrong: Wrong, other: T) -> T {
         match found {
             Some(found) => found,
             None => {
@@ -69,12 +68,7 @@ impl Reader {
     }
 
     /// The same, where it is wrong that there is no list.
-    pub(crate) fn add_to<T: Drop>(
-        &mut self,
-        list: Option<&mut Vec<T>>,
-        item: T,
-        wrong: &'static str,
-    ) {
+    pub(crate) fn add_to<T: Drop>(&mut self, list: Option<&mut Vec<T>>, item: T, wrong: Wrong) {
         match list {
             Some(list) => self.add(list, item),
             None => {
@@ -88,7 +82,7 @@ impl Reader {
     pub(crate) fn text(&mut self, text: &str) -> Vec<u8> {
         let bytes = self.raw(text);
         if bytes.contains(&0) {
-            self.wrong(wrong::ZERO);
+            self.wrong(Wrong::Zero);
         }
         bytes
     }
@@ -98,7 +92,7 @@ impl Reader {
         let mut bytes = Vec::new(self.alloc);
         match add_unescaped(text, &mut bytes) {
             Ok(true) => {}
-            Ok(false) => self.wrong(wrong::ESCAPE),
+            Ok(false) => self.wrong(Wrong::Escape),
             Err(_) => self.lack(),
         }
         bytes
@@ -128,7 +122,7 @@ impl Reader {
         match word.parse() {
             Ok(count) => count,
             Err(_) => {
-                self.wrong_at(wrong::COUNT, at);
+                self.wrong_at(Wrong::Count, at);
                 0
             }
         }

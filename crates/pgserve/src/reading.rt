@@ -10,14 +10,13 @@ use crate::script::{By, Pair, Role, Script, Statement};
 use crate::text::trimmed;
 use crate::user::{Auth, User};
 use crate::wording::words_of;
-use crate::wrong;
-use crate::wrong::{Stop, place_of};
+use crate::wrong::{Stop, Wrong, place_of};
 use std::alloc::Global;
 
 /// The setting of this line: its name, and after a space its value, which may be empty.
 fn setting_of(line: &str, reader: &mut Reader) -> Pair {
     if !line.contains(' ') {
-        reader.wrong_at(wrong::SETTING, line.len());
+        reader.wrong_at(Wrong::Setting, line.len());
     }
     pair_of(line, reader)
 }
@@ -26,7 +25,7 @@ fn setting_of(line: &str, reader: &mut Reader) -> Pair {
 pub(crate) fn pair_of(line: &str, reader: &mut Reader) -> Pair {
     let (name, value) = line.split_once(' ').unwrap_or((line, ""));
     if name.is_empty() {
-        reader.wrong(wrong::NAME);
+        reader.wrong(Wrong::Name);
     }
     Pair {
         name: reader.text(name),
@@ -38,7 +37,7 @@ pub(crate) fn pair_of(line: &str, reader: &mut Reader) -> Pair {
 fn pattern_of(pattern: &str, reader: &mut Reader) -> Vec<u8> {
     match matches(reader.alloc, pattern, "") {
         Ok(Some(_)) => {}
-        Ok(None) => reader.wrong_at(wrong::PATTERN, 2),
+        Ok(None) => reader.wrong_at(Wrong::Pattern, 2),
         Err(_) => reader.lack(),
     }
     reader.bytes(pattern.as_bytes())
@@ -75,7 +74,7 @@ fn statement_of(number: usize, rest: &str, by_words: bool, reader: &mut Reader) 
 fn begin(script: &mut Script, number: usize, rest: &str, reader: &mut Reader) {
     let mut statement = statement_of(number, rest, script.by_words, reader);
     if script.written(statement.by, &statement.text).is_some() {
-        reader.wrong(wrong::DUPLICATE);
+        reader.wrong(Wrong::Duplicate);
     }
     statement.place = script.statements.len();
     statement.first = statement.place;
@@ -89,7 +88,7 @@ fn begin_further(script: &mut Script, number: usize, role: Role, reader: &mut Re
             let further = last.further(number, role, reader);
             reader.add(&mut script.statements, further);
         }
-        None => reader.fail(Stop::First(wrong::NO_STATEMENT)),
+        None => reader.fail(Stop::First(Wrong::NoStatement)),
     }
 }
 
@@ -98,8 +97,8 @@ fn test_verifier(auth: Auth, verifier: &str, at: usize, reader: &mut Reader) {
     match auth.test(reader.alloc, verifier) {
         Ok(()) => {}
         Err(Fault::Memory) => reader.lack(),
-        Err(Fault::NoVerifier) => reader.wrong_at(wrong::NO_VERIFIER, at),
-        Err(_) => reader.wrong_at(wrong::VERIFIER, at),
+        Err(Fault::NoVerifier) => reader.wrong_at(Wrong::NoVerifier, at),
+        Err(_) => reader.wrong_at(Wrong::Verifier, at),
     }
 }
 
@@ -108,7 +107,7 @@ fn method_of(name: &str, at: usize, reader: &mut Reader) -> Auth {
     match Auth::of(name) {
         Some(auth) => auth,
         None => {
-            reader.wrong_at(wrong::METHOD, at);
+            reader.wrong_at(Wrong::Method, at);
             Auth::Trust
         }
     }
@@ -116,7 +115,7 @@ fn method_of(name: &str, at: usize, reader: &mut Reader) -> Auth {
 
 /// The user of this line: the name, the method, and the method's verifier.
 fn user_of(line: &str, reader: &mut Reader) -> User {
-    let (name, rest) = reader.found(line.split_once(' '), wrong::USER, ("", ""));
+    let (name, rest) = reader.found(line.split_once(' '), Wrong::User, ("", ""));
     let (method, verifier) = rest.split_once(' ').unwrap_or((rest, ""));
     let at = name.len().saturating_add(1);
     let auth = method_of(method, at, reader);
@@ -133,7 +132,7 @@ fn user_of(line: &str, reader: &mut Reader) -> User {
 fn add_user(script: &mut Script, line: &str, reader: &mut Reader) {
     let user = user_of(line, reader);
     if script.has_user(&user.name) {
-        reader.wrong(wrong::DUPLICATE_USER);
+        reader.wrong(Wrong::DuplicateUser);
     }
     reader.add(&mut script.users, user);
 }
@@ -141,11 +140,11 @@ fn add_user(script: &mut Script, line: &str, reader: &mut Reader) {
 /// Adds what a line says of the last statement.
 fn add_part(script: &mut Script, word: &str, rest: &str, reader: &mut Reader) {
     let Some(statement) = script.statements.last_mut() else {
-        return reader.fail(Stop::First(wrong::NO_STATEMENT));
+        return reader.fail(Stop::First(Wrong::NoStatement));
     };
     match part_of(word) {
         Some(part) => statement.add(part, rest, reader),
-        None => reader.fail(Stop::First(wrong::WORD)),
+        None => reader.fail(Stop::First(Wrong::Word)),
     }
 }
 
@@ -172,7 +171,7 @@ fn read_line(script: &mut Script, number: usize, line: &str, reader: &mut Reader
         }
         "user" => add_user(script, rest, reader),
         "login" => script.login = Some(report_of("FATAL", rest, reader)),
-        "match" => script.by_words = reader.found(by_words(rest), wrong::MATCH, false),
+        "match" => script.by_words = reader.found(by_words(rest), Wrong::Match, false),
         "then" => begin_further(script, number, Role::Then, reader),
         "and" => begin_further(script, number, Role::And, reader),
         _ => add_part(script, word, rest, reader),
@@ -198,7 +197,7 @@ fn read_lines(script: &mut Script, text: &str, reader: &mut Reader) -> Result<()
         }
     }
     match script.open_line() {
-        Some(line) => Err(fault_of(line, "statement", Stop::In(wrong::NO_END, 0))),
+        Some(line) => Err(fault_of(line, "statement", Stop::In(Wrong::NoEnd, 0))),
         None => Ok(()),
     }
 }

@@ -3,7 +3,7 @@
 use crate::part::Part;
 use crate::reader::Reader;
 use crate::script::{Detail, Report, Statement};
-use crate::wrong;
+use crate::wrong::Wrong;
 
 /// The further fields of a report (PostgreSQL manual, "Error and Notice Message Fields"), by the names that pgtrace has.
 static FIELDS: [(&str, u8); 14] = [
@@ -62,7 +62,7 @@ fn is_code(code: &str) -> bool {
 pub(crate) fn report_of(severity: &'static str, line: &str, reader: &mut Reader) -> Report {
     let (code, message) = line.split_once(' ').unwrap_or(("", ""));
     if !is_code(code) {
-        reader.wrong(wrong::REPORT);
+        reader.wrong(Wrong::Report);
     }
     Report {
         severity,
@@ -84,15 +84,15 @@ impl Statement {
     /// Adds a field to the last error or notice.
     fn add_detail(&mut self, code: u8, line: &str, reader: &mut Reader) {
         let value = reader.text(line);
-        reader.add_to(self.details(), Detail { code, value }, wrong::NO_REPORT);
+        reader.add_to(self.details(), Detail { code, value }, Wrong::NoReport);
     }
 
     /// Sets the severity of the last error or notice.
     fn set_severity(&mut self, word: &str, reader: &mut Reader) {
-        let severity = reader.found(severity_of(word), wrong::SEVERITY, "");
+        let severity = reader.found(severity_of(word), Wrong::Severity, "");
         match self.last_report() {
             Some(report) => report.severity = severity,
-            None => reader.wrong(wrong::NO_REPORT),
+            None => reader.wrong(Wrong::NoReport),
         }
     }
 
@@ -103,7 +103,7 @@ impl Statement {
             Part::Hint => self.add_detail(b'H', rest, reader),
             Part::Field => {
                 let (name, text) = rest.split_once(' ').unwrap_or((rest, ""));
-                let letter = reader.found(field_of(name), wrong::FIELD, 0);
+                let letter = reader.found(field_of(name), Wrong::Field, 0);
                 self.add_detail(letter, text, reader);
             }
             Part::Position => {

@@ -3,11 +3,11 @@
 use crate::binary::{Unwritten, value_in};
 use crate::reader::Reader;
 use crate::script::{Column, Condition, Row};
-use crate::wrong;
+use crate::wrong::Wrong;
 use pgp_base::Oid;
 
 /// Takes note of a value that is none of the type.
-fn test_value(oid: Oid, value: &[u8], wrong: &'static str, reader: &mut Reader) {
+fn test_value(oid: Oid, value: &[u8], wrong: Wrong, reader: &mut Reader) {
     match value_in(reader.alloc, 1, oid, value) {
         Ok(bytes) => drop(bytes),
         Err(Unwritten::NoFormat) => {}
@@ -23,7 +23,7 @@ fn value_of(column: &Column, text: &str, reader: &mut Reader) -> Option<Vec<u8>>
         _ if column.only.is_some() => Some(reader.raw(text)),
         _ => {
             let value = reader.text(text);
-            test_value(column.kind.oid, &value, wrong::VALUE, reader);
+            test_value(column.kind.oid, &value, Wrong::Value, reader);
             Some(value)
         }
     }
@@ -38,7 +38,7 @@ fn add_values(
 ) {
     for text in line.split('\t') {
         let Some(column) = columns.get(values.len()) else {
-            return reader.wrong(wrong::WIDTH);
+            return reader.wrong(Wrong::Width);
         };
         let value = value_of(column, text, reader);
         reader.add(values, value);
@@ -58,7 +58,7 @@ fn values_of(
     add_values(columns, line, reader, &mut values);
     reader.base = base;
     if values.len() != columns.len() {
-        reader.wrong(wrong::WIDTH);
+        reader.wrong(Wrong::Width);
     }
     reader.base = 0;
     values
@@ -69,7 +69,7 @@ fn place_of(number: &str, reader: &mut Reader) -> usize {
     match number.parse::<u16>() {
         Ok(number) if number != 0 => usize::from(number).saturating_sub(1),
         _ => {
-            reader.wrong_at(wrong::CONDITION, 6);
+            reader.wrong_at(Wrong::Condition, 6);
             0
         }
     }
@@ -92,7 +92,7 @@ fn row_with_condition(
 ) -> Row {
     let parts = split_condition(rest);
     if parts.is_none() {
-        reader.wrong_at(wrong::CONDITION, 5);
+        reader.wrong_at(Wrong::Condition, 5);
     }
     let (number, text, values) = parts.unwrap_or(("", "", ""));
     let condition = Condition {
@@ -102,10 +102,10 @@ fn row_with_condition(
     match parameters.get(condition.place) {
         Some(oid) => {
             reader.base = number.len().saturating_add(10);
-            test_value(*oid, &condition.value, wrong::CONDITION_VALUE, reader);
+            test_value(*oid, &condition.value, Wrong::ConditionValue, reader);
             reader.base = 0;
         }
-        None => reader.wrong_at(wrong::NO_PARAMETER, 5),
+        None => reader.wrong_at(Wrong::NoParameter, 5),
     }
     Row {
         condition: Some(condition),
