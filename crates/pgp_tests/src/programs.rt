@@ -1,5 +1,6 @@
 //! What the programs `pgwire` and `pgtrace` run, with their input cut, and with their readers, writers and memory failing.
 
 mod failing;
+mod listing;
 mod process;
 mod wire;

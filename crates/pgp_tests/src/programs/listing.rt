@@ -1,0 +1,317 @@
+//! What no clause says of listings: that they come wherever the bytes are cut, and a front of them whatever fails. What is listed of these streams and
+//! recordings stands in tests/programs/pgtrace.runs too, with where it is from.
+
+use crate::checks::{holds, refused_more, same, same_at};
+use crate::programs::failing::{FailingReader, FailingWriter, PieceReader};
+use pgp_conversation::run::run;
+use pgp_test_alloc::Refusing;
+use pgp_trace::pipe::Pipe;
+use std::alloc::{AllocError, Global};
+use std::io::{Read, Write};
+use std::process::Abort;
+use std::test::Fail;
+
+/// Bytes, and what is listed of them.
+struct Listing {
+    words: &'static [&'static str],
+    bytes: &'static [u8],
+    /// The lines, each with the place behind which it is written.
+    lines: &'static [(usize, &'static str)],
+    last: &'static str,
+    reported: &'static str,
+    /// The cuts that are there in each cutting, and the place of the first of nine that may be.
+    cuts: u64,
+    place: u32,
+}
+
+static LISTINGS: [Listing; 5] = [
+    // A refusal to encrypt, the end of a log-in, a setting, a state and a key, and the front of another state.
+    Listing {
+        words: &["server"],
+        bytes: b"NR\x00\x00\x00\x08\x00\x00\x00\x00S\x00\x00\x00\x08n\x00\n\x00Z\x00\x00\x00\x05IK\x00\x00\x00\x0c\x00\x00\x00\x01abcdZ\x00",
+        lines: &[
+            (1, "         0        1 N SSLResponse or GSSENCResponse\n"),
+            (10, "         1        9 R AuthenticationOk\n"),
+            (
+                19,
+                "        10        9 S ParameterStatus      name \"n\" value \"\\x0a\"\n",
+            ),
+            (25, "        19        6 Z ReadyForQuery        idle\n"),
+            (
+                38,
+                "        25       13 K BackendKeyData       process 1 key (4 bytes)\n",
+            ),
+        ],
+        last: "rest 2\n",
+        reported: "",
+        cuts: 0,
+        place: 0,
+    },
+    // The question for TLS, a startup packet, a password, a query, and the front of a further message.
+    Listing {
+        words: &["client", "--password-kind", "password"],
+        bytes: b"\x00\x00\x00\x08\x04\xd2\x16/\x00\x00\x00\x10\x00\x03\x00\x00user\x00a\x00\x00p\x00\x00\x00\x07pw\x00Q\x00\x00\x00\x06x\x00X\x00",
+        lines: &[
+            (8, "         0        8 - SSLRequest\n"),
+            (
+                24,
+                "         8       16 - StartupMessage       version 196608 parameters \"user\" \"a\"\n",
+            ),
+            (
+                32,
+                "        24        8 p PasswordMessage      password (2 bytes)\n",
+            ),
+            (
+                39,
+                "        32        7 Q Query                query \"x\"\n",
+            ),
+        ],
+        last: "rest 2\n",
+        reported: "",
+        cuts: 0,
+        place: 4,
+    },
+    // A replication stream begins, and has a keepalive.
+    Listing {
+        words: &["server", "--resume"],
+        bytes: b"W\x00\x00\x00\x07\x00\x00\x00d\x00\x00\x00\x16k\x00\x00\x00\x00\x00\x00\x00\x01\x00\x00\x00\x00\x00\x00\x00\x02\x00",
+        lines: &[
+            (
+                8,
+                "         0        8 W CopyBothResponse     format 0 columns 0\n",
+            ),
+            (
+                31,
+                "         8       23 d CopyData             PrimaryKeepalive end 0/1 clock 2 reply 0\n",
+            ),
+        ],
+        last: "rest 0\n",
+        reported: "",
+        cuts: 0,
+        place: 5,
+    },
+    // A client asks for TLS, which the server refuses; logs in with a password, by a clock that was set back; and the first byte of a message comes.
+    Listing {
+        words: &["session"],
+        bytes: b"pgtrace recording 1\n\
+    >\x00\x00\x00\x00\x00\x0fB@\x00\x00\x00\x08\x00\x00\x00\x08\x04\xd2\x16/\
+    <\x00\x00\x00\x00\x00\x0fCx\x00\x00\x00\x01N\
+    >\x00\x00\x00\x00\x00\x10\xc8\xe0\x00\x00\x00\x10\x00\x00\x00\x10\x00\x03\x00\x00user\x00a\x00\x00\
+    <\x00\x00\x00\x00\x00\x12O\x80\x00\x00\x00\x09R\x00\x00\x00\x08\x00\x00\x00\x03\
+    >\x00\x00\x00\x00\x00\x0fB?\x00\x00\x00\x08p\x00\x00\x00\x07ab\x00\
+    <\x00\x00\x00\x00\x00\x13\xd6!\x00\x00\x00\x0aR\x00\x00\x00\x08\x00\x00\x00\x00Z",
+        lines: &[
+            (41, "    0.000000 >          0        8 - SSLRequest\n"),
+            (55, "    0.000312 <          0        1 N SSLResponse\n"),
+            (
+                84,
+                "    0.100000 >          8       16 - StartupMessage       version 196608 parameters \"user\" \"a\"\n",
+            ),
+            (
+                106,
+                "    0.200000 <          1        9 R AuthenticationCleartextPassword\n",
+            ),
+            (
+                127,
+                "   -0.000001 >         24        8 p PasswordMessage      password (2 bytes)\n",
+            ),
+            (
+                150,
+                "    0.300001 <         10        9 R AuthenticationOk\n",
+            ),
+        ],
+        last: "             < rest 1\n",
+        reported: "",
+        cuts: 0,
+        place: 20,
+    },
+    // A chunk, and the first two bytes of another.
+    Listing {
+        words: &["session"],
+        bytes: b"pgtrace recording 1\n<\x00\x00\x00\x00\x00\x00\x00\x01\x00\x00\x00\x01N>\x00",
+        lines: &[(
+            34,
+            "    0.000000 <          0        1 N SSLResponse or GSSENCResponse\n",
+        )],
+        last: "",
+        reported: "pgtrace: the recording ends inside a chunk\n",
+        cuts: 1 << 19,
+        place: 26,
+    },
+];
+
+impl Listing {
+    /// The lines of what is whole in so many bytes.
+    fn front(&self, alloc: Global, end: usize) -> Result<Vec<u8>, AllocError> {
+        let mut lines = Vec::new(alloc);
+        for (place, line) in self.lines {
+            if *place <= end {
+                lines.extend_from_slice(line.as_bytes())?;
+            }
+        }
+        Ok(lines)
+    }
+
+    /// All lines.
+    fn whole(&self, alloc: Global) -> Result<Vec<u8>, AllocError> {
+        let mut lines = self.front(alloc, self.bytes.len())?;
+        lines.extend_from_slice(self.last.as_bytes())?;
+        Ok(lines)
+    }
+
+    /// The program ends so on this input, and says this; how that ended in memory is for who calls.
+    fn ends<R: Read, W: Write>(
+        &self,
+        rt: &impl Abort,
+        alloc: Global,
+        input: &mut R,
+        output: &mut W,
+        (status, reported): (u8, &str),
+    ) {
+        let mut errors = Vec::new(alloc);
+        let ended = run(alloc, false, self.words, input, output, &mut errors);
+        same(rt, ended, status);
+        holds(rt, errors.as_slice() == reported.as_bytes());
+    }
+}
+
+#[test]
+fn bytes_are_listed_however_they_are_cut(rt: HostRuntime) -> Result<(), Fail> {
+    for listing in &LISTINGS {
+        let lines = listing.whole(rt.alloc())?;
+        for cuts in 0..512u64 {
+            let mut input = PieceReader {
+                rest: listing.bytes,
+                cuts: listing.cuts | cuts.wrapping_shl(listing.place),
+                interrupted: false,
+            };
+            let mut output = Vec::new(rt.alloc());
+            let ended = (0, listing.reported);
+            listing.ends(&rt, rt.alloc(), &mut input, &mut output, ended);
+            holds(&rt, output.as_slice() == lines.as_slice());
+        }
+    }
+    Ok(())
+}
+
+#[test]
+fn what_came_whole_is_listed_where_a_read_fails(rt: HostRuntime) -> Result<(), Fail> {
+    for listing in &LISTINGS {
+        for end in 0..=listing.bytes.len() {
+            let (rest, _) = listing.bytes.split_at(end);
+            let lines = listing.front(rt.alloc(), end)?;
+            for step in [1usize, 7] {
+                let mut input = FailingReader { rest, step };
+                let mut output = Vec::new(rt.alloc());
+                let ended = (1, "pgtrace: read failed\n");
+                listing.ends(&rt, rt.alloc(), &mut input, &mut output, ended);
+                holds(&rt, output.as_slice() == lines.as_slice());
+            }
+        }
+    }
+    Ok(())
+}
+
+/// A writer that takes so many bytes.
+fn writer(alloc: Global, left: usize) -> FailingWriter {
+    FailingWriter {
+        left,
+        taken: Vec::new(alloc),
+    }
+}
+
+#[test]
+fn a_failing_writer_took_a_front(rt: HostRuntime) -> Result<(), Fail> {
+    for listing in &LISTINGS {
+        let lines = listing.whole(rt.alloc())?;
+        for left in 0..=lines.len() {
+            let (mut input, mut output) = (listing.bytes, writer(rt.alloc(), left));
+            let ended = (1, "pgtrace: write failed\n");
+            listing.ends(&rt, rt.alloc(), &mut input, &mut output, ended);
+            holds(&rt, lines.starts_with(output.taken.as_slice()));
+            same(&rt, output.taken.len(), left);
+        }
+    }
+    Ok(())
+}
+
+/// Lists into a pipe that is closed behind so many bytes: a front was written, nothing is said, and the status is 0.
+fn ends_quietly(rt: &impl Abort, alloc: Global, listing: &Listing, left: usize, lines: &[u8]) {
+    let pipe = Pipe::new();
+    let (mut input, mut output) = (listing.bytes, writer(alloc, left));
+    let mut errors = Vec::new(alloc);
+    let status = run(
+        alloc,
+        false,
+        listing.words,
+        &mut pipe.source(&mut input),
+        &mut pipe.sink(&mut output),
+        &mut pipe.sink(&mut errors),
+    );
+    same(rt, status, 0);
+    holds(rt, lines.starts_with(output.taken.as_slice()));
+    same(rt, output.taken.len(), left);
+    holds(rt, errors.is_empty());
+}
+
+#[test]
+fn a_closed_pipe_ends_quietly(rt: HostRuntime) -> Result<(), Fail> {
+    for listing in &LISTINGS {
+        let lines = listing.whole(rt.alloc())?;
+        for left in 0..lines.len() {
+            ends_quietly(&rt, rt.alloc(), listing, left, lines.as_slice());
+        }
+    }
+    Ok(())
+}
+
+/// Whether the request of memory of this number is one, and is refused: a front of the lines is written then, and else all of them.
+fn is_refused(
+    rt: &impl Abort,
+    alloc: Global,
+    listing: &Listing,
+    number: u64,
+    lines: &[u8],
+) -> bool {
+    let heap = Refusing::new(alloc, number);
+    let mut input = listing.bytes;
+    let mut output = Vec::new(alloc);
+    let mut errors = Vec::new(alloc);
+    let status = run(
+        &heap,
+        false,
+        listing.words,
+        &mut input,
+        &mut output,
+        &mut errors,
+    );
+    let is_refused = heap.until_refusal.get() == 0;
+    same_at(rt, number, status, u8::from(is_refused));
+    if is_refused {
+        holds(
+            rt,
+            errors.as_slice() == b"pgtrace: out of memory\n".as_slice(),
+        );
+        holds(rt, lines.starts_with(output.as_slice()));
+    } else {
+        holds(rt, errors.as_slice() == listing.reported.as_bytes());
+        holds(rt, output.as_slice() == lines);
+    }
+    is_refused
+}
+
+#[test]
+fn each_allocation_is_refused(rt: HostRuntime) -> Result<(), Fail> {
+    for listing in &LISTINGS {
+        let lines = listing.whole(rt.alloc())?;
+        let mut refusals = 0u64;
+        for number in 1..1000u64 {
+            if !is_refused(&rt, rt.alloc(), listing, number, lines.as_slice()) {
+                break;
+            }
+            refusals = number;
+        }
+        refused_more(&rt, refusals, 2);
+    }
+    Ok(())
+}
