@@ -1,5 +1,5 @@
 /* items: a bind and an array whose values are put where they stand. The bytes are worked by hand from PostgreSQL's manual ("Message Formats") and from
-   what it says of arrays; that the same bytes come from a server and are taken by one is tried by scripts/live_values. */
+   what it says of arrays; that the same bytes come from a server and are taken by one is tried by live/values. */
 #include "checks.h"
 
 /* The value goes to the item's place: `call` writes to place[0 .. left), and says the length in `len`. */

@@ -1,4 +1,4 @@
-"""What a client may never do: lose rows, commit what is to be rolled back, or wait for ever. Each check has a limit of time; run by scripts/live_python."""
+"""What a client may never do: lose rows, commit what is to be rolled back, or wait for ever. Each check has a limit of time; run by live/python."""
 import asyncio
 import contextlib
 import random

@@ -1,7 +1,7 @@
 #!/bin/sh
 # Records what psql and a server say to each other, and lists both sides with pgtrace.
 #
-#   examples/record.sh [--live] HOST PORT PSQL-ARGUMENTS..
+#   tools/record.sh [--live] HOST PORT PSQL-ARGUMENTS..
 #
 # With --live the server's side is listed while psql runs, each line as soon as its message is whole.
 # Needs psql, a server that takes connections over TCP, socat (or python3, for relay.py beside this script), and

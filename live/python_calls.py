@@ -1,4 +1,4 @@
-"""What users of a client expect: rows in parts, blocks of transactions, copies of values, row factories, pools, settings and certificates; run by scripts/live_python."""
+"""What users of a client expect: rows in parts, blocks of transactions, copies of values, row factories, pools, settings and certificates; run by live/python."""
 import asyncio
 import contextlib
 import datetime
