@@ -38,7 +38,7 @@ FAULTS = [
 
 
 def run(*words, **more):
-    return subprocess.run(words, cwd=copy, env={**os.environ, 'CARGO_TARGET_DIR': target}, capture_output=True, **more)
+    return subprocess.run(words, cwd=copy, env={**os.environ, 'CARGO_TARGET_DIR': target, 'RUSTFLAGS': ''}, capture_output=True, **more)
 
 
 def build(package):
