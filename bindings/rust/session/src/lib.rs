@@ -1,5 +1,5 @@
-//! PostgreSQL's protocol for whoever writes a driver, a pooler or a test server: state machines that are handed bytes and hand out bytes,
-//! without sockets and without threads.
+//! PostgreSQL's protocol for whoever writes a driver, a pooler or a test server: state machines that take received bytes and return messages
+//! and the bytes to send, without sockets and without threads.
 //!
 //! - [`Connection`]: a client's connection, with its log-in, its requests, and which of the server's messages answers which of them.
 //! - [`serving`]: a server's core; [`pooler`], [`proxy`]: what stands between a client and a server.
@@ -20,9 +20,9 @@
 //! let to_send = connection.to_send().len();
 //! connection.sent(to_send);
 //!
-//! // Bytes come as they come.
-//! for piece in [&b"R\0\0\0\x08\0\0"[..], b"\0\0Z\0\0\0\x05I"] {
-//!     connection.feed(piece)?;
+//! // The server's bytes, in chunks.
+//! for chunk in [&b"R\0\0\0\x08\0\0"[..], b"\0\0Z\0\0\0\x05I"] {
+//!     connection.feed(chunk)?;
 //!     while let Some((event, _)) = connection.next()? {
 //!         assert!(matches!(event, Event::Part(name) | Event::Last(name) if name == startup));
 //!     }
