@@ -200,13 +200,15 @@ impl<'h> Session<'h> {
         }
     }
 
-    /// What the statement does to the transaction by itself, and the cursor that it declares.
+    /// What the statement does to the session by itself, and the cursor that it declares. Of a `NOTIFY` its lines `notify` say what is sent.
     fn follow(&mut self, statement: &Statement, went: Went, out: &mut Outbox) {
         if went == Went::Wrong {
             return self.fail_transaction();
         }
         if let Some(command) = command_of(&statement.words) {
-            self.carry(command, out);
+            if !matches!(command, Command::Notify { .. }) {
+                self.carry(command, out);
+            }
             if let Command::Declare { name, is_held } = command {
                 self.open_cursor(name, is_held, &statement.text, out);
             }
@@ -308,7 +310,6 @@ impl<'h> Session<'h> {
     }
 }
 
-/// Appends the notifications.
 fn put_notifications(notifications: &[&Pair], out: &mut Outbox) {
     for pair in notifications {
         put_notification(pair, out);
