@@ -9,3 +9,11 @@ pub extern "C" fn pgp_is_proved() -> u32
 {
     1
 }
+
+/// The version of this library: its major number times 10,000, its minor number times 100, and its patch number.
+#[unsafe(no_mangle)]
+pub extern "C" fn pgp_version() -> u32
+    ensures { result ≡ 100 }
+{
+    100
+}
