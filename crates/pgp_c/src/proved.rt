@@ -2,6 +2,9 @@
 
 ghost use Rattle.std.specs.Prelude.{◌≡◌};
 
+/// The version of this library.
+const VERSION: u32 = 100;
+
 /// 1: each function is proved. A build of these sources without their proofs has another body here: 0.
 #[unsafe(no_mangle)]
 pub extern "C" fn pgp_is_proved() -> u32
@@ -15,5 +18,5 @@ pub extern "C" fn pgp_is_proved() -> u32
 pub extern "C" fn pgp_version() -> u32
     ensures { result ≡ 100 }
 {
-    100
+    VERSION
 }
