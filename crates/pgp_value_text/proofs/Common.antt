@@ -8,7 +8,6 @@ unfoldable pub use Rattle.std.specs.Float.{float_is_finite, is_sign_negative}
 pub use Rattle.std.specs.Fmt.{decimal, signed_decimal}
 pub use Rattle.std.specs.Prelude.{codes, ◌%◌, ◌^◌, IfOk, IsErr, [], ◌++◌, nat_eq, if◌then◌else◌, unsigned_abs, ⊤, IsTrue}
 pub use Rattle.jiff.specs.Words.{IsEpochDay, IsCivilNanos}
-pub use Rattle.pgp_value_text.proofs.Uniqueness.{one_date, one_instant, one_time}
 pub use Rattle.pgp_value_text.specs.Numbers.{day_1970, nanos_1970}
 pub use Rattle.pgp_value_text.specs.Span.{span_text}
 pub use Rattle.pgp_value_text.specs.Calendar.{ShowsDay, ShowsInstant, ShowsMoment, ShowsTime, WritesText, IsShownTime, HasText, era, day_text, clock_text, date_text, instant_text}
