@@ -81,8 +81,6 @@ PLACES = [
     ('pgserve/words', 1, f'.version("{VERSION}")', f'.version("{UNPROVED}")'),
     # The shim's trait has one call.
     ('pgp_test_alloc/counting', 1, '    fn next_u32(&mut self) -> u32 {\n        self.next_word()\n    }\n\n    fn next_u64(&mut self) -> u64 {\n        utils::next_u64_via_u32(self)\n    }\n\n', ''),
-    # Memory is the global one's.
-    ('pgp_names/names', 1, '    /// What its memory is taken from.\n    pub fn allocator(&self) -> &A {\n        self.map.allocator()\n    }\n\n', ''),
     # The adapter compiles these for single tags.
     ('pgp_message/message', 1, '    pub fn parse(', '    #[inline(always)]\n    pub fn parse('),
     ('pgp_message/parser', 1, '    pub fn parse(', '    #[inline(always)]\n    pub fn parse('),

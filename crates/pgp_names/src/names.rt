@@ -37,11 +37,6 @@ impl<V, A: MapMemory> Names<V, A> {
         }
     }
 
-    /// What its memory is taken from.
-    pub fn allocator(&self) -> &A {
-        self.map.allocator()
-    }
-
     /// What has this name.
     pub fn get(&self, name: &[u8]) -> Option<&V>
         ensures { option_copied result ≡ found name.now self.now }
@@ -50,10 +45,6 @@ impl<V, A: MapMemory> Names<V, A> {
     }
 
     /// Gives something a name, in the place of what had it.
-    ///
-    /// # Errors
-    ///
-    /// Returns `AllocError` if there is no memory for it.
     pub fn put(&mut self, name: &[u8], value: V) -> Result<(), AllocError>
     where
         V: Drop,
