@@ -81,8 +81,6 @@ PLACES = [
     ('pgserve/words', 1, f'.version("{VERSION}")', f'.version("{UNPROVED}")'),
     # The shim's trait has one call.
     ('pgp_test_alloc/counting', 1, '    fn next_u32(&mut self) -> u32 {\n        self.next_word()\n    }\n\n    fn next_u64(&mut self) -> u64 {\n        utils::next_u64_via_u32(self)\n    }\n\n', ''),
-    # Memory is the global one's.
-    ('pgp_names/names', 1, '    /// What its memory is taken from.\n    pub fn allocator(&self) -> &A {\n        self.map.allocator()\n    }\n\n', ''),
     # The adapter compiles these for single tags.
     ('pgp_message/message', 1, '    pub fn parse(', '    #[inline(always)]\n    pub fn parse('),
     ('pgp_message/parser', 1, '    pub fn parse(', '    #[inline(always)]\n    pub fn parse('),
@@ -218,6 +216,7 @@ def single_places(text, name, used):
 # What no package may have: a rule is wanted.
 LEFT = re.compile(r'\b(ghost|requires|ensures|decreases|Model|tactic|Allocator|allocator|rattlefmt|laws|unsafe|DeriveError|simdutf8|final fn)\b'
                   r'|[:+] Memory\b|\buse .*\bMemory\b|\+ Drop\b|: Drop\b|\bA::|\bA>|<A\b|: A\b|(?<!\} )\belse(?= \{)')
+TEXT = re.compile(r'"(?:[^"\\]|\\.)*"')
 FOREIGN = re.compile(r'^(?:pub )?use ([a-z]\w*)::')
 CRATES = {'std', 'crate', 'self', 'super', 'bytes', 'memchr', 'byteorder', 'arrayvec', 'itoa', 'uuid'}
 
@@ -225,7 +224,7 @@ CRATES = {'std', 'crate', 'self', 'super', 'bytes', 'memchr', 'byteorder', 'arra
 def leftovers(text, modules):
     """Lines that no rule knows, with why."""
     for line in text.split('\n'):
-        code = line.split('//')[0]
+        code = TEXT.sub('""', line).split('//')[0]
         if left := LEFT.search(code):
             yield line.strip(), left[0].strip()
         if (use := FOREIGN.match(code)) and use[1] not in CRATES | modules:

@@ -220,7 +220,7 @@ fn put_named<A: Memory>(alone: bool, name: &str, line: &mut String<A>) -> Result
 }
 
 /// Adds so many blanks.
-fn put_blanks<A: Memory>(len: usize, line: &mut String<A>) -> Result<(), AllocError>
+pub fn put_blanks<A: Memory>(len: usize, line: &mut String<A>) -> Result<(), AllocError>
     ensures text { OnOk result (string_bytes line.new ≡ string_bytes line.old ++ blanks len) }
     ensures lacks { OnErr result A.Lacks }
 {

@@ -37,11 +37,6 @@ impl<V, A: MapMemory> Names<V, A> {
         }
     }
 
-    /// What its memory is taken from.
-    pub fn allocator(&self) -> &A {
-        self.map.allocator()
-    }
-
     /// What has this name.
     pub fn get(&self, name: &[u8]) -> Option<&V>
         ensures { option_copied result ≡ found name.now self.now }

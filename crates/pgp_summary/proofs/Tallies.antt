@@ -10,9 +10,7 @@ use Rattle.pgp_summary.specs.declared.work.Work.TheVariants.{Query, Parse, Bind,
 
 did_tally : (w : Work) (r : Request) (micros : ℕ) (waiting : List Request) (s : State) → (done (Some (record { number = r.number; work = w; first = r.first; second = r.second })) micros (with_waiting waiting s)).tallies ≡ tally_after s.tallies (run_by w r micros s)
 did_tally Query r micros waiting s = refl
-did_tally Parse r micros waiting s = refl
-did_tally Bind r micros waiting s = refl
-did_tally Execute r micros waiting s = refl
+did_tally w r micros waiting s = refl
 
 done_tally : (o : Option Request) (micros : ℕ) (waiting : List Request) (s : State) → (done o micros (with_waiting waiting s)).tallies ≡ tally_after s.tallies (run_of o micros s)
 done_tally None micros waiting s = refl

@@ -7,6 +7,7 @@ use Rattle.pgp_frontend_read.proofs.Fronts.{behind_length}
 use Rattle.pgp_frontend_read.proofs.Handing.{refused_behind}
 use Rattle.pgp_trace.specs.ClientSecrets.{AlikeMessages, AlikeAnswers, AlikeClientFrames, AlikeClientStreams, NoClientFrames, OneClientAlike, ReadsAs}
 use Rattle.pgp_trace.proofs.Parts.{front_taken}
+use Rattle.pgp_trace.proofs.AlikeCases.{answers_alike, sent_alike}
 use Rattle.pgp_trace.proofs.ClientHiding.{password, initial, response, key, unreported}
 
 -- ---- messages
@@ -14,39 +15,15 @@ use Rattle.pgp_trace.proofs.ClientHiding.{password, initial, response, key, unre
 abbrev Reported : Style → Bool → ClientMessage → ClientMessage → List ℕ → Type 0
 Reported style reported x y old = client_line (quiet style) reported (Ok x) old ≡ client_line (quiet style) reported (Ok y) old
 
-reported_same : (style : Style) (reported : Bool) (x y : ClientMessage) (old : List ℕ) → x ≡ y → Reported style reported x y old
-reported_same style reported x y old e = ap (λ z. client_line (quiet style) reported (Ok z) old) e
+responses_alike : (style : Style) (reported : Bool) (a b old : List ℕ) → length a ≡ length b → Reported style reported (SaslResponse a) (SaslResponse b) old
+responses_alike style true a b old e = response style a b old e
+responses_alike style false a b old e = unreported (quiet style) a b old e
 
-passwords : (style : Style) (reported : Bool) (a : List ℕ) (y : ClientMessage) (old : List ℕ) → AlikeMessages (PasswordMessage a) y → Reported style reported (PasswordMessage a) y old
-passwords style reported a (PasswordMessage b) old e = password style reported a b old e
-passwords style reported a y old e = reported_same style reported _ y old e
-
-initials : (style : Style) (reported : Bool) (m a : List ℕ) (y : ClientMessage) (old : List ℕ) → AlikeMessages (SaslInitialResponse m (Some a)) y → Reported style reported (SaslInitialResponse m (Some a)) y old
-initials style reported m a (SaslInitialResponse n (Some b)) old e =
-    ap (λ k. client_line (quiet style) reported (Ok (SaslInitialResponse k (Some a))) old) e.0 ∙ initial style reported n a b old e.1
-initials style reported m a y old e = reported_same style reported _ y old e
-
-responses : (style : Style) (reported : Bool) (a : List ℕ) (y : ClientMessage) (old : List ℕ) → AlikeMessages (SaslResponse a) y → Reported style reported (SaslResponse a) y old
-responses style true a (SaslResponse b) old e = response style a b old e
-responses style false a (SaslResponse b) old e = unreported (quiet style) a b old e
-responses style reported a y old e = reported_same style reported _ y old e
-
-keys : (style : Style) (reported : Bool) (process : _) (a : List ℕ) (y : ClientMessage) (old : List ℕ) → AlikeMessages (CancelRequest process a) y → Reported style reported (CancelRequest process a) y old
-keys style reported p a (CancelRequest q b) old e = ap (λ k. client_line (quiet style) reported (Ok (CancelRequest k a)) old) e.0 ∙ key style reported q a b old e.1
-keys style reported p a y old e = reported_same style reported _ y old e
-
-reported_alike : (style : Style) (reported : Bool) (x y : ClientMessage) (old : List ℕ) → AlikeMessages x y → Reported style reported x y old
-reported_alike style reported (PasswordMessage a) y old e = passwords style reported a y old e
-reported_alike style reported (SaslInitialResponse m (Some a)) y old e = initials style reported m a y old e
-reported_alike style reported (SaslResponse a) y old e = responses style reported a y old e
-reported_alike style reported (CancelRequest p a) y old e = keys style reported p a y old e
-reported_alike style reported x y old e = reported_same style reported x y old e
-
-answers_alike : (style : Style) (reported : Bool) (r s : Result ClientMessage ClientError) (old : List ℕ) → AlikeAnswers r s → client_line (quiet style) reported r old ≡ client_line (quiet style) reported s old
-answers_alike style reported (Ok x) (Ok y) old e = reported_alike style reported x y old e
-answers_alike style reported (Err d) (Err e) old h = ap (λ k. client_line (quiet style) reported (Err k) old) h
-answers_alike style reported (Ok x) (Err e) old h = absurd h
-answers_alike style reported (Err d) (Ok y) old h = absurd h
+lines_alike : (style : Style) (reported : Bool) (r s : Result ClientMessage ClientError) (old : List ℕ) → AlikeAnswers r s → client_line (quiet style) reported r old ≡ client_line (quiet style) reported s old
+lines_alike style reported r s old alike =
+    answers_alike (λ r s. client_line (quiet style) reported r old ≡ client_line (quiet style) reported s old)
+    (sent_alike (λ x y. Reported style reported x y old) (λ m. refl) (λ a b e. password style reported a b old e) (λ m a b e. initial style reported m a b old e) (λ a b e. responses_alike style reported a b old e) (λ p a b e. key style reported p a b old e))
+    (λ e. refl) r s alike
 
 -- ---- frames
 
@@ -70,75 +47,22 @@ record Told (view : View) (place : ℕ) (opened : Bool) (kinds : List code.Passw
   reported : IsNextLine view.style place opened kinds replicating frame line to
   is : text ≡ shown view (client_frame_name (is_reported kinds) reported.reported.result) line
 
-password_name : (reported : Bool) (a : List ℕ) (y : ClientMessage) → AlikeMessages (PasswordMessage a) y → client_name reported (PasswordMessage a) ≡ client_name reported y
-password_name true a (PasswordMessage b) e = refl
-password_name false a (PasswordMessage b) e = refl
-password_name reported a y e = ap (client_name reported) e
-
-initial_name : (reported : Bool) (m a : List ℕ) (y : ClientMessage) → AlikeMessages (SaslInitialResponse m (Some a)) y → client_name reported (SaslInitialResponse m (Some a)) ≡ client_name reported y
-initial_name true m a (SaslInitialResponse n (Some b)) e = refl
-initial_name false m a (SaslInitialResponse n (Some b)) e = refl
-initial_name reported m a y e = ap (client_name reported) e
-
-response_name : (reported : Bool) (a : List ℕ) (y : ClientMessage) → AlikeMessages (SaslResponse a) y → client_name reported (SaslResponse a) ≡ client_name reported y
-response_name true a (SaslResponse b) e = refl
-response_name false a (SaslResponse b) e = refl
-response_name reported a y e = ap (client_name reported) e
-
-key_name : (reported : Bool) (process : _) (a : List ℕ) (y : ClientMessage) → AlikeMessages (CancelRequest process a) y → client_name reported (CancelRequest process a) ≡ client_name reported y
-key_name true p a (CancelRequest q b) e = refl
-key_name false p a (CancelRequest q b) e = refl
-key_name reported p a y e = ap (client_name reported) e
-
 message_names : (reported : Bool) (x y : ClientMessage) → AlikeMessages x y → client_name reported x ≡ client_name reported y
-message_names reported (PasswordMessage a) y e = password_name reported a y e
-message_names reported (SaslInitialResponse m (Some a)) y e = initial_name reported m a y e
-message_names reported (SaslResponse a) y e = response_name reported a y e
-message_names reported (CancelRequest p a) y e = key_name reported p a y e
-message_names reported x y e = ap (client_name reported) e
+message_names true x y alike = sent_alike (λ x y. client_name true x ≡ client_name true y) (λ m. refl) (λ a b e. refl) (λ m a b e. refl) (λ a b e. refl) (λ p a b e. refl) x y alike
+message_names false x y alike = sent_alike (λ x y. client_name false x ≡ client_name false y) (λ m. refl) (λ a b e. refl) (λ m a b e. refl) (λ a b e. refl) (λ p a b e. refl) x y alike
 
 pub names_alike : (reported : Bool) (r s : Result ClientMessage ClientError) → AlikeAnswers r s → client_frame_name reported r ≡ client_frame_name reported s
-names_alike reported (Ok x) (Ok y) e = message_names reported x y e
-names_alike reported (Err d) (Err e) h = refl
-names_alike reported (Ok x) (Err e) h = absurd h
-names_alike reported (Err d) (Ok y) h = absurd h
-
-same_message : (r s : ClientMessage) → r ≡ s → client_copied r ≡ client_copied s
-same_message r s e = ap client_copied e
-
-password_data : (a : List ℕ) (y : ClientMessage) → AlikeMessages (PasswordMessage a) y → client_copied (PasswordMessage a) ≡ client_copied y
-password_data a (PasswordMessage b) e = refl
-password_data a y e = same_message (PasswordMessage a) y e
-
-initial_data : (m a : List ℕ) (y : ClientMessage) → AlikeMessages (SaslInitialResponse m (Some a)) y → client_copied (SaslInitialResponse m (Some a)) ≡ client_copied y
-initial_data m a (SaslInitialResponse n (Some b)) e = refl
-initial_data m a y e = same_message (SaslInitialResponse m (Some a)) y e
-
-response_data : (a : List ℕ) (y : ClientMessage) → AlikeMessages (SaslResponse a) y → client_copied (SaslResponse a) ≡ client_copied y
-response_data a (SaslResponse b) e = refl
-response_data a y e = same_message (SaslResponse a) y e
-
-key_data : (process : _) (a : List ℕ) (y : ClientMessage) → AlikeMessages (CancelRequest process a) y → client_copied (CancelRequest process a) ≡ client_copied y
-key_data p a (CancelRequest q b) e = refl
-key_data p a y e = same_message (CancelRequest p a) y e
-
-message_data : (x y : ClientMessage) → AlikeMessages x y → client_copied x ≡ client_copied y
-message_data (PasswordMessage a) y e = password_data a y e
-message_data (SaslInitialResponse m (Some a)) y e = initial_data m a y e
-message_data (SaslResponse a) y e = response_data a y e
-message_data (CancelRequest p a) y e = key_data p a y e
-message_data x y e = same_message x y e
+names_alike reported r s alike = answers_alike (λ r s. client_frame_name reported r ≡ client_frame_name reported s) (message_names reported) (λ e. refl) r s alike
 
 data_alike : (replicating : Bool) (r s : Result ClientMessage ClientError) → AlikeAnswers r s → client_data replicating r ≡ client_data replicating s
-data_alike false r s h = refl
-data_alike true (Ok x) (Ok y) e = message_data x y e
-data_alike true (Err d) (Err e) h = refl
-data_alike true (Ok x) (Err e) h = absurd h
-data_alike true (Err d) (Ok y) h = absurd h
+data_alike false r s alike = refl
+data_alike true r s alike =
+    answers_alike (λ r s. client_data true r ≡ client_data true s)
+    (sent_alike (λ x y. client_copied x ≡ client_copied y) (λ m. refl) (λ a b e. refl) (λ m a b e. refl) (λ a b e. refl) (λ p a b e. refl)) (λ e. refl) r s alike
 
 says_alike : (inside : Option (List ℕ)) (style : Style) (reported : Bool) (r s : Result ClientMessage ClientError) (old new : List ℕ) → AlikeAnswers r s → ClientSays inside (quiet style) reported r old new → ClientSays inside (quiet style) reported s old new
 says_alike (Some bytes) style reported r s old new h says = says
-says_alike None style reported r s old new h says = says ∙ answers_alike style reported r s old h
+says_alike None style reported r s old new h says = says ∙ lines_alike style reported r s old h
 
 ends_alike_so : (style : Style) (reported replicating : Bool) (r s : Result ClientMessage ClientError) (front line : List ℕ) → AlikeAnswers r s → EndsSo (quiet style) reported replicating r front line → EndsSo (quiet style) reported replicating s front line
 ends_alike_so style reported replicating r s front line h ends = record {

@@ -1,4 +1,5 @@
 mod Common
+pub mod AlikeCases
 pub mod Parts
 pub mod Fronts
 pub mod Items

@@ -60,11 +60,7 @@ fields : HasOneMarkedList ErrorFieldSpelled ErrorFieldRefused
 fields = one_marked_list ErrorFieldSpelled ErrorFieldRefused (λ place. error_field_at) error_field_reader
 
 shows_one : (style : Style) (m : Message) (old new other : List ℕ) → Shows style m old new → Shows style m old other → new ≡ other
-shows_one style (Authentication (AuthenticationMd5Password salt)) old new other a b = a ∙ sym b
-shows_one style (Authentication (AuthenticationGssContinue bytes)) old new other a b = a ∙ sym b
 shows_one style (Authentication (AuthenticationSasl bytes)) old new other a b = marked_one TextSpelled TextRefused ListEnds _ style bytes _ new other texts a b
-shows_one style (Authentication (AuthenticationSaslContinue bytes)) old new other a b = a ∙ sym b
-shows_one style (Authentication (AuthenticationSaslFinal bytes)) old new other a b = a ∙ sym b
 shows_one style (NotificationResponse n) old new other a b = texts_one style (IsUtf8 n.channel × IsUtf8 n.message)
     (Key (codes "process") (codes "process_id") ∷ Number n.process_id ∷ named (codes "channel") ∷ Text n.channel ∷ named (codes "payload") ∷ Text n.message ∷ []) (payload_of (NotificationResponse n)) old new other a b
 shows_one style (CommandComplete tag) old new other a b = texts_one style (IsUtf8 tag) (Key (codes "tag") (codes "command_tag") ∷ Text tag ∷ []) (payload_of (CommandComplete tag)) old new other a b
@@ -72,28 +68,13 @@ shows_one style (DataRow row) old new other a b = counted_one RangeSpelled Range
 shows_one style (ErrorResponse bytes) old new other a b = marked_one ErrorFieldSpelled ErrorFieldRefused ObjectEnds _ style bytes _ new other fields a b
 shows_one style (CopyInResponse copy) old new other a b = counted_one FormatSpelled FormatRefused _ style copy.count copy.storage _ new other formats a b
 shows_one style (CopyOutResponse copy) old new other a b = counted_one FormatSpelled FormatRefused _ style copy.count copy.storage _ new other formats a b
-shows_one style (BackendKeyData key) old new other a b = a ∙ sym b
 shows_one style (NegotiateProtocolVersion n) old new other a b = counted_one TextSpelled TextRefused _ style n.count n.options _ new other options a b
 shows_one style (NoticeResponse bytes) old new other a b = marked_one ErrorFieldSpelled ErrorFieldRefused ObjectEnds _ style bytes _ new other fields a b
 shows_one style (ParameterStatus setting) old new other a b = texts_one style (IsUtf8 setting.name × IsUtf8 setting.value)
     (Key (codes "name") (codes "parameter") ∷ Text setting.name ∷ named (codes "value") ∷ Text setting.value ∷ []) (payload_of (ParameterStatus setting)) old new other a b
 shows_one style (RowDescription row) old new other a b = counted_one FieldSpelled FieldRefused _ style row.count row.storage _ new other columns a b
-shows_one style (ReadyForQuery status) old new other a b = a ∙ sym b
-shows_one style (CopyData bytes) old new other a b = a ∙ sym b
 shows_one style (ParameterDescription row) old new other a b = counted_one TypeSpelled TypeRefused _ style row.count row.storage _ new other types a b
-shows_one style (Authentication AuthenticationOk) old new other a b = a ∙ sym b
-shows_one style (Authentication AuthenticationKerberosV5) old new other a b = a ∙ sym b
-shows_one style (Authentication AuthenticationCleartextPassword) old new other a b = a ∙ sym b
-shows_one style (Authentication AuthenticationScmCredential) old new other a b = a ∙ sym b
-shows_one style (Authentication AuthenticationGss) old new other a b = a ∙ sym b
-shows_one style (Authentication AuthenticationSspi) old new other a b = a ∙ sym b
-shows_one style ParseComplete old new other a b = a ∙ sym b
-shows_one style BindComplete old new other a b = a ∙ sym b
-shows_one style CloseComplete old new other a b = a ∙ sym b
-shows_one style EmptyQueryResponse old new other a b = a ∙ sym b
-shows_one style CopyDone old new other a b = a ∙ sym b
-shows_one style NoData old new other a b = a ∙ sym b
-shows_one style PortalSuspended old new other a b = a ∙ sym b
+shows_one style m old new other a b = a ∙ sym b
 
 result_one : (style : Style) (body old new other : List ℕ) → ShowsResult style body old new → ShowsResult style body old other → new ≡ other
 result_one style body old new other (inl a) (inl b) = a.2 ∙ ap (λ v. followed style old (result_parts v)) (one_result body a.0 b.0 a.1 b.1) ∙ sym b.2

@@ -58,18 +58,8 @@ abbrev behind : List ℕ → ℕ
 behind word = if has_word (codes "--only" ∷ codes "--color" ∷ codes "--password-kind" ∷ codes "--time" ∷ []) word then 1 else 0
 
 arguments : (c : Choice) → length (argument_of c) ≡ behind (word_of c)
-arguments AsJson = refl
-arguments Full = refl
-arguments Secrets = refl
-arguments Resume = refl
-arguments Replication = refl
 arguments (Only names) = refl
-arguments (Color when) = refl
-arguments (Kind kind) = refl
-arguments (Time clock) = refl
-arguments Requests = refl
-arguments Summary = refl
-arguments Raw = refl
+arguments c = refl
 
 first_word : (c d : Choice) (x y : List (List ℕ)) → spelled c ++ x ≡ spelled d ++ y → word_of c ≡ word_of d
 unfolding first

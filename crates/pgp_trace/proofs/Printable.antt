@@ -292,11 +292,7 @@ part limit (Value None) = plain (codes "NULL") refl
 part limit (Value (Some bytes)) = val limit bytes
 part limit (Binary bytes) = cut digits hexes limit bytes
 part limit (Hidden n) = around (codes "(") (decimal n) (codes " bytes)") refl refl (number n)
-part limit (Member name) = plain [] refl
-part limit ListBegins = plain [] refl
-part limit ListEnds = plain [] refl
-part limit ObjectBegins = plain [] refl
-part limit ObjectEnds = plain [] refl
+part limit p = plain [] refl
 
 json_part : (limit : ℕ) (p : Part) → IsPrinted (json limit p)
 json_part limit (Length n) = join (codes "\"length\":") (decimal n) (plain (codes "\"length\":") refl) (number n)
@@ -321,50 +317,21 @@ json_part limit (Binary bytes) = json_digit limit bytes
 json_part limit (Hidden n) = around (codes "{\"bytes\":") (decimal n) (codes "}") refl refl (number n)
 
 blank_before : (p : Part) → IsPrinted (space p)
-blank_before (Length n) = plain (32 ∷ []) refl
-blank_before (Tag tag) = plain (32 ∷ []) refl
-blank_before (Name alone name) = plain (32 ∷ []) refl
-blank_before (Refusal n) = plain (32 ∷ []) refl
-blank_before (Key word name) = plain (32 ∷ []) refl
 blank_before (Member name) = plain [] refl
-blank_before (Count n) = plain (32 ∷ []) refl
 blank_before ListBegins = plain [] refl
 blank_before ListEnds = plain [] refl
 blank_before ObjectBegins = plain [] refl
 blank_before ObjectEnds = plain [] refl
-blank_before (Word word) = plain (32 ∷ []) refl
-blank_before (Number n) = plain (32 ∷ []) refl
-blank_before (Lsn n) = plain (32 ∷ []) refl
-blank_before (Oid oid) = plain (32 ∷ []) refl
-blank_before (Text bytes) = plain (32 ∷ []) refl
-blank_before (Value bytes) = plain (32 ∷ []) refl
-blank_before (Binary bytes) = plain (32 ∷ []) refl
-blank_before (Hidden n) = plain (32 ∷ []) refl
+blank_before part = plain (32 ∷ []) refl
 
 one_comma : (line : List ℕ) → IsPrinted (comma line)
 unfolding comma
 one_comma line = either (is_opening (slice_get line (length line - 1))) [] (44 ∷ []) (plain [] refl) (plain (44 ∷ []) refl)
 
 comma_before : (line : List ℕ) (p : Part) → IsPrinted (separator line p)
-comma_before line (Length n) = one_comma line
-comma_before line (Tag tag) = one_comma line
-comma_before line (Name alone name) = one_comma line
-comma_before line (Refusal n) = one_comma line
-comma_before line (Key word name) = one_comma line
-comma_before line (Member name) = one_comma line
-comma_before line (Count n) = one_comma line
-comma_before line ListBegins = one_comma line
 comma_before line ListEnds = plain [] refl
-comma_before line ObjectBegins = one_comma line
 comma_before line ObjectEnds = plain [] refl
-comma_before line (Word word) = one_comma line
-comma_before line (Number n) = one_comma line
-comma_before line (Lsn n) = one_comma line
-comma_before line (Oid oid) = one_comma line
-comma_before line (Text bytes) = one_comma line
-comma_before line (Value bytes) = one_comma line
-comma_before line (Binary bytes) = one_comma line
-comma_before line (Hidden n) = one_comma line
+comma_before line part = one_comma line
 
 one_part : (form : Form) (limit : ℕ) (line : List ℕ) (p : Part) → IsPrinted (added_by form limit line p)
 one_part Columns limit line p = join (space p) (shown limit p) (blank_before p) (part limit p)
@@ -429,19 +396,7 @@ says style (ReadyForQuery status) old new a s = goes style old new (Member (code
 says style (CopyData bytes) old new a s = goes style old new (keyed (codes "data") ∷ Value (Some bytes) ∷ []) a s
 says style (ParameterDescription row) old new a s =
     counted TypeSpelled TypeRefused type_part style row.count row.storage (followed style old (keyed (codes "types") ∷ [])) new (parts style old (keyed (codes "types") ∷ []) a) s
-says style (Authentication AuthenticationOk) old new a s = subst IsPrinted (sym s) a
-says style (Authentication AuthenticationKerberosV5) old new a s = subst IsPrinted (sym s) a
-says style (Authentication AuthenticationCleartextPassword) old new a s = subst IsPrinted (sym s) a
-says style (Authentication AuthenticationScmCredential) old new a s = subst IsPrinted (sym s) a
-says style (Authentication AuthenticationGss) old new a s = subst IsPrinted (sym s) a
-says style (Authentication AuthenticationSspi) old new a s = subst IsPrinted (sym s) a
-says style ParseComplete old new a s = subst IsPrinted (sym s) a
-says style BindComplete old new a s = subst IsPrinted (sym s) a
-says style CloseComplete old new a s = subst IsPrinted (sym s) a
-says style EmptyQueryResponse old new a s = subst IsPrinted (sym s) a
-says style CopyDone old new a s = subst IsPrinted (sym s) a
-says style NoData old new a s = subst IsPrinted (sym s) a
-says style PortalSuspended old new a s = subst IsPrinted (sym s) a
+says style m old new a s = subst IsPrinted (sym s) a
 
 result_printed : (style : Style) (body old new : List ℕ) → IsPrinted old → ShowsResult style body old new → IsPrinted new
 result_printed style body old new a (inl s) = goes style old new (result_parts s.0) a s.2

@@ -1,5 +1,6 @@
 -- The lines of a stream, a frame and a piece at a time.
 use Rattle.pgp_trace.proofs.Common.{◌≡◌, ◌⊎◌, ℕ, ◌+◌, ◌-◌, ◌≤◌, Bool, true, false, List, [], ◌++◌, length, take, drop, min, Option, Result, Ok, Err, refl, sym, ap, subst, ◌∙◌, arith, inl, inr, length-append, append_assoc, IfOk, IfSome, OnOk, OnErr, Appends, Consumes, Keeps, IsAtEnd, Appends-nil, Appends-trans, Consumes-nil, Consumes-trans, Consumes-kept, Consumes-whole, min-eq_left, min-le_right, append-nil, length-take, take-append_seam, drop-append_seam, View, shown, Listed, Lines, NoLines, OneLine, place_behind, last_line, IsReady, WasListed, WritesListing, IsCutShort, Side, Ends, HasLine, ListsAll, ListsSome, Held, Holds, ListsPiece, AppendsFront, greatest}
+use Rattle.pgp_base.proofs.Parts.{on_err}
 use Rattle.pgp_trace.specs.Hints.{hint_of}
 use Rattle.pgp_program.specs.Run.{Streams}
 use Rattle.pgp_trace.proofs.Ends.{stays_ended, nothing_ends}
@@ -87,7 +88,7 @@ abbrev pub Stops : View → List ℕ → Held → Option (List ℕ) → Option (
 Stops view piece before old new = (rest : List ℕ) → Holds before rest → ListsSome view before.place before.side (rest ++ piece) old new
 
 -- of a stream that is stopped the bytes are counted
-piece_counted : (view : View) (side : Side) (place left count : ℕ) (bytes piece : List ℕ) (halted : Bool) (old new : Option (List ℕ))
+pub piece_counted : (view : View) (side : Side) (place left count : ℕ) (bytes piece : List ℕ) (halted : Bool) (old new : Option (List ℕ))
     → halted ≡ true → count ≡ min (left + length piece) greatest → Keeps old new
     → Lists view piece (record { side = side; bytes = bytes; place = place; stopped = halted; left = left }) (record { side = side; bytes = bytes; place = place; stopped = halted; left = count }) old new
 piece_counted view side place left count bytes piece halted old new stands counts kept rest holds = record {
@@ -107,7 +108,7 @@ piece_counted view side place left count bytes piece halted old new stands count
 }
 
 -- the frames that are whole with it were listed
-piece_listed : (view : View) (from to : Side) (place was n moved count : ℕ) (bytes piece items left text : List ℕ) (halted stopped : Bool) (old new : Option (List ℕ))
+pub piece_listed : (view : View) (from to : Side) (place was n moved count : ℕ) (bytes piece items left text : List ℕ) (halted stopped : Bool) (old new : Option (List ℕ))
     → halted ≡ false → items ≡ bytes ++ piece
     → ListsAll view place from items (take n items) (drop n items) stopped to [] text → n ≤ length items → left ≡ drop n items
     → moved ≡ min (place + n) greatest → count ≡ length left → count ≤ greatest → Appends old new text
@@ -144,7 +145,7 @@ none_of_piece view place from bytes old new kept = record {
 }
 
 -- a front of the lines was written
-front_of_piece : (view : View) (from to : Side) (place was n : ℕ) (bytes piece items text : List ℕ) (halted stopped : Bool) (old new : Option (List ℕ))
+pub front_of_piece : (view : View) (from to : Side) (place was n : ℕ) (bytes piece items text : List ℕ) (halted stopped : Bool) (old new : Option (List ℕ))
     → halted ≡ false → items ≡ bytes ++ piece
     → ListsAll view place from items (take n items) (drop n items) stopped to [] text → AppendsFront old new text
     → Stops view piece (record { side = from; bytes = bytes; place = place; stopped = halted; left = was }) old new
@@ -160,32 +161,20 @@ front_of_piece view from to place was n bytes piece items text halted stopped ol
     })
 
 -- what a call returns of these
-module _ {T E : Type 0} where
-  pub ok_counted : (r : Result T E) (view : View) (side : Side) (place left count : ℕ) (bytes piece : List ℕ) (halted : Bool) (old new : Option (List ℕ))
-      → halted ≡ true → count ≡ min (left + length piece) greatest → Keeps old new
-      → OnOk r (Lists view piece (record { side = side; bytes = bytes; place = place; stopped = halted; left = left }) (record { side = side; bytes = bytes; place = place; stopped = halted; left = count }) old new)
-  ok_counted (Ok x) view side place left count bytes piece halted old new stands counts kept = piece_counted view side place left count bytes piece halted old new stands counts kept
-  ok_counted (Err e) view side place left count bytes piece halted old new stands counts kept = tt
+pub on_ok : {T E : Type 0} {P : Type 0} (r : Result T E) → P → OnOk r P
+on_ok (Ok x) p = p
+on_ok (Err e) p = tt
 
-  pub err_counted : (r : Result T E) (view : View) (piece : List ℕ) (held : Held) (old new : Option (List ℕ)) → Keeps old new → OnErr r (Stops view piece held old new)
-  err_counted (Ok x) view piece held old new kept = tt
-  err_counted (Err e) view piece held old new kept = λ rest holds. none_of_piece view held.place held.side (rest ++ piece) old new kept
+pub ok_then : {T E P Q : Type 0} (r : Result T E) → (P → Q) → OnOk r P → OnOk r Q
+ok_then (Ok x) f p = f p
+ok_then (Err e) f p = tt
 
-  pub ok_listed : (r : Result T E) (view : View) (from to : Side) (place was n moved count : ℕ) (bytes piece items left text : List ℕ) (halted stopped : Bool) (old new : Option (List ℕ))
-      → halted ≡ false → items ≡ bytes ++ piece
-      → ListsAll view place from items (take n items) (drop n items) stopped to [] text → n ≤ length items → left ≡ drop n items
-      → moved ≡ min (place + n) greatest → count ≡ length left → count ≤ greatest → OnOk r (Appends old new text)
-      → OnOk r (Lists view piece (record { side = from; bytes = bytes; place = place; stopped = halted; left = was }) (record { side = to; bytes = left; place = moved; stopped = stopped; left = count }) old new)
-  ok_listed (Ok x) view from to place was n moved count bytes piece items left text halted stopped old new goes grown all le cut moves counts small wrote =
-      piece_listed view from to place was n moved count bytes piece items left text halted stopped old new goes grown all le cut moves counts small wrote
-  ok_listed (Err e) view from to place was n moved count bytes piece items left text halted stopped old new goes grown all le cut moves counts small wrote = tt
+pub err_then : {T E P Q : Type 0} (r : Result T E) → (P → Q) → OnErr r P → OnErr r Q
+err_then (Ok x) f p = tt
+err_then (Err e) f p = f p
 
-  pub err_listed : (r : Result T E) (view : View) (from to : Side) (place was n : ℕ) (bytes piece items text : List ℕ) (halted stopped : Bool) (old new : Option (List ℕ))
-      → halted ≡ false → items ≡ bytes ++ piece
-      → ListsAll view place from items (take n items) (drop n items) stopped to [] text → OnErr r (AppendsFront old new text)
-      → OnErr r (Stops view piece (record { side = from; bytes = bytes; place = place; stopped = halted; left = was }) old new)
-  err_listed (Ok x) view from to place was n bytes piece items text halted stopped old new goes grown all taken = tt
-  err_listed (Err e) view from to place was n bytes piece items text halted stopped old new goes grown all taken = front_of_piece view from to place was n bytes piece items text halted stopped old new goes grown all taken
+pub err_counted : {T E : Type 0} (r : Result T E) (view : View) (piece : List ℕ) (held : Held) (old new : Option (List ℕ)) → Keeps old new → OnErr r (Stops view piece held old new)
+err_counted r view piece held old new kept = on_err r (Stops view piece held old new) (λ rest holds. none_of_piece view held.place held.side (rest ++ piece) old new kept)
 
 -- ---- the whole stream
 
@@ -305,7 +294,7 @@ cut_here view from before after held t = record {
 
 -- the end came
 pub all_written : (view : View) (from : Side) (before after : Streams) (held : Held) (output : Option (List ℕ)) (said : List ℕ) → Tracks view from before after held → IsAtEnd after.input → Appends after.output output (last_line view held.stopped held.left)
-    → said ≡ hint_of held.side held.left → IfSome before.input (λ bytes. WritesListing view from bytes before.output output said)
+    → said ≡ hint_of false held.side held.left → IfSome before.input (λ bytes. WritesListing view from bytes before.output output said)
 all_written view from before after held output said t end last why =
     Consumes-whole before.input after.input (t.front ++ t.rest) (λ bytes. WritesListing view from bytes before.output output said) t.received end (record {
       output = t.lines ++ last_line view held.stopped held.left;
@@ -321,7 +310,7 @@ all_written view from before after held output said t end last why =
         text = ap (λ n. t.lines ++ last_line view held.stopped n) t.holds.count;
       };
       written = Appends-trans before.output after.output output t.lines _ t.written last;
-      why = why ∙ ap (hint_of held.side) t.holds.count;
+      why = why ∙ ap (hint_of false held.side) t.holds.count;
     })
 
 -- and the last line was written in part
@@ -357,7 +346,7 @@ cut_nothing view from s = record {
 
 module _ {T E : Type 0} where
   pub end_written : (r : Result T E) (reported : T → List ℕ) (said : List ℕ) (view : View) (from : Side) (before : Streams) (now next middle output : Option (List ℕ)) (held : Held) → Tracks view from before (record { input = now; output = middle }) held
-      → Consumes now next [] → IsAtEnd next → OnOk r (Appends middle output (last_line view held.stopped held.left)) → IfOk r (λ x. reported x ≡ said) → said ≡ hint_of held.side held.left
+      → Consumes now next [] → IsAtEnd next → OnOk r (Appends middle output (last_line view held.stopped held.left)) → IfOk r (λ x. reported x ≡ said) → said ≡ hint_of false held.side held.left
       → IfOk r (λ x. IfSome before.input (λ bytes. WritesListing view from bytes before.output output (reported x)))
   end_written (Ok x) reported said view from before now next middle output held t none end last same why =
       all_written view from before (record { input = next; output = middle }) held output (reported x) (tracks_none view from before now next middle held t none) end last (same ∙ why)
@@ -365,17 +354,13 @@ module _ {T E : Type 0} where
 
   pub end_cut : (r : Result T E) (view : View) (from : Side) (before : Streams) (now next middle output : Option (List ℕ)) (held : Held) → Tracks view from before (record { input = now; output = middle }) held
       → Consumes now next [] → IsAtEnd next → OnErr r (AppendsFront middle output (last_line view held.stopped held.left)) → OnErr r (IsCutShort view from before (record { input = next; output = output }))
-  end_cut (Ok x) view from before now next middle output held t none end last = tt
-  end_cut (Err e) view from before now next middle output held t none end last = cut_last view from before (record { input = next; output = middle }) held output (tracks_none view from before now next middle held t none) end last
+  end_cut r view from before now next middle output held t none end last =
+      err_then r (cut_last view from before (record { input = next; output = middle }) held output (tracks_none view from before now next middle held t none) end) last
 
   pub piece_cut : (r : Result T E) (view : View) (from : Side) (before : Streams) (now next middle output : Option (List ℕ)) (held : Held) (piece : List ℕ) (t : Tracks view from before (record { input = now; output = middle }) held)
       → Consumes now next piece → Stops view piece held middle output → OnErr r (IsCutShort view from before (record { input = next; output = output }))
-  piece_cut (Ok x) view from before now next middle output held piece t received some = tt
-  piece_cut (Err e) view from before now next middle output held piece t received some = cut_piece view from before (record { input = now; output = middle }) held next output piece t received (some t.rest t.holds)
-
-  pub nothing_cut : (r : Result T E) (view : View) (from : Side) (s : Streams) → OnErr r (IsCutShort view from s s)
-  nothing_cut (Ok x) view from s = tt
-  nothing_cut (Err e) view from s = cut_nothing view from s
+  piece_cut r view from before now next middle output held piece t received some =
+      on_err r (IsCutShort view from before (record { input = next; output = output })) (cut_piece view from before (record { input = now; output = middle }) held next output piece t received (some t.rest t.holds))
 
 -- so many calls came, and one more
 pub called_more : {S : Type 0} (called : S → ℕ → Type 0) (old new : S) (n : ℕ) → called new 1 → ((k : ℕ) → called old k → called new (k + 1)) → ((n ≡ 0) ⊎ called old n) → (n + 1 ≡ 0) ⊎ called new (n + 1)

@@ -217,7 +217,7 @@ pub record WritesListing (view : View) (from : Side) (bytes : List ℕ) (old new
   pub output : List ℕ
   pub is : IsListing view from bytes output
   pub written : Appends old new output
-  pub why : said ≡ hint_of is.to (place_behind (length is.rest))
+  pub why : said ≡ hint_of false is.to (place_behind (length is.rest))
 
 -- the end of the input has come, and the last line is due
 pub record EndsWith (view : View) (to : Side) (input : Option (List ℕ)) (rest lines text : List ℕ) : Type 0 where

@@ -66,7 +66,7 @@ pub fn client_line<'a, 'b, A: Memory>(
 }
 
 /// The kind that the next message of tag `p` is read as.
-fn expected(kinds: &[PasswordKind]) -> PasswordKind
+pub fn expected(kinds: &[PasswordKind]) -> PasswordKind
     ensures { kind_view result ≡ expected kinds.now }
 {
     match kinds {

@@ -9,7 +9,8 @@ use std::io::{self, ErrorKind, Read, Write};
 /// Whether whoever read the listing is gone.
 #[derive(Drop)]
 pub struct Pipe {
-    is_closed: Cell<bool>,
+    /// False at first. No clause knows what a `Cell` holds.
+    pub is_closed: Cell<bool>,
 }
 
 /// A reader that ends once nobody reads the listing.
@@ -27,13 +28,6 @@ pub struct Sink<'a, W> {
 }
 
 impl Pipe {
-    // No clause knows what a `Cell` holds.
-    pub fn new() -> Pipe {
-        Pipe {
-            is_closed: Cell::new(false),
-        }
-    }
-
     /// A reader of what this one reads.
     pub fn source<'a, R>(&'a self, reader: &'a mut R) -> Source<'a, R>
         ensures same_reference { result.reader.ghost_name ≡ reader.entry.ghost_name }

@@ -111,7 +111,7 @@ fn list_stream<A: Memory, R: Input, W: Output>(
     'pieces: for _ in 0..u64::MAX {
         match input.read_some(piece) {
             Ok(0) => {
-                let said = hint_of(held.side, held.left);
+                let said = hint_of(false, held.side, held.left);
                 return list_rest(view, held.stopped, held.left, said, &mut held.line, output);
             }
             Ok(n) => list_piece(view, &piece[..n], &mut held, output)?,

@@ -15,15 +15,15 @@ fn of_first<'a>(mechanism: &[u8], text: &str, is_bound: bool) -> Refusal<'a> {
     if is_bound && text.starts_with('y') {
         return Refusal::new("28000", "SCRAM channel binding negotiation error");
     }
-    let bare = text.strip_prefix('n').or(text.strip_prefix('y'));
-    match bare.unwrap_or("").split_once(",r=") {
-        _ if bare.unwrap_or("").starts_with(",a=") => {
+    let unbound = text.strip_prefix('n').or(text.strip_prefix('y'));
+    let bare = unbound.unwrap_or("");
+    match bare.split_once(",r=") {
+        _ if bare.starts_with(",a=") => {
             let message = "client uses authorization identity, but it is not supported";
             Refusal::new("0A000", message)
         }
-        _ if bare.unwrap_or("").starts_with(",,m=") => {
-            // (An escape, since `make quick` would take the word for a clause.)
-            Refusal::new("0A000", "client require\x73 an unsupported SCRAM extension")
+        _ if bare.starts_with(",,m=") => {
+            Refusal::new("0A000", "client requires an unsupported SCRAM extension")
         }
         Some((_, nonce)) if nonce.contains(' ') => violation(
             "non-printable characters in SCRAM nonce",

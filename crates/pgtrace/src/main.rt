@@ -3,11 +3,14 @@
 
 use pgp_conversation::run::run_own;
 use pgp_trace::pipe::Pipe;
+use std::cell::Cell;
 use std::io::{self, IsTerminal};
 use std::process::ExitCode;
 
 fn main(rt: HostRuntime) -> ExitCode {
-    let pipe = Pipe::new();
+    let pipe = Pipe {
+        is_closed: Cell::new(false),
+    };
     ExitCode::from(run_own(
         rt.alloc(),
         rt.stdout().is_terminal(),

@@ -7,6 +7,7 @@ use pgp_conversation::run::run;
 use pgp_test_alloc::Refusing;
 use pgp_trace::pipe::Pipe;
 use std::alloc::{AllocError, Global};
+use std::cell::Cell;
 use std::io::{Read, Write};
 use std::process::Abort;
 use std::test::Fail;
@@ -237,7 +238,9 @@ fn a_failing_writer_took_a_front(rt: HostRuntime) -> Result<(), Fail> {
 
 /// Lists into a pipe that is closed behind so many bytes: a front was written, nothing is said, and the status is 0.
 fn ends_quietly(rt: &impl Abort, alloc: Global, listing: &Listing, left: usize, lines: &[u8]) {
-    let pipe = Pipe::new();
+    let pipe = Pipe {
+        is_closed: Cell::new(false),
+    };
     let (mut input, mut output) = (listing.bytes, writer(alloc, left));
     let mut errors = Vec::new(alloc);
     let status = run(

@@ -3,7 +3,7 @@
 ghost use Rattle.std.specs.Prelude.{◌≡◌, ◌+◌, ◌<◌, ◌≤◌, ◌++◌};
 ghost use Rattle.std.specs.Fmt.{sign_text};
 ghost use Rattle.arrayvec.specs.ArrayString.{array_string_len};
-ghost use Rattle.pgp_calendar.specs.Span.{part, months_text, days_text, seconds_part, clock_parts, clock_text, span_text};
+ghost use Rattle.pgp_value_text.specs.Span.{part, months_text, days_text, seconds_part, clock_parts, clock_text, span_text};
 
 use crate::digits::put;
 use arrayvec::ArrayString;

@@ -1,6 +1,6 @@
-use Rattle.pgp_calendar.proofs.Common.{rules, FitsSigned, w64, to_z-of_z, IsCivilNanos, nanos_1970, ShowsInstant}
-use Rattle.pgp_calendar.proofs.TextLemmas.{writes_moment}
-use Rattle.pgp_calendar.proofs.text.moment_to_text.Goals as goal
+use Rattle.pgp_value_text.proofs.Common.{rules, FitsSigned, w64, to_z-of_z, IsCivilNanos, nanos_1970, ShowsInstant}
+use Rattle.pgp_value_text.proofs.TextLemmas.{writes_moment}
+use Rattle.pgp_value_text.proofs.calendar.moment_to_text.Goals as goal
 
 pub returns-in-Value : goal.returns-in-Value
 returns-in-Value g c =

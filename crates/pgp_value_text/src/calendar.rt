@@ -2,9 +2,9 @@
 
 ghost use Rattle.std.specs.Prelude.{◌≡◌, ◌≤◌, [], ⊤, codes, length};
 ghost use Rattle.jiff.specs.Words.{IsEpochDay, IsCivilNanos};
-ghost use Rattle.pgp_calendar.specs.Numbers.{day_1970, nanos_1970};
-ghost use Rattle.pgp_calendar.specs.Span.{span_text};
-ghost use Rattle.pgp_calendar.specs.Text.{ShowsDay, ShowsInstant, ShowsMoment, ShowsTime, IsShownTime, HasText, WritesText};
+ghost use Rattle.pgp_value_text.specs.Numbers.{day_1970, nanos_1970};
+ghost use Rattle.pgp_value_text.specs.Span.{span_text};
+ghost use Rattle.pgp_value_text.specs.Calendar.{ShowsDay, ShowsInstant, ShowsMoment, ShowsTime, IsShownTime, HasText, WritesText};
 
 use crate::civil::{date_to_civil, time_to_civil, timestamp_to_civil};
 use crate::digits::{clock_text, date_text, instant_text};

@@ -3,7 +3,7 @@
 ghost use Rattle.std.specs.Prelude.{◌≡◌, ◌+◌, ◌<◌, ◌≤◌, ◌%◌, ◌/◌, ◌++◌, ◌∷◌, [], length};
 ghost use Rattle.arrayvec.specs.ArrayString.{array_string_len};
 ghost use Rattle.jiff_fmt.specs.Text.{pad2, pad4};
-ghost use Rattle.pgp_calendar.specs.Text.{counted, era, year_text, day_text, date_text, clock_text, instant_text};
+ghost use Rattle.pgp_value_text.specs.Calendar.{counted, era, year_text, day_text, date_text, clock_text, instant_text};
 
 use arrayvec::ArrayString;
 use jiff::fmt::temporal::DateTimePrinter;

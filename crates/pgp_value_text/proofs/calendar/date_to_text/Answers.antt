@@ -1,6 +1,6 @@
-use Rattle.pgp_calendar.proofs.Common.{rules, FitsSigned, w32, to_z-of_z, IsEpochDay, day_1970, ShowsDay}
-use Rattle.pgp_calendar.proofs.TextLemmas.{writes_moment}
-use Rattle.pgp_calendar.proofs.text.date_to_text.Goals as goal
+use Rattle.pgp_value_text.proofs.Common.{rules, FitsSigned, w32, to_z-of_z, IsEpochDay, day_1970, ShowsDay}
+use Rattle.pgp_value_text.proofs.TextLemmas.{writes_moment}
+use Rattle.pgp_value_text.proofs.calendar.date_to_text.Goals as goal
 
 pub returns-in-Value : goal.returns-in-Value
 returns-in-Value g c =

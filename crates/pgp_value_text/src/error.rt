@@ -18,7 +18,7 @@ pub enum TextError {
 
 /// A buffer has one error: it can't grow.
 impl From<Error> for TextError {
-    ghost use Rattle.pgp_calendar.specs.declared.error.TextError.TheVariants.{OutOfMemory};
+    ghost use Rattle.pgp_value_text.specs.declared.error.TextError.TheVariants.{OutOfMemory};
 
     ghost from_gives = { λ _ e. e ≡ OutOfMemory };
 

@@ -12,9 +12,9 @@ use Rattle.pgp_values.specs.declared.moment.Moment.{Moment}
 use Rattle.pgp_values.specs.declared.moment.Moment.TheVariants.{PosInfinity, NegInfinity, Value}
 use Rattle.pgp_base.specs.Held.{Held, ◌⊕◌, Leaves}
 use Rattle.pgp_base.specs.Cause.{Wants}
-use Rattle.pgp_calendar.specs.declared.error.TextError.{TextError}
-use Rattle.pgp_calendar.specs.declared.error.TextError.TheVariants.{OutOfMemory, OutOfRange}
-use Rattle.pgp_calendar.specs.Numbers.{day_1970, nanos_1970}
+use Rattle.pgp_value_text.specs.declared.error.TextError.{TextError}
+use Rattle.pgp_value_text.specs.declared.error.TextError.TheVariants.{OutOfMemory, OutOfRange}
+use Rattle.pgp_value_text.specs.Numbers.{day_1970, nanos_1970}
 
 -- the year as its era counts it: 1 BC is the year 0 of the calendar, 2 BC the year -1
 abbrev pub counted : ℤ → ℕ

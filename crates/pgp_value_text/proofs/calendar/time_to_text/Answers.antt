@@ -1,6 +1,6 @@
-use Rattle.pgp_calendar.proofs.Common.{◌∙◌, ap, inr, to_z-of_z, ShowsTime, clock_text}
-use Rattle.pgp_calendar.proofs.TextLemmas.{writes_shown}
-use Rattle.pgp_calendar.proofs.text.time_to_text.Goals as goal
+use Rattle.pgp_value_text.proofs.Common.{◌∙◌, ap, inr, to_z-of_z, ShowsTime, clock_text}
+use Rattle.pgp_value_text.proofs.TextLemmas.{writes_shown}
+use Rattle.pgp_value_text.proofs.calendar.time_to_text.Goals as goal
 
 pub returns-in-Ok : goal.returns-in-Ok
 returns-in-Ok g c =

@@ -3,7 +3,7 @@
 ghost use Rattle.std.specs.Prelude.{◌≡◌, ◌↔◌, ℤ, pos, ◌/◌, ◌+ℤ◌, ◌-ℤ◌, ◌*ℤ◌, IsOk, IfOk, IfErr};
 ghost use Rattle.jiff.specs.Words.{epoch_day, time_nanos, IsEpochDay, IsCivilNanos, IsTimestampNanos, IsRange};
 ghost use Rattle.jiff_core.specs.DateTime.{civil_nanos};
-ghost use Rattle.pgp_calendar.specs.Numbers.{day_1970, nanos_1970, IsFloor, IsTimeOfDay};
+ghost use Rattle.pgp_value_text.specs.Numbers.{day_1970, nanos_1970, IsFloor, IsTimeOfDay};
 
 use jiff::civil::{Date, DateTime, Time};
 use jiff::{Error, Timestamp};

@@ -1,5 +1,5 @@
 -- A day, an instant and a time have one text.
-use Rattle.pgp_calendar.proofs.Common.{◌≡◌, ℕ, ℤ, pos, ◌*ℤ◌, List, refl, sym, ap, ◌∙◌, arith, inl, inr, era, day_text, clock_text, ShowsDay, ShowsInstant, ShowsTime}
+use Rattle.pgp_value_text.proofs.Common.{◌≡◌, ℕ, ℤ, pos, ◌*ℤ◌, List, refl, sym, ap, ◌∙◌, arith, inl, inr, era, day_text, clock_text, ShowsDay, ShowsInstant, ShowsTime}
 use Rattle.jiff_core.specs.declared.civil.date.Date.{Date}
 use Rattle.jiff_core.specs.declared.civil.time.Time.{Time}
 use Rattle.jiff_core.specs.Date.{epoch_day}
