@@ -14,6 +14,6 @@ returns-clause-added c z portal statement formats values count so =
     extends (Bind portal statement formats values c.args.result_formats.now) c.args.stream.now _ c.pgp_bind_end-code.new.out _ c.pgp_bind_end-code.new.written _ _ refl c.if-len-stream.false (c.pgp_bind_end-code.ensures.sent z portal statement formats values count begun) c.saturating_add-stream.ensures (search rules) (search rules) (parts_of c.args.stream.now) true (search rules) (λ e. absurd cc) refl
 
 pub returns-clause-why : goal.returns-clause-why
-returns-clause-why c e open within few none portal statement formats values count so =
+returns-clause-why c e is_open within few none portal statement formats values count so =
     let begun = subst (λ l. BindSoFar portal statement formats count values l c.args.items.now) (sym (handed c.args.stream.now)) so in
     subst (λ l. Why (Bind portal statement formats values c.args.result_formats.now) l c.pgp_bind_end-code.result) (handed c.args.stream.now) (c.pgp_bind_end-code.ensures.refused e few none portal statement formats values count begun).why
