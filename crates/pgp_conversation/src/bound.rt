@@ -26,32 +26,7 @@ use std::alloc::AllocError;
 
 /// Writes the line of a client's frame anew, whose mark says this of requests, where it is a Bind some of whose parameters come in binary format, and their
 /// types are known; by what is known once it was sent.
-///
-/// # Errors
-///
-/// Returns `AllocError` if there is no memory for it.
 pub fn show_sent<A: MapMemory>(
-    style: Style,
-    place: u64,
-    opened: bool,
-    kind: PasswordKind,
-    told: Option<Told>,
-    frame: &[u8],
-    types: &Option<Types<A>>,
-    text: &mut BytesMut<A>,
-    line: &mut String<A>,
-) -> Result<(), AllocError>
-    ensures shows { OnOk result ((said : Said) → ReadsSo Sender.Client opened (kind_view kind) frame.now said → ShowsTyped style place (length frame.now) told said (types_in types.now) (string_bytes line.old) (string_bytes line.new)) }
-    ensures lacks { OnErr result A.Lacks }
-{
-    match told {
-        Some(told) => show_told(style, place, opened, kind, told, frame, types, text, line),
-        None => Ok(()),
-    }
-}
-
-/// The same where its mark says this.
-fn show_told<A: MapMemory>(
     style: Style,
     place: u64,
     opened: bool,
@@ -62,7 +37,7 @@ fn show_told<A: MapMemory>(
     text: &mut BytesMut<A>,
     line: &mut String<A>,
 ) -> Result<(), AllocError>
-    ensures shows { OnOk result ((said : Said) → ReadsSo Sender.Client opened (kind_view kind) frame.now said → ShowsTyped style place (length frame.now) (Some told) said (types_in types.now) (string_bytes line.old) (string_bytes line.new)) }
+    ensures shows { OnOk result ((said : Said) → ReadsSo Sender.Client opened (kind_view kind) frame.now said → ShowsTyped style place (length frame.now) told said (types_in types.now) (string_bytes line.old) (string_bytes line.new)) }
     ensures lacks { OnErr result A.Lacks }
 {
     match told {
@@ -70,7 +45,7 @@ fn show_told<A: MapMemory>(
             Some(types) => show_frame(style, place, opened, kind, frame, types, text, line),
             None => Ok(()),
         },
-        Told::Answer { .. } | Told::Lost | Told::Nothing => Ok(()),
+        Told::Answer { .. } | Told::Lost | Told::Nothing | Told::Uncounted => Ok(()),
     }
 }
 

@@ -12,12 +12,13 @@ use crate::line_mark::put_marked;
 use crate::placement::{Told, told_by};
 use crate::request_mark::put_stamp;
 use crate::state::{Known, next_line, note};
-use crate::typed::{expected, read_frame};
+use crate::typed::read_frame;
 use bytes::BytesMut;
 use pgp_base::Memory;
 use pgp_line::line::{put_called, put_end};
 use pgp_line::style::Style;
 use pgp_names::MapMemory;
+use pgp_trace::client::expected;
 use pgp_trace::frame::{Next, begin_line, front_of};
 use pgp_trace::view::{View, add_shown};
 use std::alloc::AllocError;
@@ -65,10 +66,6 @@ pub fn no_texts<A: MapMemory>(alloc: A) -> Texts<A>
 
 /// Adds the lines of the complete frames at the front of the bytes, which this side sent and which stand at this place. Returns how many bytes they
 /// take, and whether nothing says where the next one begins.
-///
-/// # Errors
-///
-/// Returns `AllocError` if there is no memory for them.
 pub fn list_frames<A: MapMemory>(
     view: View<'_>,
     sender: Sender,
@@ -142,7 +139,7 @@ fn list_line<A: MapMemory>(
     view: View<'_>,
     place: u64,
     name: &str,
-    told: Option<Told>,
+    told: Told,
     requests: &[Encryption],
     texts: &mut Texts<A>,
 ) -> Result<(), AllocError>

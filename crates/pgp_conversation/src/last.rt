@@ -23,10 +23,6 @@ use pgp_trace::view::View;
 use std::alloc::AllocError;
 
 /// Adds what stands at the end of a recording: the last lines of both sides, or the table of a summary.
-///
-/// # Errors
-///
-/// Returns `AllocError` if there is no memory for it.
 pub fn add_end<A: MapMemory>(
     view: View<'_>,
     talk: &Talk<A>,
@@ -58,13 +54,9 @@ fn add_both<A: MapMemory>(
 }
 
 /// Adds the last line of a side, if bytes are left of it, with a mark that says this of requests.
-///
-/// # Errors
-///
-/// Returns `AllocError` if there is no memory for it.
 fn add_last<A: MapMemory>(
     view: View<'_>,
-    told: Option<Told>,
+    told: Told,
     sender: Sender,
     half: &Half<A>,
     texts: &mut Texts<A>,

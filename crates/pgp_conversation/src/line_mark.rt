@@ -1,12 +1,11 @@
 //! The mark before a line: when its message was whole, and who sent it.
 
 ghost use Rattle.std.specs.Prelude.{◌≡◌, ◌++◌, OnErr, OnOk, string_bytes};
-ghost use Rattle.pgp_line.specs.Line.{blanks};
 ghost use Rattle.pgp_conversation.specs.Marks.{between, last_mark, mark, marked, member, number, since};
 
 use crate::chunk::Sender;
 use pgp_base::Memory;
-use pgp_line::line::add_line;
+use pgp_line::line::{add_line, put_blanks};
 use pgp_line::style::Form;
 use pgp_names::MapMemory;
 use std::alloc::AllocError;
@@ -15,10 +14,6 @@ use std::alloc::AllocError;
 const WIDTH: usize = 12;
 
 /// Writes the mark of a message that came at a time, where others are counted from another.
-///
-/// # Errors
-///
-/// Returns `AllocError` if there is no memory for it.
 pub fn put_mark<A: MapMemory>(
     form: Form,
     sender: Sender,
@@ -37,10 +32,6 @@ pub fn put_mark<A: MapMemory>(
 }
 
 /// Adds the seconds from one time to another.
-///
-/// # Errors
-///
-/// Returns `AllocError` if there is no memory for them.
 pub fn put_since<A: MapMemory>(
     start: u64,
     micros: u64,
@@ -58,10 +49,6 @@ pub fn put_since<A: MapMemory>(
 }
 
 /// Adds so many microseconds as seconds.
-///
-/// # Errors
-///
-/// Returns `AllocError` if there is no memory for them.
 #[tactic(auto, unfolding(crate::specs::Marks::number))]
 pub fn put_number<A: MapMemory>(n: u64, text: &mut String<A>) -> Result<(), AllocError>
     ensures text { OnOk result (string_bytes text.new ≡ string_bytes text.old ++ number n) }
@@ -102,10 +89,6 @@ fn put_time<A: MapMemory>(
 }
 
 /// The mark of a line that says what is left.
-///
-/// # Errors
-///
-/// Returns `AllocError` if there is no memory for it.
 pub fn put_last_mark<A: MapMemory>(
     form: Form,
     sender: Sender,
@@ -141,26 +124,7 @@ fn member_of(sender: Sender) -> &'static str
     }
 }
 
-/// Adds so many blanks.
-///
-/// # Errors
-///
-/// Returns `AllocError` if there is no memory for them.
-pub fn put_blanks<A: MapMemory>(len: usize, text: &mut String<A>) -> Result<(), AllocError>
-    ensures text { OnOk result (string_bytes text.new ≡ string_bytes text.old ++ blanks len) }
-    ensures lacks { OnErr result A.Lacks }
-{
-    for _ in 0..len {
-        A::push_char(text, ' ')?;
-    }
-    Ok(())
-}
-
 /// Writes a line with a mark: before it, or as the first members of its object.
-///
-/// # Errors
-///
-/// Returns `AllocError` if there is no memory for it.
 pub fn put_marked<A: MapMemory>(
     form: Form,
     mark: &str,

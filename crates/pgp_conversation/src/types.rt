@@ -9,7 +9,7 @@ ghost use Rattle.pgp_conversation.specs.TypesKept.{awaited_of, last_of, types_of
 
 use crate::awaited::{Awaited, Object, first, reach, wait_bound};
 use crate::column::Column;
-use crate::columns::{Columns, formatted, found, keep};
+use crate::columns::{Columns, again, formatted, found, keep};
 use pgp_base::Memory;
 use pgp_names::{MapMemory, Names};
 use std::alloc::AllocError;
@@ -78,16 +78,12 @@ pub fn reach_answer<A: MapMemory>(number: u64, types: &mut Types<A>)
 }
 
 /// The object of a request has these columns, or none are known.
-///
-/// # Errors
-///
-/// Returns `AllocError` if there is no memory for them.
 pub fn describe<A: MapMemory>(
     number: u64,
-    columns: Option<&[Column]>,
+    columns: Option<Vec<Column, A>>,
     types: &mut Types<A>,
 ) -> Result<(), AllocError>
-    ensures described { OnOk result (types_of types.new ≡ described (first number (types_of types.old).awaited) (option_map (λ columns. columns.now) columns.entry) (types_of types.old)) }
+    ensures described { OnOk result (types_of types.new ≡ described (first number (types_of types.old).awaited) (option_map (λ list. list.items) columns) (types_of types.old)) }
     ensures lacks { OnErr result A.Lacks }
 {
     match first(number, &types.awaited) {
@@ -95,8 +91,8 @@ pub fn describe<A: MapMemory>(
             Object::Statement => keep(asked.name.as_slice(), columns, &mut types.statements),
             Object::Portal => {
                 let name = asked.name.as_slice();
-                keep(name, columns, &mut types.portals)?;
-                pass_on(name, columns, &types.last, &mut types.statements)
+                pass_on(name, &columns, &types.last, &mut types.statements)?;
+                keep(name, columns, &mut types.portals)
             }
             Object::Simple => keep(asked.name.as_slice(), columns, &mut types.portals),
         },
@@ -107,17 +103,17 @@ pub fn describe<A: MapMemory>(
 /// The statement of the portal of this name, if it was bound last, has these columns.
 fn pass_on<A: MapMemory>(
     name: &[u8],
-    columns: Option<&[Column]>,
+    columns: &Option<Vec<Column, A>>,
     last: &Option<BoundPortal<A>>,
     statements: &mut Names<Columns<A>, A>,
 ) -> Result<(), AllocError>
-    ensures kept { OnOk result (statements.new ≡ passed_on (statement_of name.now (last_of last.now)) (option_map (λ columns. columns.now) columns.entry) (statements.old)) }
+    ensures kept { OnOk result (statements.new ≡ passed_on (statement_of name.now (last_of last.now)) (option_map (λ list. list.items) columns.now) statements.old) }
     ensures lacks { OnErr result A.Lacks }
 {
     match last {
         Some(portal) => {
             if portal.name.as_slice() == name {
-                keep(portal.statement.as_slice(), columns, statements)
+                keep(portal.statement.as_slice(), again(columns)?, statements)
             } else {
                 Ok(())
             }
@@ -127,10 +123,6 @@ fn pass_on<A: MapMemory>(
 }
 
 /// A Bind is done: its portal has its statement's columns, in its formats.
-///
-/// # Errors
-///
-/// Returns `AllocError` if there is no memory for them.
 pub fn bind<A: MapMemory>(number: u64, types: &mut Types<A>) -> Result<(), AllocError>
     ensures bound { OnOk result (types_of types.new ≡ bound (first number (types_of types.old).awaited) (types_of types.old)) }
     ensures lacks { OnErr result A.Lacks }
@@ -169,9 +161,9 @@ fn bind_to<A: MapMemory>(
     let name = asked.name.as_slice();
     match found(asked.statement.as_slice(), statements) {
         Some(columns) => {
-            let alloc = *portals.allocator();
+            let alloc = *asked.name.allocator();
             let columns = formatted(alloc, asked.formats.as_slice(), columns)?;
-            keep(name, Some(columns.as_slice()), portals)
+            keep(name, Some(columns), portals)
         }
         None => keep(name, None, portals),
     }
@@ -188,10 +180,6 @@ pub fn end<A: MapMemory>(status: u8, types: &mut Types<A>)
 }
 
 /// A Parse is sent, under this number.
-///
-/// # Errors
-///
-/// Returns `AllocError` if there is no memory for it.
 pub fn parse<A: MapMemory>(
     number: u64,
     name: &[u8],
@@ -202,7 +190,8 @@ pub fn parse<A: MapMemory>(
     ensures lacks { OnErr result A.Lacks }
 {
     let alloc = *types.awaited.allocator();
-    keep(name, Some(parameters.as_slice()), &mut types.sent)?;
+    let sent = alloc.list_of(parameters.as_slice())?;
+    keep(name, Some(sent), &mut types.sent)?;
     types.told.forget(name);
     types.parse = number;
     wait_bound(
@@ -237,16 +226,12 @@ pub fn parameters_of<'a, A: MapMemory>(name: &[u8], types: &'a Types<A>) -> &'a 
 }
 
 /// The statement of a request has these parameters, or none are known.
-///
-/// # Errors
-///
-/// Returns `AllocError` if there is no memory for them.
 pub fn tell<A: MapMemory>(
     number: u64,
-    parameters: Option<&[Column]>,
+    parameters: Option<Vec<Column, A>>,
     types: &mut Types<A>,
 ) -> Result<(), AllocError>
-    ensures told { OnOk result (types_of types.new ≡ tells (first number (types_of types.old).awaited) (option_map (λ list. list.now) parameters.entry) (types_of types.old)) }
+    ensures told { OnOk result (types_of types.new ≡ tells (first number (types_of types.old).awaited) (option_map (λ list. list.items) parameters) (types_of types.old)) }
     ensures lacks { OnErr result A.Lacks }
 {
     match first(number, &types.awaited) {
@@ -270,10 +255,10 @@ pub fn tell<A: MapMemory>(
 fn put_told<A: MapMemory>(
     object: Object,
     name: &[u8],
-    parameters: Option<&[Column]>,
+    parameters: Option<Vec<Column, A>>,
     told: &mut Names<Columns<A>, A>,
 ) -> Result<(), AllocError>
-    ensures told { OnOk result (told.new ≡ told_by object name.now (option_map (λ list. list.now) parameters.entry) (told.old)) }
+    ensures told { OnOk result (told.new ≡ told_by object name.now (option_map (λ list. list.items) parameters) (told.old)) }
     ensures lacks { OnErr result A.Lacks }
 {
     match object {
@@ -283,10 +268,6 @@ fn put_told<A: MapMemory>(
 }
 
 /// A Parse is done.
-///
-/// # Errors
-///
-/// Returns `AllocError` if there is no memory for what it gave.
 pub fn finish<A: MapMemory>(number: u64, types: &mut Types<A>) -> Result<(), AllocError>
     ensures parsed { OnOk result (types_of types.new ≡ parsed (first number (types_of types.old).awaited) (types_of types.old)) }
     ensures lacks { OnErr result A.Lacks }
@@ -298,10 +279,12 @@ pub fn finish<A: MapMemory>(number: u64, types: &mut Types<A>) -> Result<(), All
             if asked.number < types.parse {
                 Ok(())
             } else {
+                let alloc = *asked.name.allocator();
+                let given = alloc.list_of(asked.parameters.as_slice())?;
                 put_told(
                     asked.object,
                     asked.name.as_slice(),
-                    Some(asked.parameters.as_slice()),
+                    Some(given),
                     &mut types.told,
                 )
             }
@@ -311,10 +294,6 @@ pub fn finish<A: MapMemory>(number: u64, types: &mut Types<A>) -> Result<(), All
 }
 
 /// A statement or a portal is closed.
-///
-/// # Errors
-///
-/// Returns `AllocError` if there is no memory.
 pub fn close<A: MapMemory>(number: u64, types: &mut Types<A>) -> Result<(), AllocError>
     ensures closed { OnOk result (types_of types.new ≡ closed (first number (types_of types.old).awaited) (types_of types.old)) }
     ensures lacks { OnErr result A.Lacks }
