@@ -216,6 +216,7 @@ def single_places(text, name, used):
 # What no package may have: a rule is wanted.
 LEFT = re.compile(r'\b(ghost|requires|ensures|decreases|Model|tactic|Allocator|allocator|rattlefmt|laws|unsafe|DeriveError|simdutf8|final fn)\b'
                   r'|[:+] Memory\b|\buse .*\bMemory\b|\+ Drop\b|: Drop\b|\bA::|\bA>|<A\b|: A\b|(?<!\} )\belse(?= \{)')
+TEXT = re.compile(r'"(?:[^"\\]|\\.)*"')
 FOREIGN = re.compile(r'^(?:pub )?use ([a-z]\w*)::')
 CRATES = {'std', 'crate', 'self', 'super', 'bytes', 'memchr', 'byteorder', 'arrayvec', 'itoa', 'uuid'}
 
@@ -223,7 +224,7 @@ CRATES = {'std', 'crate', 'self', 'super', 'bytes', 'memchr', 'byteorder', 'arra
 def leftovers(text, modules):
     """Lines that no rule knows, with why."""
     for line in text.split('\n'):
-        code = line.split('//')[0]
+        code = TEXT.sub('""', line).split('//')[0]
         if left := LEFT.search(code):
             yield line.strip(), left[0].strip()
         if (use := FOREIGN.match(code)) and use[1] not in CRATES | modules:

@@ -134,6 +134,31 @@ static void refused(void)
     free(zeros);
 }
 
+/* A Sync, then a bind of one int4 in the stream's free memory. */
+static void in_a_stream(void)
+{
+    static const int16_t one = 1, two = 2;
+    static const char sent[] = "S\0\0\0\4" "B\0\0\0\x1ap\0s\0\0\1\0\1\0\1\0\0\0\4\0\0\0\5\0\1\0\1";
+    uint8_t room[64] = {0};
+    struct pgp_stream stream = {room, sizeof room, 0, true};
+    struct pgp_items items;
+    size_t len = 0;
+    same("sync", pgp_stream_sync(&stream), PGP_OK);
+    uint8_t *out = room + stream.len;
+    size_t left = sizeof room - stream.len;
+    same("begin", pgp_bind_begin(B("p"), B("s"), &one, 1, 1, out, left, &items), PGP_OK);
+    same("too early", pgp_stream_bind_end(&stream, &one, 1, &items), PGP_E_INVALID_SIZE); same("its length", stream.len, 5);
+    same("a value", pgp_put_int4(5, out + pgp_item_at(left, &items), pgp_item_room(left, &items), &len), PGP_OK);
+    same("an item", pgp_item(len, out, left, &items), PGP_OK);
+    same("no format", pgp_stream_bind_end(&stream, &two, 1, &items), PGP_E_FORMATS);
+    stream.room_len = 30; same("no room", pgp_stream_bind_end(&stream, &one, 1, &items), PGP_NO_ROOM);
+    stream.room_len = 4; same("no such place", pgp_stream_bind_end(&stream, &one, 1, &items), PGP_NO_ROOM);
+    stream.room_len = sizeof room; stream.is_open = false; same("before the startup packet", pgp_stream_bind_end(&stream, &one, 1, &items), PGP_E_WRONG_PHASE);
+    stream.is_open = true; same("its length", stream.len, 5); is("as it was", room, 5, sent, 5);
+    same("end", pgp_stream_bind_end(&stream, &one, 1, &items), PGP_OK);
+    is("both", room, stream.len, sent, sizeof sent - 1);
+}
+
 void in_place(void)
 {
     WRITER("bind in steps", "B\0\0\0\x49p\0s\0\0\1\0\1\0\4\0\0\0\4\0\0\0\5\xff\xff\xff\xff\0\0\0\3" "abc"
@@ -143,4 +168,5 @@ void in_place(void)
     WRITER("[1:2][-1:-1]={{1},{-1}}", "\0\0\0\2\0\0\0\0\0\0\0\x17\0\0\0\2\0\0\0\1\0\0\0\1\xff\xff\xff\xff\0\0\0\4\0\0\0\1\0\0\0\4\xff\xff\xff\xff", square(O));
     WRITER("{}", "\0\0\0\0\0\0\0\0\0\0\0\x17", no_elements(O));
     refused();
+    in_a_stream();
 }

@@ -1,4 +1,5 @@
-//! Base64 with padding (RFC 4648), with no bits after the last byte. By hand, since the versions of the crate `base64` have no calls in common.
+//! Base64 with padding (RFC 4648) of the crate `base64`, by the two calls that its versions have in common.
+#![allow(deprecated)]
 
 pub struct Standard;
 
@@ -12,57 +13,23 @@ pub enum DecodeAllocError {
     DecodeError(DecodeError),
 }
 
-const DIGITS: &[u8; 64] = b"ABCDEFGHIJKLMNOPQRSTUVWXYZabcdefghijklmnopqrstuvwxyz0123456789+/";
-
-fn value(digit: u8) -> Result<u32, DecodeError> {
-    let value = match digit {
-        b'A'..=b'Z' => digit - b'A',
-        b'a'..=b'z' => digit - b'a' + 26,
-        b'0'..=b'9' => digit - b'0' + 52,
-        b'+' => 62,
-        b'/' => 63,
-        _ => return Err(DecodeError),
-    };
-    Ok(u32::from(value))
-}
-
-/// The four characters of three bytes or fewer.
-fn encoded(bytes: &[u8]) -> [u8; 4] {
-    let bits = (0..3).fold(0, |bits, i| bits << 8 | u32::from(bytes.get(i).copied().unwrap_or(0)));
-    let mut text = [b'='; 4];
-    for (place, digit) in text.iter_mut().take(bytes.len() + 1).enumerate() {
-        *digit = DIGITS[(bits >> (18 - 6 * place)) as usize & 63];
-    }
-    text
-}
-
 pub(super) fn append(bytes: &[u8], text: &mut String) {
-    text.extend(bytes.chunks(3).flat_map(encoded).map(char::from))
+    text.push_str(&::base64::encode(bytes))
 }
 
+/// Older versions of the crate take a text without its padding.
 pub(super) fn decode(text: &[u8]) -> Result<Vec<u8>, DecodeError> {
     if text.len() % 4 != 0 {
         return Err(DecodeError);
     }
-    let padding = text.iter().rev().take(2).take_while(|byte| **byte == b'=').count();
-    let mut bytes = Vec::with_capacity(text.len() / 4 * 3);
-    for digits in text[..text.len() - padding].chunks(4) {
-        let bits = digits.iter().try_fold(0, |bits, digit| Ok(bits << 6 | value(*digit)?))?;
-        let (len, left) = (digits.len() * 6 / 8, digits.len() * 6 % 8);
-        if bits & ((1 << left) - 1) != 0 {
-            return Err(DecodeError);
-        }
-        bytes.extend_from_slice(&u32::to_be_bytes(bits >> left)[4 - len..]);
-    }
-    Ok(bytes)
+    ::base64::decode(text).map_err(|_| DecodeError)
 }
 
 impl Standard {
     pub fn encode_slice(&self, bytes: &[u8], out: &mut [u8]) -> Result<usize, DecodeError> {
-        for (piece, room) in bytes.chunks(3).zip(out.chunks_exact_mut(4)) {
-            room.copy_from_slice(&encoded(piece));
-        }
-        Ok((bytes.len() + 2) / 3 * 4)
+        let text = ::base64::encode(bytes);
+        out[..text.len()].copy_from_slice(text.as_bytes());
+        Ok(text.len())
     }
 
     pub fn decode_slice_unchecked(&self, text: &[u8], out: &mut [u8]) -> Result<usize, DecodeError> {
@@ -91,10 +58,10 @@ mod tests {
             let mut made = String::new();
             append(bytes, &mut made);
             assert_eq!(made, text);
-            assert_eq!(decode(text.as_bytes()).unwrap(), bytes);
+            assert_eq!(decode(text.as_bytes()).ok().as_deref(), Some(bytes));
             let mut out = [0; 344];
-            assert_eq!(STANDARD.decode_slice_unchecked(text.as_bytes(), &mut out).unwrap(), bytes.len());
-            assert_eq!(STANDARD.encode_slice(bytes, &mut out).unwrap(), text.len());
+            assert_eq!(STANDARD.decode_slice_unchecked(text.as_bytes(), &mut out).ok(), Some(bytes.len()));
+            assert_eq!(STANDARD.encode_slice(bytes, &mut out).ok(), Some(text.len()));
             assert_eq!(&out[..text.len()], text.as_bytes());
         }
     }

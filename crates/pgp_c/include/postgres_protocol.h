@@ -115,6 +115,9 @@ static inline struct pgp_bytes pgp_text(const char *text) { return pgp_bytes_of(
 /* 1 of the proved library; 0 of one that is built of the same sources without their proofs (`make quick`). */
 uint32_t pgp_is_proved(void);
 
+/* The version of the library that runs, where PGP_VERSION_MAJOR, _MINOR and _PATCH are the header's: 10000 * major + 100 * minor + patch. */
+uint32_t pgp_version(void);
+
 /* Whether the bytes are a text as a server in UTF-8 takes one: PGP_OK, PGP_E_NOT_UTF8, or PGP_E_EMBEDDED_NULL for UTF-8 with a 0 byte. */
 pgp_status pgp_is_text(const void *bytes, size_t len);
 
@@ -233,6 +236,9 @@ pgp_status pgp_stream_parse(struct pgp_stream *stream, const void *name, size_t 
 pgp_status pgp_stream_bind(struct pgp_stream *stream, const void *portal, size_t portal_len, const void *statement, size_t statement_len,
                            const int16_t *formats, size_t format_count, const struct pgp_value *values, size_t value_count,
                            const int16_t *result_formats, size_t result_format_count);
+/* The end of a bind whose values were put where they stand, in the place of pgp_bind_end: the calls before it are handed room + len and room_len - len. On error
+   nothing is added. */
+pgp_status pgp_stream_bind_end(struct pgp_stream *stream, const int16_t *result_formats, size_t result_format_count, const struct pgp_items *items);
 pgp_status pgp_stream_describe(struct pgp_stream *stream, uint8_t variant, const void *name, size_t len);
 pgp_status pgp_stream_execute(struct pgp_stream *stream, const void *portal, size_t len, int32_t max_rows);
 pgp_status pgp_stream_close(struct pgp_stream *stream, uint8_t variant, const void *name, size_t len);

@@ -11,6 +11,7 @@ ghost use Rattle.pgp_c.specs.BindItems.{BindSoFar, Ends, WhyNotEnded, WhyNoForma
 ghost use Rattle.pgp_c.specs.InPlace.{IsUnfinished};
 ghost use Rattle.pgp_c.specs.Requests.{are_bound, is_format};
 ghost use Rattle.pgp_c.specs.Sending.{NotSent, Sent, Why};
+ghost use Rattle.pgp_c.specs.Streams.{Extends, Keeps, free};
 ghost use Rattle.pgp_c.specs.Values.{Wrote};
 
 use crate::in_place::{PgpItems, is_unfinished, set_word};
@@ -18,6 +19,7 @@ use crate::list_writing::{Written, put_items};
 use crate::listing::bind;
 use crate::request::{are_bound, are_formats};
 use crate::status::{ended, failed, no_formats, refused};
+use crate::stream::{NO_ROOM, PgpStream, WRONG_PHASE};
 use pgp_base::big_endian::u16_bytes;
 use pgp_base::{Buffer, Error, Window, length_field, put_u16};
 
@@ -103,6 +105,37 @@ pub extern "C" fn pgp_bind_end(
         return refused(Error::InvalidSize, written);
     }
     end(result_formats, items.at, out, written)
+}
+
+/// Ends a bind that was begun in the free memory of a stream, to which it is added.
+#[unsafe(no_mangle)]
+pub extern "C" fn pgp_stream_bind_end(
+    stream: &mut PgpStream<'_>,
+    result_formats: &[i16],
+    items: &PgpItems,
+) -> u32
+    ensures added { result ≡ 0 → (portal statement : List ℕ) (formats : List ℤ) (values : List (Option (List ℕ))) (count : ℕ) → BindSoFar portal statement formats count values (free stream.old) items.now
+        → Extends (Bind portal statement formats values result_formats.now) stream.old stream.new }
+    ensures phase { stream.old.is_open ≢ true → result ≡ 32 }
+    ensures broken { stream.old.is_open ≡ true → length stream.old.room.now < stream.old.len → result ≡ 1 }
+    ensures formats { stream.old.is_open ≡ true → stream.old.len ≤ length stream.old.room.now → list_all is_format result_formats.now ≡ false → result ≡ 39 }
+    ensures fewer { stream.old.is_open ≡ true → stream.old.len ≤ length stream.old.room.now → list_all is_format result_formats.now ≡ true → IsUnfinished 5 items.now → result ≡ 10 }
+    ensures why { result ≢ 0 → stream.old.is_open ≡ true → stream.old.len ≤ length stream.old.room.now → list_all is_format result_formats.now ≡ true → items.now.left ≡ 0
+        → (portal statement : List ℕ) (formats : List ℤ) (values : List (Option (List ℕ))) (count : ℕ) → BindSoFar portal statement formats count values (free stream.old) items.now
+        → Why (Bind portal statement formats values result_formats.now) (free stream.old) result }
+    ensures kept { result ≢ 0 → Keeps stream.old stream.new }
+{
+    let len = stream.len;
+    if stream.is_open != true {
+        return WRONG_PHASE;
+    }
+    if len > stream.room.len() {
+        return NO_ROOM;
+    }
+    let mut added = 0;
+    let code = pgp_bind_end(result_formats, items, &mut stream.room[len..], &mut added);
+    stream.len = len.saturating_add(added);
+    code
 }
 
 /// Writes the formats at this place, and the length of the message that ends after them.

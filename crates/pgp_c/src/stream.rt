@@ -20,10 +20,10 @@ use crate::opening::{PgpPair, pgp_startup};
 use crate::request::{are_bound, is_target};
 
 /// The answer where a message may not come: no startup packet was written, or one was.
-const WRONG_PHASE: u32 = 32;
+pub(crate) const WRONG_PHASE: u32 = 32;
 
 /// The answer where there is no room.
-const NO_ROOM: u32 = 1;
+pub(crate) const NO_ROOM: u32 = 1;
 
 /// The answer where a letter is that of nothing that is described or closed.
 const NO_KIND: u32 = 35;

@@ -1,8 +1,8 @@
 -- A server's run where the client asks and hears in turn: what it hears of a copy that failed can't be owed to a Sync that was asked after that.
 -- PostgreSQL manual, "Message Flow": "Pipelining", "COPY Operations".
-use Rattle.std.specs.Prelude.{◌≡◌, ◌⊎◌, ℕ, List, [], ◌∷◌, length}
+use Rattle.std.specs.Prelude.{◌≡◌, ◌⊎◌, ℕ, List, [], ◌∷◌, ◌++◌, length}
 use Rattle.pgp_client.specs.Flow.{Ready, Serves, StandsAnywhere}
-use Rattle.pgp_client.specs.Telling.{Turn, Asks, Hears, asked_in}
+use Rattle.pgp_client.specs.Telling.{Turn, Asks, Hears, asked_in, names}
 use Rattle.pgp_client.specs.declared.request.Asked.{Asked}
 use Rattle.pgp_client.specs.declared.event.Event.{Event}
 use Rattle.pgp_client.specs.declared.event.Event.TheVariants.{Aside, Last, Part}
@@ -34,13 +34,13 @@ abbrev pub IsAmong : ℕ → List ℕ → Type 0
 IsAmong n [] = ⊥
 IsAmong n (m ∷ ms) = (n ≡ m) ⊎ IsAmong n ms
 
--- Each message that is reported of a request is so under a name that was asked before the message was heard, or is among these.
-abbrev pub AskedBefore : List ℕ → List Turn → Type 0
-AskedBefore ns [] = Unit {0}
-AskedBefore ns (Asks a ∷ turns) = AskedBefore (a.name ∷ ns) turns
-AskedBefore ns (Hears k (Part n) ∷ turns) = IsAmong n ns × AskedBefore ns turns
-AskedBefore ns (Hears k (Last n) ∷ turns) = IsAmong n ns × AskedBefore ns turns
-AskedBefore ns (Hears k e ∷ turns) = AskedBefore ns turns
+-- Each message that is reported of a request is so under a name that was asked before the message was heard, or is that of one of these.
+abbrev pub AskedBefore : List Asked → List Turn → Type 0
+AskedBefore rs [] = Unit {0}
+AskedBefore rs (Asks a ∷ turns) = AskedBefore (rs ++ a ∷ []) turns
+AskedBefore rs (Hears k (Part n) ∷ turns) = IsAmong n (names rs) × AskedBefore rs turns
+AskedBefore rs (Hears k (Last n) ∷ turns) = IsAmong n (names rs) × AskedBefore rs turns
+AskedBefore rs (Hears k e ∷ turns) = AskedBefore rs turns
 
 -- A copy to the server, before whose data a Sync was asked, fails, and is followed by a second Sync, of which two the server answered one.
 abbrev pub failed_copy : ℕ → ℕ → ℕ → List Turn

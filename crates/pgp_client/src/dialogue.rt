@@ -3,7 +3,7 @@
 ghost use Rattle.std.specs.Prelude.{◌≡◌, ◌++◌, ◌∷◌, [], OnOk, OnErr};
 ghost use Rattle.pgp_client.specs.Talk.{shown};
 ghost use Rattle.pgp_client.specs.Telling.{start};
-ghost use Rattle.pgp_client.specs.Taking.{Moves, Takes, asked, begun, behind_copy, awaits_data, completes, copied, fails, first_in, follows, goes, observed, observed_at, is_copying, is_idle, ready, starts_with_sync, taken};
+ghost use Rattle.pgp_client.specs.Taking.{Moves, Takes, asked, begun, behind_copy, awaits_data, completes, copied, fails, first_in, follows, goes, observed, observed_at, is_between, is_copying, is_idle, ready, starts_with_sync, taken};
 
 use crate::bulk::goes_on;
 use crate::event::{Event, Refusal};
@@ -91,6 +91,13 @@ impl<Q: Queue> Dialogue<Q> {
         ensures { result ≡ is_idle (shown Q.items self.now) }
     {
         self.stage == Stage::Idle && self.pending.awaits_none()
+    }
+
+    /// Whether no answer is under way, so that the next message begins one, and no Sync is awaited after an error.
+    pub fn is_between(&self) -> bool
+        ensures { result ≡ is_between (shown Q.items self.now) }
+    {
+        Stage::Idle == self.stage
     }
 
     /// Whether a copy to the server is under way, so that its data may be sent.

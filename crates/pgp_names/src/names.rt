@@ -45,6 +45,10 @@ impl<V, A: MapMemory> Names<V, A> {
     }
 
     /// Gives something a name, in the place of what had it.
+    ///
+    /// # Errors
+    ///
+    /// Returns `AllocError` if there is no memory for it.
     pub fn put(&mut self, name: &[u8], value: V) -> Result<(), AllocError>
     where
         V: Drop,

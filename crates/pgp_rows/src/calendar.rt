@@ -9,7 +9,7 @@ use bytes::BytesMut;
 use jiff::Timestamp;
 use jiff::civil::{Date, DateTime, Time};
 use pgp_base::{Buffer, Error};
-use pgp_calendar::{
+use pgp_value_text::{
     TextError, date_from_civil, date_to_civil, date_to_text, interval_to_text, time_from_civil,
     time_to_civil, time_to_text, timestamp_from_civil, timestamp_to_civil, timestamp_to_text,
     timestamptz_from_instant, timestamptz_to_instant, timestamptz_to_text,

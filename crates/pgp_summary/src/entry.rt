@@ -71,6 +71,10 @@ impl<'a, A: MapMemory> Entry<'a, A> {
     }
 
     /// What is said of it.
+    ///
+    /// # Errors
+    ///
+    /// Returns `AllocError` if there is no memory to sort its times.
     pub fn line(&self) -> Result<Line, AllocError>
         ensures line { IfOk result (λ line. line ≡ line_of self.now) }
         ensures lacks { OnErr result A.Lacks }

@@ -59,6 +59,10 @@ impl<A: MapMemory> Summary<A> {
 
     /// Takes note of the request of this number: a Query by its text, a Parse by its statement's name and its text, a Bind by its portal and its statement, an
     /// Execute by its portal. It takes effect once its answer is complete.
+    ///
+    /// # Errors
+    ///
+    /// Returns `AllocError` if there is no memory for it; on error nothing changes.
     pub fn ask(
         &mut self,
         number: u64,
@@ -98,6 +102,10 @@ impl<A: MapMemory> Summary<A> {
 
     /// Takes note of a message that ends the answer to the request of this number, so many microseconds after it. Another request than the one that this
     /// ends isn't changed.
+    ///
+    /// # Errors
+    ///
+    /// Returns `AllocError` if there is no memory for what the request did; then the summary is no longer that of the requests.
     pub fn end(&mut self, number: u64, reply: Reply, micros: u64) -> Result<(), AllocError>
         ensures ended { OnOk result (self.new ≡ ended number reply micros self.old) }
         ensures lacks { OnErr result A.Lacks }
@@ -162,6 +170,10 @@ impl<A: MapMemory> Summary<A> {
     }
 
     /// Takes note of an error that the server sent for the request of this number. It doesn't end the request, as `end` does.
+    ///
+    /// # Errors
+    ///
+    /// Returns `AllocError` if there is no memory for it; then the summary is no longer that of the requests.
     pub fn fail(&mut self, number: u64) -> Result<(), AllocError>
         ensures failed { OnOk result (self.new ≡ failed number self.old) }
         ensures lacks { OnErr result A.Lacks }

@@ -123,6 +123,10 @@ pub fn options_in(listing: Listing) -> &'static [&'static str]
 }
 
 /// Reads options, of those that the listing has, which a terminal shows or not, or returns nothing where the words are no such.
+///
+/// # Errors
+///
+/// There is no memory for the names and the kinds.
 pub fn options_of<'a, A: Memory>(
     alloc: A,
     terminal: bool,

@@ -1,5 +1,5 @@
 -- The names of other crates and of this one's specs that several proofs cite, passed on from one place. Declares nothing.
-pub use Rattle.std.proofs.Common.{◌≡◌, ℕ, List, true, false, Some, refl, sym, ◌∙◌, from_bits, ltb, ℤ, Option, None, Ok, Err, ap, subst, Bool, Result, ◌<◌, arith, inl, inr, rules, FitsSigned, w32, w64}
+pub use Rattle.std.proofs.Common.{◌≡◌, ℕ, List, true, false, Some, refl, sym, ◌∙◌, from_bits, ltb, ℤ, Option, None, Ok, Err, ap, subst, Bool, Result, ◌<◌, arith, inl, inr, rules, FitsSigned, w32, w64, pos, ◌*ℤ◌}
 pub use Rattle.std.proofs.Math.Facts.{to_z-of_z}
 pub use Rattle.std.proofs.lemmas.Bool.{false≢true, lt-ltb, le-ltb}
 pub use Rattle.std.proofs.lemmas.Float.{T_from_false}
@@ -8,10 +8,9 @@ unfoldable pub use Rattle.std.specs.Float.{float_is_finite, is_sign_negative}
 pub use Rattle.std.specs.Fmt.{decimal, signed_decimal}
 pub use Rattle.std.specs.Prelude.{codes, ◌%◌, ◌^◌, IfOk, IsErr, [], ◌++◌, nat_eq, if◌then◌else◌, unsigned_abs, ⊤, IsTrue}
 pub use Rattle.jiff.specs.Words.{IsEpochDay, IsCivilNanos}
-pub use Rattle.pgp_calendar.proofs.Uniqueness.{one_date, one_instant, one_time}
-pub use Rattle.pgp_calendar.specs.Numbers.{day_1970, nanos_1970}
-pub use Rattle.pgp_calendar.specs.Span.{span_text}
-pub use Rattle.pgp_calendar.specs.Text.{ShowsDay, ShowsInstant, ShowsMoment, ShowsTime, WritesText, IsShownTime, HasText}
+pub use Rattle.pgp_value_text.specs.Numbers.{day_1970, nanos_1970}
+pub use Rattle.pgp_value_text.specs.Span.{span_text}
+pub use Rattle.pgp_value_text.specs.Calendar.{ShowsDay, ShowsInstant, ShowsMoment, ShowsTime, WritesText, IsShownTime, HasText, era, day_text, clock_text, date_text, instant_text}
 pub use Rattle.pgp_types.proofs.Numbers.{int8_spelling, int16_spelling, int32_spelling, int64_spelling, uint32_spelling, uint64_spelling}
 pub use Rattle.pgp_types.proofs.Spelling.{fixed_sound}
 pub use Rattle.pgp_types.specs.Scalar.{bool, bytea, char, int2, int4, int8, oid, lsn, float4, float8}

@@ -1,5 +1,6 @@
 -- A value of each format has one text.
-use Rattle.pgp_value_text.proofs.Common.{◌≡◌, ℕ, ℤ, false, List, Option, Some, None, Ok, Err, refl, sym, ap, ◌∙◌, subst, IfOk, IsErr, false≢true, decimal, signed_decimal, hyphenated_text, lower, bool, bytea, char, int2, int4, int8, oid, lsn, time, fixed_sound, int8_spelling, int16_spelling, int32_spelling, int64_spelling, uint32_spelling, uint64_spelling, numeric_text, date_value, timestamp_value, xid8, interval, timetz, Moment, PosInfinity, NegInfinity, Value, interval_sound, timetz_sound, date_value_sound, timestamp_value_sound, span_text, ShowsDay, ShowsInstant, ShowsMoment, ShowsTime, one_date, one_instant, one_time, bool_text, char_text, hex_text, lsn_text, zone_of, As, is_float, IsShown, IsShownIn, ShowsNumeric, ShowsTimeTz}
+use Rattle.pgp_value_text.proofs.Common.{◌≡◌, ℕ, ℤ, false, List, Option, Some, None, Ok, Err, refl, sym, ap, ◌∙◌, subst, IfOk, IsErr, false≢true, decimal, signed_decimal, hyphenated_text, lower, bool, bytea, char, int2, int4, int8, oid, lsn, time, fixed_sound, int8_spelling, int16_spelling, int32_spelling, int64_spelling, uint32_spelling, uint64_spelling, numeric_text, date_value, timestamp_value, xid8, interval, timetz, Moment, PosInfinity, NegInfinity, Value, interval_sound, timetz_sound, date_value_sound, timestamp_value_sound, span_text, ShowsDay, ShowsInstant, ShowsMoment, ShowsTime, bool_text, char_text, hex_text, lsn_text, zone_of, As, is_float, IsShown, IsShownIn, ShowsNumeric, ShowsTimeTz}
+use Rattle.pgp_value_text.proofs.Uniqueness.{one_date, one_instant, one_time}
 use Rattle.std.specs.Int.{w8, cast_unsigned}
 use Rattle.pgp_types.specs.Network.{uuid}
 use Rattle.pgp_types.specs.Text.{text}

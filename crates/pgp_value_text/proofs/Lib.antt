@@ -4,3 +4,5 @@ pub mod Written
 pub mod Zones
 pub mod Floats
 pub mod Forms
+pub mod TextLemmas
+pub mod Uniqueness

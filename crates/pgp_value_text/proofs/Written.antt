@@ -3,8 +3,8 @@ use Rattle.pgp_value_text.proofs.Common.{◌≡◌, ℕ, ℤ, ◌<◌, List, Boo
 use Rattle.jiff_core.proofs.SignedLemmas.{signed_arith}
 use Rattle.jiff.proofs.Family.{epoch_day_range, civil_nanos_range, time_nanos_bound}
 use Rattle.pgp_base.specs.Held.{items_held, ◌⊕◌, lengthened}
-use Rattle.pgp_calendar.specs.declared.error.TextError.{TextError}
-use Rattle.pgp_calendar.specs.declared.error.TextError.TheVariants.{OutOfMemory, OutOfRange}
+use Rattle.pgp_value_text.specs.declared.error.TextError.{TextError}
+use Rattle.pgp_value_text.specs.declared.error.TextError.TheVariants.{OutOfMemory, OutOfRange}
 use Rattle.pgp_value_text.specs.Told.{Told}
 
 -- the bytes that a buffer holds after those that it held

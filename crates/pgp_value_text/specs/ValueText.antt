@@ -23,8 +23,8 @@ use Rattle.pgp_values.specs.Moment.{date_value, timestamp_value}
 use Rattle.pgp_values.specs.System.{xid8}
 use Rattle.pgp_values.specs.Text.{jsonb, jsonpath}
 use Rattle.pgp_values.specs.Time.{interval, timetz}
-use Rattle.pgp_calendar.specs.Span.{span_text}
-use Rattle.pgp_calendar.specs.Text.{ShowsDay, ShowsInstant, ShowsMoment, ShowsTime}
+use Rattle.pgp_value_text.specs.Span.{span_text}
+use Rattle.pgp_value_text.specs.Calendar.{ShowsDay, ShowsInstant, ShowsMoment, ShowsTime}
 use Rattle.pgp_value_text.specs.Float.{ShowsDouble, ShowsSingle}
 use Rattle.pgp_value_text.specs.Zone.{ShowsTimeTz}
 

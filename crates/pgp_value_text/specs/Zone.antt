@@ -3,7 +3,7 @@
 use Rattle.std.specs.Prelude.{◌≡◌, ℕ, ℤ, pos, ◌<◌, ◌/◌, ◌%◌, ◌==◌, if◌then◌else◌, unsigned_abs, int_lt, List, ◌∷◌, ◌++◌}
 use Rattle.jiff_fmt.specs.Text.{pad2}
 use Rattle.pgp_values.specs.declared.time.TimeTz.{TimeTz}
-use Rattle.pgp_calendar.specs.Text.{ShowsTime}
+use Rattle.pgp_value_text.specs.Calendar.{ShowsTime}
 
 -- hours, then minutes and seconds as far as they aren't 0
 abbrev pub offset_text : ℕ → ℕ → List ℕ

@@ -1,11 +1,20 @@
 //! Laws on the texts of values.
 
-ghost use Rattle.std.specs.Prelude.{◌≡◌, ℕ, false, List};
+ghost use Rattle.std.specs.Prelude.{◌≡◌, ℕ, ℤ, false, List};
 ghost use Rattle.pgp_values.specs.Formats.{formats};
 ghost use Rattle.pgp_values.specs.FormatTable.{format_in};
+ghost use Rattle.pgp_value_text.specs.Calendar.{ShowsDay, ShowsInstant, ShowsTime};
 ghost use Rattle.pgp_value_text.specs.ValueText.{is_float, IsTextOf};
 
 /// A value has one text, but of a floating-point number.
 pub fn one_text()
     ensures { (type_oid : ℕ) → is_float (format_in formats type_oid) ≡ false → (bytes a b : List ℕ) → IsTextOf type_oid bytes a → IsTextOf type_oid bytes b → a ≡ b }
+{}
+
+/// A day, an instant and a time have one text.
+pub fn texts_are_unique()
+    ensures of_date { (days : ℤ) (a b : List ℕ) → ShowsDay days a → ShowsDay days b → a ≡ b }
+    ensures of_timestamp { (zone : List ℕ) (microseconds : ℤ) (a b : List ℕ) → ShowsInstant zone microseconds a
+        → ShowsInstant zone microseconds b → a ≡ b }
+    ensures of_time { (microseconds : ℤ) (a b : List ℕ) → ShowsTime microseconds a → ShowsTime microseconds b → a ≡ b }
 {}

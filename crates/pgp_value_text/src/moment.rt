@@ -1,19 +1,19 @@
 //! Dates, times and spans of time.
 
 ghost use Rattle.std.specs.Prelude.{◌≡◌, nat_eq};
-ghost use Rattle.pgp_calendar.specs.Span.{span_text};
-ghost use Rattle.pgp_calendar.specs.Text.{ShowsDay, ShowsInstant, ShowsMoment, ShowsTime};
+ghost use Rattle.pgp_value_text.specs.Span.{span_text};
+ghost use Rattle.pgp_value_text.specs.Calendar.{ShowsDay, ShowsInstant, ShowsMoment, ShowsTime};
 ghost use Rattle.pgp_types.specs.Time.{time};
 ghost use Rattle.pgp_values.specs.Moment.{date_value, timestamp_value};
 ghost use Rattle.pgp_values.specs.Time.{interval};
 ghost use Rattle.pgp_value_text.specs.ValueText.{zone_of, As, Shows, Tells};
 
+use crate::calendar::{
+    date_to_text, interval_to_text, time_to_text, timestamp_to_text, timestamptz_to_text,
+};
 use crate::put::told;
 use bytes::BytesMut;
 use pgp_base::{Memory, Oid};
-use pgp_calendar::{
-    date_to_text, interval_to_text, time_to_text, timestamp_to_text, timestamptz_to_text,
-};
 use pgp_types::time_from_sql;
 use pgp_values::{Moment, date_value_from_sql, interval_from_sql, timestamp_value_from_sql};
 use std::alloc::AllocError;

@@ -4,9 +4,9 @@ ghost use Rattle.std.specs.Prelude.{◌≡◌};
 ghost use Rattle.pgp_value_text.specs.ValueText.{Tells};
 ghost use Rattle.pgp_value_text.specs.Told.{Told};
 
+use crate::error::TextError;
 use bytes::BytesMut;
 use pgp_base::Memory;
-use pgp_calendar::TextError;
 use std::alloc::AllocError;
 
 /// Adds a text.

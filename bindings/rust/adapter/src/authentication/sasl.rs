@@ -98,17 +98,18 @@ impl fmt::Display for Rejected {
 
 impl std::error::Error for Rejected {}
 
-/// The error of a server's text. Of what isn't UTF-8, and of a count that is no number, it is the one of `std`.
+/// The error of a server's text. Of what isn't UTF-8, of a count that is no number and of invalid base64, it is the one of `std` and of the crate
+/// `base64`.
 #[cold]
 fn rejected(e: ScramError, message: &[u8]) -> io::Error {
-    match (&e, str::from_utf8(message)) {
-        (ScramError::NotUtf8, Err(e)) => return io::Error::new(io::ErrorKind::InvalidInput, e),
-        (ScramError::InvalidNumber, Ok(text)) => {
-            if let Some(e) = not_a_count(text) {
-                return io::Error::new(io::ErrorKind::InvalidInput, e);
-            }
-        }
-        _ => {}
+    let source: Option<Box<dyn std::error::Error + Send + Sync>> = match (&e, str::from_utf8(message)) {
+        (ScramError::NotUtf8, Err(e)) => Some(e.into()),
+        (ScramError::InvalidNumber, Ok(text)) => not_a_count(text).map(Into::into),
+        (ScramError::InvalidBase64, Ok(text)) => not_base64(text).map(Into::into),
+        _ => None,
+    };
+    if let Some(source) = source {
+        return io::Error::new(io::ErrorKind::InvalidInput, source);
     }
     let kind = match e {
         ScramError::WrongState | ScramError::Server(_) => io::ErrorKind::Other,
@@ -123,6 +124,16 @@ fn not_a_count(text: &str) -> Option<ParseIntError> {
     let count = text.splitn(3, ',').nth(2)?.strip_prefix("i=")?;
     let digits = count.split(|c: char| !c.is_ascii_digit()).next()?;
     digits.parse::<u32>().err()
+}
+
+/// Why the salt of `r=..,s=..,i=..`, or the signature of `v=..`, is no base64.
+#[allow(deprecated)]
+fn not_base64(text: &str) -> Option<base64::DecodeError> {
+    let digits = match text.strip_prefix("v=") {
+        Some(signature) => signature.split(',').next()?,
+        None => text.split(',').nth(1)?.strip_prefix("s=")?,
+    };
+    base64::decode(digits).err()
 }
 
 #[cfg(test)]
@@ -166,6 +177,15 @@ mod tests {
     #[test]
     fn another_nonce_is_an_error() {
         assert!(client().update(b"r=else,s=AAAA,i=4096").is_err());
+    }
+
+    #[test]
+    fn invalid_base64_is_the_error_of_the_crate_base64() {
+        let invalid = |e: io::Error| e.kind() == io::ErrorKind::InvalidInput && e.get_ref().unwrap().is::<base64::DecodeError>();
+        assert!(invalid(client().update(format!("r={NONCE}more,s=Zh==,i=4096").as_bytes()).unwrap_err()));
+        let mut client = client();
+        client.update(FIRST).unwrap();
+        assert!(invalid(client.finish(b"v=Zg==Zg==").unwrap_err()));
     }
 
     #[test]

@@ -1,3 +1,0 @@
-mod Common
-pub mod TextLemmas
-pub mod Uniqueness

@@ -1,5 +1,0 @@
-use Rattle.pgp_calendar.proofs.Uniqueness.{one_date, one_instant, one_time}
-use Rattle.pgp_calendar.proofs.laws.texts_are_unique.Goals as goal
-
-pub returns : goal.returns
-returns c = record { of_date = one_date; of_timestamp = one_instant; of_time = one_time }

@@ -1,0 +1,83 @@
+-- The text in which a server shows a day and a time, under `DateStyle` `ISO` and with the time zone `UTC`.
+-- PostgreSQL manual, "Date/Time Types", "Date/Time Output".
+use Rattle.std.specs.Prelude.{◌≡◌, ℕ, zero, suc, ◌/◌, ◌%◌, nat_lt, if◌then◌else◌, ℤ, pos, negsuc, ◌*ℤ◌, ◌≤ℤ◌, List, [], ◌∷◌, ◌++◌, length, codes, None, Result, Ok, Err, ⊤, ◌+◌, ◌⊎◌}
+use Rattle.jiff_core.specs.declared.civil.date.Date.{Date}
+use Rattle.jiff_core.specs.declared.civil.time.Time.{Time}
+use Rattle.jiff_core.specs.declared.civil.datetime.DateTime.{DateTime}
+use Rattle.jiff_core.specs.Date.{epoch_day}
+use Rattle.jiff_core.specs.DateTime.{civil_nanos}
+use Rattle.jiff_core.specs.Time.{time_nanos}
+use Rattle.jiff_fmt.specs.Text.{pad2, pad4, time_text}
+use Rattle.pgp_values.specs.declared.moment.Moment.{Moment}
+use Rattle.pgp_values.specs.declared.moment.Moment.TheVariants.{PosInfinity, NegInfinity, Value}
+use Rattle.pgp_base.specs.Held.{Held, ◌⊕◌, Leaves}
+use Rattle.pgp_base.specs.Cause.{Wants}
+use Rattle.pgp_value_text.specs.declared.error.TextError.{TextError}
+use Rattle.pgp_value_text.specs.declared.error.TextError.TheVariants.{OutOfMemory, OutOfRange}
+use Rattle.pgp_value_text.specs.Numbers.{day_1970, nanos_1970}
+
+-- the year as its era counts it: 1 BC is the year 0 of the calendar, 2 BC the year -1
+abbrev pub counted : ℤ → ℕ
+counted (pos zero) = 1
+counted (pos (suc n)) = suc n
+counted (negsuc n) = suc (suc n)
+
+abbrev pub era : ℤ → List ℕ
+era (pos zero) = codes " BC"
+era (pos (suc n)) = []
+era (negsuc n) = codes " BC"
+
+-- a year of four digits or five
+abbrev pub year_text : ℕ → List ℕ
+year_text n = (if nat_lt n 10_000 then [] else (48 + n / 10_000) ∷ []) ++ pad4 (n % 10_000)
+
+-- `2026-11-27`, without its era
+abbrev pub day_text : Date → List ℕ
+day_text d = year_text (counted d.year) ++ 45 ∷ pad2 d.month ++ 45 ∷ pad2 d.day
+
+-- `10:20:30.5`: no more places than it takes
+abbrev pub clock_text : Time → List ℕ
+clock_text = time_text None
+
+-- `2026-11-27`, `0044-03-15 BC`
+abbrev pub date_text : Date → List ℕ
+date_text d = day_text d ++ era d.year
+
+-- `2026-11-27 10:20:30.5`, with the zone between the time and the era
+abbrev pub instant_text : List ℕ → DateTime → List ℕ
+instant_text zone dt = day_text dt.date ++ 32 ∷ clock_text dt.time ++ zone ++ era dt.date.year
+
+abbrev pub ShowsDay : ℤ → List ℕ → Type 0
+ShowsDay days text = (d : Date) × (epoch_day d ≡ day_1970 days) × (text ≡ date_text d)
+
+abbrev pub ShowsInstant : List ℕ → ℤ → List ℕ → Type 0
+ShowsInstant zone microseconds text =
+    (dt : DateTime) × (civil_nanos dt ≡ nanos_1970 microseconds) × (text ≡ instant_text zone dt)
+
+-- a moment, or one of the two that are no day
+abbrev pub ShowsMoment : (ℤ → List ℕ → Type 0) → Moment ℤ → List ℕ → Type 0
+ShowsMoment shows PosInfinity text = text ≡ codes "infinity"
+ShowsMoment shows NegInfinity text = text ≡ codes "-infinity"
+ShowsMoment shows (Value z) text = shows z text
+
+-- a time of day, the end of a day included
+abbrev pub IsShownTime : ℤ → Type 0
+IsShownTime microseconds = (pos 0 ≤ℤ microseconds) × (microseconds ≤ℤ pos 86_400_000_000)
+
+abbrev pub ShowsTime : ℤ → List ℕ → Type 0
+ShowsTime microseconds text =
+    ((microseconds ≡ pos 86_400_000_000) × (text ≡ codes "24:00:00"))
+    ⊎ ((t : Time) × (pos (time_nanos t) ≡ microseconds *ℤ pos 1_000) × (text ≡ clock_text t))
+
+-- a moment has a text where it is no number, or its number is in range
+abbrev pub HasText : (ℤ → Type 0) → Moment ℤ → Type 0
+HasText in_range PosInfinity = ⊤
+HasText in_range NegInfinity = ⊤
+HasText in_range (Value z) = in_range z
+
+-- A writer of a text that shows something: it appends one; or the buffer stays, and either there is nothing to show, or memory for the text
+-- is lacking.
+abbrev pub WritesText : {Kept : Type 0} → (List ℕ → Type 0) → Type 0 → (Held Kept → ℕ → Type 0) → Held Kept → Held Kept → Result (Unit {0}) TextError → Type 0
+WritesText shows in_range lacks old new (Ok done) = (text : List ℕ) × shows text × (new ≡ old ⊕ text)
+WritesText shows in_range lacks old new (Err OutOfMemory) = ((text : List ℕ) × shows text × Wants lacks old (length text)) × Leaves old new
+WritesText shows in_range lacks old new (Err OutOfRange) = (¬ in_range) × Leaves old new
