@@ -26,6 +26,10 @@ use std::alloc::AllocError;
 
 /// Writes the line of a client's frame anew, whose mark says this of requests, where it is a Bind some of whose parameters come in binary format, and their
 /// types are known; by what is known once it was sent.
+///
+/// # Errors
+///
+/// Returns `AllocError` if there is no memory for it.
 pub fn show_sent<A: MapMemory>(
     style: Style,
     place: u64,

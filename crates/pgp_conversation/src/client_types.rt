@@ -31,6 +31,10 @@ use std::alloc::AllocError;
 
 /// Takes note of a client's frame, and writes its line anew where it has values whose types are known. Returns what its mark says of requests, and what it
 /// says of messages to come.
+///
+/// # Errors
+///
+/// Returns `AllocError` if there is no memory for it.
 pub fn read_sent<A: MapMemory>(
     style: Style,
     place: u64,

@@ -66,6 +66,10 @@ pub fn no_texts<A: MapMemory>(alloc: A) -> Texts<A>
 
 /// Adds the lines of the complete frames at the front of the bytes, which this side sent and which stand at this place. Returns how many bytes they
 /// take, and whether nothing says where the next one begins.
+///
+/// # Errors
+///
+/// Returns `AllocError` if there is no memory for them.
 pub fn list_frames<A: MapMemory>(
     view: View<'_>,
     sender: Sender,

@@ -23,6 +23,10 @@ use pgp_trace::view::View;
 use std::alloc::AllocError;
 
 /// Adds what stands at the end of a recording: the last lines of both sides, or the table of a summary.
+///
+/// # Errors
+///
+/// Returns `AllocError` if there is no memory for it.
 pub fn add_end<A: MapMemory>(
     view: View<'_>,
     talk: &Talk<A>,

@@ -92,6 +92,10 @@ pub fn summary_of<A: MapMemory>(numbers: &Option<Numbers<A>>) -> Option<&Summary
 }
 
 /// Takes note of a frame that is this. Returns what its mark says of requests, where they are numbered.
+///
+/// # Errors
+///
+/// Returns `AllocError` if there is no memory for one more request.
 pub fn tell<A: MapMemory>(role: Role, numbers: &mut Option<Numbers<A>>) -> Result<Told, AllocError>
     ensures told { IfOk result (λ told. told_in role (numbers_in numbers.old) ≡ (told, numbers_in numbers.new)) }
     ensures lacks { OnErr result A.Lacks }

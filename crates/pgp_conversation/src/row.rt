@@ -23,6 +23,10 @@ use std::ops::Range;
 
 /// Writes the line of a row anew, whose frame stands at this place and has so many bytes, where its columns are known and some of its values come in
 /// binary format.
+///
+/// # Errors
+///
+/// Returns `AllocError` if there is no memory for it.
 pub fn type_row<A: MapMemory>(
     style: Style,
     place: u64,

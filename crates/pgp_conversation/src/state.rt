@@ -62,6 +62,10 @@ fn counts(marking: Marking) -> bool
 }
 
 /// Makes the line of the frame at the front of the bytes, which this side sent and which stands at this place. Returns what stands after it.
+///
+/// # Errors
+///
+/// Returns `AllocError` if there is no memory for the line.
 pub fn next_line<'b, A: MapMemory>(
     style: Style,
     sender: Sender,
@@ -139,6 +143,10 @@ pub fn is_replicating(phase: Phase) -> bool
 }
 
 /// Takes note of what a message says of those that are still to come.
+///
+/// # Errors
+///
+/// Returns `AllocError` if there is no memory for it.
 pub fn note<A: MapMemory>(noted: Noted, known: &mut Known<A>) -> Result<(), AllocError>
     ensures noted { OnOk result (known_of known.new ≡ note noted (known_of known.old)) }
     ensures lacks { OnErr result A.Lacks }

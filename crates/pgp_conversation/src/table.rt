@@ -21,6 +21,10 @@ const COUNT: usize = 8;
 const WIDTH: usize = 10;
 
 /// Adds the table of a summary: a line for each statement that ran.
+///
+/// # Errors
+///
+/// Returns `AllocError` if there is no memory for it.
 pub fn put_table<A: MapMemory>(
     style: Style,
     summary: &Summary<A>,
