@@ -1,7 +1,7 @@
 //! The rows of a request, as a client takes them from its connection, on messages of the PostgreSQL manual's formats.
 
 use crate::checks::{holds, same};
-use crate::uses::logins::{CHALLENGE, OFFER, OUTCOME, WELCOME, exchange};
+use crate::uses::logins::{CHALLENGE, OUTCOME, WELCOME, exchange};
 use pgp_uses::client::{Received, connect, next_row};
 use postgres_protocol::dialogue::Event;
 use postgres_protocol::session::Connection;
@@ -9,6 +9,9 @@ use std::process::Abort;
 use std::test::Fail;
 
 const READY: &[u8] = b"Z\x00\x00\x00\x05I";
+
+/// The mechanisms of a server where nothing is encrypted.
+const OFFER: &[u8] = b"R\x00\x00\x00\x17\x00\x00\x00\x0aSCRAM-SHA-256\x00\x00";
 
 /// The server's messages of a log-in by SCRAM-SHA-256.
 const LOGIN: [&[u8]; 5] = [OFFER, CHALLENGE, OUTCOME, WELCOME, READY];
