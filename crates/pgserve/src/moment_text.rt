@@ -2,7 +2,7 @@
 
 use jiff::Timestamp;
 use jiff::civil::{Date, DateTime};
-use pgp_calendar::{date_from_civil, timestamp_from_civil, timestamptz_from_instant};
+use pgp_value_text::{date_from_civil, timestamp_from_civil, timestamptz_from_instant};
 use pgp_values::{Interval, Moment};
 
 /// Microseconds of a second.
