@@ -6,34 +6,29 @@ use Rattle.pgp_trace.proofs.Shorter.{frame_has}
 passed_is : (bytes front rest : List ℕ) → bytes ≡ front ++ rest → length bytes - length rest ≡ length front
 passed_is bytes front rest e = omega (arith, ap length e, length-append front rest)
 
-requests_kept : (who : Sender) (old : Known) (side : Side) → (with_side who old side).requests ≡ old.requests
-requests_kept Client old side = refl
-requests_kept Server old side = refl
+-- what is no side's
+record IsKept (new old : Known) : Type 0 where
+  requests : new.requests ≡ old.requests
+  numbers : new.numbers ≡ old.numbers
+  types : new.types ≡ old.types
+  marked : new.marked ≡ old.marked
 
-numbers_kept : (who : Sender) (old : Known) (side : Side) → (with_side who old side).numbers ≡ old.numbers
-numbers_kept Client old side = refl
-numbers_kept Server old side = refl
-
-types_kept : (who : Sender) (old : Known) (side : Side) → (with_side who old side).types ≡ old.types
-types_kept Client old side = refl
-types_kept Server old side = refl
-
-marked_kept : (who : Sender) (old : Known) (side : Side) → (with_side who old side).marked ≡ old.marked
-marked_kept Client old side = refl
-marked_kept Server old side = refl
+kept : (who : Sender) (old : Known) (side : Side) → IsKept (with_side who old side) old
+kept Client old side = record { requests = refl; numbers = refl; types = refl; marked = refl }
+kept Server old side = record { requests = refl; numbers = refl; types = refl; marked = refl }
 
 -- a frame with its line, and what is known after it
-pub lists_one : (view : View) (mark : List ℕ) (who : Sender) (place : ℕ) (old mid new : Known) (told : Option Told) (noted : Noted) (sums : Option Numbers) (types : Option Types) (bytes behind line typed name before after : List ℕ)
+pub lists_one : (view : View) (mark : List ℕ) (who : Sender) (place : ℕ) (old mid new : Known) (told : Told) (noted : Noted) (sums : Option Numbers) (types : Option Types) (bytes behind line typed name before after : List ℕ)
     → (has : HasLine view.style place (side_in who old) bytes behind line (side_in who mid) name) → mid ≡ with_side who old (side_in who mid)
     → Reads view.style place has.frame name (said_in view.style place (side_in who old) has.frame line (side_in who mid) has.reported) mid.numbers sums mid.types types line typed told noted
     → after ≡ before ++ text_of view (mark ++ word view.style.form (told_by mid.marked told)) place mid.requests name typed → new ≡ note noted (with_types types (with_numbers sums mid)) → ListsOneFrame view mark who place old bytes behind before after new
 lists_one view mark who place old mid new told noted sums types bytes behind line typed name before after has same reads grown is =
     let from = side_in who old in
     let to = side_in who mid in
-    let waiting : mid.requests ≡ old.requests = ap (λ (k : Known). k.requests) same ∙ requests_kept who old to in
-    let counted : mid.numbers ≡ old.numbers = ap (λ (k : Known). k.numbers) same ∙ numbers_kept who old to in
-    let typing : mid.types ≡ old.types = ap (λ (k : Known). k.types) same ∙ types_kept who old to in
-    let marking : mid.marked ≡ old.marked = ap (λ (k : Known). k.marked) same ∙ marked_kept who old to in
+    let waiting : mid.requests ≡ old.requests = ap (λ (k : Known). k.requests) same ∙ (kept who old to).requests in
+    let counted : mid.numbers ≡ old.numbers = ap (λ (k : Known). k.numbers) same ∙ (kept who old to).numbers in
+    let typing : mid.types ≡ old.types = ap (λ (k : Known). k.types) same ∙ (kept who old to).types in
+    let marking : mid.marked ≡ old.marked = ap (λ (k : Known). k.marked) same ∙ (kept who old to).marked in
     let stamp = λ (marked : Bool). mark ++ word view.style.form (told_by marked told) in
     let named = name_in view.style place from has.frame line to has.reported in
     let said = said_in view.style place from has.frame line to has.reported in
@@ -114,13 +109,9 @@ other_standby replicating (ServerSide phase) stopped rest e = e
 
 other_note : (who : Sender) (here : Known) (side : Side) (numbers : Option Numbers) (types : Option Types) (n : Noted) (stopped : Bool) (rest : List ℕ) → Ends (side_in (other who) here) stopped rest → Ends (side_in (other who) (note n (with_types types (with_numbers numbers (with_side who here side))))) stopped rest
 other_note Client here side numbers types (Asks kind) stopped rest e = e
-other_note Client here side numbers types (Requests x) stopped rest e = e
-other_note Client here side numbers types Answers stopped rest e = e
-other_note Client here side numbers types Nothing stopped rest e = e
+other_note Client here side numbers types n stopped rest e = e
 other_note Server here side numbers types (Asks kind) stopped rest e = other_kind (as_standby (replicates_in side) here.client) kind stopped rest (other_standby (replicates_in side) here.client stopped rest e)
-other_note Server here side numbers types (Requests x) stopped rest e = other_standby (replicates_in side) here.client stopped rest e
-other_note Server here side numbers types Answers stopped rest e = other_standby (replicates_in side) here.client stopped rest e
-other_note Server here side numbers types Nothing stopped rest e = other_standby (replicates_in side) here.client stopped rest e
+other_note Server here side numbers types n stopped rest e = other_standby (replicates_in side) here.client stopped rest e
 
 -- of the other side as much is awaited as before
 pub other_ends : (view : View) (mark : List ℕ) (who : Sender) (start : ℕ) (from : Known) (bytes lines : List ℕ) (to : Known) (stopped : Bool) (rest : List ℕ) → ListsFrames view mark who start from bytes lines to

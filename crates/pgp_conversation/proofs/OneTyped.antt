@@ -38,10 +38,10 @@ hears_one (RowDescription row) a old x y p q = p.2 ∙ ap (λ c. described a c o
 hears_one (ParameterDescription row) a old x y p q = p.2 ∙ ap (λ c. tells a c old) (parameters_one row p.0 q.0 p.1 q.1) ∙ sym q.2
 hears_one m a old x y p q = p ∙ sym q
 
-pub learns_one : (told : Option Told) (said : Said) (old x y : Option Types) → Learns told said old x → Learns told said old y → x ≡ y
-learns_one (Some (told.Answer n sent now)) (Heard (Ok m)) (Some old) x y p q = p.2 ∙ ap (λ t. Some t) (hears_one m (first n (reached n old).awaited) (reached n old) p.0 q.0 p.1 q.1) ∙ sym q.2
-learns_one (Some told.Lost) said old x y p q = p ∙ sym q
-learns_one (Some (told.Number n)) (Sent (Ok m)) (Some old) x y p q = p ∙ sym q
+pub learns_one : (told : Told) (said : Said) (old x y : Option Types) → Learns told said old x → Learns told said old y → x ≡ y
+learns_one (told.Answer n sent now) (Heard (Ok m)) (Some old) x y p q = p.2 ∙ ap (λ t. Some t) (hears_one m (first n (reached n old).awaited) (reached n old) p.0 q.0 p.1 q.1) ∙ sym q.2
+learns_one told.Lost said old x y p q = p ∙ sym q
+learns_one (told.Number n) (Sent (Ok m)) (Some old) x y p q = p ∙ sym q
 learns_one told said old x y p q = p ∙ sym q
 
 -- ---- what is shown
@@ -103,7 +103,7 @@ module _ (one_text : OneText) where
   sent_one style place len (Bind portal statement formats values results) types old x y p q = bound_one (has_binary types.binds) style place len types.binds portal statement formats values results old x y p q
   sent_one style place len m types old x y p q = p ∙ sym q
 
-  pub shows_one : (style : Style) (place len : ℕ) (told : Option Told) (said : Said) (types : Option Types) (old x y : List ℕ) → ShowsTyped style place len told said types old x → ShowsTyped style place len told said types old y → x ≡ y
-  shows_one style place len (Some (told.Answer n sent now)) (Heard (Ok m)) (Some types) old x y p q = heard_one style place len m (first n types.awaited) types old x y p q
-  shows_one style place len (Some (told.Number n)) (Sent (Ok m)) (Some types) old x y p q = sent_one style place len m types old x y p q
+  pub shows_one : (style : Style) (place len : ℕ) (told : Told) (said : Said) (types : Option Types) (old x y : List ℕ) → ShowsTyped style place len told said types old x → ShowsTyped style place len told said types old y → x ≡ y
+  shows_one style place len (told.Answer n sent now) (Heard (Ok m)) (Some types) old x y p q = heard_one style place len m (first n types.awaited) types old x y p q
+  shows_one style place len (told.Number n) (Sent (Ok m)) (Some types) old x y p q = sent_one style place len m types old x y p q
   shows_one style place len told said types old x y p q = p ∙ sym q

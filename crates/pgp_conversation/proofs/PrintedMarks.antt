@@ -1,6 +1,7 @@
 -- Marks are printable.
-use Rattle.pgp_conversation.proofs.Common.{◌≡◌, ℕ, ◌-◌, Bool, true, false, List, [], ◌∷◌, ◌++◌, length, Option, Some, None, refl, ◌/◌, ◌%◌, nat_lt, if◌then◌else◌, codes, decimal, blanks, list_all, IsPrinted, is_visible, Form, Columns, Json, blank, plain, plain_join, plain_number, Sender, Client, Server, Told, between, last_mark, later, mark, member, members, millis, number, says, since, word}
-use Rattle.pgp_conversation.specs.declared.placement.Told.TheVariants.{Number, Answer, Lost, Nothing}
+use Rattle.pgp_conversation.proofs.Common.{◌≡◌, ℕ, ◌-◌, Bool, true, false, List, [], ◌∷◌, ◌++◌, length, refl, ◌/◌, ◌%◌, nat_lt, if◌then◌else◌, codes, decimal, blanks, list_all, IsPrinted, is_visible, Form, Columns, Json, blank, plain, plain_join, plain_number, Sender, Client, Server, Told, between, last_mark, later, mark, member, members, millis, number, says, since, word}
+use Rattle.pgp_conversation.specs.declared.placement.Told.TheVariants.{Number, Answer, Lost, Nothing, Uncounted}
+use Rattle.pgp_conversation.specs.Marks.{width_of}
 
 abbrev Plain : List ℕ → Type 0
 Plain text = list_all is_visible text ≡ true
@@ -67,6 +68,7 @@ says_plain (Answer n sent now) =
     plain_join (codes "#" ++ decimal n ++ codes " ") (later sent now) (plain_join (codes "#" ++ decimal n) (codes " ") (numbered n) refl) (later_way (nat_lt now sent) (sent - now) (now - sent))
 says_plain Lost = refl
 says_plain Nothing = refl
+says_plain Uncounted = refl
 
 member_plain : (n : ℕ) → Plain (codes "\"request\":" ++ decimal n)
 member_plain n = plain_join (codes "\"request\":") (decimal n) refl (plain_number n)
@@ -81,20 +83,20 @@ members_plain (Answer n sent now) =
     plain_join b (codes ",") pb refl
 members_plain Lost = refl
 members_plain Nothing = refl
+members_plain Uncounted = refl
 
-word_plain : (form : Form) (told : Option Told) → Plain (word form told)
-word_plain form None = refl
-word_plain Columns (Some told) = plain_join (says told) (blanks (16 - length (says told))) (says_plain told) (blank (16 - length (says told)))
-word_plain Json (Some told) = members_plain told
+word_plain : (form : Form) (told : Told) → Plain (word form told)
+word_plain Columns told = plain_join (says told) (blanks (width_of told - length (says told))) (says_plain told) (blank (width_of told - length (says told)))
+word_plain Json told = members_plain told
 
 -- ---- marks
 
-with_word : (form : Form) (m : List ℕ) (told : Option Told) → Plain m → IsPrinted (m ++ word form told)
+with_word : (form : Form) (m : List ℕ) (told : Told) → Plain m → IsPrinted (m ++ word form told)
 with_word form m told a = plain (m ++ word form told) (plain_join m (word form told) a (word_plain form told))
 
-pub mark_printable : (form : Form) (who : Sender) (start micros : ℕ) (told : Option Told) → IsPrinted (mark form who (since start micros) ++ word form told)
+pub mark_printable : (form : Form) (who : Sender) (start micros : ℕ) (told : Told) → IsPrinted (mark form who (since start micros) ++ word form told)
 mark_printable form who start micros told = with_word form (mark form who (since start micros)) told (around form who (since start micros) (since_plain start micros))
 
-pub last_printable : (form : Form) (who : Sender) (told : Option Told) → IsPrinted (last_mark form who ++ word form told)
+pub last_printable : (form : Form) (who : Sender) (told : Told) → IsPrinted (last_mark form who ++ word form told)
 last_printable Columns who told = with_word Columns (mark Columns who []) told (around Columns who [] refl)
 last_printable Json who told = with_word Json (mark Json who (codes "null")) told (around Json who (codes "null") refl)

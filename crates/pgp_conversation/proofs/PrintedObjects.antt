@@ -62,13 +62,13 @@ printed : (form : Form) (m text line : List ℕ) → line ≡ text ++ 10 ∷ [] 
 printed Columns m text line e pm pt = before m text line e pm pt
 printed Json m text line e pm pt = inside m text line e pm pt
 
-pub marked_printable : (style : Style) (place : ℕ) (from to : Side) (frame line : List ℕ) (form : Form) (who : Sender) (start micros : ℕ) (told : Option Told) → LineOf style place from frame line to
+pub marked_printable : (style : Style) (place : ℕ) (from to : Side) (frame line : List ℕ) (form : Form) (who : Sender) (start micros : ℕ) (told : Told) → LineOf style place from frame line to
     → (text : List ℕ) × (marked form (mark form who (since start micros) ++ word form told) line ≡ text ++ 10 ∷ []) × IsPrinted text
 marked_printable style place from to frame line form who start micros told is =
     let one = line_printable style place from to frame line is in
     printed form (mark form who (since start micros) ++ word form told) one.0 line one.1 (mark_printable form who start micros told) one.2
 
-pub typed_printable : (style : Style) (place len : ℕ) (from to : Side) (frame line typed : List ℕ) (said : Said) (types : Option Types) (form : Form) (who : Sender) (start micros : ℕ) (told shown : Option Told) → LineOf style place from frame line to
+pub typed_printable : (style : Style) (place len : ℕ) (from to : Side) (frame line typed : List ℕ) (said : Said) (types : Option Types) (form : Form) (who : Sender) (start micros : ℕ) (told shown : Told) → LineOf style place from frame line to
     → ShowsTyped style place len told said types line typed → (text : List ℕ) × (marked form (mark form who (since start micros) ++ word form shown) typed ≡ text ++ 10 ∷ []) × IsPrinted text
 typed_printable style place len from to frame line typed said types form who start micros told shown is shows =
     let one = typed_printed style place len told said types line typed (line_printable style place from to frame line is) shows in

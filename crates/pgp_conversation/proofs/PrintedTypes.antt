@@ -60,7 +60,7 @@ sent_printed : (style : Style) (place len : ℕ) (m : ClientMessage) (types : Ty
 sent_printed style place len (Bind portal statement formats values results) types old new a s = bound_printed (has_binary types.binds) style place len types.binds portal statement formats values results old new a s
 sent_printed style place len m types old new a s = rw s a
 
-pub typed_printed : (style : Style) (place len : ℕ) (told : Option Told) (said : Said) (types : Option Types) (old new : List ℕ) → IsLine old → ShowsTyped style place len told said types old new → IsLine new
-typed_printed style place len (Some (told.Answer n sent now)) (Heard (Ok m)) (Some types) old new a s = heard_printed style place len m (first n types.awaited) types old new a s
-typed_printed style place len (Some (told.Number n)) (Sent (Ok m)) (Some types) old new a s = sent_printed style place len m types old new a s
+pub typed_printed : (style : Style) (place len : ℕ) (told : Told) (said : Said) (types : Option Types) (old new : List ℕ) → IsLine old → ShowsTyped style place len told said types old new → IsLine new
+typed_printed style place len (told.Answer n sent now) (Heard (Ok m)) (Some types) old new a s = heard_printed style place len m (first n types.awaited) types old new a s
+typed_printed style place len (told.Number n) (Sent (Ok m)) (Some types) old new a s = sent_printed style place len m types old new a s
 typed_printed style place len told said types old new a s = rw s a

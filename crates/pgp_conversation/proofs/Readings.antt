@@ -1,5 +1,7 @@
 -- What a frame is read as, and what holds of that.
-use Rattle.pgp_conversation.proofs.Common.{◌≡◌, ℕ, Bool, true, false, List, [], length, Option, Some, None, Result, Ok, Err, refl, sym, ap, subst, ◌∙◌, arith, IfOk, append-nil, Error, Message, Body, Frame, IsEnding, IsFrame, Step, TakesFrame, frame_bytes, one_body, front_is_one, length-frame, no_ending, ClientMessage, step_of, ClientError, step_one, Style, IsFrameOf, Client, Server, Noted, Told, noted_by, Numbers, role_by, asking_from, summed, Heard, Learns, Said, Sent, ShowsTyped, Unsaid, Passes, Reads, ReadsSo, ShowsRequest, Tells, lost, Types}
+use Rattle.pgp_conversation.proofs.Common.{◌≡◌, ◌≢◌, ℕ, ◌==◌, Bool, true, false, not, get_or, List, [], length, Option, Some, None, Result, Ok, Err, refl, sym, ap, subst, ◌∙◌, arith, IfOk, append-nil, Error, Message, Body, Frame, IsEnding, IsFrame, Step, TakesFrame, frame_bytes, one_body, front_is_one, length-frame, no_ending, ClientMessage, step_of, ClientError, step_one, Style, IsFrameOf, Client, Server, Noted, Told, noted_by, Numbers, role_by, asking_from, summed, Heard, Learns, Said, Sent, ShowsTyped, Unsaid, Passes, Reads, ReadsSo, ShowsRequest, Tells, lost, Types, Authentication, Nothing, asks}
+use Rattle.pgp_message.specs.BackendMessage.{tag_of}
+use Rattle.pgp_conversation.specs.Requests.{notes_nothing}
 use Rattle.pgp_base.specs.declared.error.Error.TheVariants as errors
 use Rattle.pgp_frontend.specs.ClientMessage.{PasswordKind}
 use Rattle.pgp_frontend_read.specs.Step as client
@@ -122,35 +124,17 @@ module _ (P : Said → Type 0) (opened : Bool) (kind : PasswordKind) (frame : Li
 
 -- ---- what isn't read
 
-learns_lost : (told : Option Told) (said : Said) (old new : Option Types) → IsUnread said → new ≡ lost told old → Learns told said old new
-learns_lost None said old new none e = e
-learns_lost (Some told.Lost) said old new none e = e
-learns_lost (Some told.Nothing) said old new none e = e
-learns_lost (Some (told.Number n)) (Heard (Err d)) old new none e = e
-learns_lost (Some (told.Number n)) (Sent (Err d)) old new none e = e
-learns_lost (Some (told.Number n)) Unsaid old new none e = e
-learns_lost (Some (told.Number n)) (Heard (Ok m)) old new none e = absurd none
-learns_lost (Some (told.Number n)) (Sent (Ok m)) old new none e = absurd none
-learns_lost (Some (told.Answer n s t)) (Heard (Err d)) old new none e = e
-learns_lost (Some (told.Answer n s t)) (Sent (Err d)) old new none e = e
-learns_lost (Some (told.Answer n s t)) Unsaid old new none e = e
-learns_lost (Some (told.Answer n s t)) (Heard (Ok m)) old new none e = absurd none
-learns_lost (Some (told.Answer n s t)) (Sent (Ok m)) old new none e = absurd none
+learns_lost : (told : Told) (said : Said) (old new : Option Types) → IsUnread said → new ≡ lost told old → Learns told said old new
+learns_lost (told.Number n) (Sent (Ok m)) old new none e = absurd none
+learns_lost (told.Answer n s t) (Heard (Ok m)) old new none e = absurd none
+learns_lost told said old new none e = e
 
-shows_none : (style : Style) (place len : ℕ) (told : Option Told) (said : Said) (types : Option Types) (line : List ℕ) → IsUnread said → ShowsTyped style place len told said types line line
-shows_none style place len None said types line none = refl
-shows_none style place len (Some told.Lost) said types line none = refl
-shows_none style place len (Some told.Nothing) said types line none = refl
-shows_none style place len (Some (told.Number n)) (Heard r) types line none = refl
-shows_none style place len (Some (told.Number n)) (Sent (Err d)) types line none = refl
-shows_none style place len (Some (told.Number n)) Unsaid types line none = refl
-shows_none style place len (Some (told.Number n)) (Sent (Ok m)) types line none = absurd none
-shows_none style place len (Some (told.Answer n s t)) (Sent r) types line none = refl
-shows_none style place len (Some (told.Answer n s t)) (Heard (Err d)) types line none = refl
-shows_none style place len (Some (told.Answer n s t)) Unsaid types line none = refl
-shows_none style place len (Some (told.Answer n s t)) (Heard (Ok m)) types line none = absurd none
+shows_none : (style : Style) (place len : ℕ) (told : Told) (said : Said) (types : Option Types) (line : List ℕ) → IsUnread said → ShowsTyped style place len told said types line line
+shows_none style place len (told.Number n) (Sent (Ok m)) types line none = absurd none
+shows_none style place len (told.Answer n s t) (Heard (Ok m)) types line none = absurd none
+shows_none style place len told said types line none = refl
 
-pub passed_tells : (frame name : List ℕ) (said : Said) (from to : Option Numbers) (old new : Option Types) (told : Option Told) (noted : Noted) → IsUnread said → asking_from said ≡ None → noted ≡ noted_by said
+pub passed_tells : (frame name : List ℕ) (said : Said) (from to : Option Numbers) (old new : Option Types) (told : Told) (noted : Noted) → IsUnread said → asking_from said ≡ None → noted ≡ noted_by said
     → Passes (role_by frame said) name from to old new told → Tells frame name said from to old new told noted
 passed_tells frame name said from to old new told noted none asks expects p = record {
   numbers = p.numbers;
@@ -160,34 +144,53 @@ passed_tells frame name said from to old new told noted none asks expects p = re
   expects = expects;
 }
 
-pub passed_reads : (style : Style) (place : ℕ) (frame name : List ℕ) (said : Said) (from to : Option Numbers) (old new : Option Types) (line : List ℕ) (told : Option Told) (noted : Noted) → IsUnread said → asking_from said ≡ None → noted ≡ noted_by said
+pub passed_reads : (style : Style) (place : ℕ) (frame name : List ℕ) (said : Said) (from to : Option Numbers) (old new : Option Types) (line : List ℕ) (told : Told) (noted : Noted) → IsUnread said → asking_from said ≡ None → noted ≡ noted_by said
     → Passes (role_by frame said) name from to old new told → Reads style place frame name said from to old new line line told noted
 passed_reads style place frame name said from to old new line told noted none asks expects p = record {
   tells = passed_tells frame name said from to old new told noted none asks expects p;
   shows = shows_none style place (length frame) told said new line none;
 }
 
+-- ---- what isn't looked at
+
+no_truth : false ≡ true → ⊥
+no_truth e = absurd cc
+
+asks_none : (m : Message) → tag_of m ≢ 82 → asks m ≡ Nothing
+asks_none (Authentication request) other = absurd (other refl)
+asks_none m other = refl
+
+silent : (frame : List ℕ) (r : Result Message Error) → IsFrameOf frame r → get_or frame 0 0 ≢ 82 → noted_by (Heard r) ≡ Nothing
+silent frame (Ok m) is other = asks_none m (λ e. other (ap (λ l. get_or l 0 0) is.whole ∙ sym is.body.tagged ∙ e))
+silent frame (Err e) is other = refl
+
+pub unnoted_reads : (style : Style) (place : ℕ) (opened : Bool) (kind : PasswordKind) (frame name : List ℕ) (numbers : Option Numbers) (types : Option Types) (line : List ℕ) → notes_nothing numbers frame ≡ true → (length frame ≡ 1 → ⊥)
+    → (said : Said) → ReadsSo Server opened kind frame said → Reads style place frame name said numbers numbers types types line line told.Uncounted Nothing
+unnoted_reads style place opened kind frame name (Some n) types line plain some said is = absurd (no_truth plain)
+unnoted_reads style place opened kind frame name None types line plain some (Heard r) is = record {
+  tells = record { numbers = None; numbered = refl; sums = refl; learns = refl; expects = sym (silent frame r is (λ e. no_truth (ap (λ n. not (n == 82)) (sym e) ∙ plain))) };
+  shows = refl;
+}
+unnoted_reads style place opened kind frame name None types line plain some Unsaid is = absurd (some is)
+unnoted_reads style place opened kind frame name None types line plain some (Sent r) is = absurd is
+
 -- ---- the line of a request
 
-pub shows_request : (style : Style) (place len n : ℕ) (said : Said) (types : Types) (old new : List ℕ) → ShowsRequest style place len said types old new → ShowsTyped style place len (Some (told.Number n)) said (Some types) old new
+pub shows_request : (style : Style) (place len n : ℕ) (said : Said) (types : Types) (old new : List ℕ) → ShowsRequest style place len said types old new → ShowsTyped style place len (told.Number n) said (Some types) old new
 shows_request style place len n (Sent (Ok m)) types old new s = s
-shows_request style place len n (Sent (Err e)) types old new s = s
-shows_request style place len n (Heard r) types old new s = s
-shows_request style place len n Unsaid types old new s = s
+shows_request style place len n said types old new s = s
 
 -- an answer to a request changes no line of a client's
 pub shows_answer : (style : Style) (place len n sent now : ℕ) (opened : Bool) (kind : PasswordKind) (frame : List ℕ) (types : Option Types) (line : List ℕ) → (said : Said) → ReadsSo Client opened kind frame said
-    → ShowsTyped style place len (Some (told.Answer n sent now)) said types line line
+    → ShowsTyped style place len (told.Answer n sent now) said types line line
 shows_answer style place len n sent now opened kind frame types line (Sent r) is = refl
 shows_answer style place len n sent now opened kind frame types line (Heard r) is = absurd is
 shows_answer style place len n sent now opened kind frame types line Unsaid is = absurd is
 
 -- and no request one of which no types are known
-pub shows_untyped : (style : Style) (place len n : ℕ) (said : Said) (line : List ℕ) → ShowsTyped style place len (Some (told.Number n)) said None line line
+pub shows_untyped : (style : Style) (place len n : ℕ) (said : Said) (line : List ℕ) → ShowsTyped style place len (told.Number n) said None line line
 shows_untyped style place len n (Sent (Ok m)) line = refl
-shows_untyped style place len n (Sent (Err e)) line = refl
-shows_untyped style place len n (Heard r) line = refl
-shows_untyped style place len n Unsaid line = refl
+shows_untyped style place len n said line = refl
 
 -- ---- what a call returns
 

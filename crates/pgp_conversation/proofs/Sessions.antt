@@ -1,7 +1,7 @@
 -- The listing of a recording, a chunk and a piece at a time.
 use Rattle.pgp_conversation.proofs.Common.{◌≡◌, ◌≢◌, ◌⊎◌, ℕ, ◌+◌, ◌-◌, ◌≤◌, Bool, true, false, List, [], ◌∷◌, ◌++◌, length, drop, Option, Result, Ok, Err, refl, sym, ap, subst, ◌∙◌, arith, inl, inr, append_assoc, length-append, IfOk, OnErr, OnOk, Appends, Consumes, IsAtEnd, flat_map, AllByRecursion, Appends-nil, Appends-trans, Consumes-nil, Consumes-trans, Consumes-kept, append-nil, drop-drop, drop-append_seam, flat_map-cons, flat_map-append, Streams, AppendsFront, View, nothing_ends, none_taken, all_taken, more_taken, Client, Server, End, Marking, Known, NoChunkListed, OneChunkListed, Talk, at_first, begins, first_start, last_lines, last_of, left, told_by, ListsAllChunks, ListsPiece, ListsSome, Stays, Tracks, TracksTo, held_first, held_last, summary_in, unnumbered, ending_by, Chunk, EndsBy, IsChunk, IsPartial, Records, beginning, chunk_bytes, complaint_of, magic, Awaits, IsCutShort, HasLines, IsReadTo, IsReady, WasListed, WritesListing, ListsChunkTo, HeldTalk, Keeps, TakesChunk, TakesPart, chunk_of, end_of}
 use Rattle.std.specs.Io.KnownBytes.{Keeps as Same}
-use Rattle.pgp_conversation.specs.Hints.{hint_of}
+use Rattle.pgp_trace.specs.Hints.{hint_of}
 use Rattle.pgp_conversation.specs.declared.chunk.Chunk as code
 use Rattle.pgp_conversation.specs.declared.chunk.Part.TheVariants as part
 use Rattle.pgp_conversation.specs.declared.session.Said.{Said}
@@ -290,14 +290,14 @@ ends_by true false rest s = some_left rest s
 ends_by true true rest s = s
 ends_by false stopped rest s = s
 
-read_to : (opened : Bool) (rest : List ℕ) (input : Option (List ℕ)) → IsAtEnd input → IsReadTo (end_of opened false rest) input
-read_to false rest input end = tt
-read_to true [] input end = end
-read_to true (x ∷ xs) input end = end
+pub read_all : (opened : Bool) (rest : List ℕ) (input : Option (List ℕ)) → IsAtEnd input → IsReadTo (end_of opened false rest) input
+read_all false rest input end = tt
+read_all true [] input end = end
+read_all true (x ∷ xs) input end = end
 
-read_no_more : (opened : Bool) (rest : List ℕ) (input : Option (List ℕ)) → IsReadTo (end_of opened true rest) input
-read_no_more false rest input = tt
-read_no_more true rest input = tt
+pub read_rest : (opened : Bool) (rest : List ℕ) (input : Option (List ℕ)) → IsReadTo (end_of opened true rest) input
+read_rest false rest input = tt
+read_rest true rest input = tt
 
 -- what is kept says how much is left
 last_is : (view : View) (held : HeldTalk) (talk : Talk) → Keeps held talk → held_last view held ≡ last_lines view talk
@@ -311,16 +311,16 @@ last_is view held talk k =
     ∙ ap (λ (known : Known). ending_by view.style (summary_in known.numbers)
     (last_of view (told_by known.marked (unnumbered known.numbers)) Client talk.client.stopped (left talk.client) ++ last_of view (told_by known.marked (unnumbered known.numbers)) Server talk.server.stopped (left talk.server))) k.known
 
-hints_are : (held : HeldTalk) (talk : Talk) → Keeps held talk → (hint_of held.known.client held.client.left ≡ hint_of talk.known.client (left talk.client)) × (hint_of held.known.server held.server.left ≡ hint_of talk.known.server (left talk.server))
+hints_are : (held : HeldTalk) (talk : Talk) → Keeps held talk → (hint_of true held.known.client held.client.left ≡ hint_of true talk.known.client (left talk.client)) × (hint_of true held.known.server held.server.left ≡ hint_of true talk.known.server (left talk.server))
 hints_are held talk k = (
-  ap (λ n. hint_of held.known.client n) k.client.count ∙ ap (λ known. hint_of known.client (left talk.client)) k.known,
-  ap (λ n. hint_of held.known.server n) k.server.count ∙ ap (λ known. hint_of known.server (left talk.server)) k.known,
+  ap (λ n. hint_of true held.known.client n) k.client.count ∙ ap (λ known. hint_of true known.client (left talk.client)) k.known,
+  ap (λ n. hint_of true held.known.server n) k.server.count ∙ ap (λ known. hint_of true known.server (left talk.server)) k.known,
 )
 
 -- the last lines were written
 pub listing_written : (view : View) (marking : Marking) (before after : Streams) (opened stopped : Bool) (held : HeldTalk) (rest client server bytes lines : List ℕ) (end : End) (output : Option (List ℕ)) → Consumes before.input after.input bytes
     → Appends before.output after.output lines → (t : Tracks view marking bytes lines opened held rest) → Stays opened stopped rest → IsReadTo (end_of opened stopped rest) after.input → end ≡ end_of opened stopped rest
-    → client ≡ hint_of held.known.client held.client.left → server ≡ hint_of held.known.server held.server.left → Appends after.output output (held_last view held)
+    → client ≡ hint_of true held.known.client held.client.left → server ≡ hint_of true held.known.server held.server.left → Appends after.output output (held_last view held)
     → WritesListing view marking before (record { input = after.input; output = output }) end (client ++ server ++ complaint_of end)
 listing_written view marking before after opened stopped held rest client server bytes lines end output came written t stays all ended c s last =
     let hints = hints_are held t.talk t.keeps in
@@ -331,7 +331,7 @@ listing_written view marking before after opened stopped held rest client server
       all = subst (λ e. IsReadTo e after.input) (sym ended) all;
       is = record { begun = opened; rest = rest; lines = lines; talk = t.talk; each = t.each; ending = subst (EndsBy opened rest) (sym ended) (ends_by opened stopped rest stays); text = refl };
       written = Appends-trans before.output after.output output lines (last_lines view t.talk) written (subst (Appends after.output output) (last_is view held t.talk t.keeps) last);
-      why = ap (λ l. l ++ server ++ complaint_of end) (c ∙ hints.0) ∙ ap (λ l. hint_of t.talk.known.client (left t.talk.client) ++ l ++ complaint_of end) (s ∙ hints.1);
+      why = ap (λ l. l ++ server ++ complaint_of end) (c ∙ hints.0) ∙ ap (λ l. hint_of true t.talk.known.client (left t.talk.client) ++ l ++ complaint_of end) (s ∙ hints.1);
     }
 
 -- or a front of them
@@ -357,16 +357,10 @@ last_cut view marking before after opened stopped held rest bytes lines output c
 pub none_came : (before now next : Option (List ℕ)) (bytes : List ℕ) → Consumes before now bytes → Consumes now next [] → Consumes before next bytes
 none_came before now next bytes came none = subst (Consumes before next) (append-nil bytes) (Consumes-trans before now next bytes [] came none)
 
-pub read_all : (opened : Bool) (rest : List ℕ) (input : Option (List ℕ)) → IsAtEnd input → IsReadTo (end_of opened false rest) input
-read_all opened rest input end = read_to opened rest input end
-
-pub read_rest : (opened : Bool) (rest : List ℕ) (input : Option (List ℕ)) → IsReadTo (end_of opened true rest) input
-read_rest opened rest input = read_no_more opened rest input
-
 module _ {E : Type 0} where
   pub last_listed : (r : Result Said E) (view : View) (marking : Marking) (before : Streams) (next middle output : Option (List ℕ)) (opened stopped : Bool) (held : HeldTalk) (rest bytes lines : List ℕ) → Consumes before.input next bytes
       → Appends before.output middle lines → Tracks view marking bytes lines opened held rest → Stays opened stopped rest → IsReadTo (end_of opened stopped rest) next
-      → IfOk r (λ said. said.end ≡ end_of opened stopped rest) → IfOk r (λ said. said.client.now ≡ hint_of held.known.client held.client.left) → IfOk r (λ said. said.server.now ≡ hint_of held.known.server held.server.left)
+      → IfOk r (λ said. said.end ≡ end_of opened stopped rest) → IfOk r (λ said. said.client.now ≡ hint_of true held.known.client held.client.left) → IfOk r (λ said. said.server.now ≡ hint_of true held.known.server held.server.left)
       → OnOk r (Appends middle output (held_last view held))
       → IfOk r (λ said. WritesListing view marking before (record { input = next; output = output }) said.end (said.client.now ++ said.server.now ++ complaint_of said.end))
   last_listed (Err e) view marking before next middle output opened stopped held rest bytes lines came written t stays all ended client server last = tt

@@ -93,19 +93,16 @@ time_kept micros (Some n) = refl
 
 told_kept : (r : Role) (n : Option Numbers) → is_summed (told_in r n).1 ≡ is_summed n
 told_kept r None = refl
-told_kept (role.Request q) (Some n) = refl
-told_kept (role.Message kind) (Some n) = refl
 told_kept role.Fault (Some n) = refl
-told_kept role.Other (Some n) = refl
+told_kept r (Some n) = refl
 
 so_kept : (told : Told) (asking : Option Asking) (name : List ℕ) (o : Option State) → is_some (summed_so told asking name o) ≡ is_some o
 so_kept told asking name None = refl
 so_kept told asking name (Some s) = refl
 
-sum_kept : (told : Option Told) (asking : Option Asking) (name : List ℕ) (n : Option Numbers) → is_summed (summed told asking name n) ≡ is_summed n
+sum_kept : (told : Told) (asking : Option Asking) (name : List ℕ) (n : Option Numbers) → is_summed (summed told asking name n) ≡ is_summed n
 sum_kept told asking name None = refl
-sum_kept None asking name (Some n) = refl
-sum_kept (Some told) asking name (Some n) = so_kept told asking name n.summary
+sum_kept told asking name (Some n) = so_kept told asking name n.summary
 
 frame_kept : (view : View) (m : List ℕ) (who : Sender) (place : ℕ) (here to : Known) (frame text : List ℕ) → ListsFrame view m who place here frame text to → is_summed to.numbers ≡ is_summed here.numbers
 frame_kept view m who place here to frame text l =
@@ -114,7 +111,7 @@ frame_kept view m who place here to frame text l =
     let name = name_in view.style place from frame l.line l.after l.reported in
     let sum = summed l.told asking name l.numbers in
     ap (λ (k : Known). is_summed k.numbers) l.behind ∙ ap is_summed (note_kept (noted_in view.style place from frame l.line l.after l.reported) (with_types l.types (with_numbers sum (with_side who here l.after))))
-    ∙ sum_kept l.told asking name l.numbers ∙ ap (λ (x : Option Told × Option Numbers). is_summed x.1) (sym l.numbered) ∙ told_kept (role_in view.style place from frame l.line l.after l.reported) here.numbers
+    ∙ sum_kept l.told asking name l.numbers ∙ ap (λ (x : Told × Option Numbers). is_summed x.1) (sym l.numbered) ∙ told_kept (role_in view.style place from frame l.line l.after l.reported) here.numbers
 
 frames_kept : (view : View) (m : List ℕ) (who : Sender) (place : ℕ) (from : Known) (bytes lines : List ℕ) (to : Known) → ListsFrames view m who place from bytes lines to → is_summed to.numbers ≡ is_summed from.numbers
 frames_kept view m who place from [] [] _ NoFrames = refl

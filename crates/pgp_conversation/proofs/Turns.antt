@@ -44,10 +44,9 @@ none_came true summed = refl
 none_came false summed = tt
 
 -- a summary leaves the dialogue as it is
-pub sum_came : (told : Option Told) (asking : Option Asking) (name : List ℕ) (n : Option Numbers) (turns : List Turn) → Come n turns → Come (summed told asking name n) turns
+pub sum_came : (told : Told) (asking : Option Asking) (name : List ℕ) (n : Option Numbers) (turns : List Turn) → Come n turns → Come (summed told asking name n) turns
 sum_came told asking name None turns c = tt
-sum_came None asking name (Some n) turns c = c
-sum_came (Some told) asking name (Some n) turns c = c
+sum_came told asking name (Some n) turns c = c
 
 pub time_came : (micros : ℕ) (n : Option Numbers) (turns : List Turn) → Come n turns → Come (at_time micros n) turns
 time_came micros None turns c = tt
@@ -67,9 +66,9 @@ told_more sent now summary o turns role.Fault c = tt
 told_more sent now summary None turns role.Other c = tt
 told_more sent now summary (Some d) turns role.Other c = subst (λ l. FollowsTo start l d) (sym (append-nil turns)) c
 
-pub frame_came : (r : Role) (here : Option Numbers) (told : Option Told) (numbers : Option Numbers) (turns : List Turn) → told_in r here ≡ (told, numbers) → Come here turns → Come numbers (turns ++ turns_at r here)
-frame_came r None told numbers turns e c = subst (λ n. Come n (turns ++ [])) (ap (λ (x : Option Told × Option Numbers). x.1) e) tt
-frame_came r (Some n) told numbers turns e c = subst (λ m. Come m (turns ++ turn_of r n)) (ap (λ (x : Option Told × Option Numbers). x.1) e) (told_more n.sent n.now n.summary n.dialogue turns r c)
+pub frame_came : (r : Role) (here : Option Numbers) (told : Told) (numbers : Option Numbers) (turns : List Turn) → told_in r here ≡ (told, numbers) → Come here turns → Come numbers (turns ++ turns_at r here)
+frame_came r None told numbers turns e c = subst (λ n. Come n (turns ++ [])) (ap (λ (x : Told × Option Numbers). x.1) e) tt
+frame_came r (Some n) told numbers turns e c = subst (λ m. Come m (turns ++ turn_of r n)) (ap (λ (x : Told × Option Numbers). x.1) e) (told_more n.sent n.now n.summary n.dialogue turns r c)
 
 -- ---- the end
 
@@ -141,9 +140,7 @@ goes_on t to (Hears k e ∷ turns) some f =
 
 pub note_kept : (n : Noted) (known : Known) → (note n known).numbers ≡ known.numbers
 note_kept (noted.Asks kind) known = refl
-note_kept (noted.Requests x) known = refl
-note_kept noted.Answers known = refl
-note_kept noted.Nothing known = refl
+note_kept n known = refl
 
 frames_come : (view : View) (m : List ℕ) (who : Sender) (place : ℕ) (from : Known) (bytes lines : List ℕ) (to : Known) (l : ListsFrames view m who place from bytes lines to) (turns : List Turn)
     → Come from.numbers turns → Come to.numbers (turns ++ turns_of view m who place from bytes lines to l)

@@ -1,5 +1,6 @@
 -- Messages that differ in their secrets alone tell the same of types, and have the same lines.
-use Rattle.pgp_conversation.proofs.Common.{◌≡◌, ℕ, List, Option, Some, None, Ok, Err, refl, ap, subst, ◌∙◌, Authentication, AuthenticationGssContinue, AuthenticationMd5Password, AuthenticationSaslContinue, AuthenticationSaslFinal, BackendKeyData, Message, ClientMessage, CancelRequest, PasswordMessage, SaslInitialResponse, SaslResponse, Style, AlikeAnswers, AlikeMessages, Alike, AlikeResults, Told, Heard, Hears, Learns, Said, Sent, ShowsHeard, ShowsSent, ShowsTyped, Unsaid, sends, Awaited, Types, first, reached}
+use Rattle.pgp_conversation.proofs.Common.{◌≡◌, ℕ, List, Option, Some, None, Ok, Err, refl, ap, ◌∙◌, Error, Message, ClientMessage, ClientError, Style, AlikeAnswers, AlikeMessages, Alike, AlikeResults, Told, Heard, Hears, Learns, Said, Sent, ShowsHeard, ShowsSent, ShowsTyped, Unsaid, sends, Types, first, reached}
+use Rattle.pgp_trace.proofs.AlikeCases.{answers_alike, heard_alike, results_alike, sent_alike}
 use Rattle.pgp_conversation.specs.declared.placement.Told.TheVariants as told
 
 -- frames are read as things that differ in their secrets alone
@@ -9,153 +10,60 @@ AlikeSaid (Sent r) (Sent s) = AlikeAnswers r s
 AlikeSaid Unsaid Unsaid = Unit {0}
 AlikeSaid x y = ⊥
 
--- ---- requests
+-- what holds of messages that are alike, of an error and of an answer of one byte holds of all such
+module _ (P : Said → Said → Type 0) (heard : (m k : Message) → Alike m k → P (Heard (Ok m)) (Heard (Ok k))) (sent : (x y : ClientMessage) → AlikeMessages x y → P (Sent (Ok x)) (Sent (Ok y)))
+    (faults : (e : Error) → P (Heard (Err e)) (Heard (Err e))) (refusals : (e : ClientError) → P (Sent (Err e)) (Sent (Err e))) (none : P Unsaid Unsaid) where
+  pub said_alike : (x y : Said) → AlikeSaid x y → P x y
+  said_alike (Heard r) (Heard s) e = results_alike (λ r s. P (Heard r) (Heard s)) heard faults r s e
+  said_alike (Sent r) (Sent s) e = answers_alike (λ r s. P (Sent r) (Sent s)) sent refusals r s e
+  said_alike Unsaid Unsaid e = none
+  said_alike (Heard r) (Sent s) e = absurd e
+  said_alike (Heard r) Unsaid e = absurd e
+  said_alike (Sent r) (Heard s) e = absurd e
+  said_alike (Sent r) Unsaid e = absurd e
+  said_alike Unsaid (Heard s) e = absurd e
+  said_alike Unsaid (Sent s) e = absurd e
 
--- what is changed by the one is changed by the other, and what is shown of the one is shown of the other
-record SameSent (x y : ClientMessage) : Type 0 where
-  changes : (n : ℕ) (t : Types) → sends n x t ≡ sends n y t
-  shows : (style : Style) (place len : ℕ) (types : Types) (old new : List ℕ) → ShowsSent style place len x types old new → ShowsSent style place len y types old new
+-- ---- what is known of types
 
-same_sent : (x y : ClientMessage) → x ≡ y → SameSent x y
-same_sent x y e = record { changes = λ n t. ap (λ m. sends n m t) e; shows = λ style place len types old new s. subst (λ m. ShowsSent style place len m types old new) e s }
+abbrev LearnsToo : Told → Said → Said → Type 0
+LearnsToo told x y = (old new : Option Types) → Learns told x old new → Learns told y old new
 
-password_sent : (a : List ℕ) (y : ClientMessage) → AlikeMessages (PasswordMessage a) y → SameSent (PasswordMessage a) y
-password_sent a (PasswordMessage b) e = record { changes = λ n t. refl; shows = λ style place len types old new s. s }
-password_sent a y e = same_sent (PasswordMessage a) y e
+sent_learns : (n : ℕ) (x y : ClientMessage) → AlikeMessages x y → (old new : Option Types) → Learns (told.Number n) (Sent (Ok x)) old new → Learns (told.Number n) (Sent (Ok y)) old new
+sent_learns n x y e (Some old) new l = l ∙ ap (λ t. Some t) (sent_alike (λ x y. sends n x old ≡ sends n y old) (λ m. refl) (λ a b e. refl) (λ m a b e. refl) (λ a b e. refl) (λ p a b e. refl) x y e)
+sent_learns n x y e None new l = l
 
-initial_sent : (m a : List ℕ) (y : ClientMessage) → AlikeMessages (SaslInitialResponse m (Some a)) y → SameSent (SaslInitialResponse m (Some a)) y
-initial_sent m a (SaslInitialResponse k (Some b)) e = record { changes = λ n t. refl; shows = λ style place len types old new s. s }
-initial_sent m a y e = same_sent (SaslInitialResponse m (Some a)) y e
+heard_learns : (n sent now : ℕ) (m k : Message) → Alike m k → (old new : Option Types) → Learns (told.Answer n sent now) (Heard (Ok m)) old new → Learns (told.Answer n sent now) (Heard (Ok k)) old new
+heard_learns n sent now m k e (Some old) new l =
+    let here = reached n old in
+    (l.0, heard_alike (λ m k. Hears m (first n here.awaited) here l.0 → Hears k (first n here.awaited) here l.0) (λ m s. s) (λ a b e s. s) (λ a b e s. s) (λ a b e s. s) (λ a b e s. s) (λ a b e s. s) m k e l.1, l.2)
+heard_learns n sent now m k e None new l = l
 
-response_sent : (a : List ℕ) (y : ClientMessage) → AlikeMessages (SaslResponse a) y → SameSent (SaslResponse a) y
-response_sent a (SaslResponse b) e = record { changes = λ n t. refl; shows = λ style place len types old new s. s }
-response_sent a y e = same_sent (SaslResponse a) y e
+pub learns_alike : (told : Told) (x y : Said) → AlikeSaid x y → (old new : Option Types) → Learns told x old new → Learns told y old new
+learns_alike told.Uncounted x y e old new l = l
+learns_alike told.Lost x y e old new l = l
+learns_alike told.Nothing x y e old new l = l
+learns_alike (told.Number n) x y e old new l = said_alike (LearnsToo (told.Number n)) (λ m k e old new l. l) (sent_learns n) (λ e old new l. l) (λ e old new l. l) (λ old new l. l) x y e old new l
+learns_alike (told.Answer n sent now) x y e old new l = said_alike (LearnsToo (told.Answer n sent now)) (heard_learns n sent now) (λ x y e old new l. l) (λ e old new l. l) (λ e old new l. l) (λ old new l. l) x y e old new l
 
-cancel_sent : (p : _) (a : List ℕ) (y : ClientMessage) → AlikeMessages (CancelRequest p a) y → SameSent (CancelRequest p a) y
-cancel_sent p a (CancelRequest q b) e = record { changes = λ n t. refl; shows = λ style place len types old new s. s }
-cancel_sent p a y e = same_sent (CancelRequest p a) y e
-
-sent_alike : (x y : ClientMessage) → AlikeMessages x y → SameSent x y
-sent_alike (PasswordMessage a) y e = password_sent a y e
-sent_alike (SaslInitialResponse m (Some a)) y e = initial_sent m a y e
-sent_alike (SaslResponse a) y e = response_sent a y e
-sent_alike (CancelRequest p a) y e = cancel_sent p a y e
-sent_alike x y e = same_sent x y e
-
--- ---- answers
-
--- what is told by the one is told by the other, and what is shown of the one is shown of the other
-record SameTold (m k : Message) : Type 0 where
-  hears : (a : Option Awaited) (old new : Types) → Hears m a old new → Hears k a old new
-  shows : (style : Style) (place len : ℕ) (a : Option Awaited) (types : Types) (old new : List ℕ) → ShowsHeard style place len m a types old new → ShowsHeard style place len k a types old new
-
-same_told : (m k : Message) → m ≡ k → SameTold m k
-same_told m k e = record {
-  hears = λ a old new h. subst (λ x. Hears x a old new) e h;
-  shows = λ style place len a types old new s. subst (λ x. ShowsHeard style place len x a types old new) e s;
-}
-
-md5_told : (x : _) (k : Message) → Alike (Authentication (AuthenticationMd5Password x)) k → SameTold (Authentication (AuthenticationMd5Password x)) k
-md5_told x (Authentication (AuthenticationMd5Password y)) e = record { hears = λ a old new h. h; shows = λ style place len a types old new s. s }
-md5_told x k e = same_told (Authentication (AuthenticationMd5Password x)) k e
-
-gss_told : (x : _) (k : Message) → Alike (Authentication (AuthenticationGssContinue x)) k → SameTold (Authentication (AuthenticationGssContinue x)) k
-gss_told x (Authentication (AuthenticationGssContinue y)) e = record { hears = λ a old new h. h; shows = λ style place len a types old new s. s }
-gss_told x k e = same_told (Authentication (AuthenticationGssContinue x)) k e
-
-sasl_told : (x : _) (k : Message) → Alike (Authentication (AuthenticationSaslContinue x)) k → SameTold (Authentication (AuthenticationSaslContinue x)) k
-sasl_told x (Authentication (AuthenticationSaslContinue y)) e = record { hears = λ a old new h. h; shows = λ style place len a types old new s. s }
-sasl_told x k e = same_told (Authentication (AuthenticationSaslContinue x)) k e
-
-final_told : (x : _) (k : Message) → Alike (Authentication (AuthenticationSaslFinal x)) k → SameTold (Authentication (AuthenticationSaslFinal x)) k
-final_told x (Authentication (AuthenticationSaslFinal y)) e = record { hears = λ a old new h. h; shows = λ style place len a types old new s. s }
-final_told x k e = same_told (Authentication (AuthenticationSaslFinal x)) k e
-
-key_told : (x : _) (k : Message) → Alike (BackendKeyData x) k → SameTold (BackendKeyData x) k
-key_told x (BackendKeyData y) e = record { hears = λ a old new h. h; shows = λ style place len a types old new s. s }
-key_told x k e = same_told (BackendKeyData x) k e
-
-told_alike : (m k : Message) → Alike m k → SameTold m k
-told_alike (Authentication (AuthenticationMd5Password x)) k e = md5_told x k e
-told_alike (Authentication (AuthenticationGssContinue x)) k e = gss_told x k e
-told_alike (Authentication (AuthenticationSaslContinue x)) k e = sasl_told x k e
-told_alike (Authentication (AuthenticationSaslFinal x)) k e = final_told x k e
-told_alike (BackendKeyData x) k e = key_told x k e
-told_alike m k e = same_told m k e
-
--- ---- frames
-
-number_alike : (n : ℕ) (x y : Said) → AlikeSaid x y → (old new : Option Types) → Learns (Some (told.Number n)) x old new → Learns (Some (told.Number n)) y old new
-number_alike n (Sent (Ok x)) (Sent (Ok y)) e (Some old) new l = l ∙ ap (λ t. Some t) ((sent_alike x y e).changes n old)
-number_alike n (Sent (Ok x)) (Sent (Ok y)) e None new l = l
-number_alike n (Sent (Err d)) (Sent (Err f)) e old new l = l
-number_alike n (Sent (Ok x)) (Sent (Err f)) e old new l = absurd e
-number_alike n (Sent (Err d)) (Sent (Ok y)) e old new l = absurd e
-number_alike n (Sent r) (Heard s) e old new l = absurd e
-number_alike n (Sent r) Unsaid e old new l = absurd e
-number_alike n (Heard r) (Heard s) e old new l = l
-number_alike n (Heard r) (Sent s) e old new l = absurd e
-number_alike n (Heard r) Unsaid e old new l = absurd e
-number_alike n Unsaid Unsaid e old new l = l
-number_alike n Unsaid (Heard s) e old new l = absurd e
-number_alike n Unsaid (Sent s) e old new l = absurd e
-
-answer_alike : (n sent now : ℕ) (x y : Said) → AlikeSaid x y → (old new : Option Types) → Learns (Some (told.Answer n sent now)) x old new → Learns (Some (told.Answer n sent now)) y old new
-answer_alike n sent now (Heard (Ok m)) (Heard (Ok k)) e (Some old) new l = (l.0, (told_alike m k e).hears (first n (reached n old).awaited) (reached n old) l.0 l.1, l.2)
-answer_alike n sent now (Heard (Ok m)) (Heard (Ok k)) e None new l = l
-answer_alike n sent now (Heard (Err d)) (Heard (Err f)) e old new l = l
-answer_alike n sent now (Heard (Ok m)) (Heard (Err f)) e old new l = absurd e
-answer_alike n sent now (Heard (Err d)) (Heard (Ok k)) e old new l = absurd e
-answer_alike n sent now (Heard r) (Sent s) e old new l = absurd e
-answer_alike n sent now (Heard r) Unsaid e old new l = absurd e
-answer_alike n sent now (Sent r) (Sent s) e old new l = l
-answer_alike n sent now (Sent r) (Heard s) e old new l = absurd e
-answer_alike n sent now (Sent r) Unsaid e old new l = absurd e
-answer_alike n sent now Unsaid Unsaid e old new l = l
-answer_alike n sent now Unsaid (Heard s) e old new l = absurd e
-answer_alike n sent now Unsaid (Sent s) e old new l = absurd e
-
-pub learns_alike : (told : Option Told) (x y : Said) → AlikeSaid x y → (old new : Option Types) → Learns told x old new → Learns told y old new
-learns_alike None x y e old new l = l
-learns_alike (Some told.Lost) x y e old new l = l
-learns_alike (Some told.Nothing) x y e old new l = l
-learns_alike (Some (told.Number n)) x y e old new l = number_alike n x y e old new l
-learns_alike (Some (told.Answer n sent now)) x y e old new l = answer_alike n sent now x y e old new l
+-- ---- what is shown
 
 module _ (style : Style) (place len : ℕ) where
-  answer_shown : (n sent now : ℕ) (x y : Said) → AlikeSaid x y → (types : Option Types) (old new : List ℕ) → ShowsTyped style place len (Some (told.Answer n sent now)) x types old new → ShowsTyped style place len (Some (told.Answer n sent now)) y types old new
-  answer_shown n sent now (Heard (Ok m)) (Heard (Ok k)) e (Some types) old new l = (told_alike m k e).shows style place len (first n types.awaited) types old new l
-  answer_shown n sent now (Heard (Ok m)) (Heard (Ok k)) e None old new l = l
-  answer_shown n sent now (Heard (Err d)) (Heard (Err f)) e types old new l = l
-  answer_shown n sent now (Heard (Ok m)) (Heard (Err f)) e types old new l = absurd e
-  answer_shown n sent now (Heard (Err d)) (Heard (Ok k)) e types old new l = absurd e
-  answer_shown n sent now (Heard r) (Sent s) e types old new l = absurd e
-  answer_shown n sent now (Heard r) Unsaid e types old new l = absurd e
-  answer_shown n sent now (Sent r) (Sent s) e types old new l = l
-  answer_shown n sent now (Sent r) (Heard s) e types old new l = absurd e
-  answer_shown n sent now (Sent r) Unsaid e types old new l = absurd e
-  answer_shown n sent now Unsaid Unsaid e types old new l = l
-  answer_shown n sent now Unsaid (Heard s) e types old new l = absurd e
-  answer_shown n sent now Unsaid (Sent s) e types old new l = absurd e
+  abbrev ShowsToo : Told → Said → Said → Type 0
+  ShowsToo told x y = (types : Option Types) (old new : List ℕ) → ShowsTyped style place len told x types old new → ShowsTyped style place len told y types old new
 
-  number_shown : (n : ℕ) (x y : Said) → AlikeSaid x y → (types : Option Types) (old new : List ℕ) → ShowsTyped style place len (Some (told.Number n)) x types old new → ShowsTyped style place len (Some (told.Number n)) y types old new
-  number_shown n (Sent (Ok x)) (Sent (Ok y)) e (Some types) old new l = (sent_alike x y e).shows style place len types old new l
-  number_shown n (Sent (Ok x)) (Sent (Ok y)) e None old new l = l
-  number_shown n (Sent (Err d)) (Sent (Err f)) e types old new l = l
-  number_shown n (Sent (Ok x)) (Sent (Err f)) e types old new l = absurd e
-  number_shown n (Sent (Err d)) (Sent (Ok y)) e types old new l = absurd e
-  number_shown n (Sent r) (Heard s) e types old new l = absurd e
-  number_shown n (Sent r) Unsaid e types old new l = absurd e
-  number_shown n (Heard r) (Heard s) e types old new l = l
-  number_shown n (Heard r) (Sent s) e types old new l = absurd e
-  number_shown n (Heard r) Unsaid e types old new l = absurd e
-  number_shown n Unsaid Unsaid e types old new l = l
-  number_shown n Unsaid (Heard s) e types old new l = absurd e
-  number_shown n Unsaid (Sent s) e types old new l = absurd e
+  heard_shown : (n sent now : ℕ) (m k : Message) → Alike m k → (types : Option Types) (old new : List ℕ) → ShowsTyped style place len (told.Answer n sent now) (Heard (Ok m)) types old new → ShowsTyped style place len (told.Answer n sent now) (Heard (Ok k)) types old new
+  heard_shown n sent now m k e (Some types) old new l =
+      heard_alike (λ m k. ShowsHeard style place len m (first n types.awaited) types old new → ShowsHeard style place len k (first n types.awaited) types old new) (λ m s. s) (λ a b e s. s) (λ a b e s. s) (λ a b e s. s) (λ a b e s. s) (λ a b e s. s) m k e l
+  heard_shown n sent now m k e None old new l = l
 
-  pub shows_alike : (told : Option Told) (x y : Said) → AlikeSaid x y → (types : Option Types) (old new : List ℕ) → ShowsTyped style place len told x types old new → ShowsTyped style place len told y types old new
-  shows_alike None x y e types old new l = l
-  shows_alike (Some told.Lost) x y e types old new l = l
-  shows_alike (Some told.Nothing) x y e types old new l = l
-  shows_alike (Some (told.Number n)) x y e types old new l = number_shown n x y e types old new l
-  shows_alike (Some (told.Answer n sent now)) x y e types old new l = answer_shown n sent now x y e types old new l
+  sent_shown : (n : ℕ) (x y : ClientMessage) → AlikeMessages x y → (types : Option Types) (old new : List ℕ) → ShowsTyped style place len (told.Number n) (Sent (Ok x)) types old new → ShowsTyped style place len (told.Number n) (Sent (Ok y)) types old new
+  sent_shown n x y e (Some types) old new l = sent_alike (λ x y. ShowsSent style place len x types old new → ShowsSent style place len y types old new) (λ m s. s) (λ a b e s. s) (λ m a b e s. s) (λ a b e s. s) (λ p a b e s. s) x y e l
+  sent_shown n x y e None old new l = l
+
+  pub shows_alike : (told : Told) (x y : Said) → AlikeSaid x y → (types : Option Types) (old new : List ℕ) → ShowsTyped style place len told x types old new → ShowsTyped style place len told y types old new
+  shows_alike told.Uncounted x y e types old new l = l
+  shows_alike told.Lost x y e types old new l = l
+  shows_alike told.Nothing x y e types old new l = l
+  shows_alike (told.Number n) x y e types old new l = said_alike (ShowsToo (told.Number n)) (λ m k e types old new l. l) (sent_shown n) (λ e types old new l. l) (λ e types old new l. l) (λ types old new l. l) x y e types old new l
+  shows_alike (told.Answer n sent now) x y e types old new l = said_alike (ShowsToo (told.Answer n sent now)) (heard_shown n sent now) (λ x y e types old new l. l) (λ e types old new l. l) (λ e types old new l. l) (λ types old new l. l) x y e types old new l

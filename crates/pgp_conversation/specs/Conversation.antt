@@ -23,6 +23,7 @@ use Rattle.pgp_conversation.specs.declared.expectation.Noted.{Noted}
 use Rattle.pgp_conversation.specs.declared.expectation.Noted.TheVariants.{Asks, Requests, Answers, Nothing}
 use Rattle.pgp_conversation.specs.Recording.{Chunk}
 use Rattle.pgp_conversation.specs.declared.placement.Told.{Told}
+use Rattle.pgp_conversation.specs.declared.placement.Told.TheVariants.{Uncounted}
 use Rattle.pgp_conversation.specs.Marks.{last_mark, mark, marked, since, word}
 use Rattle.pgp_conversation.specs.Requests.{Numbers, at_time, first_numbers, role_in, summary_in, told_in, unnumbered}
 use Rattle.pgp_conversation.specs.Summing.{asking_in, summed}
@@ -166,15 +167,15 @@ abbrev pub text_of : View → (mark : List ℕ) (place : ℕ) → List Encryptio
 text_of view mark place waiting name line = shown view (called waiting name) (marked view.style.form mark (relined view.style place waiting name line))
 
 -- what a mark says of requests, where it tells their numbers
-abbrev pub told_by : (marked : Bool) → Option Told → Option Told
-told_by marked told = if marked then told else None
+abbrev pub told_by : (marked : Bool) → Told → Told
+told_by marked told = if marked then told else Uncounted
 
 -- A frame that this side sent has the line that a listing of that side has, with values as texts where their types are known, with the mark, and with what
 -- that says of requests where it tells their numbers; and what is known after it.
 pub record ListsFrame (view : View) (mark : List ℕ) (sender : Sender) (place : ℕ) (here : Known) (frame text : List ℕ) (to : Known) : Type 0 where
   pub line : List ℕ
   pub after : Side
-  pub told : Option Told
+  pub told : Told
   pub numbers : Option Numbers
   pub types : Option Types
   pub typed : List ℕ
@@ -249,7 +250,7 @@ pub data ListsChunks (view : View) (from : Talk) : List Chunk → List ℕ → T
 -- ---- what is left
 
 -- the last line of a side, where so many bytes of it are left, with a mark that says this of requests
-abbrev pub last_of : View → Option Told → Sender → (stopped : Bool) → ℕ → List ℕ
+abbrev pub last_of : View → Told → Sender → (stopped : Bool) → ℕ → List ℕ
 last_of view told sender stopped n = if n == 0 then [] else marked view.style.form (last_mark view.style.form sender ++ word view.style.form told) (last_line view stopped n)
 
 abbrev pub left : Half → ℕ

@@ -10,7 +10,6 @@ pub mod Typed
 pub mod TypedLines
 pub mod Conversation
 pub mod Steps
-pub mod Hints
 pub mod Session
 pub mod Secrets
 pub mod Order

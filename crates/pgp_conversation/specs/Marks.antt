@@ -1,12 +1,12 @@
 -- The mark of a line: when its message was whole, who sent it, and which request it is or belongs to.
-use Rattle.std.specs.Prelude.{ℕ, ◌-◌, ◌/◌, ◌%◌, nat_lt, ◌==◌, if◌then◌else◌, List, [], ◌∷◌, ◌++◌, length, Option, None, Some, codes, decimal}
+use Rattle.std.specs.Prelude.{ℕ, ◌-◌, ◌/◌, ◌%◌, nat_lt, ◌==◌, if◌then◌else◌, List, [], ◌∷◌, ◌++◌, length, codes, decimal}
 use Rattle.pgp_line.specs.Line.{blanks}
 use Rattle.pgp_line.specs.declared.style.Form.{Form}
 use Rattle.pgp_line.specs.declared.style.Form.TheVariants.{Columns, Json}
 use Rattle.pgp_conversation.specs.declared.chunk.Sender.{Sender}
 use Rattle.pgp_conversation.specs.declared.chunk.Sender.TheVariants.{Client, Server}
 use Rattle.pgp_conversation.specs.declared.placement.Told.{Told}
-use Rattle.pgp_conversation.specs.declared.placement.Told.TheVariants.{Number, Answer, Lost, Nothing}
+use Rattle.pgp_conversation.specs.declared.placement.Told.TheVariants.{Number, Answer, Lost, Nothing, Uncounted}
 use Rattle.pgp_conversation.specs.Recording.{arrow}
 
 -- so many microseconds as seconds, with six digits after the point
@@ -50,10 +50,15 @@ says (Number number) = codes "#" ++ decimal number
 says (Answer number sent now) = codes "#" ++ decimal number ++ codes " " ++ later sent now
 says Lost = codes "#?"
 says Nothing = []
+says Uncounted = []
 
--- with blanks after it, up to 16 characters
-abbrev pub padded : List ℕ → List ℕ
-padded text = text ++ blanks (16 - length text)
+-- up to how many characters blanks stand after it: none where requests aren't numbered
+abbrev pub width_of : Told → ℕ
+width_of Uncounted = 0
+width_of told = 16
+
+abbrev pub padded : (width : ℕ) → List ℕ → List ℕ
+padded width text = text ++ blanks (width - length text)
 
 -- the same as members of an object, the time in seconds
 abbrev pub members : Told → List ℕ
@@ -61,15 +66,12 @@ members (Number number) = codes "\"request\":" ++ decimal number ++ codes ","
 members (Answer number sent now) = codes "\"request\":" ++ decimal number ++ codes ",\"after\":" ++ since sent now ++ codes ","
 members Lost = codes "\"request\":\"?\","
 members Nothing = []
+members Uncounted = []
 
-abbrev pub stamped : Form → Told → List ℕ
-stamped Columns told = padded (says told)
-stamped Json told = members told
-
--- what stands in a mark, where requests are numbered
-abbrev pub word : Form → Option Told → List ℕ
-word form None = []
-word form (Some told) = stamped form told
+-- what stands in a mark
+abbrev pub word : Form → Told → List ℕ
+word Columns told = padded (width_of told) (says told)
+word Json told = members told
 
 -- ---- lines
 

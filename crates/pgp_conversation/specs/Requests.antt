@@ -1,5 +1,5 @@
 -- The client's requests, and to which of them each message of the server belongs.
-use Rattle.std.specs.Prelude.{ℕ, ◌+◌, ◌-◌, Bool, if◌then◌else◌, List, [], ◌∷◌, ◌++◌, length, get_or, Option, None, Some, Result, Ok, Err}
+use Rattle.std.specs.Prelude.{ℕ, ◌+◌, ◌-◌, ◌==◌, Bool, false, not, if◌then◌else◌, List, [], ◌∷◌, ◌++◌, length, get_or, Option, None, Some, Result, Ok, Err}
 use Rattle.pgp_base.specs.declared.error.Error.{Error}
 use Rattle.pgp_message.specs.BackendMessage.{Message}
 use Rattle.pgp_frontend.specs.ClientMessage.{ClientMessage}
@@ -131,15 +131,17 @@ tell (role.Message kind) n = (told_of n.sent n.now (place kind n.dialogue).0, wi
 tell role.Fault n = (told.Lost, with_dialogue None n)
 tell role.Other n = (told.Nothing, n)
 
-abbrev pub both : Told × Numbers → Option Told × Option Numbers
-both x = (Some x.0, Some x.1)
+-- the same, where requests are numbered or not
+abbrev pub told_in : Role → Option Numbers → Told × Option Numbers
+told_in r None = (told.Uncounted, None)
+told_in r (Some n) = ((tell r n).0, Some (tell r n).1)
 
--- the same, where requests are numbered
-abbrev pub told_in : Role → Option Numbers → Option Told × Option Numbers
-told_in r None = (None, None)
-told_in r (Some n) = both (tell r n)
+-- Whether nothing is noted of a server's frame: requests aren't counted, and no message of its tag asks for one of tag `p`.
+abbrev pub notes_nothing : Option Numbers → (frame : List ℕ) → Bool
+notes_nothing None frame = not (get_or frame 0 0 == 82)  -- R
+notes_nothing (Some n) frame = false
 
 -- what the mark of a last line says, which is no message's
-abbrev pub unnumbered : Option Numbers → Option Told
-unnumbered None = None
-unnumbered (Some n) = Some told.Nothing
+abbrev pub unnumbered : Option Numbers → Told
+unnumbered None = told.Uncounted
+unnumbered (Some n) = told.Nothing

@@ -5,7 +5,7 @@ use Rattle.pgp_program.specs.Run.{Streams}
 use Rattle.pgp_program.specs.Taken.{AppendsFront}
 use Rattle.pgp_program.specs.declared.fault.Fault.{Fault}
 use Rattle.pgp_program.specs.declared.fault.Fault.TheVariants.{Read}
-use Rattle.pgp_conversation.specs.Hints.{hint_of}
+use Rattle.pgp_trace.specs.Hints.{hint_of}
 use Rattle.pgp_trace.specs.View.{View}
 use Rattle.pgp_conversation.specs.declared.ending.End.{End}
 use Rattle.pgp_conversation.specs.declared.ending.End.TheVariants.{Whole, Cut, NoChunk, NoRecording}
@@ -36,7 +36,7 @@ pub record IsListing (view : View) (marking : Marking) (bytes : List ℕ) (end :
 
 -- what is said on standard error: why bytes of a side may be left, and how the recording ends
 abbrev pub said_of : Talk → End → List ℕ
-said_of talk end = hint_of talk.known.client (left talk.client) ++ hint_of talk.known.server (left talk.server) ++ complaint_of end
+said_of talk end = hint_of true talk.known.client (left talk.client) ++ hint_of true talk.known.server (left talk.server) ++ complaint_of end
 
 -- nothing more is read where no chunk comes any more
 abbrev pub IsReadTo : End → Option (List ℕ) → Type 0

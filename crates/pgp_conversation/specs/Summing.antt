@@ -11,7 +11,7 @@ use Rattle.pgp_summary.specs.declared.work.Reply.TheVariants.{ParseComplete, Bin
 use Rattle.pgp_trace.specs.Listing.{LineOf}
 use Rattle.pgp_trace.specs.Sides.{Side}
 use Rattle.pgp_conversation.specs.declared.placement.Told.{Told}
-use Rattle.pgp_conversation.specs.declared.placement.Told.TheVariants.{Number, Answer, Lost, Nothing}
+use Rattle.pgp_conversation.specs.declared.placement.Told.TheVariants.{Number, Answer, Lost, Nothing, Uncounted}
 use Rattle.pgp_conversation.specs.Requests.{Numbers}
 use Rattle.pgp_conversation.specs.Typed.{Said, Sent, said_in}
 
@@ -79,6 +79,7 @@ takes_note (Number number) asking name s = asks_for asking number s
 takes_note (Answer number sent now) asking name s = answers_so name number (now - sent) s
 takes_note Lost asking name s = s
 takes_note Nothing asking name s = s
+takes_note Uncounted asking name s = s
 
 abbrev pub summed_so : Told → Option Asking → (name : List ℕ) → Option State → Option State
 summed_so told asking name None = None
@@ -87,7 +88,6 @@ summed_so told asking name (Some s) = Some (takes_note told asking name s)
 abbrev pub with_summary : Option State → Numbers → Numbers
 with_summary summary n = record { dialogue = n.dialogue; sent = n.sent; now = n.now; summary = summary }
 
-abbrev pub summed : Option Told → Option Asking → (name : List ℕ) → Option Numbers → Option Numbers
+abbrev pub summed : Told → Option Asking → (name : List ℕ) → Option Numbers → Option Numbers
 summed told asking name None = None
-summed None asking name (Some n) = Some n
-summed (Some told) asking name (Some n) = Some (with_summary (summed_so told asking name n.summary) n)
+summed told asking name (Some n) = Some (with_summary (summed_so told asking name n.summary) n)

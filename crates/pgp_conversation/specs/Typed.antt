@@ -130,10 +130,10 @@ HearsAt n m old new = Hears m (first n (reached n old).awaited) (reached n old) 
 -- ---- a frame
 
 -- what a frame changes, by what is told of requests: nothing is known of types from the first message on that has no place
-abbrev pub Learns : Option Told → Said → (old new : Option Types) → Type 0
-Learns (Some told.Lost) said old new = new ≡ None
-Learns (Some (told.Number n)) (Sent (Ok m)) (Some old) new = new ≡ Some (sends n m old)
-Learns (Some (told.Answer n sent now)) (Heard (Ok m)) (Some old) new = (types : Types) × HearsAt n m old types × (new ≡ Some types)
+abbrev pub Learns : Told → Said → (old new : Option Types) → Type 0
+Learns told.Lost said old new = new ≡ None
+Learns (told.Number n) (Sent (Ok m)) (Some old) new = new ≡ Some (sends n m old)
+Learns (told.Answer n sent now) (Heard (Ok m)) (Some old) new = (types : Types) × HearsAt n m old types × (new ≡ Some types)
 Learns told said old new = new ≡ old
 
 -- ---- lines
@@ -221,7 +221,7 @@ ShowsSent style place len (Bind portal statement formats values results) types o
 ShowsSent style place len m types old new = new ≡ old
 
 -- the line of a frame, where so much is known after it
-abbrev pub ShowsTyped : Style → (place len : ℕ) → Option Told → Said → Option Types → (old new : List ℕ) → Type 0
-ShowsTyped style place len (Some (told.Answer n sent now)) (Heard (Ok m)) (Some types) old new = ShowsHeard style place len m (first n types.awaited) types old new
-ShowsTyped style place len (Some (told.Number n)) (Sent (Ok m)) (Some types) old new = ShowsSent style place len m types old new
+abbrev pub ShowsTyped : Style → (place len : ℕ) → Told → Said → Option Types → (old new : List ℕ) → Type 0
+ShowsTyped style place len (told.Answer n sent now) (Heard (Ok m)) (Some types) old new = ShowsHeard style place len m (first n types.awaited) types old new
+ShowsTyped style place len (told.Number n) (Sent (Ok m)) (Some types) old new = ShowsSent style place len m types old new
 ShowsTyped style place len told said types old new = new ≡ old

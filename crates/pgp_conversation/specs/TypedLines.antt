@@ -49,7 +49,7 @@ ReadsSo Client opened kind frame Unsaid = ⊥
 
 -- what is taken note of a frame that has this name and is read so: what its mark says of requests, what is then known of them and of types, and what the frame
 -- says of messages to come
-pub record Tells (frame name : List ℕ) (said : Said) (from to : Option Numbers) (old new : Option Types) (told : Option Told) (noted : Noted) : Type 0 where
+pub record Tells (frame name : List ℕ) (said : Said) (from to : Option Numbers) (old new : Option Types) (told : Told) (noted : Noted) : Type 0 where
   pub numbers : Option Numbers
   pub numbered : told_in (role_by frame said) from ≡ (told, numbers)
   pub sums : to ≡ summed told (asking_from said) name numbers
@@ -57,17 +57,17 @@ pub record Tells (frame name : List ℕ) (said : Said) (from to : Option Numbers
   pub expects : noted ≡ noted_by said
 
 -- and its line with that
-pub record Reads (style : Style) (place : ℕ) (frame name : List ℕ) (said : Said) (from to : Option Numbers) (old new : Option Types) (line typed : List ℕ) (told : Option Told) (noted : Noted) : Type 0 where
+pub record Reads (style : Style) (place : ℕ) (frame name : List ℕ) (said : Said) (from to : Option Numbers) (old new : Option Types) (line typed : List ℕ) (told : Told) (noted : Noted) : Type 0 where
   pub tells : Tells frame name said from to old new told noted
   pub shows : ShowsTyped style place (length frame) told said new line typed
 
 -- what is known of types where this is told of what isn't read
-abbrev pub lost : Option Told → Option Types → Option Types
-lost (Some told.Lost) old = None
+abbrev pub lost : Told → Option Types → Option Types
+lost told.Lost old = None
 lost told old = old
 
 -- of what isn't read nothing is known but what it is to the requests
-pub record Passes (role : Role) (name : List ℕ) (from to : Option Numbers) (old new : Option Types) (told : Option Told) : Type 0 where
+pub record Passes (role : Role) (name : List ℕ) (from to : Option Numbers) (old new : Option Types) (told : Told) : Type 0 where
   pub numbers : Option Numbers
   pub numbered : told_in role from ≡ (told, numbers)
   pub sums : to ≡ summed told None name numbers

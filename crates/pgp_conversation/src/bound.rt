@@ -35,7 +35,7 @@ pub fn show_sent<A: MapMemory>(
     place: u64,
     opened: bool,
     kind: PasswordKind,
-    told: Option<Told>,
+    told: Told,
     frame: &[u8],
     types: &Option<Types<A>>,
     text: &mut BytesMut<A>,
@@ -45,32 +45,11 @@ pub fn show_sent<A: MapMemory>(
     ensures lacks { OnErr result A.Lacks }
 {
     match told {
-        Some(told) => show_told(style, place, opened, kind, told, frame, types, text, line),
-        None => Ok(()),
-    }
-}
-
-/// The same where its mark says this.
-fn show_told<A: MapMemory>(
-    style: Style,
-    place: u64,
-    opened: bool,
-    kind: PasswordKind,
-    told: Told,
-    frame: &[u8],
-    types: &Option<Types<A>>,
-    text: &mut BytesMut<A>,
-    line: &mut String<A>,
-) -> Result<(), AllocError>
-    ensures shows { OnOk result ((said : Said) → ReadsSo Sender.Client opened (kind_view kind) frame.now said → ShowsTyped style place (length frame.now) (Some told) said (types_in types.now) (string_bytes line.old) (string_bytes line.new)) }
-    ensures lacks { OnErr result A.Lacks }
-{
-    match told {
         Told::Number(_) => match types {
             Some(types) => show_frame(style, place, opened, kind, frame, types, text, line),
             None => Ok(()),
         },
-        Told::Answer { .. } | Told::Lost | Told::Nothing => Ok(()),
+        Told::Answer { .. } | Told::Lost | Told::Nothing | Told::Uncounted => Ok(()),
     }
 }
 

@@ -46,7 +46,7 @@ pub fn read_sent<A: MapMemory>(
     types: &mut Option<Types<A>>,
     text: &mut BytesMut<A>,
     line: &mut String<A>,
-) -> Result<(Option<Told>, Noted), AllocError>
+) -> Result<(Told, Noted), AllocError>
     ensures read { IfOk result (λ x. (said : Said) → ReadsSo Sender.Client opened (kind_view kind) frame.now said → Reads style place frame.now name.now said
         (numbers_in numbers.old) (numbers_in numbers.new) (types_in types.old) (types_in types.new) (string_bytes line.old) (string_bytes line.new) x.0 x.1) }
     ensures lacks { OnErr result A.Lacks }
@@ -64,7 +64,7 @@ fn ask_frame<A: MapMemory>(
     frame: &[u8],
     numbers: &mut Option<Numbers<A>>,
     types: &mut Option<Types<A>>,
-) -> Result<(Option<Told>, Noted), AllocError>
+) -> Result<(Told, Noted), AllocError>
     ensures tells { IfOk result (λ x. (said : Said) → ReadsSo Sender.Client opened (kind_view kind) frame.now said → Tells frame.now name.now said
         (numbers_in numbers.old) (numbers_in numbers.new) (types_in types.old) (types_in types.new) x.0 x.1) }
     ensures lacks { OnErr result A.Lacks }
@@ -72,7 +72,7 @@ fn ask_frame<A: MapMemory>(
     let mut messages = ClientMessages::resume(frame, opened);
     match messages.next(kind) {
         Ok(Some(message)) => ask_message(name, frame, message, numbers, types),
-        Ok(None) => Ok((None, Noted::Nothing)),
+        Ok(None) => Ok((Told::Uncounted, Noted::Nothing)),
         Err(_) => {
             let told = pass(sent_fault(frame), name, numbers, types)?;
             Ok((told, Noted::Nothing))
@@ -87,7 +87,7 @@ fn ask_message<A: MapMemory>(
     message: ClientMessage<'_>,
     numbers: &mut Option<Numbers<A>>,
     types: &mut Option<Types<A>>,
-) -> Result<(Option<Told>, Noted), AllocError>
+) -> Result<(Told, Noted), AllocError>
     ensures tells { IfOk result (λ x. Tells frame.now name.now (Sent (Ok (view message.entry)))
         (numbers_in numbers.old) (numbers_in numbers.new) (types_in types.old) (types_in types.new) x.0 x.1) }
     ensures lacks { OnErr result A.Lacks }
@@ -101,26 +101,11 @@ fn ask_message<A: MapMemory>(
 
 /// Takes note of what a message tells of types.
 fn learn<A: MapMemory>(
-    told: Option<Told>,
-    message: ClientMessage<'_>,
-    types: &mut Option<Types<A>>,
-) -> Result<(), AllocError>
-    ensures learns { OnOk result (Learns told (Sent (Ok (view message.entry))) (types_in types.old) (types_in types.new)) }
-    ensures lacks { OnErr result A.Lacks }
-{
-    match told {
-        Some(told) => learn_told(told, message, types),
-        None => Ok(()),
-    }
-}
-
-/// The same where its mark says this.
-fn learn_told<A: MapMemory>(
     told: Told,
     message: ClientMessage<'_>,
     types: &mut Option<Types<A>>,
 ) -> Result<(), AllocError>
-    ensures learns { OnOk result (Learns (Some told) (Sent (Ok (view message.entry))) (types_in types.old) (types_in types.new)) }
+    ensures learns { OnOk result (Learns told (Sent (Ok (view message.entry))) (types_in types.old) (types_in types.new)) }
     ensures lacks { OnErr result A.Lacks }
 {
     match told {
@@ -132,7 +117,7 @@ fn learn_told<A: MapMemory>(
             *types = None;
             Ok(())
         }
-        Told::Answer { .. } | Told::Nothing => Ok(()),
+        Told::Answer { .. } | Told::Nothing | Told::Uncounted => Ok(()),
     }
 }
 

@@ -48,25 +48,42 @@ pub fn found<'a, A: MapMemory>(name: &[u8], shelf: &'a Names<Columns<A>, A>) -> 
 ///
 /// # Errors
 ///
-/// Returns `AllocError` if there is no memory for them.
+/// Returns `AllocError` if there is no memory for the name.
 pub fn keep<A: MapMemory>(
     name: &[u8],
-    columns: Option<&[Column]>,
+    columns: Option<Vec<Column, A>>,
     shelf: &mut Names<Columns<A>, A>,
 ) -> Result<(), AllocError>
-    ensures kept { OnOk result (shelf.new ≡ kept name.now (option_map (λ columns. columns.now) columns.entry) shelf.old) }
+    ensures kept { OnOk result (shelf.new ≡ kept name.now (option_map (λ list. list.items) columns) shelf.old) }
     ensures lacks { OnErr result A.Lacks }
 {
     match columns {
-        Some(columns) => {
-            let alloc = *shelf.allocator();
-            let list = alloc.list_of(columns)?;
-            shelf.put(name, Columns { list })
-        }
+        Some(list) => shelf.put(name, Columns { list }),
         None => {
             shelf.forget(name);
             Ok(())
         }
+    }
+}
+
+/// The same columns once more.
+///
+/// # Errors
+///
+/// Returns `AllocError` if there is no memory for them.
+pub fn again<A: MapMemory>(
+    columns: &Option<Vec<Column, A>>,
+) -> Result<Option<Vec<Column, A>>, AllocError>
+    ensures same { IfOk result (λ copy. option_map (λ list. list.items) copy ≡ option_map (λ list. list.items) columns.now) }
+    ensures lacks { OnErr result A.Lacks }
+{
+    match columns {
+        Some(list) => {
+            let alloc = *list.allocator();
+            let copy = alloc.list_of(list.as_slice())?;
+            Ok(Some(copy))
+        }
+        None => Ok(None),
     }
 }
 

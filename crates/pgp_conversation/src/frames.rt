@@ -12,12 +12,13 @@ use crate::line_mark::put_marked;
 use crate::placement::{Told, told_by};
 use crate::request_mark::put_stamp;
 use crate::state::{Known, next_line, note};
-use crate::typed::{expected, read_frame};
+use crate::typed::read_frame;
 use bytes::BytesMut;
 use pgp_base::Memory;
 use pgp_line::line::{put_called, put_end};
 use pgp_line::style::Style;
 use pgp_names::MapMemory;
+use pgp_trace::client::expected;
 use pgp_trace::frame::{Next, begin_line, front_of};
 use pgp_trace::view::{View, add_shown};
 use std::alloc::AllocError;
@@ -142,7 +143,7 @@ fn list_line<A: MapMemory>(
     view: View<'_>,
     place: u64,
     name: &str,
-    told: Option<Told>,
+    told: Told,
     requests: &[Encryption],
     texts: &mut Texts<A>,
 ) -> Result<(), AllocError>

@@ -58,13 +58,9 @@ fn add_both<A: MapMemory>(
 }
 
 /// Adds the last line of a side, if bytes are left of it, with a mark that says this of requests.
-///
-/// # Errors
-///
-/// Returns `AllocError` if there is no memory for it.
 fn add_last<A: MapMemory>(
     view: View<'_>,
-    told: Option<Told>,
+    told: Told,
     sender: Sender,
     half: &Half<A>,
     texts: &mut Texts<A>,

@@ -56,12 +56,12 @@ pub fn numbers_say_where_messages_belong()
 /// A mark has characters alone that a terminal prints, whatever it says of requests, and so has a line with its mark, as text or as an object, with values
 /// as texts or without, before its newline.
 pub fn marked_lines_are_printable()
-    ensures lines { (style : Style) (place : ℕ) (from to : Side) (frame line : List ℕ) (form : Form) (who : Sender) (start micros : ℕ) (told : Option Told) → LineOf style place from frame line to →
+    ensures lines { (style : Style) (place : ℕ) (from to : Side) (frame line : List ℕ) (form : Form) (who : Sender) (start micros : ℕ) (told : Told) → LineOf style place from frame line to →
         (text : List ℕ) × (marked form (mark form who (since start micros) ++ word form told) line ≡ text ++ 10 ∷ []) × IsPrinted text }
-    ensures typed { (style : Style) (place len : ℕ) (from to : Side) (frame line typed : List ℕ) (said : Said) (types : Option Types) (form : Form) (who : Sender) (start micros : ℕ) (told shown : Option Told) → LineOf style place from frame line to →
+    ensures typed { (style : Style) (place len : ℕ) (from to : Side) (frame line typed : List ℕ) (said : Said) (types : Option Types) (form : Form) (who : Sender) (start micros : ℕ) (told shown : Told) → LineOf style place from frame line to →
         ShowsTyped style place len told said types line typed → (text : List ℕ) × (marked form (mark form who (since start micros) ++ word form shown) typed ≡ text ++ 10 ∷ []) × IsPrinted text }
-    ensures marks { (form : Form) (who : Sender) (start micros : ℕ) (told : Option Told) → IsPrinted (mark form who (since start micros) ++ word form told) }
-    ensures last { (form : Form) (who : Sender) (told : Option Told) → IsPrinted (last_mark form who ++ word form told) }
+    ensures marks { (form : Form) (who : Sender) (start micros : ℕ) (told : Told) → IsPrinted (mark form who (since start micros) ++ word form told) }
+    ensures last { (form : Form) (who : Sender) (told : Told) → IsPrinted (last_mark form who ++ word form told) }
 {}
 
 /// Where a summary is asked for, nothing but its table is written.

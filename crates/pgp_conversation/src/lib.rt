@@ -13,7 +13,6 @@ pub mod ending;
 pub mod expectation;
 pub mod fields;
 pub mod frames;
-pub mod hint;
 pub mod last;
 pub mod laws;
 pub mod line_mark;

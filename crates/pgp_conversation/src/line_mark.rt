@@ -1,12 +1,11 @@
 //! The mark before a line: when its message was whole, and who sent it.
 
 ghost use Rattle.std.specs.Prelude.{◌≡◌, ◌++◌, OnErr, OnOk, string_bytes};
-ghost use Rattle.pgp_line.specs.Line.{blanks};
 ghost use Rattle.pgp_conversation.specs.Marks.{between, last_mark, mark, marked, member, number, since};
 
 use crate::chunk::Sender;
 use pgp_base::Memory;
-use pgp_line::line::add_line;
+use pgp_line::line::{add_line, put_blanks};
 use pgp_line::style::Form;
 use pgp_names::MapMemory;
 use std::alloc::AllocError;
@@ -139,21 +138,6 @@ fn member_of(sender: Sender) -> &'static str
         Sender::Client => ",\"from\":\"client\",",
         Sender::Server => ",\"from\":\"server\",",
     }
-}
-
-/// Adds so many blanks.
-///
-/// # Errors
-///
-/// Returns `AllocError` if there is no memory for them.
-pub fn put_blanks<A: MapMemory>(len: usize, text: &mut String<A>) -> Result<(), AllocError>
-    ensures text { OnOk result (string_bytes text.new ≡ string_bytes text.old ++ blanks len) }
-    ensures lacks { OnErr result A.Lacks }
-{
-    for _ in 0..len {
-        A::push_char(text, ' ')?;
-    }
-    Ok(())
 }
 
 /// Writes a line with a mark: before it, or as the first members of its object.

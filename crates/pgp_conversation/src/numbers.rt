@@ -72,12 +72,12 @@ pub fn set_time<A: MapMemory>(micros: u64, numbers: &mut Option<Numbers<A>>)
 }
 
 /// What the mark of a line says of requests that is no message's: nothing, where requests are numbered.
-pub fn unnumbered<A: MapMemory>(numbers: &Option<Numbers<A>>) -> Option<Told>
+pub fn unnumbered<A: MapMemory>(numbers: &Option<Numbers<A>>) -> Told
     ensures { result ≡ unnumbered (numbers_in numbers.now) }
 {
     match numbers {
-        Some(_) => Some(Told::Nothing),
-        None => None,
+        Some(_) => Told::Nothing,
+        None => Told::Uncounted,
     }
 }
 
@@ -96,19 +96,13 @@ pub fn summary_of<A: MapMemory>(numbers: &Option<Numbers<A>>) -> Option<&Summary
 /// # Errors
 ///
 /// Returns `AllocError` if there is no memory for one more request.
-pub fn tell<A: MapMemory>(
-    role: Role,
-    numbers: &mut Option<Numbers<A>>,
-) -> Result<Option<Told>, AllocError>
+pub fn tell<A: MapMemory>(role: Role, numbers: &mut Option<Numbers<A>>) -> Result<Told, AllocError>
     ensures told { IfOk result (λ told. told_in role (numbers_in numbers.old) ≡ (told, numbers_in numbers.new)) }
     ensures lacks { OnErr result A.Lacks }
 {
     match numbers {
-        Some(numbers) => {
-            let told = tell_one(role, numbers)?;
-            Ok(Some(told))
-        }
-        None => Ok(None),
+        Some(numbers) => tell_one(role, numbers),
+        None => Ok(Told::Uncounted),
     }
 }
 

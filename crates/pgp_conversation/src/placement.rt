@@ -14,11 +14,13 @@ pub enum Told {
     Lost,
     /// Its message belongs to no request.
     Nothing,
+    /// Requests aren't numbered.
+    Uncounted,
 }
 
 /// What a mark says, where it tells the numbers of requests or not.
-pub fn told_by(marked: bool, told: Option<Told>) -> Option<Told>
+pub fn told_by(marked: bool, told: Told) -> Told
     ensures { result ≡ told_by marked told }
 {
-    if marked { told } else { None }
+    if marked { told } else { Told::Uncounted }
 }

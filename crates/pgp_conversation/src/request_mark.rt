@@ -1,17 +1,25 @@
 //! What a mark says of requests, in words.
 
 ghost use Rattle.std.specs.Prelude.{◌≡◌, ◌++◌, OnErr, OnOk, string_bytes};
-ghost use Rattle.pgp_conversation.specs.Marks.{later, members, millis, padded, says, stamped, word};
+ghost use Rattle.pgp_conversation.specs.Marks.{later, members, millis, padded, says, width_of, word};
 
-use crate::line_mark::{put_blanks, put_since};
+use crate::line_mark::put_since;
 use crate::placement::Told;
 use pgp_base::Memory;
+use pgp_line::line::put_blanks;
 use pgp_line::style::Form;
 use pgp_names::MapMemory;
 use std::alloc::AllocError;
 
 /// How many characters a word takes.
-const WIDTH: usize = 16;
+fn width_of(told: Told) -> usize
+    ensures { result ≡ width_of told }
+{
+    match told {
+        Told::Uncounted => 0,
+        _ => 16,
+    }
+}
 
 /// Writes a mark with what it says of requests behind it.
 ///
@@ -21,7 +29,7 @@ const WIDTH: usize = 16;
 pub fn put_stamp<A: MapMemory>(
     form: Form,
     mark: &str,
-    told: Option<Told>,
+    told: Told,
     part: &mut String<A>,
     text: &mut String<A>,
 ) -> Result<(), AllocError>
@@ -33,48 +41,37 @@ pub fn put_stamp<A: MapMemory>(
     put_word(form, told, part, text)
 }
 
-/// Adds what a mark says of requests, where they are numbered.
+/// Adds what a mark says of requests.
 pub fn put_word<A: MapMemory>(
     form: Form,
-    told: Option<Told>,
+    told: Told,
     part: &mut String<A>,
     text: &mut String<A>,
 ) -> Result<(), AllocError>
     ensures text { OnOk result (string_bytes text.new ≡ string_bytes text.old ++ word form told) }
     ensures lacks { OnErr result A.Lacks }
 {
-    match told {
-        Some(told) => put_told(form, told, part, text),
-        None => Ok(()),
-    }
-}
-
-fn put_told<A: MapMemory>(
-    form: Form,
-    told: Told,
-    part: &mut String<A>,
-    text: &mut String<A>,
-) -> Result<(), AllocError>
-    ensures text { OnOk result (string_bytes text.new ≡ string_bytes text.old ++ stamped form told) }
-    ensures lacks { OnErr result A.Lacks }
-{
     match form {
         Form::Columns => {
             part.clear();
             put_says(told, part)?;
-            put_padded(part.as_str(), text)
+            put_padded(width_of(told), part.as_str(), text)
         }
         Form::Json => put_members(told, text),
     }
 }
 
 /// Adds a text, and blanks up to the width.
-fn put_padded<A: MapMemory>(said: &str, text: &mut String<A>) -> Result<(), AllocError>
-    ensures text { OnOk result (string_bytes text.new ≡ string_bytes text.old ++ padded said.now) }
+fn put_padded<A: MapMemory>(
+    width: usize,
+    said: &str,
+    text: &mut String<A>,
+) -> Result<(), AllocError>
+    ensures text { OnOk result (string_bytes text.new ≡ string_bytes text.old ++ padded width said.now) }
     ensures lacks { OnErr result A.Lacks }
 {
     A::push_str(text, said)?;
-    put_blanks(WIDTH.saturating_sub(said.len()), text)
+    put_blanks(width.saturating_sub(said.len()), text)
 }
 
 /// Adds it as text.
@@ -89,7 +86,7 @@ fn put_says<A: MapMemory>(told: Told, text: &mut String<A>) -> Result<(), AllocE
             put_later(sent, now, text)
         }
         Told::Lost => A::push_str(text, "#?"),
-        Told::Nothing => Ok(()),
+        Told::Nothing | Told::Uncounted => Ok(()),
     }
 }
 
@@ -106,7 +103,7 @@ fn put_members<A: MapMemory>(told: Told, text: &mut String<A>) -> Result<(), All
             A::push_str(text, ",")
         }
         Told::Lost => A::push_str(text, "\"request\":\"?\","),
-        Told::Nothing => Ok(()),
+        Told::Nothing | Told::Uncounted => Ok(()),
     }
 }
 

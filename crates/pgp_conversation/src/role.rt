@@ -47,7 +47,7 @@ pub fn heard_fault(frame: &[u8]) -> Role
 }
 
 /// The byte at this place, or 0.
-fn byte_at(bytes: &[u8], place: usize) -> u8
+pub fn byte_at(bytes: &[u8], place: usize) -> u8
     ensures { result ≡ get_or bytes.now place 0 }
 {
     match bytes.get(place) {

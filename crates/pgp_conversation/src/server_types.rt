@@ -1,9 +1,10 @@
 //! What a server's messages tell of types, and the lines of its rows.
 
-ghost use Rattle.std.specs.Prelude.{Bool, Ok, Some, IfOk, OnErr, OnOk, string_bytes};
+ghost use Rattle.std.specs.Prelude.{◌≡◌, Bool, Ok, Some, IfOk, OnErr, OnOk, string_bytes};
 ghost use Rattle.pgp_frontend.specs.ClientMessage.{PasswordKind};
 ghost use Rattle.pgp_message.specs.BackendMessage.{ParameterDescription, RowDescription};
 ghost use Rattle.pgp_message.specs.Views.{view};
+ghost use Rattle.pgp_conversation.specs.Requests.{notes_nothing};
 ghost use Rattle.pgp_conversation.specs.Steps.{numbers_in};
 ghost use Rattle.pgp_conversation.specs.Typed.{Heard, Hears, HearsAt, Learns, Said, ShowsHeard, ShowsTyped};
 ghost use Rattle.pgp_conversation.specs.TypedLines.{Reads, ReadsSo};
@@ -15,7 +16,7 @@ use crate::expectation::{Noted, asked_by};
 use crate::fields::{columns_of, described_types};
 use crate::numbers::{Numbers, tell as tell_numbers};
 use crate::placement::Told;
-use crate::role::{Role, heard_fault};
+use crate::role::{Role, byte_at, heard_fault};
 use crate::row::type_row;
 use crate::summing::sum_frame;
 use crate::typed::pass;
@@ -43,7 +44,7 @@ pub fn read_heard<A: MapMemory>(
     types: &mut Option<Types<A>>,
     text: &mut BytesMut<A>,
     line: &mut String<A>,
-) -> Result<(Option<Told>, Noted), AllocError>
+) -> Result<(Told, Noted), AllocError>
     ensures read { IfOk result (λ x. (opened : Bool) (kind : PasswordKind) (said : Said) → ReadsSo Sender.Server opened kind frame.now said → Reads style place frame.now name.now said
         (numbers_in numbers.old) (numbers_in numbers.new) (types_in types.old) (types_in types.new) (string_bytes line.old) (string_bytes line.new) x.0 x.1) }
     ensures lacks { OnErr result A.Lacks }
@@ -51,6 +52,10 @@ pub fn read_heard<A: MapMemory>(
     if frame.len() == 1 {
         let told = pass(Role::Other, name, numbers, types)?;
         return Ok((told, Noted::Answers));
+    }
+    // perf: with `--raw` alone no frame is read twice but for the requests of a log-in
+    if notes_nothing(numbers, frame) {
+        return Ok((Told::Uncounted, Noted::Nothing));
     }
     let mut messages = Messages::new(frame);
     match messages.next() {
@@ -61,11 +66,21 @@ pub fn read_heard<A: MapMemory>(
             drop(message);
             heard
         }
-        Ok(None) => Ok((None, Noted::Nothing)),
+        Ok(None) => Ok((Told::Uncounted, Noted::Nothing)),
         Err(_) => {
             let told = pass(heard_fault(frame), name, numbers, types)?;
             Ok((told, Noted::Nothing))
         }
+    }
+}
+
+/// Whether nothing is noted of a frame.
+fn notes_nothing<A: MapMemory>(numbers: &Option<Numbers<A>>, frame: &[u8]) -> bool
+    ensures { result ≡ notes_nothing (numbers_in numbers.now) frame.now }
+{
+    match numbers {
+        Some(_) => false,
+        None => byte_at(frame, 0) != b'R',
     }
 }
 
@@ -80,7 +95,7 @@ fn read_message<A: MapMemory>(
     types: &mut Option<Types<A>>,
     text: &mut BytesMut<A>,
     line: &mut String<A>,
-) -> Result<(Option<Told>, Noted), AllocError>
+) -> Result<(Told, Noted), AllocError>
     ensures read { IfOk result (λ x. Reads style place frame.now name.now (Heard (Ok (view message.now)))
         (numbers_in numbers.old) (numbers_in numbers.new) (types_in types.old) (types_in types.new) (string_bytes line.old) (string_bytes line.new) x.0 x.1) }
     ensures lacks { OnErr result A.Lacks }
@@ -96,7 +111,7 @@ fn type_message<A: MapMemory>(
     style: Style,
     place: u64,
     len: usize,
-    told: Option<Told>,
+    told: Told,
     message: &Message<&[u8]>,
     types: &mut Option<Types<A>>,
     text: &mut BytesMut<A>,
@@ -104,27 +119,6 @@ fn type_message<A: MapMemory>(
 ) -> Result<(), AllocError>
     ensures learns { OnOk result (Learns told (Heard (Ok (view message.now))) (types_in types.old) (types_in types.new)) }
     ensures shows { OnOk result (ShowsTyped style place len told (Heard (Ok (view message.now))) (types_in types.new) (string_bytes line.old) (string_bytes line.new)) }
-    ensures lacks { OnErr result A.Lacks }
-{
-    match told {
-        Some(told) => type_told(style, place, len, told, message, types, text, line),
-        None => Ok(()),
-    }
-}
-
-/// The same where its mark says this.
-fn type_told<A: MapMemory>(
-    style: Style,
-    place: u64,
-    len: usize,
-    told: Told,
-    message: &Message<&[u8]>,
-    types: &mut Option<Types<A>>,
-    text: &mut BytesMut<A>,
-    line: &mut String<A>,
-) -> Result<(), AllocError>
-    ensures learns { OnOk result (Learns (Some told) (Heard (Ok (view message.now))) (types_in types.old) (types_in types.new)) }
-    ensures shows { OnOk result (ShowsTyped style place len (Some told) (Heard (Ok (view message.now))) (types_in types.new) (string_bytes line.old) (string_bytes line.new)) }
     ensures lacks { OnErr result A.Lacks }
 {
     match told {
@@ -136,7 +130,7 @@ fn type_told<A: MapMemory>(
             *types = None;
             Ok(())
         }
-        Told::Number(_) | Told::Nothing => Ok(()),
+        Told::Number(_) | Told::Nothing | Told::Uncounted => Ok(()),
     }
 }
 
@@ -196,10 +190,8 @@ fn describe_row<A: MapMemory>(
     ensures lacks { OnErr result A.Lacks }
 {
     let alloc = *types.awaited.allocator();
-    match columns_of(alloc, row.fields())? {
-        Some(columns) => describe(number, Some(columns.as_slice()), types),
-        None => describe(number, None, types),
-    }
+    let columns = columns_of(alloc, row.fields())?;
+    describe(number, columns, types)
 }
 
 /// The statement of a request has the parameters that are described.
@@ -212,10 +204,8 @@ fn tell_types<A: MapMemory>(
     ensures lacks { OnErr result A.Lacks }
 {
     let alloc = *types.awaited.allocator();
-    match described_types(alloc, row.parameters())? {
-        Some(parameters) => tell(number, Some(parameters.as_slice()), types),
-        None => tell(number, None, types),
-    }
+    let parameters = described_types(alloc, row.parameters())?;
+    tell(number, parameters, types)
 }
 
 /// Writes the line of a row anew.

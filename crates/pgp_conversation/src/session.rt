@@ -1,11 +1,11 @@
 //! The listing of a recording, as it comes.
 
-ghost use Rattle.std.specs.Prelude.{◌≡◌, ◌≤◌, ◌<◌, ◌++◌, ◌⊎◌, ℕ, Bool, List, [], false, drop, length, IfErr, IfOk, OnErr, OnOk, string_bytes};
+ghost use Rattle.std.specs.Prelude.{◌≡◌, ◌≤◌, ◌<◌, ◌++◌, ◌⊎◌, ℕ, Bool, List, [], false, true, drop, length, IfErr, IfOk, OnErr, OnOk, string_bytes};
 ghost use Rattle.std.specs.Io.KnownBytes.{Appends, Keeps};
 ghost use Rattle.pgp_program.specs.Interruptions.{GivesUp};
 ghost use Rattle.pgp_program.specs.Run.{Caused};
 ghost use Rattle.pgp_program.specs.Taken.{AppendsFront};
-ghost use Rattle.pgp_conversation.specs.Hints.{hint_of};
+ghost use Rattle.pgp_trace.specs.Hints.{hint_of};
 ghost use Rattle.pgp_trace.specs.Steps.{view_of};
 ghost use Rattle.pgp_trace.specs.declared.marking.Marking.{Marking as Marks};
 ghost use Rattle.pgp_conversation.specs.Conversation.{first_start};
@@ -18,7 +18,6 @@ use crate::chunk::{Part, first_part};
 use crate::connection::{Half, Talk, list_chunk};
 use crate::ending::{End, end_of};
 use crate::frames::{Texts, no_texts};
-use crate::hint::hint_of;
 use crate::last::add_end;
 use crate::state::{at_first, is_replicating};
 use bytes::{Buf, BytesMut};
@@ -27,6 +26,7 @@ use pgp_names::MapMemory;
 use pgp_program::fault::Fault;
 use pgp_program::ports::Output;
 use pgp_program::print::put;
+use pgp_trace::hint::hint_of;
 use pgp_trace::marking::Marking;
 use pgp_trace::ports::Input;
 use pgp_trace::side::Side;
@@ -267,8 +267,8 @@ fn list_last<A: MapMemory, W: Output>(
     output: &mut W,
 ) -> Result<Said, Fault>
     ensures end { IfOk result (λ said. said.end ≡ end_of held.old.begun stopped held.old.bytes.items) }
-    ensures client { IfOk result (λ said. said.client.now ≡ hint_of (kept_of held.old.talk).known.client held.old.talk.client.left) }
-    ensures server { IfOk result (λ said. said.server.now ≡ hint_of (kept_of held.old.talk).known.server held.old.talk.server.left) }
+    ensures client { IfOk result (λ said. said.client.now ≡ hint_of true (kept_of held.old.talk).known.client held.old.talk.client.left) }
+    ensures server { IfOk result (λ said. said.server.now ≡ hint_of true (kept_of held.old.talk).known.server held.old.talk.server.left) }
     ensures all { OnOk result (Appends (W.contents output.old) (W.contents output.new) (held_last (view_of view.entry) (kept_of held.old.talk))) }
     ensures some { OnErr result (AppendsFront (W.contents output.old) (W.contents output.new) (held_last (view_of view.entry) (kept_of held.old.talk))) }
     ensures passed { OnOk result (W.Passed output.new) }
@@ -284,8 +284,8 @@ fn list_last<A: MapMemory, W: Output>(
         replicating: is_replicating(known.phase),
     };
     Ok(Said {
-        client: hint_of(client, held.talk.client.left),
-        server: hint_of(Side::Server(known.phase), held.talk.server.left),
+        client: hint_of(true, client, held.talk.client.left),
+        server: hint_of(true, Side::Server(known.phase), held.talk.server.left),
         end: end_of(held.begun, stopped, held.bytes.as_slice()),
     })
 }

@@ -1,7 +1,6 @@
 //! What is known of both sides of a connection.
 
 ghost use Rattle.std.specs.Prelude.{◌≡◌, drop, nat_lt, vec_len, if◌then◌else◌, IfOk, OnErr, OnOk, string_bytes};
-ghost use Rattle.pgp_trace.specs.Sides.{phase_in};
 ghost use Rattle.pgp_conversation.specs.Steps.{KnowsNext, known_of};
 ghost use Rattle.pgp_conversation.specs.Conversation.{at_first, counts, is_replicating, note};
 
@@ -14,12 +13,11 @@ use pgp_base::Memory;
 use pgp_frontend_read::PasswordKind;
 use pgp_line::style::Style;
 use pgp_names::MapMemory;
-use pgp_trace::answer::first_line;
 use pgp_trace::client::client_line;
-use pgp_trace::frame::{Next, server_line};
+use pgp_trace::frame::Next;
 use pgp_trace::marking::Marking;
-use pgp_trace::next::sealed;
-use pgp_trace::side::{Phase, phase_in};
+use pgp_trace::next::server_line;
+use pgp_trace::side::Phase;
 use std::alloc::AllocError;
 
 /// What is known of both sides.
@@ -129,33 +127,8 @@ fn next_of_server<'b, A: MapMemory>(
     ensures listed { IfOk result (λ x. KnowsNext style Sender.Server place (known_of known.old) bytes.now x.1.now (string_bytes line.new) (known_of known.new) x.0) }
     ensures lacks { OnErr result A.Lacks }
 {
-    match known.phase {
-        Phase::Beginning => {
-            let (next, phase, rest) = first_line(style, place, bytes, line)?;
-            known.phase = phase;
-            Ok((next, rest))
-        }
-        Phase::Messages => next_message(style, place, false, bytes, known, line),
-        Phase::Replicating => next_message(style, place, true, bytes, known, line),
-        Phase::Encrypted => Ok((sealed(bytes), bytes)),
-    }
-}
-
-/// The same where messages follow one another, in a replication stream or not.
-fn next_message<'b, A: MapMemory>(
-    style: Style,
-    place: u64,
-    replicating: bool,
-    bytes: &'b [u8],
-    known: &mut Known<A>,
-    line: &mut String<A>,
-) -> Result<(Next, &'b [u8]), AllocError>
-    requires { known.old.phase ≡ phase_in replicating }
-    ensures listed { IfOk result (λ x. KnowsNext style Sender.Server place (known_of known.old) bytes.now x.1.now (string_bytes line.new) (known_of known.new) x.0) }
-    ensures lacks { OnErr result A.Lacks }
-{
-    let (next, now, rest) = server_line(style, place, replicating, bytes, line)?;
-    known.phase = phase_in(now);
+    let (next, phase, rest) = server_line(style, place, known.phase, bytes, line)?;
+    known.phase = phase;
     Ok((next, rest))
 }
 

@@ -57,17 +57,14 @@ fn asks_to<'a>(work: Work, first: &'a [u8], second: &'a [u8]) -> Asking<'a>
 pub fn sum_frame<A: MapMemory>(
     asking: Option<Asking<'_>>,
     name: &str,
-    told: Option<Told>,
+    told: Told,
     numbers: &mut Option<Numbers<A>>,
 ) -> Result<(), AllocError>
     ensures summed { OnOk result (numbers_in numbers.new ≡ summed told (option_map asking_view asking.entry) name.now (numbers_in numbers.old)) }
     ensures lacks { OnErr result A.Lacks }
 {
     match numbers {
-        Some(numbers) => match told {
-            Some(told) => sum_told(asking, name, told, &mut numbers.summary),
-            None => Ok(()),
-        },
+        Some(numbers) => sum_told(asking, name, told, &mut numbers.summary),
         None => Ok(()),
     }
 }
@@ -103,7 +100,7 @@ fn note_told<A: MapMemory>(
         Told::Answer { number, sent, now } => {
             note_answer(name, number, now.saturating_sub(sent), summary)
         }
-        Told::Lost | Told::Nothing => Ok(()),
+        Told::Lost | Told::Nothing | Told::Uncounted => Ok(()),
     }
 }
 

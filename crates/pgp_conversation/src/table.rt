@@ -5,9 +5,10 @@ ghost use Rattle.std.specs.List.{flat_map};
 ghost use Rattle.pgp_conversation.specs.Marks.{millis, number};
 ghost use Rattle.pgp_conversation.specs.Tables.{cell, columns, counts, heading, members, row_at, row_by, row_of, table, times};
 
-use crate::line_mark::{put_blanks, put_number};
+use crate::line_mark::put_number;
 use crate::request_mark::put_millis;
 use pgp_base::Memory;
+use pgp_line::line::put_blanks;
 use pgp_line::quote::{put_cut_text, put_json};
 use pgp_line::style::{Form, Style};
 use pgp_names::MapMemory;

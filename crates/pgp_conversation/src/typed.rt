@@ -2,7 +2,6 @@
 
 ghost use Rattle.std.specs.Prelude.{◌≡◌, Some, IfOk, OnErr, string_bytes};
 ghost use Rattle.pgp_frontend_read.specs.Views.{kind_view};
-ghost use Rattle.pgp_trace.specs.Sides.{expected};
 ghost use Rattle.pgp_conversation.specs.Steps.{numbers_in};
 ghost use Rattle.pgp_conversation.specs.Typed.{Said, first_types};
 ghost use Rattle.pgp_conversation.specs.TypedLines.{Passes, Reads, ReadsSo, lost};
@@ -31,16 +30,6 @@ pub fn first_types<A: MapMemory>(alloc: A, raw: bool) -> Option<Types<A>>
     if raw { None } else { Some(no_types(alloc)) }
 }
 
-/// The kind that the next message of tag `p` is read as.
-pub fn expected(kinds: &[PasswordKind]) -> PasswordKind
-    ensures { kind_view result ≡ expected kinds.now }
-{
-    match kinds {
-        [] => PasswordKind::Response,
-        [first, ..] => *first,
-    }
-}
-
 /// Takes note of a frame of this side, which has this name, and writes its line anew where it has values whose types are known. Returns what its mark says of
 /// requests, and what it says of messages to come.
 ///
@@ -59,7 +48,7 @@ pub fn read_frame<A: MapMemory>(
     types: &mut Option<Types<A>>,
     text: &mut BytesMut<A>,
     line: &mut String<A>,
-) -> Result<(Option<Told>, Noted), AllocError>
+) -> Result<(Told, Noted), AllocError>
     ensures read { IfOk result (λ x. (said : Said) → ReadsSo sender opened (kind_view kind) frame.now said → Reads style place frame.now name.now said
         (numbers_in numbers.old) (numbers_in numbers.new) (types_in types.old) (types_in types.new) (string_bytes line.old) (string_bytes line.new) x.0 x.1) }
     ensures lacks { OnErr result A.Lacks }
@@ -82,7 +71,7 @@ pub fn pass<A: MapMemory>(
     name: &str,
     numbers: &mut Option<Numbers<A>>,
     types: &mut Option<Types<A>>,
-) -> Result<Option<Told>, AllocError>
+) -> Result<Told, AllocError>
     ensures passes { IfOk result (λ told. Passes role name.now (numbers_in numbers.old) (numbers_in numbers.new) (types_in types.old) (types_in types.new) told) }
     ensures lacks { OnErr result A.Lacks }
 {
@@ -93,21 +82,11 @@ pub fn pass<A: MapMemory>(
 }
 
 /// Nothing is known of types any more where a frame has no place among the answers.
-fn lose<A: MapMemory>(told: Option<Told>, types: &mut Option<Types<A>>)
+fn lose<A: MapMemory>(told: Told, types: &mut Option<Types<A>>)
     ensures { types_in types.new ≡ lost told (types_in types.old) }
 {
     match told {
-        Some(told) => lose_told(told, types),
-        None => {}
-    }
-}
-
-/// The same where its mark says this.
-fn lose_told<A: MapMemory>(told: Told, types: &mut Option<Types<A>>)
-    ensures { types_in types.new ≡ lost (Some told) (types_in types.old) }
-{
-    match told {
         Told::Lost => *types = None,
-        Told::Number(_) | Told::Answer { .. } | Told::Nothing => {}
+        Told::Number(_) | Told::Answer { .. } | Told::Nothing | Told::Uncounted => {}
     }
 }

@@ -9,7 +9,7 @@ ghost use Rattle.pgp_conversation.specs.TypesKept.{awaited_of, last_of, types_of
 
 use crate::awaited::{Awaited, Object, first, reach, wait_bound};
 use crate::column::Column;
-use crate::columns::{Columns, formatted, found, keep};
+use crate::columns::{Columns, again, formatted, found, keep};
 use pgp_base::Memory;
 use pgp_names::{MapMemory, Names};
 use std::alloc::AllocError;
@@ -84,10 +84,10 @@ pub fn reach_answer<A: MapMemory>(number: u64, types: &mut Types<A>)
 /// Returns `AllocError` if there is no memory for them.
 pub fn describe<A: MapMemory>(
     number: u64,
-    columns: Option<&[Column]>,
+    columns: Option<Vec<Column, A>>,
     types: &mut Types<A>,
 ) -> Result<(), AllocError>
-    ensures described { OnOk result (types_of types.new ≡ described (first number (types_of types.old).awaited) (option_map (λ columns. columns.now) columns.entry) (types_of types.old)) }
+    ensures described { OnOk result (types_of types.new ≡ described (first number (types_of types.old).awaited) (option_map (λ list. list.items) columns) (types_of types.old)) }
     ensures lacks { OnErr result A.Lacks }
 {
     match first(number, &types.awaited) {
@@ -95,8 +95,8 @@ pub fn describe<A: MapMemory>(
             Object::Statement => keep(asked.name.as_slice(), columns, &mut types.statements),
             Object::Portal => {
                 let name = asked.name.as_slice();
-                keep(name, columns, &mut types.portals)?;
-                pass_on(name, columns, &types.last, &mut types.statements)
+                pass_on(name, &columns, &types.last, &mut types.statements)?;
+                keep(name, columns, &mut types.portals)
             }
             Object::Simple => keep(asked.name.as_slice(), columns, &mut types.portals),
         },
@@ -107,17 +107,17 @@ pub fn describe<A: MapMemory>(
 /// The statement of the portal of this name, if it was bound last, has these columns.
 fn pass_on<A: MapMemory>(
     name: &[u8],
-    columns: Option<&[Column]>,
+    columns: &Option<Vec<Column, A>>,
     last: &Option<BoundPortal<A>>,
     statements: &mut Names<Columns<A>, A>,
 ) -> Result<(), AllocError>
-    ensures kept { OnOk result (statements.new ≡ passed_on (statement_of name.now (last_of last.now)) (option_map (λ columns. columns.now) columns.entry) (statements.old)) }
+    ensures kept { OnOk result (statements.new ≡ passed_on (statement_of name.now (last_of last.now)) (option_map (λ list. list.items) columns.now) statements.old) }
     ensures lacks { OnErr result A.Lacks }
 {
     match last {
         Some(portal) => {
             if portal.name.as_slice() == name {
-                keep(portal.statement.as_slice(), columns, statements)
+                keep(portal.statement.as_slice(), again(columns)?, statements)
             } else {
                 Ok(())
             }
@@ -169,9 +169,9 @@ fn bind_to<A: MapMemory>(
     let name = asked.name.as_slice();
     match found(asked.statement.as_slice(), statements) {
         Some(columns) => {
-            let alloc = *portals.allocator();
+            let alloc = *asked.name.allocator();
             let columns = formatted(alloc, asked.formats.as_slice(), columns)?;
-            keep(name, Some(columns.as_slice()), portals)
+            keep(name, Some(columns), portals)
         }
         None => keep(name, None, portals),
     }
@@ -202,7 +202,8 @@ pub fn parse<A: MapMemory>(
     ensures lacks { OnErr result A.Lacks }
 {
     let alloc = *types.awaited.allocator();
-    keep(name, Some(parameters.as_slice()), &mut types.sent)?;
+    let sent = alloc.list_of(parameters.as_slice())?;
+    keep(name, Some(sent), &mut types.sent)?;
     types.told.forget(name);
     types.parse = number;
     wait_bound(
@@ -243,10 +244,10 @@ pub fn parameters_of<'a, A: MapMemory>(name: &[u8], types: &'a Types<A>) -> &'a 
 /// Returns `AllocError` if there is no memory for them.
 pub fn tell<A: MapMemory>(
     number: u64,
-    parameters: Option<&[Column]>,
+    parameters: Option<Vec<Column, A>>,
     types: &mut Types<A>,
 ) -> Result<(), AllocError>
-    ensures told { OnOk result (types_of types.new ≡ tells (first number (types_of types.old).awaited) (option_map (λ list. list.now) parameters.entry) (types_of types.old)) }
+    ensures told { OnOk result (types_of types.new ≡ tells (first number (types_of types.old).awaited) (option_map (λ list. list.items) parameters) (types_of types.old)) }
     ensures lacks { OnErr result A.Lacks }
 {
     match first(number, &types.awaited) {
@@ -270,10 +271,10 @@ pub fn tell<A: MapMemory>(
 fn put_told<A: MapMemory>(
     object: Object,
     name: &[u8],
-    parameters: Option<&[Column]>,
+    parameters: Option<Vec<Column, A>>,
     told: &mut Names<Columns<A>, A>,
 ) -> Result<(), AllocError>
-    ensures told { OnOk result (told.new ≡ told_by object name.now (option_map (λ list. list.now) parameters.entry) (told.old)) }
+    ensures told { OnOk result (told.new ≡ told_by object name.now (option_map (λ list. list.items) parameters) (told.old)) }
     ensures lacks { OnErr result A.Lacks }
 {
     match object {
@@ -298,10 +299,12 @@ pub fn finish<A: MapMemory>(number: u64, types: &mut Types<A>) -> Result<(), All
             if asked.number < types.parse {
                 Ok(())
             } else {
+                let alloc = *asked.name.allocator();
+                let given = alloc.list_of(asked.parameters.as_slice())?;
                 put_told(
                     asked.object,
                     asked.name.as_slice(),
-                    Some(asked.parameters.as_slice()),
+                    Some(given),
                     &mut types.told,
                 )
             }

@@ -84,6 +84,7 @@ pub fn make<A: Allocator + Copy>(
         "terminate" => return without_name(connection.terminate()),
         "bind" => return bind(connection, values),
         "start" => connection.start(&[("user", "u")]),
+        "start_with_option" => connection.start(&[("user", "u"), ("_pq_.x", "1")]),
         "query" => connection.query("SELECT 1"),
         "parse" => connection.parse("", "SELECT 1", Some(23u32)),
         "describe" => connection.describe(b'S', "s"),
@@ -125,7 +126,7 @@ fn bound<A: Allocator + Copy>(alloc: A) -> Option<ScramSha256<A>> {
     }
 }
 
-/// The exchange of a word: `scram`, `bound`, or `none`.
+/// The exchange of a connection that isn't encrypted: `bare`, `bound`, or `none`.
 fn scram_of<A: Allocator + Copy>(alloc: A, words: &mut Words<'_>) -> Option<ScramSha256<A>> {
     if words.takes("none") {
         return None;
@@ -133,16 +134,22 @@ fn scram_of<A: Allocator + Copy>(alloc: A, words: &mut Words<'_>) -> Option<Scra
     if words.takes("bound") {
         return bound(alloc);
     }
-    if !words.takes("scram") {
+    if !words.takes("bare") {
         words.fail_row();
     }
     exchange(alloc, ChannelBinding::unsupported())
 }
 
-/// A connection that logs in by an exchange of at least so many rounds, or without a password, and takes messages of so many bytes.
+/// A connection that logs in by an exchange of at least so many rounds, which is encrypted for `scram` alone, or without a password, and takes messages of so many bytes.
 pub fn connecting<A: Allocator + Copy>(alloc: A, words: &mut Words<'_>) -> Connection<'static, A> {
-    let scram = scram_of(alloc, words);
+    let encrypted = words.takes("scram");
+    let scram = if encrypted {
+        exchange(alloc, ChannelBinding::unsupported())
+    } else {
+        scram_of(alloc, words)
+    };
     let ways = Ways {
+        encrypted,
         none: scram.is_none(),
         least_rounds: words.number(),
         scram,

@@ -1,5 +1,5 @@
 -- By which way a client is logged in, and what it wrote for that.
-use Rattle.pgp_session.proofs.Common.{◌≡◌, ℕ, true, false, List, [], ◌∷◌, ◌++◌, Option, Some, None, refl, sym, ap, subst, ◌∙◌, inl, inr, option_to_list, AllByRecursion, cond-true, cond-false, append-nil, filter-append, md5_answer, Client, Answers, Completes, message_of, taken, Talk, Turn, ClientMessage, PasswordMessage, SaslInitialResponse, SaslResponse, each_push, Message, Authentication, AuthenticationOk, AuthenticationCleartextPassword, AuthenticationMd5Password, AuthenticationSasl, AuthenticationSaslContinue, AuthenticationSaslFinal, Asking, Cleartext, Md5, Sasl, First, Final, Welcome, Login, LogsOn, NothingAsked, ByCleartext, ByMd5, ScramBegins, ScramGoesOn, ScramEnds, Welcomed, Trusted, Ways, asking, Offers, ReceivedAmong, NoneWanted, OneReceived, OtherReceived, initial, offer, first_text, final_text, welcome, Admitted, ByNone, ByPassword, ByHash, BySignature, IsAllowed, Plays, Begins, Writes, Hears, asks_hash, asks_password, is_secret, secrets_of, LoginPhase, AwaitsOffer, AwaitsFirst, AwaitsFinal, AwaitsOk, Done, Over}
+use Rattle.pgp_session.proofs.Common.{◌≡◌, ℕ, true, false, List, [], ◌∷◌, ◌++◌, Option, Some, None, refl, sym, ap, subst, ◌∙◌, inl, inr, option_to_list, AllByRecursion, cond-true, cond-false, append-nil, filter-append, md5_answer, Client, Answers, Completes, message_of, taken, Talk, Turn, ClientMessage, PasswordMessage, SaslInitialResponse, SaslResponse, each_push, Message, Authentication, AuthenticationOk, AuthenticationCleartextPassword, AuthenticationMd5Password, AuthenticationSasl, AuthenticationSaslContinue, AuthenticationSaslFinal, Asking, Cleartext, Md5, Sasl, First, Final, Welcome, Login, LogsOn, NothingAsked, ByCleartext, ByMd5, ScramBegins, ScramGoesOn, ScramEnds, Welcomed, Trusted, Ways, asking, Offers, ReceivedAmong, NoneWanted, OneReceived, OtherReceived, initial, offer, first_text, final_text, welcome, Admitted, ByNone, ByPassword, ByHash, BySignature, IsAllowed, Plays, Begins, Writes, Hears, asks_hash, asks_password, is_secret, secrets_of, LoginPhase, AwaitsOffer, AwaitsFirst, AwaitsFinal, AwaitsOk, Done, Over, Encrypts}
 
 IsAskedBy : Message → Asking → Type 0
 IsAskedBy m Cleartext = m ≡ asks_password
@@ -87,7 +87,7 @@ and_reply (Some x) gave = gave ++ x ∷ []
 reply_secret : (asked : Asking) (m : ClientMessage) (l after : Login) → LogsOn asked (Some m) l after → is_secret m ≡ true
 reply_secret asked m l after (ByCleartext password p e) = refl
 reply_secret asked m l after (ByMd5 who p e) = refl
-reply_secret asked m l after (ScramBegins x text p e o f) = refl
+reply_secret asked m l after (ScramBegins x text p e o s f) = refl
 reply_secret asked m l after (ScramGoesOn x y answer p e many a f) = refl
 
 secrets_replied : (l : List ClientMessage) (asked : Asking) (reply : Option ClientMessage) (before after : Login) → LogsOn asked reply before after → secrets_of (l ++ option_to_list reply) ≡ and_reply reply (secrets_of l)
@@ -194,7 +194,7 @@ module _ (ways : Ways) (observed : List Message) (gave : List ClientMessage) (m 
     none = i.none;
     stands = subst (λ ms. Awaits ways (observed ++ m ∷ []) ms) (sym (alone (PasswordMessage (md5_answer who.0 who.1 salt)) (at l AwaitsOffer p i).1)) (GaveHash who salt (sym i.md5 ∙ e) (received_more (asks_hash salt) is NoneWanted));
   }
-  step asked reply l after is (ScramBegins {mechanisms = mechanisms} x text p e o f) i =
+  step asked reply l after is (ScramBegins {mechanisms = mechanisms} x text p e o s f) i =
       let st = at l AwaitsOffer p i in
       record {
         md5 = i.md5;
@@ -269,7 +269,7 @@ module _ (ways : Ways) (observed : List Message) (gave : List ClientMessage) (m 
   reply_allowed : (asked : Asking) (x : ClientMessage) (l after : Login) → LogsOn asked (Some x) l after → IsAt ways observed gave l → IsAllowed ways x
   reply_allowed asked x l after (ByCleartext password p e) i = inl (sym i.cleartext ∙ e)
   reply_allowed asked x l after (ByMd5 {salt = salt} who p e) i = inr (who, sym i.md5 ∙ e, salt, refl)
-  reply_allowed asked x l after (ScramBegins y text p e o f) i = (y, sym (at l AwaitsOffer p i).0 ∙ e, text, f, refl)
+  reply_allowed asked x l after (ScramBegins y text p e o s f) i = (y, sym (at l AwaitsOffer p i).0 ∙ e, text, f, refl)
   reply_allowed asked x l after (ScramGoesOn {text = text} y z answer p e many a f) i =
       let st = at l AwaitsFirst p i in
       (y, st.2.from ∙ ap Some (same_client l.ways.scram st.0 y st.1 e), text, z, a, f)
@@ -282,6 +282,7 @@ module _ (ways : Ways) (observed : List Message) (gave : List ClientMessage) (m 
 module _ (ways : Ways) where
   plays_stand : {written : List ClientMessage} {observed : List Message} {turns : List Turn} {t : Talk} {l : Login} → Plays ways written observed turns t l → IsAt ways observed (secrets_of written) l
   plays_stand Begins = record { md5 = refl; cleartext = refl; none = refl; stands = (refl, refl) }
+  plays_stand (Encrypts encrypts p) = let i = plays_stand p in record { md5 = i.md5; cleartext = i.cleartext; none = i.none; stands = i.stands }
   plays_stand (Writes {written} {observed} {turns} {t} {l} m name plain p) = subst (λ ms. IsAt ways observed ms l) (sym (secrets_still written m plain)) (plays_stand p)
   plays_stand (Hears {written} {reply} {observed} {turns} {t} {next} {l} {after} m e taken on logs p) =
       subst (λ ms. IsAt ways (observed ++ m ∷ []) ms after) (sym (secrets_replied written (asking m) reply l after logs)) (step ways observed (secrets_of written) m (asking m) reply l after (asked_by m) logs (plays_stand p))
@@ -291,5 +292,6 @@ module _ (ways : Ways) where
 
   pub plays_allowed : {written : List ClientMessage} {observed : List Message} {turns : List Turn} {t : Talk} {l : Login} → Plays ways written observed turns t l → AllByRecursion (IsAllowed ways) written
   plays_allowed Begins = tt
+  plays_allowed (Encrypts encrypts p) = plays_allowed p
   plays_allowed (Writes {written} {observed} m name plain p) = each_push (IsAllowed ways) written m (plays_allowed p) (open_allowed ways observed [] welcome m plain)
   plays_allowed (Hears {written} {reply} {observed} {turns} {t} {next} {l} {after} m e taken on logs p) = all_allowed ways observed (secrets_of written) m written (asking m) reply l after logs (plays_stand p) (plays_allowed p)

@@ -38,14 +38,14 @@ pub use Rattle.pgp_message.specs.Parts.{Setting}
 pub use Rattle.pgp_message.specs.Remembered.{header_of}
 pub use Rattle.pgp_message.specs.Stream.{BeginsWithHeader, IsPartial, BeginsWithKept, IsLengthFault, Step, TakesFrame, Frame, frame_bytes, Frames}
 pub use Rattle.pgp_message.specs.Views.{parsed, view}
-pub use Rattle.pgp_session.specs.Connection.{is_longer, longer, Advances, Comes, IsNone, IsUnfit, Nexts, Notes, SendsGiven, Sent, Shown, Stops, Took, asked_of, is_bulk, is_end, in_phase, is_logged_in, is_part, limit_of, may_ask, may_send, moved, next_name, noted, said, with_incoming, with_login, with_out, HasStarted, Wrote, begun, logged_in_at, OutOfTurn, IsLonger, IsCut, shown, in_state, left_at, dropped, fed}
+pub use Rattle.pgp_session.specs.Connection.{is_longer, longer, Advances, Comes, IsNone, IsUnfit, Nexts, Notes, SendsGiven, Sent, Shown, Stops, Took, asked_of, is_bulk, is_end, in_phase, is_logged_in, is_part, limit_of, may_ask, may_send, moved, next_name, noted, said, with_incoming, with_login, with_out, HasStarted, Wrote, begun, logged_in_at, OutOfTurn, IsLonger, IsCut, shown, in_state, left_at, dropped, fed, told}
 pub use Rattle.pgp_session.specs.Incoming.{Reads, HasFrame, Waiting}
 pub use Rattle.pgp_session.specs.Login.{Asking, Cleartext, Md5, Sasl, First, Final, Welcome, Login, LogsOn, NothingAsked, ByCleartext, ByMd5, ScramBegins, ScramGoesOn, ScramEnds, Welcomed, Trusted, Ways, asking, Added, AnswersFirst, CountsFirst, AsksCleartext, AsksMd5, AsksSasl, HearsDue, Nothing, Other, Puts, VerifiesFinal, WelcomesAt, is_due, AddsReply, LoggedOn, RepliesFirst, goes_on, given, seen}
 pub use Rattle.pgp_session.specs.Proxy.{Call, ProxiesAll, PassesOn, NoneReceived, NoneRead, OneRead, Went, Stayed, Proxies, all_forwarded, statement_of}
 pub use Rattle.pgp_session.specs.ScramLogin.{Offers, ReceivedAmong, NoneWanted, OneReceived, OtherReceived, initial, offer, first_text, final_text, welcome, Notice, Failure, Offer, says, if_due, Knows, HearsOffer, HearsFirst, HearsFinal, StepsOn, Steps, mechanism_of}
 pub use Rattle.pgp_session.specs.ServerState.{newer, status, state_after}
 pub use Rattle.pgp_session.specs.Serving.{admission, Due, Outcome, StepsAll, IsAsked, Proves, HasShown, IsUnderWay, IsChallenged, IsAdmitted, ReceivedIn, due, starts, at_opening, at_password, at_first, at_final, at_open, phase_after, password_message, first_message, final_message, scram, NamesLast, NoneStands, OneStands, OtherStands, IsNewer, signature}
-pub use Rattle.pgp_session.specs.Session.{Admitted, ByNone, ByPassword, ByHash, BySignature, IsAllowed, Plays, Begins, Writes, Hears, asks_hash, asks_password, is_secret, secrets_of, Follows, History, IsOpenedAt, Known, and_fed, and_observed, and_sent, and_wrote, good, requests_in, requests_of, turns_of}
+pub use Rattle.pgp_session.specs.Session.{Admitted, ByNone, ByPassword, ByHash, BySignature, IsAllowed, Plays, Begins, Encrypts, Writes, Hears, asks_hash, asks_password, is_secret, secrets_of, Follows, History, IsOpenedAt, Known, and_fed, and_observed, and_sent, and_wrote, good, requests_in, requests_of, turns_of}
 pub use Rattle.pgp_session.specs.Settings.{HasRoom, Said, heard, most, setting_in, StandsAt, last_after, replaced, reported, said_after, settled, value_of, nothing_said, size}
 pub use Rattle.pgp_session.specs.declared.connection.ConnectionPhase.{ConnectionPhase}
 pub use Rattle.pgp_session.specs.declared.connection.ConnectionPhase.TheVariants.{Started, Encrypting}

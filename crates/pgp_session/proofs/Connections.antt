@@ -4,7 +4,8 @@ use Rattle.std.specs.Prelude.{drop, take, ◌≢◌}
 use Rattle.std.specs.Int.{w32, from_be_bytes}
 use Rattle.pgp_client.specs.declared.event.Refusal.{Refusal}
 use Rattle.pgp_message.specs.declared.message.Message.{Message}
-use Rattle.pgp_session.specs.Connection.{Hears}
+use Rattle.pgp_client.specs.Taking.{is_between}
+use Rattle.pgp_session.specs.Connection.{Hears, comes_early, is_early}
 use Rattle.pgp_session.specs.declared.connection_error.ConnectionError.TheVariants.{Malformed, OutOfMemory as OutOfMemoryThere}
 use Rattle.pgp_client.specs.declared.stage.Stage.TheVariants.{Over as NothingMore}
 use Rattle.pgp_session.specs.declared.connection.ConnectionPhase.TheVariants.{Over}
@@ -56,7 +57,7 @@ take_front [] ys = refl
 take_front (x ∷ xs) ys = ap (λ l. x ∷ l) (take_front xs ys)
 
 said_by : (m : ClientMessage) (r : Request) (c : Shown) → request_of m ≡ Some r → noted r (with_out (c.out ++ bytes_of m) c) ≡ said m c
-said_by m r c e = ap (λ (o : Option Request). record { phase = c.phase; login = c.login; out = c.out ++ bytes_of m; incoming = c.incoming; talk = asked_of o c.names c.talk; server = c.server; names = next_name c.names; limit = c.limit }) (sym e)
+said_by m r c e = ap (λ (o : Option Request). record { phase = c.phase; login = c.login; out = c.out ++ bytes_of m; incoming = c.incoming; talk = asked_of o c.names c.talk; server = c.server; options = c.options; names = next_name c.names; limit = c.limit }) (sym e)
 
 left_of : (a b : Bool) → (a && b) ≡ true → a ≡ true
 left_of true b e = refl
@@ -115,8 +116,11 @@ taken_back m old new written place at put is =
 
 -- what is known of the server's session after a message
 pub took_so : (m : Meant) (l : Login) (out : List ℕ) (t : Talk) (k : Said) (old : Shown) → k ≡ heard m old.server
-    → record { phase = old.phase; login = l; out = out; incoming = old.incoming; talk = t; server = k; names = old.names; limit = old.limit } ≡ with_login l out (moved old.phase t m old)
-took_so m l out t k old e = ap (λ (s : Said). record { phase = old.phase; login = l; out = out; incoming = old.incoming; talk = t; server = s; names = old.names; limit = old.limit }) e
+    → record { phase = old.phase; login = l; out = out; incoming = old.incoming; talk = t; server = k; options = old.options; names = old.names; limit = old.limit } ≡ with_login l out (moved old.phase t m old)
+took_so m l out t k old e = ap (λ (s : Said). record { phase = old.phase; login = l; out = out; incoming = old.incoming; talk = t; server = s; options = old.options; names = old.names; limit = old.limit }) e
+
+pub early_by : (c : Shown) (m : Meant) (first result known : Bool) → first ≡ is_between c.talk → result ≡ is_early c.login.phase first c.options m → result ≡ known → comes_early c m ≡ known
+early_by c m first result known at is test = ap (λ (b : Bool). is_early c.login.phase b c.options m) (sym at) ∙ sym is ∙ test
 
 part_goes_on : (e : Event) → is_part e ≡ true → is_end e ≡ false
 part_goes_on (Part n) is = refl
@@ -124,7 +128,7 @@ part_goes_on e is = cc
 
 -- a row and data of a copy come to nothing else
 pub took_bulk : (m : Meant) (e : Event) (t : Talk) (old : Shown) → is_bulk m e ≡ true → taken old.talk (kind_of m) ≡ Ok (e, t)
-    → Took m old (record { phase = old.phase; login = old.login; out = old.out; incoming = old.incoming; talk = t; server = old.server; names = old.names; limit = old.limit }) e
+    → Took m old (record { phase = old.phase; login = old.login; out = old.out; incoming = old.incoming; talk = t; server = old.server; options = old.options; names = old.names; limit = old.limit }) e
 took_bulk (DataRow row) e t old bulk is = record { taken = is; due = refl; sound = refl; kept = tt; goes_on = part_goes_on e bulk; logged = record { reply = None; logs = NothingAsked; adds = refl }; is = refl }
 took_bulk (CopyData bytes) e t old bulk is = record { taken = is; due = refl; sound = refl; kept = tt; goes_on = part_goes_on e bulk; logged = record { reply = None; logs = NothingAsked; adds = refl }; is = refl }
 took_bulk m e t old bulk is = cc
@@ -164,7 +168,8 @@ module _ (A : Type 0) (lacks : Type 0) where
   no_sasl : (way : Option Client) (mechanisms : List ℕ) (old new : Login) (out grown : List ℕ) → AsksSasl {A = A} lacks way mechanisms old new out grown (Err OutOfMemoryThere) → ⊥
   no_sasl None mechanisms old new out grown h = cc
   no_sasl (Some x) mechanisms old new out grown (inl h) = let e = h.0 in cc
-  no_sasl (Some x) mechanisms old new out grown (inr h) = absurd h.1
+  no_sasl (Some x) mechanisms old new out grown (inr (inl h)) = let e = h.0 in cc
+  no_sasl (Some x) mechanisms old new out grown (inr (inr h)) = absurd h.2
 
   no_first : (way : Option Client) (text : List ℕ) (old new : Login) (out grown : List ℕ) → AnswersFirst {A = A} lacks way text old new out grown (Err OutOfMemoryThere) → ⊥
   no_first None text old new out grown h = cc
@@ -193,13 +198,13 @@ module _ (A : Type 0) (lacks : Type 0) where
   no_login true Welcome old new out grown h = no_welcome old.phase old.ways.none old new h.0
   no_login true Other old new out grown h = cc
 
-  no_unfit : (p : LoginPhase) (m : Meant) → IsUnfit {A = A} lacks p m OutOfMemoryThere → ⊥
-  no_unfit p m (inl h) = let e = h.1 in cc
-  no_unfit p m (inr h) = let e = h.2 in cc
+  no_unfit : (c : Shown) (m : Meant) → IsUnfit {A = A} lacks c m OutOfMemoryThere → ⊥
+  no_unfit c m (inl h) = let e = h.1 in cc
+  no_unfit c m (inr h) = let e = h.2 in cc
 
   no_stop : (phase : ConnectionPhase) (m : Meant) (old new : Shown) → Stops {A = A} lacks phase m old new OutOfMemoryThere → ⊥
   no_stop phase m old new (inl h) = let e = h.2 in cc
-  no_stop phase m old new (inr (inl h)) = no_unfit old.login.phase m h.2
+  no_stop phase m old new (inr (inl h)) = no_unfit old m h.2
   no_stop phase m old new (inr (inr (inl h))) = let e = h.4 in cc
   no_stop phase m old new (inr (inr (inr h))) = no_login (is_due old.login.phase (asking m)) (asking m) old.login new.login old.out old.out h.4
 
@@ -234,7 +239,7 @@ stops_over lacks m old new e (inr (inr (inr h))) = inr (inr (inr (h.0, h.1, h.2,
 -- the log-in stopped at a message, with nothing appended
 pub stopped_log_in : {A : Type 0} (lacks : Type 0) (m : Meant) (old : Shown) (t : Talk) (l : Login) (grown : List ℕ) (k : Said) (e : Event) (x : ConnectionError A) → taken old.talk (kind_of m) ≡ Ok (e, t)
     → HasRoom most (setting_in m) old.server.settings → is_end e ≡ false → login.Hears lacks (asking m) old.login l old.out grown (Err x) → grown ≡ old.out → l.phase ≡ old.login.phase → k ≡ heard m old.server
-    → Stops {A = A} lacks old.phase m old (record { phase = old.phase; login = l; out = grown; incoming = old.incoming; talk = t; server = k; names = old.names; limit = old.limit }) x
+    → Stops {A = A} lacks old.phase m old (record { phase = old.phase; login = l; out = grown; incoming = old.incoming; talk = t; server = k; options = old.options; names = old.names; limit = old.limit }) x
 stopped_log_in {A} lacks m old t l grown k e x is room live hears same phase known =
     inr (inr (inr (
       (e, t),
@@ -243,5 +248,5 @@ stopped_log_in {A} lacks m old t l grown k e x is room live hears same phase kno
       live,
       subst (λ (o : List ℕ). login.Hears {A = A} lacks (asking m) old.login l old.out o (Err x)) same hears,
       phase,
-      ap₂ (λ (o : List ℕ) (s : Said). record { phase = old.phase; login = l; out = o; incoming = old.incoming; talk = t; server = s; names = old.names; limit = old.limit }) same known,
+      ap₂ (λ (o : List ℕ) (s : Said). record { phase = old.phase; login = l; out = o; incoming = old.incoming; talk = t; server = s; options = old.options; names = old.names; limit = old.limit }) same known,
     )))

@@ -39,7 +39,7 @@ module _ (A : Type 0) (lacks : Type 0) (l after : Login) (out grown : List ℕ) 
 
   by_scram : (mechanisms : List ℕ) (c : Option Client) → l.phase ≡ AwaitsOffer → l.ways.scram ≡ c → AsksSasl {A = A} lacks c mechanisms l after out grown (Ok tt) → LoggedOn (Sasl mechanisms) l after out grown
   by_scram mechanisms None p e h = absurd cc
-  by_scram mechanisms (Some x) p e h = took l after out grown (Sasl mechanisms) (Some (initial h.1.0)) (in_phase AwaitsFirst l) (ScramBegins x h.1.0 p e h.0 h.1.1) h.2 h.1.2
+  by_scram mechanisms (Some x) p e h = took l after out grown (Sasl mechanisms) (Some (initial h.2.0)) (in_phase AwaitsFirst l) (ScramBegins x h.2.0 p e h.0 h.1 h.2.1) h.3 h.2.2
 
   goes_on_by : (text : List ℕ) (c : Option Client) → l.phase ≡ AwaitsFirst → l.ways.scram ≡ c → (AsksFewer l.ways.least text → ⊥) → AnswersFirst {A = A} lacks c text l after out grown (Ok tt) → LoggedOn (First text) l after out grown
   goes_on_by text None p e many h = absurd cc
@@ -68,41 +68,9 @@ module _ (A : Type 0) (lacks : Type 0) (l after : Login) (out grown : List ℕ) 
   logs_at Welcome AwaitsOk e h =
       let w = subst (λ (q : LoginPhase). WelcomesAt {A = A} q l.ways.none l after (Ok tt)) e h.0 in
       took l after out grown Welcome None (in_phase Done l) (Welcomed e) w.1 h.1
-  logs_at Cleartext AwaitsFirst e h = absurd cc
-  logs_at Cleartext AwaitsFinal e h = absurd cc
-  logs_at Cleartext AwaitsOk e h = absurd cc
-  logs_at Cleartext Done e h = absurd cc
-  logs_at Cleartext Over e h = absurd cc
-  logs_at (Md5 salt) AwaitsFirst e h = absurd cc
-  logs_at (Md5 salt) AwaitsFinal e h = absurd cc
-  logs_at (Md5 salt) AwaitsOk e h = absurd cc
-  logs_at (Md5 salt) Done e h = absurd cc
-  logs_at (Md5 salt) Over e h = absurd cc
-  logs_at (Sasl mechanisms) AwaitsFirst e h = absurd cc
-  logs_at (Sasl mechanisms) AwaitsFinal e h = absurd cc
-  logs_at (Sasl mechanisms) AwaitsOk e h = absurd cc
-  logs_at (Sasl mechanisms) Done e h = absurd cc
-  logs_at (Sasl mechanisms) Over e h = absurd cc
-  logs_at (First text) AwaitsOffer e h = absurd cc
-  logs_at (First text) AwaitsFinal e h = absurd cc
-  logs_at (First text) AwaitsOk e h = absurd cc
-  logs_at (First text) Done e h = absurd cc
-  logs_at (First text) Over e h = absurd cc
-  logs_at (Final text) AwaitsOffer e h = absurd cc
-  logs_at (Final text) AwaitsFirst e h = absurd cc
-  logs_at (Final text) AwaitsOk e h = absurd cc
-  logs_at (Final text) Done e h = absurd cc
-  logs_at (Final text) Over e h = absurd cc
-  logs_at Welcome AwaitsFirst e h = absurd cc
-  logs_at Welcome AwaitsFinal e h = absurd cc
-  logs_at Welcome Done e h = absurd cc
-  logs_at Welcome Over e h = absurd cc
   logs_at Other AwaitsOffer e h = absurd cc
-  logs_at Other AwaitsFirst e h = absurd cc
-  logs_at Other AwaitsFinal e h = absurd cc
-  logs_at Other AwaitsOk e h = absurd cc
-  logs_at Other Done e h = absurd cc
-  logs_at Other Over e h = absurd cc
+  logs_at Other p e h = absurd cc
+  logs_at asked p e h = absurd cc
 
   pub logs_on : (asked : Asking) → Hears {A = A} lacks asked l after out grown (Ok tt) → LoggedOn asked l after out grown
   logs_on asked h = logs_at asked l.phase refl h

@@ -1,5 +1,5 @@
 -- What is known of a connection, after each call, and what follows from it.
-use Rattle.pgp_session.proofs.Common.{◌≡◌, ◌≢◌, ℕ, Bool, true, false, List, [], ◌∷◌, ◌++◌, take, drop, map, Option, Some, None, Result, Ok, refl, sym, ap, subst, ◌∙◌, append_assoc, arith, inl, inr, option_to_list, if◌then◌else◌, ◌&&◌, flat_map, append-nil, take-append-drop, Error, kind_of, request_of, awaits_data, is_copying, taken, Talk, Turn, Asks, asked_in, observed_in, reported_in, start, Event, Ended, Request, ClientMessage, CancelRequest, GssEncRequest, PasswordMessage, SaslInitialResponse, SaslResponse, SslRequest, Startup, Terminate, bytes_of, tag_of, run_more, opened_more, nothing, Message, Frames, TakesFrame, HasStarted, Sent, Shown, Took, Wrote, asked_of, begun, in_phase, is_end, is_logged_in, logged_in_at, may_send, with_incoming, Added, AddsReply, Asking, Login, LogsOn, ByCleartext, ByMd5, ScramBegins, ScramGoesOn, Ways, asking, Follows, History, IsOpenedAt, Known, Plays, Begins, Writes, Hears, and_fed, and_observed, and_sent, and_wrote, good, is_secret, requests_in, requests_of, turns_of, Said, heard, nothing_said, value_of, ConnectionPhase, Encrypting, Started, LoginPhase}
+use Rattle.pgp_session.proofs.Common.{◌≡◌, ◌≢◌, ℕ, Bool, true, false, List, [], ◌∷◌, ◌++◌, take, drop, map, Option, Some, None, Result, Ok, refl, sym, ap, subst, ◌∙◌, append_assoc, arith, inl, inr, option_to_list, if◌then◌else◌, ◌&&◌, flat_map, append-nil, take-append-drop, Error, kind_of, request_of, awaits_data, is_copying, taken, Talk, Turn, Asks, asked_in, observed_in, reported_in, start, Event, Ended, Request, ClientMessage, CancelRequest, GssEncRequest, PasswordMessage, SaslInitialResponse, SaslResponse, SslRequest, Startup, Terminate, bytes_of, tag_of, run_more, opened_more, nothing, Message, Frames, TakesFrame, HasStarted, Sent, Shown, Took, Wrote, asked_of, begun, in_phase, is_end, is_logged_in, logged_in_at, may_send, with_incoming, Added, AddsReply, Asking, Login, LogsOn, ByCleartext, ByMd5, ScramBegins, ScramGoesOn, Ways, asking, Follows, History, IsOpenedAt, Known, Plays, Begins, Writes, Hears, and_fed, and_observed, and_sent, and_wrote, good, is_secret, requests_in, requests_of, turns_of, Said, heard, nothing_said, value_of, ConnectionPhase, Encrypting, Started, LoginPhase, Encrypts, told, dropped, fed}
 use Rattle.std.proofs.lemmas.List.Concat.{flat_map-cons}
 use Rattle.std.proofs.lemmas.Grind.{flat_map-append}
 use Rattle.pgp_client.specs.Flow.{Belong}
@@ -42,34 +42,17 @@ wrote ways h old new m name may plain opened added incoming talk login server na
   named = named;
 }
 
-pub sent_some : (ways : Ways) (h : History) (old new : Shown) (n : ℕ) → new.phase ≡ old.phase → new.out ≡ drop n old.out → new.incoming ≡ old.incoming → new.talk ≡ old.talk → new.login ≡ old.login → new.server ≡ old.server → new.names ≡ old.names
-    → Known ways h old → Known ways (and_sent n old h) new
-sent_some ways h old new n phase out incoming talk login server names k =
-    let bytes : h.sent ++ old.out ≡ (h.sent ++ take n old.out) ++ new.out =
-    ap (λ b. h.sent ++ b) (sym (take-append-drop n old.out)) ∙ sym (append_assoc h.sent (take n old.out) (drop n old.out)) ∙ ap (λ b. (h.sent ++ take n old.out) ++ b) (sym out) in
-    record {
-      run = subst (λ b. ClientRun (flat_map kinds_of h.written) h.written b) bytes k.run;
-      opened = subst (λ (p : ConnectionPhase). IsOpenedAt p (is_opened h.written)) (sym phase) k.opened;
-      read = subst (λ b. Frames h.received (good h.observed) b) (sym incoming) k.read;
-      plays = subst (λ (t : Talk). Plays ways h.written h.observed h.turns t new.login) (sym talk) (subst (λ (l : Login). Plays ways h.written h.observed h.turns old.talk l) (sym login) k.plays);
-      server = server ∙ k.server;
-      named = named_same h.turns old.names new.names h.written names k.named;
-    }
+pub sent_some : (ways : Ways) (h : History) (old : Shown) (n : ℕ) → Known ways h old → Known ways (and_sent n old h) (dropped n old)
+sent_some ways h old n k =
+    let bytes : h.sent ++ old.out ≡ (h.sent ++ take n old.out) ++ drop n old.out = ap (λ b. h.sent ++ b) (sym (take-append-drop n old.out)) ∙ sym (append_assoc h.sent (take n old.out) (drop n old.out)) in
+    record { run = subst (λ b. ClientRun (flat_map kinds_of h.written) h.written b) bytes k.run; opened = k.opened; read = k.read; plays = k.plays; server = k.server; named = k.named }
 
-pub fed_some : (ways : Ways) (h : History) (old new : Shown) (piece : List ℕ) → new.phase ≡ old.phase → new.out ≡ old.out → new.incoming ≡ old.incoming ++ piece → new.talk ≡ old.talk → new.login ≡ old.login → new.server ≡ old.server → new.names ≡ old.names
-    → ((bytes : List ℕ) → Frames bytes [] bytes)
+pub fed_some : (ways : Ways) (h : History) (old : Shown) (piece : List ℕ) → ((bytes : List ℕ) → Frames bytes [] bytes)
     → ((bytes more rest left : List ℕ) (first second : List (Result Message Error)) → Frames bytes first rest → Frames (rest ++ more) second left → Frames (bytes ++ more) (first ++ second) left)
-    → Known ways h old → Known ways (and_fed piece h) new
-fed_some ways h old new piece phase out incoming talk login server names none go k =
+    → Known ways h old → Known ways (and_fed piece h) (fed piece old)
+fed_some ways h old piece none go k =
     let frames : Frames (h.received ++ piece) (good h.observed ++ []) (old.incoming ++ piece) = go h.received piece old.incoming (old.incoming ++ piece) (good h.observed) [] k.read (none (old.incoming ++ piece)) in
-    record {
-      run = subst (λ b. ClientRun (flat_map kinds_of h.written) h.written (h.sent ++ b)) (sym out) k.run;
-      opened = subst (λ (p : ConnectionPhase). IsOpenedAt p (is_opened h.written)) (sym phase) k.opened;
-      read = subst (λ b. Frames (h.received ++ piece) (good h.observed) b) (sym incoming) (subst (λ r. Frames (h.received ++ piece) r (old.incoming ++ piece)) (append-nil (good h.observed)) frames);
-      plays = subst (λ (t : Talk). Plays ways h.written h.observed h.turns t new.login) (sym talk) (subst (λ (l : Login). Plays ways h.written h.observed h.turns old.talk l) (sym login) k.plays);
-      server = server ∙ k.server;
-      named = named_same h.turns old.names new.names h.written names k.named;
-    }
+    record { run = k.run; opened = k.opened; read = subst (λ r. Frames (h.received ++ piece) r (old.incoming ++ piece)) (append-nil (good h.observed)) frames; plays = k.plays; server = k.server; named = k.named }
 
 good_more : (ms : List Message) (m : Message) → good ms ++ Ok m ∷ [] ≡ good (ms ++ m ∷ [])
 good_more [] m = refl
@@ -85,14 +68,14 @@ opened_still l m e = opened_more l m ∙ go (is_startup m)
 reply_tagged : (asked : Asking) (m : ClientMessage) (l after : Login) → LogsOn asked (Some m) l after → tag_of m ≢ None
 reply_tagged asked m l after (ByCleartext password p e) = λ none. cc
 reply_tagged asked m l after (ByMd5 who p e) = λ none. cc
-reply_tagged asked m l after (ScramBegins x text p e o f) = λ none. cc
+reply_tagged asked m l after (ScramBegins x text p e o s f) = λ none. cc
 reply_tagged asked m l after (ScramGoesOn x y answer p e many a f) = λ none. cc
 
 -- a reply is a message of the log-in, to which the server gives no answer of its own
 reply_unasked : (asked : Asking) (m : ClientMessage) (l after : Login) → LogsOn asked (Some m) l after → request_of m ≡ None
 reply_unasked asked m l after (ByCleartext password p e) = refl
 reply_unasked asked m l after (ByMd5 who p e) = refl
-reply_unasked asked m l after (ScramBegins x text p e o f) = refl
+reply_unasked asked m l after (ScramBegins x text p e o s f) = refl
 reply_unasked asked m l after (ScramGoesOn x y answer p e many a f) = refl
 
 tagged_may : (l : List ClientMessage) (m : ClientMessage) → is_opened l ≡ true → tag_of m ≢ None → MayCome m (is_opened l)
@@ -168,6 +151,7 @@ kinds_more (x ∷ ms) m = ap (λ l. kind_of x ∷ l) (kinds_more ms m)
 module _ (ways : Ways) where
   pub plays_asked : {written : List ClientMessage} {observed : List Message} {turns : List Turn} {t : Talk} {l : Login} → Plays ways written observed turns t l → requests_in (asked_in turns) ≡ requests_of written
   plays_asked Begins = refl
+  plays_asked (Encrypts encrypts p) = plays_asked p
   plays_asked (Writes {written} {observed} {turns} m name plain p) =
       ap requests_in (asked_more turns (turns_of (request_of m) name)) ∙ requests_more (asked_in turns) (asked_in (turns_of (request_of m) name))
       ∙ ap (λ r. requests_in (asked_in turns) ++ r) (one_turn (request_of m) name) ∙ ap (λ r. r ++ option_to_list (request_of m)) (plays_asked p) ∙ sym (requests_pushed written m)
@@ -176,6 +160,7 @@ module _ (ways : Ways) where
 
   pub plays_observed : {written : List ClientMessage} {observed : List Message} {turns : List Turn} {t : Talk} {l : Login} → Plays ways written observed turns t l → observed_in turns ≡ map kind_of observed
   plays_observed Begins = refl
+  plays_observed (Encrypts encrypts p) = plays_observed p
   plays_observed (Writes {written} {observed} {turns} m name plain p) =
       observed_more turns (turns_of (request_of m) name) ∙ ap (λ r. observed_in turns ++ r) (none_observed (request_of m) name) ∙ append-nil (observed_in turns) ∙ plays_observed p
   plays_observed (Hears {written} {reply} {observed} {turns} m e taken on logs p) =
@@ -190,6 +175,7 @@ module _ (ways : Ways) where
 
   plays_on : {written : List ClientMessage} {observed : List Message} {turns : List Turn} {t : Talk} {l : Login} → Plays ways written observed turns t l → (rest : List Turn) → FollowsTurns t rest → FollowsTurns start (turns ++ rest)
   plays_on Begins rest f = f
+  plays_on (Encrypts encrypts p) rest f = plays_on p rest f
   plays_on (Writes {written} {observed} {turns} {t} m name plain p) rest f =
       subst (λ ts. FollowsTurns start ts) (sym (append_assoc turns (turns_of (request_of m) name) rest)) (plays_on p (turns_of (request_of m) name ++ rest) (turn_asked (request_of m) name t rest f))
   plays_on (Hears {written} {reply} {observed} {turns} {t} {next} m e taken on logs p) rest f =
@@ -286,8 +272,8 @@ ends ways h old new s k =
 at_encrypting : (p : ConnectionPhase) (b : Bool) → p ≡ Encrypting → IsOpenedAt p b → b ≡ false
 at_encrypting p b e opened = subst (λ (q : ConnectionPhase). IsOpenedAt q b) e opened
 
-pub answered : (ways : Ways) (h : History) (old : Shown) → old.phase ≡ Encrypting → Known ways h old → Known ways h (in_phase Opening old)
-answered ways h old phase k = record { run = k.run; opened = at_encrypting old.phase (is_opened h.written) phase k.opened; read = k.read; plays = k.plays; server = k.server; named = k.named }
+pub answered : (ways : Ways) (h : History) (old : Shown) (encrypts : Bool) → old.phase ≡ Encrypting → Known ways h old → Known ways h (told encrypts old)
+answered ways h old encrypts phase k = record { run = k.run; opened = at_encrypting old.phase (is_opened h.written) phase k.opened; read = k.read; plays = Encrypts encrypts k.plays; server = k.server; named = k.named }
 
 pub stopped : (ways : Ways) (h : History) (old : Shown) → Known ways h old → Known ways h (in_phase OverPhase old)
 stopped ways h old k = record { run = k.run; opened = tt; read = k.read; plays = k.plays; server = k.server; named = k.named }

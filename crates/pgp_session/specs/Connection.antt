@@ -1,26 +1,28 @@
 -- A client's connection: what each call makes of it.
 -- PostgreSQL manual, "Message Flow"; "SSL Session Encryption".
-use Rattle.std.specs.Prelude.{◌≡◌, ◌≢◌, ◌⊎◌, ℕ, ◌+◌, nat_lt, Bool, true, false, not, List, [], ◌∷◌, ◌++◌, drop, take, Option, Some, None, Result, Ok, Err, if◌then◌else◌, ◌==◌, ◌&&◌, ◌||◌, min, ℤ, pos}
+use Rattle.std.specs.Prelude.{◌≡◌, ◌≢◌, ◌⊎◌, ℕ, ◌+◌, nat_eq, nat_lt, Bool, true, false, not, List, [], ◌∷◌, ◌++◌, drop, take, Option, Some, None, Result, Ok, Err, if◌then◌else◌, codes, ◌==◌, ◌&&◌, ◌||◌, min, ℤ, pos}
 use Rattle.std.specs.Int.Signed.{lt_z}
+use Rattle.std.specs.List.{list_any, starts_with}
 use Rattle.pgp_base.specs.declared.error.Error.{Error}
 use Rattle.pgp_base.specs.declared.error.Error.TheVariants.{OutOfMemory as NoMemory}
 use Rattle.pgp_client.specs.Kinds.{kind_of, request_of}
-use Rattle.pgp_client.specs.Taking.{asked, awaits_data, is_copying, taken}
+use Rattle.pgp_client.specs.Taking.{asked, awaits_data, is_between, is_copying, taken}
 use Rattle.pgp_client.specs.Talk.{Talk, shown as talk_of}
 use Rattle.pgp_client.specs.Telling.{start}
 use Rattle.pgp_client.specs.declared.event.Event.{Event}
 use Rattle.pgp_client.specs.declared.event.Event.TheVariants.{Ended, Part}
 use Rattle.pgp_client.specs.declared.request.Request.{Request}
 use Rattle.pgp_client.specs.declared.stage.Stage.TheVariants.{Over as NothingMore}
-use Rattle.pgp_frontend.specs.ClientMessage.{ClientMessage, Bind, CancelRequest, Close, CopyData, CopyDone, CopyFail, Describe, Execute, Flush, Parse, Query, Sync}
+use Rattle.pgp_frontend.specs.ClientMessage.{ClientMessage, Bind, CancelRequest, Close, CopyData, CopyDone, CopyFail, Describe, Execute, Flush, Parse, Query, Startup, Sync}
 use Rattle.pgp_frontend.specs.Payload.{bytes_of}
 use Rattle.pgp_message.specs.BackendMessage.{Message, CopyData as DataCame, DataRow, NegotiateProtocolVersion, NoticeResponse, NotificationResponse, ParameterStatus, ReadyForQuery}
+use Rattle.pgp_message.specs.Parts.{Negotiation}
 use Rattle.pgp_message.specs.Remembered.{header_of}
 use Rattle.pgp_client.specs.declared.event.Refusal.{Refusal}
 use Rattle.pgp_message.specs.Stream.{BeginsWithKept, IsPartial, Step, TakesFrame}
 use Rattle.pgp_message.specs.Views.{view}
 use Rattle.pgp_message.specs.declared.message as code
-use Rattle.pgp_session.specs.Login.{Added, LoggedOn, Login, Unsent, Ways, asking, is_first, seen}
+use Rattle.pgp_session.specs.Login.{Added, LoggedOn, Login, Unsent, Ways, asking, encrypted_by, seen}
 use Rattle.pgp_session.specs.Login as login
 use Rattle.pgp_session.specs.Settings.{HasRoom, IsUnkept, Said, heard, most, nothing_said, setting_in}
 use Rattle.pgp_session.specs.declared.connection.Connection.{Connection as Kept}
@@ -44,13 +46,15 @@ pub record Shown : Type 0 where
   pub talk : Talk
   -- what the server said last of its session
   pub server : Said
+  -- the startup packet has protocol options
+  pub options : Bool
   -- the next request's name
   pub names : ℕ
   -- how long a message may be
   pub limit : ℕ
 
 abbrev pub begun : Ways → ℕ → Shown
-begun ways limit = record { phase = Opening; login = record { phase = AwaitsOffer; ways = ways }; out = []; incoming = []; talk = start; server = nothing_said; names = 0; limit = limit }
+begun ways limit = record { phase = Opening; login = record { phase = AwaitsOffer; ways = ways }; out = []; incoming = []; talk = start; server = nothing_said; options = false; names = 0; limit = limit }
 
 -- the log-in is done
 abbrev pub done_at : LoginPhase → Bool
@@ -99,7 +103,7 @@ asked_of (Some r) n t = asked t (record { request = r; name = n })
 
 -- after this message was sent
 abbrev pub said : ClientMessage → Shown → Shown
-said m c = record { phase = c.phase; login = c.login; out = c.out ++ bytes_of m; incoming = c.incoming; talk = asked_of (request_of m) c.names c.talk; server = c.server; names = next_name c.names; limit = c.limit }
+said m c = record { phase = c.phase; login = c.login; out = c.out ++ bytes_of m; incoming = c.incoming; talk = asked_of (request_of m) c.names c.talk; server = c.server; options = c.options; names = next_name c.names; limit = c.limit }
 
 -- The message was added to what is to be sent, and asked of the server under this name.
 pub record Sent (m : ClientMessage) (old new : Shown) (name : ℕ) : Type 0 where
@@ -125,10 +129,10 @@ SendsGiven lacks Whole Refuses old new (Err e) = ⊥
 
 -- *private*: the request was noted whose message was written, or the message was taken back
 abbrev pub with_out : List ℕ → Shown → Shown
-with_out out c = record { phase = c.phase; login = c.login; out = out; incoming = c.incoming; talk = c.talk; server = c.server; names = c.names; limit = c.limit }
+with_out out c = record { phase = c.phase; login = c.login; out = out; incoming = c.incoming; talk = c.talk; server = c.server; options = c.options; names = c.names; limit = c.limit }
 
 abbrev pub noted : Request → Shown → Shown
-noted r c = record { phase = c.phase; login = c.login; out = c.out; incoming = c.incoming; talk = asked c.talk (record { request = r; name = c.names }); server = c.server; names = next_name c.names; limit = c.limit }
+noted r c = record { phase = c.phase; login = c.login; out = c.out; incoming = c.incoming; talk = asked c.talk (record { request = r; name = c.names }); server = c.server; options = c.options; names = next_name c.names; limit = c.limit }
 
 abbrev pub Noted : Type 0 → ℕ → Request → Shown → Shown → Option ℕ → Type 0
 Noted lacks place r old new (Some name) = (name ≡ old.names) × (new ≡ noted r old)
@@ -141,12 +145,12 @@ Notes lacks place r old new (Err e) = ⊥
 
 -- so many bytes were sent
 abbrev pub dropped : ℕ → Shown → Shown
-dropped n c = record { phase = c.phase; login = c.login; out = drop n c.out; incoming = c.incoming; talk = c.talk; server = c.server; names = c.names; limit = c.limit }
+dropped n c = record { phase = c.phase; login = c.login; out = drop n c.out; incoming = c.incoming; talk = c.talk; server = c.server; options = c.options; names = c.names; limit = c.limit }
 
 -- ---- what comes
 
 abbrev pub fed : List ℕ → Shown → Shown
-fed piece c = record { phase = c.phase; login = c.login; out = c.out; incoming = c.incoming ++ piece; talk = c.talk; server = c.server; names = c.names; limit = c.limit }
+fed piece c = record { phase = c.phase; login = c.login; out = c.out; incoming = c.incoming ++ piece; talk = c.talk; server = c.server; options = c.options; names = c.names; limit = c.limit }
 
 abbrev pub Feeds : {A : Type 0} → Type 0 → List ℕ → Shown → Shown → Result (Unit {0}) (ConnectionError A) → Type 0
 Feeds lacks piece old new (Ok done) = (old.phase ≡ Started) × (new ≡ fed piece old)
@@ -171,35 +175,43 @@ abbrev pub limit_of : Shown → ℕ
 limit_of c = if is_logged_in c then c.limit else min c.limit early_limit
 
 abbrev pub in_phase : ConnectionPhase → Shown → Shown
-in_phase phase c = record { phase = phase; login = c.login; out = c.out; incoming = c.incoming; talk = c.talk; server = c.server; names = c.names; limit = c.limit }
+in_phase phase c = record { phase = phase; login = c.login; out = c.out; incoming = c.incoming; talk = c.talk; server = c.server; options = c.options; names = c.names; limit = c.limit }
 
 abbrev pub with_incoming : List ℕ → Shown → Shown
-with_incoming rest c = record { phase = c.phase; login = c.login; out = c.out; incoming = rest; talk = c.talk; server = c.server; names = c.names; limit = c.limit }
+with_incoming rest c = record { phase = c.phase; login = c.login; out = c.out; incoming = rest; talk = c.talk; server = c.server; options = c.options; names = c.names; limit = c.limit }
 
 -- what a message does to the phase, to the dialogue and to what is known of the server's session
 abbrev pub moved : ConnectionPhase → Talk → Message → Shown → Shown
-moved phase t m c = record { phase = phase; login = c.login; out = c.out; incoming = c.incoming; talk = t; server = heard m c.server; names = c.names; limit = c.limit }
+moved phase t m c = record { phase = phase; login = c.login; out = c.out; incoming = c.incoming; talk = t; server = heard m c.server; options = c.options; names = c.names; limit = c.limit }
 
 -- what it does in the log-in
 abbrev pub with_login : Login → List ℕ → Shown → Shown
-with_login l out c = record { phase = c.phase; login = l; out = out; incoming = c.incoming; talk = c.talk; server = c.server; names = c.names; limit = c.limit }
+with_login l out c = record { phase = c.phase; login = l; out = out; incoming = c.incoming; talk = c.talk; server = c.server; options = c.options; names = c.names; limit = c.limit }
 
 -- after a message that wasn't taken, with all else as it was
 abbrev pub left_at : ConnectionPhase → Talk → Login → Said → Shown → Shown
-left_at phase t l s c = record { phase = phase; login = l; out = c.out; incoming = c.incoming; talk = t; server = s; names = c.names; limit = c.limit }
+left_at phase t l s c = record { phase = phase; login = l; out = c.out; incoming = c.incoming; talk = t; server = s; options = c.options; names = c.names; limit = c.limit }
 
 -- the version's number is that of 3.0
 abbrev pub is_3_0 : ℤ → Bool
 is_3_0 version = not (lt_z version (pos 196608) || lt_z (pos 196608) version)
 
--- A message that has a place among the answers before the log-in is done, and isn't taken there. A server asks for a password, reports an error, or, right behind the
--- startup packet, answers that it speaks the version of the packet, 3.0; what else it says would be kept of one that has proved nothing.
-abbrev pub is_early : LoginPhase → Message → Bool
-is_early p (ParameterStatus setting) = not (done_at p)
-is_early p (NoticeResponse fields) = not (done_at p)
-is_early p (NotificationResponse n) = not (done_at p)
-is_early p (NegotiateProtocolVersion v) = not (is_first p && is_3_0 v.version)
-is_early p m = false
+-- An answer about versions is due once, right behind the startup packet. It says that the server speaks the packet's version, 3.0, and names protocol options only where
+-- the packet has some.
+abbrev pub is_answered : Bool → Bool → Negotiation → Bool
+is_answered first options v = first && is_3_0 v.version && (options || (v.count == 0))
+
+-- A message that has a place among the answers before the log-in is done, and isn't taken there: `first` says that no message came before. A server asks for a password,
+-- reports an error, or answers about versions; what else it says would be kept of one that has proved nothing.
+abbrev pub is_early : LoginPhase → Bool → Bool → Message → Bool
+is_early p first options (ParameterStatus setting) = not (done_at p)
+is_early p first options (NoticeResponse fields) = not (done_at p)
+is_early p first options (NotificationResponse n) = not (done_at p)
+is_early p first options (NegotiateProtocolVersion v) = not (is_answered first options v)
+is_early p first options m = false
+
+abbrev pub comes_early : Shown → Message → Bool
+comes_early c m = is_early c.login.phase (is_between c.talk) c.options m
 
 -- The status of a ReadyForQuery is that of no transaction, of one, or of a failed one.
 abbrev pub is_status : ℕ → Bool
@@ -226,7 +238,7 @@ is_bulk m e = false
 -- The message was attributed so, what it reports was kept, and the log-in took it: its reply was appended.
 pub record Took (m : Message) (old new : Shown) (e : Event) : Type 0 where
   pub taken : taken old.talk (kind_of m) ≡ Ok (e, new.talk)
-  pub due : is_early old.login.phase m ≡ false
+  pub due : comes_early old m ≡ false
   pub sound : lacks_status m ≡ false
   pub kept : HasRoom most (setting_in m) old.server.settings
   pub goes_on : is_end e ≡ false
@@ -243,13 +255,13 @@ pub record TookEnd (m : Message) (old new : Shown) (e : Event) : Type 0 where
 module _ {A : Type 0} (lacks : Type 0) where
   -- Why a message isn't taken, and what is left in this phase: it isn't attributed, so that no message is any more; or it comes before the log-in is done; or its
   -- status is none; or what it reports can't be kept; or the log-in stops at it, and is no further.
-  abbrev pub IsUnfit : LoginPhase → Message → ConnectionError A → Type 0
-  IsUnfit p m e = ((is_early p m ≡ true) × (e ≡ Undue)) ⊎ ((is_early p m ≡ false) × (lacks_status m ≡ true) × (e ≡ BadStatus))
+  abbrev pub IsUnfit : Shown → Message → ConnectionError A → Type 0
+  IsUnfit c m e = ((comes_early c m ≡ true) × (e ≡ Undue)) ⊎ ((comes_early c m ≡ false) × (lacks_status m ≡ true) × (e ≡ BadStatus))
 
   abbrev pub Stops : ConnectionPhase → Message → Shown → Shown → ConnectionError A → Type 0
   Stops phase m old new e = ((r : Refusal) × (taken old.talk (kind_of m) ≡ Err r) × (e ≡ Misplaced r) × (new.talk.stage ≡ NothingMore)
       × (new ≡ left_at phase new.talk old.login old.server old))
-      ⊎ ((x : Event × Talk) × (taken old.talk (kind_of m) ≡ Ok x) × IsUnfit old.login.phase m e × (new ≡ left_at phase x.1 old.login old.server old))
+      ⊎ ((x : Event × Talk) × (taken old.talk (kind_of m) ≡ Ok x) × IsUnfit old m e × (new ≡ left_at phase x.1 old.login old.server old))
       ⊎ ((x : Event × Talk) × (taken old.talk (kind_of m) ≡ Ok x) × (cause : Error) × IsUnkept lacks most (setting_in m) old.server.settings cause × (e ≡ Unkept cause)
       × (new ≡ left_at phase x.1 old.login old.server old))
       ⊎ ((x : Event × Talk) × (taken old.talk (kind_of m) ≡ Ok x) × HasRoom most (setting_in m) old.server.settings × (is_end x.0 ≡ false)
@@ -300,7 +312,7 @@ nexted (Err e) = Err e
 
 -- a message that isn't answered by itself was written, and the phase is then this
 abbrev pub written : ConnectionPhase → ClientMessage → Shown → Shown
-written phase m c = record { phase = phase; login = c.login; out = c.out ++ bytes_of m; incoming = c.incoming; talk = c.talk; server = c.server; names = c.names; limit = c.limit }
+written phase m c = record { phase = phase; login = c.login; out = c.out ++ bytes_of m; incoming = c.incoming; talk = c.talk; server = c.server; options = c.options; names = c.names; limit = c.limit }
 
 -- It was, in this phase, which leads to that one.
 pub record Wrote (here next : ConnectionPhase) (m : ClientMessage) (old new : Shown) : Type 0 where
@@ -320,20 +332,36 @@ abbrev pub letter : Bool → ℕ
 letter true = 0x53  -- S
 letter false = 0x4e  -- N
 
+-- after that answer
+abbrev pub told : Bool → Shown → Shown
+told encrypts c = with_login (encrypted_by encrypts c.login) c.out (in_phase Opening c)
+
 -- What the bytes come to that answer it: whether the server encrypts, once there is one byte. Anything else, as bytes that came with that one, ends the connection.
 abbrev pub Answers : {A : Type 0} → List ℕ → Shown → Shown → Result (Option Bool) (ConnectionError A) → Type 0
 Answers piece old new (Ok None) = (old.phase ≡ Encrypting) × (piece ≡ []) × (new ≡ old)
-Answers piece old new (Ok (Some encrypts)) = (old.phase ≡ Encrypting) × (piece ≡ letter encrypts ∷ []) × (new ≡ in_phase Opening old)
+Answers piece old new (Ok (Some encrypts)) = (old.phase ≡ Encrypting) × (piece ≡ letter encrypts ∷ []) × (new ≡ told encrypts old)
 Answers piece old new (Err OutOfPhase) = (old.phase ≢ Encrypting) × (new ≡ old)
 Answers piece old new (Err BadAnswer) = (old.phase ≡ Encrypting) × (piece ≢ []) × ((encrypts : Bool) → piece ≢ letter encrypts ∷ []) × (new ≡ in_phase Over old)
 Answers piece old new (Err e) = ⊥
+
+-- the name of a protocol option begins so
+abbrev pub is_option : List ℕ → Bool
+is_option name = starts_with nat_eq name (codes "_pq_.")
+
+-- the packet has some
+abbrev pub has_options : ClientMessage → Bool
+has_options (Startup minor parameters) = list_any (λ (p : List ℕ × List ℕ). is_option p.0) parameters
+has_options m = false
+
+abbrev pub started : ClientMessage → Shown → Shown
+started m c = record { phase = Started; login = c.login; out = c.out ++ bytes_of m; incoming = c.incoming; talk = asked_of (request_of m) c.names c.talk; server = c.server; options = has_options m; names = next_name c.names; limit = c.limit }
 
 -- The startup packet was written, and asked of the server under this name.
 pub record HasStarted (m : ClientMessage) (old new : Shown) (name : ℕ) : Type 0 where
   pub phase : old.phase ≡ Opening
   pub added : Added m old.out new.out
   pub named : name ≡ old.names
-  pub is : new ≡ in_phase Started (said m old)
+  pub is : new ≡ started m old
 
 -- The startup packet was written, and its answer is awaited under the next name.
 abbrev pub Starts : {A : Type 0} → Type 0 → ClientMessage → Shown → Shown → Result ℕ (ConnectionError A) → Type 0
@@ -354,10 +382,10 @@ Cancels lacks c old new (Err e) = ⊥
 
 -- *private*: what the messages of the server change, with all else as it is there
 abbrev pub in_state : {A : Type 0} → ConnectionState A → Shown → Shown
-in_state s c = record { phase = s.phase; login = seen s.login; out = s.out.items; incoming = c.incoming; talk = talk_of (λ q. q.items) s.dialogue; server = record { state = s.server; settings = s.settings.entries.items }; names = c.names; limit = c.limit }
+in_state s c = record { phase = s.phase; login = seen s.login; out = s.out.items; incoming = c.incoming; talk = talk_of (λ q. q.items) s.dialogue; server = record { state = s.server; settings = s.settings.entries.items }; options = s.options; names = c.names; limit = c.limit }
 
 abbrev pub shown : {A : Type 0} → Kept A → Shown
-shown c = record { phase = c.state.phase; login = seen c.state.login; out = c.state.out.items; incoming = c.incoming.rest; talk = talk_of (λ q. q.items) c.state.dialogue; server = record { state = c.state.server; settings = c.state.settings.entries.items }; names = c.names; limit = c.limit }
+shown c = record { phase = c.state.phase; login = seen c.state.login; out = c.state.out.items; incoming = c.incoming.rest; talk = talk_of (λ q. q.items) c.state.dialogue; server = record { state = c.state.server; settings = c.state.settings.entries.items }; options = c.state.options; names = c.names; limit = c.limit }
 
 -- the frame of the message that is read in place, or nothing
 abbrev pub current : {A : Type 0} → Kept A → List ℕ

@@ -1,6 +1,6 @@
 -- How a client logs in by the ways that it admits, and what it sends.
 -- PostgreSQL manual, "Message Flow": "Start-up"; "SASL Authentication".
-use Rattle.std.specs.Prelude.{◌≡◌, ◌⊎◌, ℕ, Bool, true, false, List, ◌++◌, Option, Some, None, Result, Ok, Err, option_map}
+use Rattle.std.specs.Prelude.{◌≡◌, ◌⊎◌, ℕ, Bool, true, false, List, ◌++◌, Option, Some, None, Result, Ok, Err, option_map, ◌||◌}
 use Rattle.std.specs.Borrow.{Bor}
 use Rattle.pgp_base.specs.Cause.{WantsMemory}
 use Rattle.pgp_base.specs.declared.error.Error.{Error}
@@ -11,7 +11,7 @@ use Rattle.pgp_auth.specs.ScramRefusal.{AsksFewer, WrongState}
 use Rattle.pgp_frontend.specs.ClientMessage.{ClientMessage, PasswordMessage, SaslResponse}
 use Rattle.pgp_frontend.specs.Payload.{bytes_of, cause, IsInRange}
 use Rattle.pgp_message.specs.BackendMessage.{Message, Authentication, AuthenticationOk, AuthenticationCleartextPassword, AuthenticationMd5Password, AuthenticationSasl, AuthenticationSaslContinue, AuthenticationSaslFinal}
-use Rattle.pgp_session.specs.ScramLogin.{Offers, initial}
+use Rattle.pgp_session.specs.ScramLogin.{IsStripped, Offers, initial}
 use Rattle.pgp_session.specs.declared.connection_error.ConnectionError.{ConnectionError}
 use Rattle.pgp_session.specs.declared.connection_error.ConnectionError.TheVariants.{NotAdmitted, NotOffered, Scram, TooFewRounds, Undue, Unwritten}
 use Rattle.pgp_session.specs.declared.login.Asking.{Asking as Asked}
@@ -28,6 +28,8 @@ pub record Ways : Type 0 where
   pub cleartext : Option (List ℕ)
   pub none : Bool
   pub least : ℕ
+  -- the connection is encrypted
+  pub encrypted : Bool
 
 -- how far a log-in is, and with which ways
 pub record Login : Type 0 where
@@ -78,10 +80,14 @@ abbrev pub in_phase : LoginPhase → Login → Login
 in_phase phase l = record { phase = phase; ways = l.ways }
 
 abbrev pub with_exchange : Client → Ways → Ways
-with_exchange x w = record { scram = Some x; md5 = w.md5; cleartext = w.cleartext; none = w.none; least = w.least }
+with_exchange x w = record { scram = Some x; md5 = w.md5; cleartext = w.cleartext; none = w.none; least = w.least; encrypted = w.encrypted }
 
 abbrev pub goes_on : LoginPhase → Client → Login → Login
 goes_on phase x l = record { phase = phase; ways = with_exchange x l.ways }
+
+-- the same where the server answered whether it encrypts
+abbrev pub encrypted_by : Bool → Login → Login
+encrypted_by encrypts l = record { phase = l.phase; ways = record { scram = l.ways.scram; md5 = l.ways.md5; cleartext = l.ways.cleartext; none = l.ways.none; least = l.ways.least; encrypted = l.ways.encrypted || encrypts } }
 
 -- the message has a spelling, and it was appended
 pub record Added (m : ClientMessage) (old new : List ℕ) : Type 0 where
@@ -122,8 +128,9 @@ module _ {A : Type 0} (lacks : Type 0) where
 
   abbrev pub AsksSasl : Option Client → List ℕ → Login → Login → List ℕ → List ℕ → Result (Unit {0}) (ConnectionError A) → Type 0
   AsksSasl None mechanisms old new out grown result = result ≡ Err NotAdmitted
-  AsksSasl (Some x) mechanisms old new out grown (Ok done) = Offers x mechanisms × Begins x out grown (Ok done) × (new ≡ in_phase AwaitsFirst old)
-  AsksSasl (Some x) mechanisms old new out grown (Err e) = ((e ≡ NotOffered) × (Offers x mechanisms → ⊥)) ⊎ (Offers x mechanisms × Begins x out grown (Err e))
+  AsksSasl (Some x) mechanisms old new out grown (Ok done) = Offers x mechanisms × (IsStripped old.ways.encrypted x mechanisms → ⊥) × Begins x out grown (Ok done) × (new ≡ in_phase AwaitsFirst old)
+  AsksSasl (Some x) mechanisms old new out grown (Err e) = ((e ≡ NotOffered) × (Offers x mechanisms → ⊥)) ⊎ ((e ≡ NotAdmitted) × Offers x mechanisms × IsStripped old.ways.encrypted x mechanisms)
+      ⊎ (Offers x mechanisms × (IsStripped old.ways.encrypted x mechanisms → ⊥) × Begins x out grown (Err e))
 
   -- the exchange takes the server's first text, and its final text is sent
   abbrev pub RepliesFirst : List ℕ → Client → Client → List ℕ → List ℕ → Result (Unit {0}) (ConnectionError A) → Type 0
@@ -186,7 +193,7 @@ pub data LogsOn : Asking → Option ClientMessage → Login → Login → Type 0
   ByMd5 : {l : Login} {salt : List ℕ} (who : List ℕ × List ℕ) → l.phase ≡ AwaitsOffer → l.ways.md5 ≡ Some who
       → LogsOn (Md5 salt) (Some (PasswordMessage (md5_answer who.0 who.1 salt))) l (in_phase AwaitsOk l)
   ScramBegins : {l : Login} {mechanisms : List ℕ} (x : Client) (text : List ℕ) → l.phase ≡ AwaitsOffer → l.ways.scram ≡ Some x → Offers x mechanisms
-      → message_of x.state ≡ Some text → LogsOn (Sasl mechanisms) (Some (initial text)) l (in_phase AwaitsFirst l)
+      → (IsStripped l.ways.encrypted x mechanisms → ⊥) → message_of x.state ≡ Some text → LogsOn (Sasl mechanisms) (Some (initial text)) l (in_phase AwaitsFirst l)
   ScramGoesOn : {l : Login} {text : List ℕ} (x y : Client) (answer : List ℕ) → l.phase ≡ AwaitsFirst → l.ways.scram ≡ Some x → (AsksFewer l.ways.least text → ⊥) → Answers x text y
       → message_of y.state ≡ Some answer → LogsOn (First text) (Some (SaslResponse answer)) l (goes_on AwaitsFinal y l)
   ScramEnds : {l : Login} {text : List ℕ} (x y : Client) → l.phase ≡ AwaitsFinal → l.ways.scram ≡ Some x → Finished x text y
@@ -222,7 +229,7 @@ abbrev pub user_of : Bor (List ℕ) × Bor (List ℕ) → List ℕ × List ℕ
 user_of who = (who.0.now, who.1.now)
 
 abbrev pub given : {A : Type 0} → Given A → Ways
-given w = record { scram = w.scram; md5 = option_map user_of w.md5; cleartext = option_map (λ (p : Bor (List ℕ)). p.now) w.cleartext; none = w.none; least = w.least_rounds }
+given w = record { scram = w.scram; md5 = option_map user_of w.md5; cleartext = option_map (λ (p : Bor (List ℕ)). p.now) w.cleartext; none = w.none; least = w.least_rounds; encrypted = w.encrypted }
 
 abbrev pub seen : {A : Type 0} → Kept A → Login
 seen l = record { phase = l.phase; ways = given l.ways }

@@ -1,6 +1,6 @@
 -- A client that logs in with SCRAM-SHA-256, bound to the channel or not: what each message of the server comes to.
 -- PostgreSQL manual, "SASL Authentication", "Message Flow": "Start-up"; RFC 5802; RFC 7677.
-use Rattle.std.specs.Prelude.{◌≡◌, ℕ, Bool, true, false, if◌then◌else◌, nat_eq, List, Option, Some, None, Result, Ok, Err, Contains, [], ◌∷◌, ◌++◌, codes}
+use Rattle.std.specs.Prelude.{◌≡◌, ◌≢◌, ℕ, Bool, true, false, if◌then◌else◌, nat_eq, List, Option, Some, None, Result, Ok, Err, Contains, [], ◌∷◌, ◌++◌, codes}
 use Rattle.pgp_base.specs.Held.{Held}
 use Rattle.pgp_base.specs.Items.{MarkedItems}
 use Rattle.pgp_base.specs.declared.error.Error.{Error}
@@ -79,9 +79,18 @@ if_due phase (Some said) = if is_due phase said then Some said else None
 abbrev pub observed : LoginPhase → Message → Option Said
 observed phase m = if_due phase (says m)
 
--- the list of mechanisms ends well, and that of the exchange is one of them
+-- the list of mechanisms ends well, and this is one of them
+abbrev pub Lists : List ℕ → List ℕ → Type 0
+Lists name mechanisms = (names : List (List ℕ)) × MarkedItems TextSpelled TextRefused mechanisms names None × Contains names name
+
+-- that of the exchange is one of them
 abbrev pub Offers : Client → List ℕ → Type 0
-Offers exchange mechanisms = (names : List (List ℕ)) × MarkedItems TextSpelled TextRefused mechanisms names None × Contains names (mechanism_of exchange)
+Offers exchange mechanisms = Lists (mechanism_of exchange) mechanisms
+
+-- The server offers to bind an exchange to the channel, as it does on an encrypted connection alone, and the client's isn't: neither is it known to be encrypted, nor is its
+-- exchange bound. So encryption may have been taken away on the way.
+abbrev pub IsStripped : Bool → Client → List ℕ → Type 0
+IsStripped encrypted exchange mechanisms = (encrypted ≡ false) × (mechanism_of exchange ≢ codes "SCRAM-SHA-256-PLUS") × Lists (codes "SCRAM-SHA-256-PLUS") mechanisms
 
 -- the first messages came among the second in this order, others before, between and after them
 pub data ReceivedAmong : List Message → List Message → Type 0 where

@@ -18,7 +18,7 @@ use Rattle.pgp_frontend.specs.ClientMessage.{ClientMessage, PasswordMessage, Sas
 use Rattle.pgp_frontend.specs.ClientRun.{ClientRun, is_opened, kinds_of}
 use Rattle.pgp_message.specs.BackendMessage.{Message, Authentication, AuthenticationCleartextPassword, AuthenticationMd5Password}
 use Rattle.pgp_message.specs.Stream.{Frames}
-use Rattle.pgp_session.specs.Login.{Login, LogsOn, Ways, asking}
+use Rattle.pgp_session.specs.Login.{Login, LogsOn, Ways, asking, encrypted_by}
 use Rattle.pgp_session.specs.ScramLogin.{Offers, ReceivedAmong, initial, offer, first_text, final_text, welcome}
 use Rattle.pgp_session.specs.Connection.{Shown, asked_of, is_end}
 use Rattle.pgp_session.specs.ServerState.{state_after, unsaid}
@@ -41,12 +41,14 @@ abbrev pub turns_of : Option Request → ℕ → List Turn
 turns_of None n = []
 turns_of (Some r) n = Asks (record { request = r; name = n }) ∷ []
 
--- A client that admits these ways wrote and heard these messages, asking and hearing in these turns; this is where it is in the dialogue and in the log-in.
+-- A client that admits these ways wrote and heard these messages, and was told whether the server encrypts, asking and hearing in these turns; this is where it is in the dialogue and in the log-in.
 pub data Plays (ways : Ways) : List ClientMessage → List Message → List Turn → Talk → Login → Type 0 where
   Begins : Plays ways [] [] [] start (record { phase = AwaitsOffer; ways = ways })
   Writes : {written : List ClientMessage} {observed : List Message} {turns : List Turn} {t : Talk} {l : Login} (m : ClientMessage) (name : ℕ)
       → is_secret m ≡ false → Plays ways written observed turns t l
       → Plays ways (written ++ m ∷ []) observed (turns ++ turns_of (request_of m) name) (asked_of (request_of m) name t) l
+  Encrypts : {written : List ClientMessage} {observed : List Message} {turns : List Turn} {t : Talk} {l : Login} (encrypts : Bool)
+      → Plays ways written observed turns t l → Plays ways written observed turns t (encrypted_by encrypts l)
   Hears : {written : List ClientMessage} {reply : Option ClientMessage} {observed : List Message} {turns : List Turn} {t next : Talk} {l after : Login} (m : Message) (e : Event)
       → taken t (kind_of m) ≡ Ok (e, next) → is_end e ≡ false → LogsOn (asking m) reply l after → Plays ways written observed turns t l
       → Plays ways (written ++ option_to_list reply) (observed ++ m ∷ []) (turns ++ HearsTurn (kind_of m) e ∷ []) next after

@@ -14,7 +14,7 @@ ghost use Rattle.pgp_session.specs.Incoming.{Reads};
 ghost use Rattle.pgp_session.specs.Connection.{Advances, Answers, Cancels, Feeds, Nexts, Sends, Starts, Writes, begun, can_send, current, dropped, is_logged_in, limit_of, may_ask, nexted, shown};
 
 use crate::connection_error::ConnectionError;
-use crate::connection_parts::{encrypts, may_send, next_name, put_startup};
+use crate::connection_parts::{encrypts, has_option, may_send, next_name, put_startup};
 use crate::connection_state::ConnectionState;
 use crate::incoming::Incoming;
 use crate::login::{Ways, put};
@@ -86,7 +86,7 @@ impl<'a, A: Memory> Connection<'a, A> {
     }
 
     /// Takes the bytes that answer the request for encryption, and returns whether the server encrypts; `None` where none came. Where it does,
-    /// the handshake of TLS is next, and then the startup packet.
+    /// the handshake of TLS is next, and then the startup packet: the connection counts as encrypted.
     ///
     /// # Errors
     ///
@@ -106,6 +106,7 @@ impl<'a, A: Memory> Connection<'a, A> {
             return Err(ConnectionError::BadAnswer);
         };
         self.state.phase = ConnectionPhase::Opening;
+        self.state.login.ways.encrypted |= encrypts;
         Ok(Some(encrypts))
     }
 
@@ -134,6 +135,7 @@ impl<'a, A: Memory> Connection<'a, A> {
             return Err(ConnectionError::OutOfMemory);
         }
         self.names = next_name(name);
+        self.state.options = has_option(parameters);
         self.state.phase = ConnectionPhase::Started;
         Ok(name)
     }

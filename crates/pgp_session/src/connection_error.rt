@@ -23,12 +23,12 @@ pub enum ConnectionError<A: Allocator = Global> {
     Malformed(Error),
     /// The message has no place among the answers that are due, or can't be attributed.
     Misplaced(Refusal),
-    /// The message isn't due in the log-in. Before its end a server asks for a password, reports an error, or answers that it speaks version 3.0:
-    /// all else would be kept of one that has proved nothing.
+    /// The message isn't due in the log-in. Before its end a server asks for a password, reports an error, or answers once, right behind the startup
+    /// packet, that it speaks version 3.0: all else would be kept of one that has proved nothing.
     Undue,
     /// A ReadyForQuery has a status other than `I`, `T` and `E`.
     BadStatus,
-    /// The server asks for a way of logging in that isn't admitted.
+    /// The server asks for a way of logging in that isn't admitted, or offers to bind an exchange to a channel that isn't encrypted.
     NotAdmitted,
     /// The server's SASL mechanisms lack that of the exchange, or their list is malformed.
     NotOffered,

@@ -28,6 +28,8 @@ pub(crate) struct ConnectionState<'a, A: Memory> {
     pub(crate) dialogue: Dialogue<VecDeque<Asked, A>>,
     pub(crate) server: ServerState,
     pub(crate) settings: Settings<A>,
+    /// Whether the startup packet has protocol options.
+    pub(crate) options: bool,
 }
 
 impl<'a, A: Memory> ConnectionState<'a, A> {
@@ -46,6 +48,7 @@ impl<'a, A: Memory> ConnectionState<'a, A> {
             dialogue: Dialogue::new(alloc),
             server: ServerState::new(),
             settings: Settings::new(alloc),
+            options: false,
         }
     }
 
@@ -71,6 +74,7 @@ impl<'a, A: Memory> ConnectionState<'a, A> {
     fn take<S: SessionStorage>(&mut self, message: &Message<S>) -> Result<Event, ConnectionError<A>>
         ensures { (c : Shown) → Takes A.Lacks (view message.now) (in_state self.old c) (in_state self.new c) result }
     {
+        let first = self.dialogue.is_between();
         let event = match self.dialogue.take_message(message) {
             Ok(event) => event,
             Err(e) => return Err(ConnectionError::Misplaced(e)),
@@ -78,7 +82,7 @@ impl<'a, A: Memory> ConnectionState<'a, A> {
         if is_bulk(message, event) {
             return Ok(event);
         }
-        if is_early(self.login.phase, message) {
+        if is_early(self.login.phase, first, self.options, message) {
             return Err(ConnectionError::Undue);
         }
         if lacks_status(message) {

@@ -1,12 +1,12 @@
 //! What holds of a connection after any calls.
 
-ghost use Rattle.std.specs.Prelude.{◌≡◌, ◌⊎◌, ◌≤◌, ℕ, List, Ok, Option, false, length};
+ghost use Rattle.std.specs.Prelude.{◌≡◌, ◌⊎◌, ◌≤◌, ℕ, Bool, List, Ok, Option, false, length};
 ghost use Rattle.pgp_client.specs.declared.event.Event.{Event as Reported};
 ghost use Rattle.pgp_frontend.specs.ClientMessage.{ClientMessage as Written, SslRequest, Startup, Terminate};
 ghost use Rattle.pgp_frontend.specs.Reading.{IsNamed};
 ghost use Rattle.pgp_message.specs.BackendMessage.{Message as Observed};
 ghost use Rattle.pgp_message.specs.Stream.{IsPartial, TakesFrame};
-ghost use Rattle.pgp_session.specs.Connection.{HasStarted, Sent, Shown, Took, Wrote, begun, dropped, fed, in_phase, is_longer, with_incoming};
+ghost use Rattle.pgp_session.specs.Connection.{HasStarted, Sent, Shown, Took, Wrote, begun, dropped, fed, in_phase, is_longer, told, with_incoming};
 ghost use Rattle.pgp_session.specs.Incoming.{Reads};
 ghost use Rattle.pgp_session.specs.Login.{Ways as Admitting};
 ghost use Rattle.pgp_session.specs.Session.{Follows, History, Known, and_fed, and_observed, and_sent, and_wrote, nothing};
@@ -17,7 +17,7 @@ pub fn calls_are_known()
     ensures begun { (ways : Admitting) (limit : ℕ) → Known ways nothing (begun ways limit) }
     ensures asks_encryption { (ways : Admitting) (h : History) (old new : Shown) → Wrote Opening Encrypting SslRequest old new → Known ways h old
         → Known ways (and_wrote SslRequest 0 h) new }
-    ensures answered { (ways : Admitting) (h : History) (old : Shown) → old.phase ≡ Encrypting → Known ways h old → Known ways h (in_phase Opening old) }
+    ensures answered { (ways : Admitting) (h : History) (old : Shown) (encrypts : Bool) → old.phase ≡ Encrypting → Known ways h old → Known ways h (told encrypts old) }
     ensures starts { (ways : Admitting) (h : History) (old new : Shown) (parameters : List (List ℕ × List ℕ)) (name : ℕ) → IsNamed (Startup 0 parameters)
         → HasStarted (Startup 0 parameters) old new name → Known ways h old → Known ways (and_wrote (Startup 0 parameters) name h) new }
     ensures sends { (ways : Admitting) (h : History) (old new : Shown) (m : Written) (name : ℕ) → Sent m old new name → Known ways h old → Known ways (and_wrote m name h) new }

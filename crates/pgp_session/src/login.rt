@@ -9,7 +9,7 @@ ghost use Rattle.pgp_session.specs.ScramLogin.{initial};
 ghost use Rattle.pgp_session.specs.Login.{AnswersFirst, AsksCleartext, CountsFirst, AsksMd5, AsksSasl, Hears, Puts, RepliesFirst, Begins, VerifiesFinal, Welcomes, asking, given, is_due, seen, reported};
 
 use crate::connection_error::ConnectionError;
-use crate::scram_login::{LoginPhase, SaslStorage, mechanism, offers};
+use crate::scram_login::{LoginPhase, SaslStorage, is_stripped, mechanism, offers};
 use bytes::BytesMut;
 use pgp_auth::authentication::md5_hash;
 use pgp_auth::authentication::sasl::{ScramError, ScramSha256, asks_fewer};
@@ -32,6 +32,9 @@ pub struct Ways<'a, A: Memory = Global> {
     /// The least rounds of an exchange (RFC 7677 wants 4096; libpq takes any). 0 is taken for 1: with no round at all each password has a key
     /// that is known.
     pub least_rounds: u32,
+    /// Whether the connection is encrypted without `request_encryption`, as by TLS from its first byte. On one that isn't, a server that offers to bind the exchange
+    /// to the channel ends it, unless the exchange is bound: encryption may have been taken away on the way.
+    pub encrypted: bool,
 }
 
 /// A log-in.
@@ -116,6 +119,9 @@ impl<'a, A: Memory> Login<'a, A> {
         };
         if !offers(exchange, body) {
             return Err(ConnectionError::NotOffered);
+        }
+        if is_stripped(self.ways.encrypted, exchange, body) {
+            return Err(ConnectionError::NotAdmitted);
         }
         match begin(exchange, out) {
             Ok(()) => {

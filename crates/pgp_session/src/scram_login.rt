@@ -9,7 +9,7 @@ ghost use Rattle.pgp_message.specs.BackendMessage.{Message as BackendMessage};
 ghost use Rattle.pgp_message.specs.Items.{TextSpelled, TextRefused};
 ghost use Rattle.pgp_message.specs.Views.{view};
 ghost use Rattle.pgp_stream.specs.ClientStream.{IsAdded, RefusesMessage};
-ghost use Rattle.pgp_session.specs.ScramLogin.{HearsFinal, HearsFirst, HearsOffer, Knows, Offers, Steps, is_due, mechanism, mechanism_of, observed, says, seen};
+ghost use Rattle.pgp_session.specs.ScramLogin.{HearsFinal, HearsFirst, HearsOffer, IsStripped, Knows, Lists, Offers, Steps, is_due, mechanism, mechanism_of, observed, says, seen};
 
 use bytes::Bytes;
 use pgp_auth::authentication::sasl::{SCRAM_SHA_256, SCRAM_SHA_256_PLUS, ScramError, ScramSha256};
@@ -354,8 +354,31 @@ pub(crate) fn offers<A: Allocator, S: SaslStorage>(
     ensures yes { result ≡ true → Offers exchange.now body.now }
     ensures no { result ≡ false → Offers exchange.now body.now → ⊥ }
 {
+    lists(body, mechanism_of(exchange))
+}
+
+/// Whether the server offers to bind an exchange to the channel, where the connection isn't encrypted and this exchange isn't bound.
+pub(crate) fn is_stripped<A: Allocator, S: SaslStorage>(
+    encrypted: bool,
+    exchange: &ScramSha256<A>,
+    body: &AuthenticationSaslBody<S>,
+) -> bool
+    ensures yes { result ≡ true → IsStripped encrypted exchange.now body.now }
+    ensures no { result ≡ false → IsStripped encrypted exchange.now body.now → ⊥ }
+{
+    if encrypted || mechanism_of(exchange) == SCRAM_SHA_256_PLUS {
+        return false;
+    }
+    lists(body, SCRAM_SHA_256_PLUS)
+}
+
+/// Whether this is one of the mechanisms, whose list ends well.
+fn lists<S: SaslStorage>(body: &AuthenticationSaslBody<S>, sought: &str) -> bool
+    ensures yes { result ≡ true → Lists sought.now body.now }
+    ensures no { result ≡ false → Lists sought.now body.now → ⊥ }
+{
     pgp_message::laws::one_list_of_mechanisms();
-    has_name(S::mechanisms(body), mechanism_of(exchange))
+    has_name(S::mechanisms(body), sought)
 }
 
 /// Whether this name is one of the names, and the iterator isn't rejected.

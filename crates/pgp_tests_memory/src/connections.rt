@@ -52,6 +52,7 @@ fn trusting<A: Allocator + Copy>(alloc: A, limit: u32) -> Connection<'static, A>
         cleartext: None,
         none: true,
         least_rounds: 0,
+        encrypted: false,
     };
     Connection::new(alloc, ways, limit)
 }

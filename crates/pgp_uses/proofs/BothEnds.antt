@@ -1,12 +1,14 @@
 -- A client's core and a server's core, turn by turn.
-use Rattle.pgp_uses.proofs.Common.{◌≡◌, ℕ, List, [], ◌∷◌, ◌++◌, length, Option, Some, None, Result, Ok, Err, refl, sym, ap, subst, ◌∙◌, arith, inl, inr, false, append_assoc, Contains, ◌⊎◌, ◌≢◌, encode_utf8, AllByRecursion, append-nil, Wants, WantsMemory, Held, ◌⊕◌, MarkedItems, HasNoZero, IsBytes, int32, Error, Client, Answers, UpdateRefused, message_of, refusal, Meeting, Server, Challenges, Admits, first_memory, finish_never_refused, last_is, message_is, signature_never_refused, text_is, update_memory_met, ClientMessage, SaslInitialResponse, joined, Message, tag_of, TextSpelled, TextRefused, Frames, TakesFrame, IsInRange, IsMechanism, IsReply, names_of, AreRead, Facing, IsClientsWant, IsServersWant, LogsIn, IsAdded, RefusesMessage, Offers, initial, mechanism_by, mechanism_of, observed, Comes, Outcome, Challenge, Denied, Signed, IsAdmitted, IsChallenged, IsNoFinal, IsNoFirst, admission, cause_of, challenge, due, final_message, first_message, kind_in, scram, scram_offer, signature, spelled, LoginPhase, Serving, ServingPhase}
+use Rattle.pgp_uses.proofs.Common.{◌≡◌, ℕ, List, [], ◌∷◌, ◌++◌, length, Option, Some, None, Result, Ok, Err, refl, sym, ap, subst, ◌∙◌, arith, inl, inr, false, append_assoc, Contains, ◌⊎◌, ◌≢◌, encode_utf8, AllByRecursion, append-nil, Wants, WantsMemory, Held, ◌⊕◌, MarkedItems, HasNoZero, IsBytes, int32, Error, Client, Answers, UpdateRefused, message_of, refusal, Meeting, Server, Challenges, Admits, first_memory, finish_never_refused, last_is, message_is, signature_never_refused, text_is, update_memory_met, ClientMessage, SaslInitialResponse, joined, Message, tag_of, TextSpelled, TextRefused, Frames, TakesFrame, IsInRange, IsMechanism, IsReply, names_of, AreRead, Facing, IsClientsWant, IsServersWant, LogsIn, IsAdded, RefusesMessage, Offers, initial, mechanism_by, mechanism_of, observed, Comes, Outcome, Challenge, Denied, Signed, IsAdmitted, IsChallenged, IsNoFinal, IsNoFirst, admission, cause_of, challenge, due, final_message, first_message, kind_in, scram, scram_offer, signature, spelled, LoginPhase, Serving, ServingPhase, Lists, codes}
 use Rattle.std.specs.Str.{IsUtf8}
 use Rattle.pgp_auth.specs.ScramClient.{first_text as text_of}
 use Rattle.pgp_auth.specs.ScramServing as server
 use Rattle.pgp_auth.specs.Verifier.{verifier}
+use Rattle.pgp_base.specs.OneList.{HasOneMarkedList}
 use Rattle.pgp_frontend_read.proofs.Items.{bytes_behind}
 use Rattle.pgp_frontend_read.proofs.Steps.{frame_payload}
 use Rattle.pgp_message_write.specs.Reply.{bytes_of, cause, parts}
+use Rattle.pgp_session.proofs.Mechanisms.{only_it}
 use Rattle.pgp_session.specs.ScramLogin as login
 use Rattle.pgp_session.specs.ScramLogin.{Shown}
 use Rattle.pgp_session.specs.Serving as serving
@@ -274,14 +276,26 @@ pub on_left : {P Q R : Type 0} → (P → Q) → P ⊎ R → Q ⊎ R
 on_left f (inl p) = inl (f p)
 on_left f (inr r) = inr r
 
-pub offers_scram : (exchange : Client) → mechanism_of exchange ≡ scram → ((names : List (List ℕ)) → AllByRecursion IsMechanism names → MarkedItems TextSpelled TextRefused (names_of names) names None)
-    → Offers exchange (names_of (scram ∷ []))
+-- the list of the one mechanism
+pub the_offer : ((names : List (List ℕ)) → AllByRecursion IsMechanism names → MarkedItems TextSpelled TextRefused (names_of names) names None) → MarkedItems TextSpelled TextRefused (names_of (scram ∷ [])) (scram ∷ []) None
 unfolding encode_utf8
-offers_scram exchange unbound back =
+the_offer back =
     let zero_free : HasNoZero scram = (λ e. cc, (λ e. cc, (λ e. cc, (λ e. cc, (λ e. cc, (λ e. cc, (λ e. cc, (λ e. cc, (λ e. cc, (λ e. cc, (λ e. cc, (λ e. cc, (λ e. cc, tt))))))))))))) in
     let text : IsUtf8 scram = (scram, (refl, refl)) in
     let some : scram ≢ [] = λ e. cc in
-    (scram ∷ [], back (scram ∷ []) ((zero_free, text, some), tt), subst (λ (name : List ℕ). Contains (scram ∷ []) name) (sym unbound) (0, omega arith, refl))
+    back (scram ∷ []) ((zero_free, text, some), tt)
+
+pub offers_scram : (exchange : Client) → mechanism_of exchange ≡ scram → ((names : List (List ℕ)) → AllByRecursion IsMechanism names → MarkedItems TextSpelled TextRefused (names_of names) names None)
+    → Offers exchange (names_of (scram ∷ []))
+offers_scram exchange unbound back = (scram ∷ [], the_offer back, subst (λ (name : List ℕ). Contains (scram ∷ []) name) (sym unbound) (0, omega arith, refl))
+
+-- and no mechanism that is bound to the channel
+pub offers_no_binding : ((names : List (List ℕ)) → AllByRecursion IsMechanism names → MarkedItems TextSpelled TextRefused (names_of names) names None) → HasOneMarkedList TextSpelled TextRefused
+    → Lists (codes "SCRAM-SHA-256-PLUS") (names_of (scram ∷ [])) → ⊥
+offers_no_binding back only lists =
+    let same : lists.0 ≡ scram ∷ [] = (only.one (names_of (scram ∷ [])) lists.0 (scram ∷ []) None None lists.1 (the_offer back)).0 in
+    let is : scram ≡ codes "SCRAM-SHA-256-PLUS" = only_it scram (codes "SCRAM-SHA-256-PLUS") (subst (λ (l : List (List ℕ)). Contains l (codes "SCRAM-SHA-256-PLUS")) same lists.2) in
+    cc
 
 module _ (one : (m : Message) (rest : List ℕ) → IsReply m → TakesFrame (bytes_of m ++ rest) (Ok m) rest) (none : (bytes : List ℕ) → Frames bytes [] bytes)
     (next : (bytes before after : List ℕ) (results : List (Result Message Error)) (r : Result Message Error) → Frames bytes results before → TakesFrame before r after → Frames bytes (results ++ r ∷ []) after)

@@ -1,7 +1,8 @@
 -- A client's connection and a server's core, turn by turn.
-use Rattle.pgp_uses.proofs.Common.{◌≡◌, ℕ, Bool, List, [], ◌∷◌, ◌++◌, Option, Some, None, Result, Ok, Err, refl, sym, ap, subst, ◌∙◌, inl, inr, true, false, max, ◌≤◌, arith, ◌⊎◌, AllByRecursion, Held, MarkedItems, Error, Client, Answers, message_of, refusal, Meeting, Server, Challenges, Admits, answer_meets, last_is, message_is, signature_never_refused, text_is, update_memory_met, Event, ClientMessage, Message, TextSpelled, TextRefused, Frames, TakesFrame, IsMechanism, IsReply, names_of, ConnectionLogsIn, Facing, HasStarted, IsConnectionsWant, Hears, IsUnfit, Shown, is_early, is_end, is_logged_in, lacks_status, logged_in_at, Offers, initial, mechanism_of, admission, challenge, final_message, first_message, kind_in, scram, scram_offer, signature, ConnectionError, LoginPhase, Serving, ServingPhase}
+use Rattle.pgp_uses.proofs.Common.{◌≡◌, ℕ, Bool, List, [], ◌∷◌, ◌++◌, Option, Some, None, Result, Ok, Err, refl, sym, ap, subst, ◌∙◌, inl, inr, true, false, max, ◌≤◌, arith, ◌⊎◌, AllByRecursion, Held, MarkedItems, Error, Client, Answers, message_of, refusal, Meeting, Server, Challenges, Admits, answer_meets, last_is, message_is, signature_never_refused, text_is, update_memory_met, Event, ClientMessage, Message, TextSpelled, TextRefused, Frames, TakesFrame, IsMechanism, IsReply, names_of, ConnectionLogsIn, Facing, HasStarted, IsConnectionsWant, Hears, IsUnfit, Shown, comes_early, is_end, is_logged_in, lacks_status, logged_in_at, Offers, initial, mechanism_of, admission, challenge, final_message, first_message, kind_in, scram, scram_offer, signature, ConnectionError, LoginPhase, Serving, ServingPhase, Lists, codes}
 use Rattle.pgp_auth.specs.ScramClient.{first_text as text_of}
 use Rattle.pgp_auth.proofs.FirstTexts.{one_count}
+use Rattle.pgp_base.specs.OneList.{HasOneMarkedList}
 use Rattle.pgp_client.specs.Kinds.{kind_of}
 use Rattle.pgp_client.specs.Taking.{asked, taken}
 use Rattle.pgp_client.specs.Talk.{Talk}
@@ -18,7 +19,7 @@ use Rattle.pgp_session.specs.declared.connection.ConnectionPhase.{ConnectionPhas
 use Rattle.pgp_session.specs.declared.connection.ConnectionPhase.TheVariants.{Started}
 use Rattle.pgp_session.specs.declared.connection_error.ConnectionError.TheVariants.{Scram, Unwritten}
 use Rattle.pgp_session.specs.declared.scram_login.LoginPhase.TheVariants.{AwaitsOffer, AwaitsFirst, AwaitsFinal, AwaitsOk, Done}
-use Rattle.pgp_uses.proofs.BothEnds.{admission_spelled, count_met, meeting_of, offer_spelled, offers_scram, on_left, one_read, server_of, takes_final, takes_first, two_read, unbound_first}
+use Rattle.pgp_uses.proofs.BothEnds.{admission_spelled, count_met, meeting_of, offer_spelled, offers_no_binding, offers_scram, on_left, one_read, server_of, takes_final, takes_first, two_read, unbound_first}
 
 -- ---- where a connection is
 
@@ -56,7 +57,7 @@ no_refusal x r o e f = cc
 -- What a message comes to that belongs to the startup packet and reports no setting: what it comes to in the log-in.
 module _ {E : Type 0} (lacks : Type 0) where
   heard : (m : Message) (name : ℕ) (next : Talk) (old new : Shown) (result : Result (Option (Event × Message)) (ConnectionError E)) → taken old.talk (kind_of m) ≡ Ok (Part name, next)
-      → ((cause : Error) → IsUnkept lacks most (setting_in m) old.server.settings cause → ⊥) → ((cause : ConnectionError E) → IsUnfit lacks old.login.phase m cause → ⊥) → Hears lacks m old new result
+      → ((cause : Error) → IsUnkept lacks most (setting_in m) old.server.settings cause → ⊥) → ((cause : ConnectionError E) → IsUnfit lacks old m cause → ⊥) → Hears lacks m old new result
       → ((result ≡ Ok (Some (Part name, m))) × (new.phase ≡ old.phase) × (new.talk ≡ next) × LoggedOn (asking m) old.login new.login old.out new.out)
       ⊎ ((e : ConnectionError E) × (result ≡ Err e) × (after : Login) × (grown : List ℕ) × login.Hears lacks (asking m) old.login after old.out grown (Err e))
   heard m name next old new (Ok None) is kept fit h = absurd h
@@ -73,9 +74,9 @@ module _ {E : Type 0} (lacks : Type 0) where
 
 -- a message of a log-in comes in time
 module _ {E : Type 0} (lacks : Type 0) where
-  in_time : (p : LoginPhase) (m : Message) → is_early p m ≡ false → lacks_status m ≡ false → (e : ConnectionError E) → IsUnfit lacks p m e → ⊥
-  in_time p m late status e (inl h) = let f = h.0 in cc
-  in_time p m late status e (inr h) = let f = h.1 in cc
+  in_time : (c : Shown) (m : Message) → comes_early c m ≡ false → lacks_status m ≡ false → (e : ConnectionError E) → IsUnfit lacks c m e → ⊥
+  in_time c m late status e (inl h) = let f = h.0 in cc
+  in_time c m late status e (inr h) = let f = h.1 in cc
 
 -- ---- the log-in's steps
 
@@ -87,7 +88,7 @@ no_none o text e f = cc
 
 begun_by : (mechanisms : List ℕ) (reply : Option ClientMessage) (l after : Login) → LogsOn (Sasl mechanisms) reply l after
     → (x : Client) × (text : List ℕ) × (l.ways.scram ≡ Some x) × (message_of x.state ≡ Some text) × (reply ≡ Some (initial text)) × (after ≡ in_phase AwaitsFirst l)
-begun_by mechanisms reply l after (ScramBegins x text phase admits offers said) = (x, text, admits, said, refl, refl)
+begun_by mechanisms reply l after (ScramBegins x text phase admits offers safe said) = (x, text, admits, said, refl, refl)
 
 replied_by : (text : List ℕ) (reply : Option ClientMessage) (l after : Login) → LogsOn (First text) reply l after
     → (x : Client) × (y : Client) × (answer : List ℕ) × (l.ways.scram ≡ Some x) × Answers x text y × (message_of y.state ≡ Some answer) × (reply ≡ Some (final_message answer)) × (after ≡ goes_on AwaitsFinal y l)
@@ -113,10 +114,11 @@ module _ {E : Type 0} (lacks : Type 0) where
   begins_want x text out grown (Scram u) unbound said h = absurd (no_none (message_of x.state) text said h.0)
   begins_want x text out grown e unbound said h = absurd h
 
-  offer_want : (mechanisms : List ℕ) (x : Client) (text : List ℕ) (old after : Login) (out grown : List ℕ) (e : ConnectionError E) → mechanism_of x ≡ scram → Offers x mechanisms → message_of x.state ≡ Some text
+  offer_want : (mechanisms : List ℕ) (x : Client) (text : List ℕ) (old after : Login) (out grown : List ℕ) (e : ConnectionError E) → mechanism_of x ≡ scram → Offers x mechanisms → (Lists (codes "SCRAM-SHA-256-PLUS") mechanisms → ⊥) → message_of x.state ≡ Some text
       → login.AsksSasl lacks (Some x) mechanisms old after out grown (Err e) → IsConnectionsWant lacks first_message (Err e)
-  offer_want mechanisms x text old after out grown e unbound offers said (inl none) = absurd (none.1 offers)
-  offer_want mechanisms x text old after out grown e unbound offers said (inr begins) = begins_want x text out grown e unbound said begins.1
+  offer_want mechanisms x text old after out grown e unbound offers bare said (inl none) = absurd (none.1 offers)
+  offer_want mechanisms x text old after out grown e unbound offers bare said (inr (inl (refused, offered, (clear, apart, lists)))) = absurd (bare lists)
+  offer_want mechanisms x text old after out grown e unbound offers bare said (inr (inr begins)) = begins_want x text out grown e unbound said begins.2
 
   first_want : (server mid : Server) (start : Client) (meeting : Meeting start server) (first text : List ℕ) → first ≡ text_of meeting.begun → Challenges server first mid text → (old after : Login) (out grown : List ℕ) (e : ConnectionError E)
       → login.AnswersFirst lacks (Some start) text old after out grown (Err e) → IsConnectionsWant lacks final_message (Err e)
@@ -196,11 +198,11 @@ module _ {E : Type 0} (lacks : Type 0) (name : ℕ) where
   want_at : (reply : List ℕ → ClientMessage) (result : Result (Option (Event × Message)) (ConnectionError E)) (e : ConnectionError E) → result ≡ Err e → IsConnectionsWant lacks reply (Err e) → IsConnectionsWant lacks reply result
   want_at reply result e is h = subst (λ (r : Result (Option (Event × Message)) (ConnectionError E)). IsConnectionsWant lacks reply r) (sym is) h
 
-  pub takes_offer : (there : Server) (x : Client) (meeting : Meeting x there) → mechanism_of x ≡ scram → (old new : Shown) (result : Result (Option (Event × Message)) (ConnectionError E)) → Offers x (names_of (scram ∷ []))
+  pub takes_offer : (there : Server) (x : Client) (meeting : Meeting x there) → mechanism_of x ≡ scram → (old new : Shown) (result : Result (Option (Event × Message)) (ConnectionError E)) → Offers x (names_of (scram ∷ [])) → (Lists (codes "SCRAM-SHA-256-PLUS") (names_of (scram ∷ [])) → ⊥)
       → Is name AwaitsOffer x (asked unasked (record { request = Startup; name = name })) old → Hears lacks scram_offer old new result
       → ((result ≡ Ok (Some (Part name, scram_offer))) × Begun name x (text_of meeting.begun) old new) ⊎ IsConnectionsWant lacks first_message result
-  takes_offer there x meeting unbound old new result offers here h =
-      by (heard lacks scram_offer name (under_way name) old new result (ap (λ (t : Talk). taken t (kind_of scram_offer)) here.talk) (λ cause unkept. unkept) (λ cause unfit. in_time lacks old.login.phase scram_offer refl refl cause unfit) h)
+  takes_offer there x meeting unbound old new result offers bare here h =
+      by (heard lacks scram_offer name (under_way name) old new result (ap (λ (t : Talk). taken t (kind_of scram_offer)) here.talk) (λ cause unkept. unkept) (λ cause unfit. in_time lacks old scram_offer refl refl cause unfit) h)
     where
       by : ((result ≡ Ok (Some (Part name, scram_offer))) × (new.phase ≡ old.phase) × (new.talk ≡ under_way name) × LoggedOn (asking scram_offer) old.login new.login old.out new.out)
           ⊎ ((e : ConnectionError E) × (result ≡ Err e) × (after : Login) × (grown : List ℕ) × login.Hears lacks (asking scram_offer) old.login after old.out grown (Err e))
@@ -209,13 +211,13 @@ module _ {E : Type 0} (lacks : Type 0) (name : ℕ) where
       by (inr stops) =
           let asks = due_one lacks (asking scram_offer) AwaitsOffer old.login stops.2 old.out stops.3 stops.0 here.login stops.4 in
           let sasl = subst (λ (o : Option Client). login.AsksSasl lacks o (names_of (scram ∷ [])) old.login stops.2 old.out stops.3 (Err stops.0)) here.exchange asks in
-          inr (want_at first_message result stops.0 stops.1 (offer_want lacks (names_of (scram ∷ [])) x (text_of meeting.begun) old.login stops.2 old.out stops.3 stops.0 unbound offers (message_is x there meeting) sasl))
+          inr (want_at first_message result stops.0 stops.1 (offer_want lacks (names_of (scram ∷ [])) x (text_of meeting.begun) old.login stops.2 old.out stops.3 stops.0 unbound offers bare (message_is x there meeting) sasl))
 
   pub takes_text : (server mid : Server) (start : Client) (meeting : Meeting start server) (first text : List ℕ) → first ≡ text_of meeting.begun → Challenges server first mid text → (old new : Shown) → max old.login.ways.least 1 ≤ meeting.count → (result : Result (Option (Event × Message)) (ConnectionError E))
       → Is name AwaitsFirst start (under_way name) old → Hears lacks (challenge text) old new result
       → ((result ≡ Ok (Some (Part name, challenge text))) × Replied name start text old new) ⊎ IsConnectionsWant lacks final_message result
   takes_text server mid start meeting first text is ch old new enough result here h =
-      by (heard lacks (challenge text) name (under_way name) old new result (ap (λ (t : Talk). taken t (kind_of (challenge text))) here.talk) (λ cause unkept. unkept) (λ cause unfit. in_time lacks old.login.phase (challenge text) refl refl cause unfit) h)
+      by (heard lacks (challenge text) name (under_way name) old new result (ap (λ (t : Talk). taken t (kind_of (challenge text))) here.talk) (λ cause unkept. unkept) (λ cause unfit. in_time lacks old (challenge text) refl refl cause unfit) h)
     where
       by : ((result ≡ Ok (Some (Part name, challenge text))) × (new.phase ≡ old.phase) × (new.talk ≡ under_way name) × LoggedOn (First text) old.login new.login old.out new.out)
           ⊎ ((e : ConnectionError E) × (result ≡ Err e) × (after : Login) × (grown : List ℕ) × login.Hears lacks (First text) old.login after old.out grown (Err e))
@@ -231,7 +233,7 @@ module _ {E : Type 0} (lacks : Type 0) (name : ℕ) where
       → Admits mid final done signed → (old new : Shown) (result : Result (Option (Event × Message)) (ConnectionError E)) → Is name AwaitsFinal x (under_way name) old → Hears lacks (signature signed) old new result
       → (result ≡ Ok (Some (Part name, signature signed))) × (y : Client) × Is name AwaitsOk y (under_way name) new
   takes_signature server mid done start x meeting first text final signed is ch answers admits old new result here h =
-      by (heard lacks (signature signed) name (under_way name) old new result (ap (λ (t : Talk). taken t (kind_of (signature signed))) here.talk) (λ cause unkept. unkept) (λ cause unfit. in_time lacks old.login.phase (signature signed) refl refl cause unfit) h)
+      by (heard lacks (signature signed) name (under_way name) old new result (ap (λ (t : Talk). taken t (kind_of (signature signed))) here.talk) (λ cause unkept. unkept) (λ cause unfit. in_time lacks old (signature signed) refl refl cause unfit) h)
     where
       by : ((result ≡ Ok (Some (Part name, signature signed))) × (new.phase ≡ old.phase) × (new.talk ≡ under_way name) × LoggedOn (Final signed) old.login new.login old.out new.out)
           ⊎ ((e : ConnectionError E) × (result ≡ Err e) × (after : Login) × (grown : List ℕ) × login.Hears lacks (Final signed) old.login after old.out grown (Err e))
@@ -247,7 +249,7 @@ module _ {E : Type 0} (lacks : Type 0) (name : ℕ) where
   pub takes_welcome : (x : Client) (old new : Shown) (result : Result (Option (Event × Message)) (ConnectionError E)) → Is name AwaitsOk x (under_way name) old → Hears lacks admission old new result
       → (result ≡ Ok (Some (Part name, admission))) × (is_logged_in new ≡ true)
   takes_welcome x old new result here h =
-      by (heard lacks admission name (record { stage = Starting; name = name; pending = [] }) old new result (ap (λ (t : Talk). taken t (kind_of admission)) here.talk) (λ cause unkept. unkept) (λ cause unfit. in_time lacks old.login.phase admission refl refl cause unfit) h)
+      by (heard lacks admission name (record { stage = Starting; name = name; pending = [] }) old new result (ap (λ (t : Talk). taken t (kind_of admission)) here.talk) (λ cause unkept. unkept) (λ cause unfit. in_time lacks old admission refl refl cause unfit) h)
     where
       by : ((result ≡ Ok (Some (Part name, admission))) × (new.phase ≡ old.phase) × (new.talk ≡ record { stage = Starting; name = name; pending = [] }) × LoggedOn Welcome old.login new.login old.out new.out)
           ⊎ ((e : ConnectionError E) × (result ≡ Err e) × (after : Login) × (grown : List ℕ) × login.Hears lacks Welcome old.login after old.out grown (Err e))
@@ -265,7 +267,7 @@ module _ {E : Type 0} (lacks : Type 0) (name : ℕ) where
 
 module _ (one : (m : Message) (rest : List ℕ) → IsReply m → TakesFrame (bytes_of m ++ rest) (Ok m) rest) (none : (bytes : List ℕ) → Frames bytes [] bytes)
     (next : (bytes before after : List ℕ) (results : List (Result Message Error)) (r : Result Message Error) → Frames bytes results before → TakesFrame before r after → Frames bytes (results ++ r ∷ []) after)
-    (back : (names : List (List ℕ)) → AllByRecursion IsMechanism names → MarkedItems TextSpelled TextRefused (names_of names) names None)
+    (back : (names : List (List ℕ)) → AllByRecursion IsMechanism names → MarkedItems TextSpelled TextRefused (names_of names) names None) (only : HasOneMarkedList TextSpelled TextRefused)
     {A L : Type 0} (E : Type 0) (lacks memory_there : Type 0) (lacks_there : Held L → ℕ → Type 0) where
   pub connects : (name : ℕ) (exchange : Client) (client : Shown) (there : Serving A) → HasStarted name exchange client → (facing : Facing exchange there) → max client.login.ways.least 1 ≤ facing.count → ConnectionLogsIn E lacks memory_there lacks_there name client there
   connects name exchange client there started facing enough =
@@ -315,5 +317,5 @@ module _ (one : (m : Message) (rest : List ℕ) → IsReply m → TakesFrame (by
               )) (takes_first memory_there lacks_there exchange mate meeting x.1.first x.1.is there challenged before behind r2 facing.awaits facing.holds h2),
             ),
           ),
-        )) (takes_offer {E = E} lacks name mate exchange meeting facing.unbound client begun r1 (offers_scram exchange facing.unbound back) here h1),
+        )) (takes_offer {E = E} lacks name mate exchange meeting facing.unbound client begun r1 (offers_scram exchange facing.unbound back) (offers_no_binding back only) here h1),
       )

@@ -15,7 +15,7 @@ use Rattle.pgp_uses.specs.declared.client.Received.TheVariants as code
 
 -- SCRAM-SHA-256 by this exchange, and no other way
 abbrev pub scram_alone : Client → Ways
-scram_alone x = record { scram = Some x; md5 = None; cleartext = None; none = false; least = 0 }
+scram_alone x = record { scram = Some x; md5 = None; cleartext = None; none = false; least = 0; encrypted = false }
 
 -- the startup packet of this user was written
 abbrev pub opened : List ℕ → History

@@ -29,6 +29,7 @@ pub fn connection_is_let_in<A: Memory, C: Memory, D: Buffer>()
     ensures { (name : ℕ) (exchange : Exchange) (client : Connected) (server : Server C) → HasStarted name exchange client → (facing : Facing exchange server)
         → max client.login.ways.least 1 ≤ facing.count → ConnectionLogsIn A A.Lacks C.Lacks D.Lacks name client server }
 {
+    pgp_message::laws::one_list_of_mechanisms();
     pgp_message_write::laws::mechanisms_are_read();
     pgp_message_write::laws::one_reply_is_taken();
     pgp_message::laws::no_frame();

@@ -46,6 +46,7 @@ pub fn connect<'a, A: Memory>(
         cleartext: None,
         none: false,
         least_rounds: 0,
+        encrypted: false,
     };
     let mut connection = Connection::new(alloc, ways, 16_777_216);
     match connection.start(&[("user", user)]) {

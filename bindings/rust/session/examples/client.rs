@@ -57,7 +57,7 @@ fn main() -> Result<(), Box<dyn Error>> {
     let password = std::env::var("PGPASSWORD").unwrap_or_default();
     let prep = SaslPrepRfc4013::new(Global);
     let scram = ScramSha256::new(Global, password.as_bytes(), ChannelBinding::unsupported(), &prep, &mut ThreadRng)?;
-    let ways = Ways { scram: Some(scram), md5: None, cleartext: None, none: password.is_empty(), least_rounds: 4096 };
+    let ways = Ways { scram: Some(scram), md5: None, cleartext: None, none: password.is_empty(), least_rounds: 4096, encrypted: false };
     let mut connection = Connection::new(Global, ways, 1 << 26);
     let mut server = TcpStream::connect(address)?;
     let startup = connection.start(&[("user", user), ("database", database)])?;

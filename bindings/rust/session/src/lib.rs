@@ -14,7 +14,7 @@
 //! use postgres_session::{Connection, Event, Global, Ways, message::client::ClientMessage};
 //!
 //! // A server that asks for no password; `Ways` says by which ways the client lets itself be asked.
-//! let ways = Ways { scram: None, md5: None, cleartext: None, none: true, least_rounds: 1 };
+//! let ways = Ways { scram: None, md5: None, cleartext: None, none: true, least_rounds: 1, encrypted: false };
 //! let mut connection = Connection::new(Global, ways, 1 << 20);
 //! let startup = connection.start(&[("user", "alice")])?;
 //! let to_send = connection.to_send().len();

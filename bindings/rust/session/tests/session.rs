@@ -74,7 +74,7 @@ fn an_interval_and_json() {
 
 /// An unencrypted connection that was let in without a password, and has sent nothing since.
 fn admitted() -> Connection<'static> {
-    let ways = Ways { scram: None, md5: None, cleartext: None, none: true, least_rounds: 1 };
+    let ways = Ways { scram: None, md5: None, cleartext: None, none: true, least_rounds: 1, encrypted: false };
     let mut connection = Connection::new(Global, ways, 1 << 20);
     let startup = connection.start(&[("user", "alice")]).unwrap();
     assert_eq!(connection.to_send(), b"\0\0\0\x14\0\x03\0\0user\0alice\0\0");

@@ -52,6 +52,7 @@ fn by_password(alloc: Global, password: &[u8]) -> Connection<'static> {
         cleartext: None,
         none: false,
         least_rounds: 0,
+        encrypted: false,
     };
     Connection::new(alloc, ways, 65_536)
 }

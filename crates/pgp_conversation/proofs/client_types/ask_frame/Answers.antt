@@ -1,6 +1,7 @@
 use Rattle.pgp_conversation.proofs.Common.{Ok, None, Some, rules, subst, kind_view, view, Nothing, numbers_in, Tells, types_in}
 use Rattle.pgp_frontend_read.specs.Step.{Step}
 use Rattle.pgp_conversation.proofs.Readings.{if_ok, sent_all, silent_all}
+use Rattle.pgp_conversation.specs.declared.placement.Told.TheVariants.{Uncounted}
 use Rattle.pgp_conversation.proofs.client_types.ask_frame.Goals as goal
 
 pub returns-in-Ok-Some-clause-tells : goal.returns-in-Ok-Some-clause-tells
@@ -19,4 +20,4 @@ returns-in-Ok-None-clause-tells g c said =
     let kind = kind_view c.args.kind in
     let new = c.next.new.self in
     let step : Step kind c.resume-messages.result (Ok None) new = search rules in
-    silent_all (λ said. Tells c.args.frame.now c.args.name.now said (numbers_in c.args.numbers.now) (numbers_in c.args.numbers.now) (types_in c.args.types.now) (types_in c.args.types.now) None Nothing) c.args.opened kind c.args.frame.now new (subst (λ u. Step kind u (Ok None) new) c.resume-messages.ensures step) said
+    silent_all (λ said. Tells c.args.frame.now c.args.name.now said (numbers_in c.args.numbers.now) (numbers_in c.args.numbers.now) (types_in c.args.types.now) (types_in c.args.types.now) Uncounted Nothing) c.args.opened kind c.args.frame.now new (subst (λ u. Step kind u (Ok None) new) c.resume-messages.ensures step) said

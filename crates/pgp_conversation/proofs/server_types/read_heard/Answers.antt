@@ -1,6 +1,7 @@
-use Rattle.pgp_conversation.proofs.Common.{◌≡◌, List, ℕ, get_or, length, None, Ok, Err, refl, rules, subst, string_bytes, Step, TakesFrame, Answers, Nothing, kind_of_tag, heard_as, numbers_in, Heard, Unsaid, Passes, Reads, types_in}
+use Rattle.pgp_conversation.proofs.Common.{◌≡◌, ◌∙◌, sym, List, ℕ, get_or, length, None, Ok, Err, refl, rules, subst, string_bytes, Step, TakesFrame, Answers, Nothing, kind_of_tag, heard_as, numbers_in, Heard, Unsaid, Passes, Reads, types_in}
 use Rattle.pgp_message.specs.Views.{view}
-use Rattle.pgp_conversation.proofs.Readings.{answer_all, fault_all, heard_all, if_ok, none_all, passed_reads}
+use Rattle.pgp_conversation.proofs.Readings.{answer_all, fault_all, heard_all, if_ok, none_all, passed_reads, unnoted_reads}
+use Rattle.pgp_conversation.specs.declared.placement.Told.TheVariants.{Uncounted}
 use Rattle.pgp_conversation.proofs.server_types.read_heard.Goals as goal
 
 pub returns-in-Ok-Some-clause-read : goal.returns-in-Ok-Some-clause-read
@@ -19,7 +20,7 @@ returns-in-Ok-None-clause-read g c opened kind said =
     let new = c.next.new.self in
     let step : Step ⊥ c.new-messages.result (Ok None) new = search rules in
     let some : length frame ≡ 1 → ⊥ = λ h. search rules in
-    none_all (λ said. Reads c.args.style c.args.place frame c.args.name.now said (numbers_in c.args.numbers.now) (numbers_in c.args.numbers.now) (types_in c.args.types.now) (types_in c.args.types.now) (string_bytes c.args.line.now) (string_bytes c.args.line.now) None Nothing) opened kind frame new (subst (λ (l : List ℕ). Step ⊥ l (Ok None) new) c.new-messages.ensures step) some said
+    none_all (λ said. Reads c.args.style c.args.place frame c.args.name.now said (numbers_in c.args.numbers.now) (numbers_in c.args.numbers.now) (types_in c.args.types.now) (types_in c.args.types.now) (string_bytes c.args.line.now) (string_bytes c.args.line.now) Uncounted Nothing) opened kind frame new (subst (λ (l : List ℕ). Step ⊥ l (Ok None) new) c.new-messages.ensures step) some said
 
 pub returns-then-frame-eq1-clause-read : goal.returns-then-frame-eq1-clause-read
 returns-then-frame-eq1-clause-read g c opened kind said =
@@ -45,3 +46,7 @@ returns-in_ok-told-in-Err-clause-read g c opened kind said =
     let passes : Passes (heard_as (kind_of_tag (get_or frame 0 0))) c.args.name.now numbers after types left told = subst (λ r. Passes r c.args.name.now numbers after types left told) c.heard_fault.ensures c.in_ok-told-in-Err.ensures.passes in
     fault_all (λ said. Reads c.args.style c.args.place frame c.args.name.now said numbers after types left line line told Nothing) opened kind frame new e (subst (λ (l : List ℕ). Step ⊥ l (Err e) new) c.new-messages.ensures step) some
     (λ d. passed_reads c.args.style c.args.place frame c.args.name.now (Heard (Err d)) numbers after types left line told Nothing tt refl refl passes) said
+
+pub returns-then-notes_nothing-clause-read : goal.returns-then-notes_nothing-clause-read
+returns-then-notes_nothing-clause-read g c opened kind said =
+    unnoted_reads c.args.style c.args.place opened kind c.args.frame.now c.args.name.now (numbers_in c.args.numbers.now) (types_in c.args.types.now) (string_bytes c.args.line.now) (sym c.notes_nothing.ensures ∙ c.if-notes_nothing.true) (λ h. search rules) said

@@ -1,4 +1,3 @@
-use Rattle.pgp_session.proofs.Common.{refl, dropped, fed}
 use Rattle.pgp_session.proofs.Sessions.{answered, asks_encryption, begins, ends, fed_some, observed_one, sends, sent_some, starts, stopped}
 use Rattle.pgp_session.proofs.laws.calls_are_known.Goals as goal
 
@@ -9,8 +8,8 @@ returns c = record {
   answered = answered;
   starts = starts;
   sends = sends;
-  sent = λ ways h old count. sent_some ways h old (dropped count old) count refl refl refl refl refl refl refl;
-  fed = λ ways h old piece. fed_some ways h old (fed piece old) piece refl refl refl refl refl refl refl c.no_frame.ensures c.frames_go_on.ensures;
+  sent = sent_some;
+  fed = λ ways h old piece. fed_some ways h old piece c.no_frame.ensures c.frames_go_on.ensures;
   observed = λ ways h old new rest m e phase frame took. observed_one ways h old new rest m e phase frame took c.next_frame.ensures;
   ends = ends;
   stopped = stopped;
