@@ -1,0 +1,11 @@
+use Rattle.pgp_conversation.proofs.Common.{◌∙◌, ap, refl, parameters_in, first, tells, types_of}
+use Rattle.pgp_conversation.proofs.RowLemmas.{ok_then}
+use Rattle.pgp_conversation.proofs.server_types.tell_types.Goals as goal
+
+pub returns-clause-hears : goal.returns-clause-hears
+returns-clause-hears g c =
+    let row = c.parameters.result in
+    let old = types_of c.args.types.now in
+    ok_then c.tell.result
+    (λ is. (parameters_in row.items row.end, record { types = row.items; end = row.end; list = c.parameters.ensures.items; is = refl }, is ∙ ap (λ k. tells (first c.args.number old.awaited) k old) c.in_ok-parameters.ensures.types))
+    c.tell.ensures.told
