@@ -2,4 +2,5 @@
 
 mod both_ends;
 mod dice;
+mod log_in;
 mod pooled;
