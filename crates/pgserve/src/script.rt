@@ -1,16 +1,14 @@
 //! A script: statements, and what the server answers to each. docs/PGSERVE.md says how it is written.
 
-use crate::outbox::Outbox;
 use crate::pattern::matches;
 use crate::pause::Pause;
-use crate::reader::Reader;
 use crate::text::trimmed;
 use crate::types::Type;
 use crate::user::User;
 use crate::wording::Wording;
 use pgp_base::Oid;
 use pgp_monitor::Status;
-use std::alloc::Global;
+use std::alloc::{AllocError, Global};
 
 /// A column of the rows.
 #[derive(Drop)]
@@ -146,11 +144,15 @@ pub(crate) struct Script {
 }
 
 impl Statement {
-    /// A statement that begins at this line.
-    pub(crate) fn new(by: By, text: Vec<u8>, words: String, reader: &Reader) -> Statement {
-        let alloc = reader.out.alloc;
+    pub(crate) fn new(
+        alloc: Global,
+        line: usize,
+        by: By,
+        text: Vec<u8>,
+        words: String,
+    ) -> Statement {
         Statement {
-            line: reader.line,
+            line,
             place: 0,
             first: 0,
             role: Role::First,
@@ -180,9 +182,9 @@ impl Statement {
     }
 
     /// Whether the pattern matches the text.
-    fn matches(&self, text: &str, out: &mut Outbox) -> bool {
+    fn matches(&self, alloc: Global, text: &str) -> Result<bool, AllocError> {
         let pattern = str::from_utf8(&self.text).unwrap_or("");
-        matches(pattern, text, out) == Some(true)
+        Ok(matches(alloc, pattern, text)? == Some(true))
     }
 
     /// Whether a row is sent for some values of a parameter alone.
@@ -249,32 +251,36 @@ impl Script {
     }
 
     /// The first answer to a statement: that of its text, of the text without comments, of its words, or of the first pattern that matches.
-    pub(crate) fn find(&self, asked: &Wording, out: &mut Outbox) -> Option<&Statement> {
+    pub(crate) fn find(
+        &self,
+        alloc: Global,
+        asked: &Wording,
+    ) -> Result<Option<&Statement>, AllocError> {
         let found = self
             .written(By::Text, trimmed(&asked.text))
             .or(self.written(By::Text, &asked.bare))
             .or(self.written(By::Words, asked.words.as_bytes()));
         if found.is_some() {
-            return found;
+            return Ok(found);
         }
-        match self.matching(trimmed(&asked.text), out) {
-            None => self.matching(&asked.bare, out),
-            found => found,
+        match self.matching(alloc, trimmed(&asked.text)) {
+            Ok(None) => self.matching(alloc, &asked.bare),
+            matching => matching,
         }
     }
 
     /// The first pattern that matches the text.
-    fn matching(&self, text: &[u8], out: &mut Outbox) -> Option<&Statement> {
+    fn matching(&self, alloc: Global, text: &[u8]) -> Result<Option<&Statement>, AllocError> {
         let text = str::from_utf8(text).unwrap_or("");
         for statement in &self.statements {
             if statement.role == Role::First
                 && statement.by == By::Pattern
-                && statement.matches(text, out)
+                && statement.matches(alloc, text)?
             {
-                return Some(statement);
+                return Ok(Some(statement));
             }
         }
-        None
+        Ok(None)
     }
 
     /// The further result of the same time, behind this place.
