@@ -170,6 +170,27 @@ def inlined(text):
     return re.sub(r'^ *#\[inline\]\n(?= *fn \w+(?:<[^;{]*>)?\([^;{]*;)', '', text, flags=re.M)
 
 
+SHOWN = re.compile(r'Global::push_shown\(\s*([\w& ]+),\s*format_args!\("((?:[^"\\]|\\.)*)"\),?\s*\)')
+PART = re.compile(r'(\{\{|\}\}|\{\w+(?::>\d+)?\})')
+
+
+def by_parts(call):
+    """A text put together of texts and values, with no formatter; one with another format stays."""
+    parts = [part for part in PART.split(call[2]) if part]
+    if any(re.search(r'[{}]', part) and not PART.fullmatch(part) for part in parts):
+        return call[0]
+    lines = ''
+    for part in parts:
+        value = re.fullmatch(r'\{(\w+)(?::>(\d+))?\}', part)
+        if value and value[2]:
+            lines += f'crate::kit::calls::show_wide(&{value[1]}, {value[2]}, shown); '
+        elif value:
+            lines += f'crate::kit::calls::Show::show(&{value[1]}, shown); '
+        else:
+            lines += f'shown.push_str("{part[:1] if part in ("{{", "}}") else part}"); '
+    return f'Global::push_parts({call[1]}, |shown| {{ {lines}}})'
+
+
 LABEL = re.compile(r"'(\w+): (?=(?:loop|while|for)\b)")
 
 
@@ -238,7 +259,7 @@ def fit(text, crate, name, used):
         text = text.replace(old, new)
     text = SHIMS.sub(r'crate::kit::\1::', text)
     text = re.sub(r'(?<!&)\bBytes::as_slice\(self\)', '&self[..]', text)
-    text = single_places(text, name, used)
+    text = single_places(SHOWN.sub(by_parts, text), name, used)
     text = in_one_crate(inlined(shown_errors(without_let_else(without_idle_labels(text)))), crate)
     top = re.match(r'(?:(?://[^\n]*)?\n)*', text).end()
     sliced = '.as_slice()' in text and (name in SLICED or not OF_A_TRAIT.search(text))

@@ -173,3 +173,58 @@ macro_rules! failed {
 }
 pub use crate::{failed as panic, formatted as format, held as assert, held_equal as assert_eq, listed as vec};
 pub use crate::{printed as print, printed_line as println, reported as eprint, reported_line as eprintln};
+
+/// What a line shows of a value, as `Display` does, with no formatter between.
+pub trait Show {
+    fn show(&self, out: &mut String);
+}
+
+macro_rules! numbers {
+    ($($t:ty)*) => {$(
+        impl Show for $t {
+            #[inline]
+            fn show(&self, out: &mut String) {
+                out.push_str(::itoa::Buffer::new().format(*self))
+            }
+        }
+    )*};
+}
+
+numbers! { u8 u16 u32 u64 usize i16 i32 i64 }
+
+impl Show for char {
+    #[inline]
+    fn show(&self, out: &mut String) {
+        out.push(*self)
+    }
+}
+
+impl Show for String {
+    fn show(&self, out: &mut String) {
+        out.push_str(self)
+    }
+}
+
+impl<T: Show + ?Sized> Show for &T {
+    #[inline]
+    fn show(&self, out: &mut String) {
+        (**self).show(out)
+    }
+}
+
+/// The same at the end of so many columns.
+pub fn show_wide<T: Show>(value: &T, width: usize, out: &mut String) {
+    let start = out.len();
+    value.show(out);
+    for _ in out.len() - start..width {
+        out.insert(start, ' ');
+    }
+}
+
+impl Global {
+    #[inline]
+    pub fn push_parts(text: &mut String, parts: impl FnOnce(&mut String)) -> Result<(), AllocError> {
+        parts(text);
+        Ok(())
+    }
+}
