@@ -5,7 +5,8 @@ use Rattle.std.specs.Int.{w32, from_be_bytes}
 use Rattle.pgp_client.specs.declared.event.Refusal.{Refusal}
 use Rattle.pgp_message.specs.declared.message.Message.{Message}
 use Rattle.pgp_client.specs.Taking.{is_between}
-use Rattle.pgp_session.specs.Connection.{Hears, comes_early, is_early}
+use Rattle.std.specs.Bool.{Decides}
+use Rattle.pgp_session.specs.Connection.{ComesInTime, Hears, IsTimely}
 use Rattle.pgp_session.specs.declared.connection_error.ConnectionError.TheVariants.{Malformed, OutOfMemory as OutOfMemoryThere}
 use Rattle.pgp_client.specs.declared.stage.Stage.TheVariants.{Over as NothingMore}
 use Rattle.pgp_session.specs.declared.connection.ConnectionPhase.TheVariants.{Over}
@@ -119,8 +120,12 @@ pub took_so : (m : Meant) (l : Login) (out : List ℕ) (t : Talk) (k : Said) (ol
     → record { phase = old.phase; login = l; out = out; incoming = old.incoming; talk = t; server = k; options = old.options; names = old.names; limit = old.limit } ≡ with_login l out (moved old.phase t m old)
 took_so m l out t k old e = ap (λ (s : Said). record { phase = old.phase; login = l; out = out; incoming = old.incoming; talk = t; server = s; options = old.options; names = old.names; limit = old.limit }) e
 
-pub early_by : (c : Shown) (m : Meant) (first result known : Bool) → first ≡ is_between c.talk → result ≡ is_early c.login.phase first c.options m → result ≡ known → comes_early c m ≡ known
-early_by c m first result known at is test = ap (λ (b : Bool). is_early c.login.phase b c.options m) (sym at) ∙ sym is ∙ test
+module _ (c : Shown) (m : Meant) (first result : Bool) (at : first ≡ is_between c.talk) (is : Decides result (IsTimely c.login.phase first c.options m)) where
+  pub timely_by : result ≡ true → ComesInTime c m
+  timely_by test = subst (λ (b : Bool). IsTimely c.login.phase b c.options m) at (is.0 test)
+
+  pub untimely_by : result ≡ false → ¬ ComesInTime c m
+  untimely_by test timely = absurd (let both : true ≡ false = sym (is.1 (subst (λ (b : Bool). IsTimely c.login.phase b c.options m) (sym at) timely)) ∙ test in cc)
 
 part_goes_on : (e : Event) → is_part e ≡ true → is_end e ≡ false
 part_goes_on (Part n) is = refl
@@ -129,8 +134,8 @@ part_goes_on e is = cc
 -- a row and data of a copy come to nothing else
 pub took_bulk : (m : Meant) (e : Event) (t : Talk) (old : Shown) → is_bulk m e ≡ true → taken old.talk (kind_of m) ≡ Ok (e, t)
     → Took m old (record { phase = old.phase; login = old.login; out = old.out; incoming = old.incoming; talk = t; server = old.server; options = old.options; names = old.names; limit = old.limit }) e
-took_bulk (DataRow row) e t old bulk is = record { taken = is; due = refl; sound = refl; kept = tt; goes_on = part_goes_on e bulk; logged = record { reply = None; logs = NothingAsked; adds = refl }; is = refl }
-took_bulk (CopyData bytes) e t old bulk is = record { taken = is; due = refl; sound = refl; kept = tt; goes_on = part_goes_on e bulk; logged = record { reply = None; logs = NothingAsked; adds = refl }; is = refl }
+took_bulk (DataRow row) e t old bulk is = record { taken = is; due = tt; sound = refl; kept = tt; goes_on = part_goes_on e bulk; logged = record { reply = None; logs = NothingAsked; adds = refl }; is = refl }
+took_bulk (CopyData bytes) e t old bulk is = record { taken = is; due = tt; sound = refl; kept = tt; goes_on = part_goes_on e bulk; logged = record { reply = None; logs = NothingAsked; adds = refl }; is = refl }
 took_bulk m e t old bulk is = cc
 
 -- the bytes that came are the same

@@ -1,8 +1,10 @@
 -- A client's connection: what each call makes of it.
 -- PostgreSQL manual, "Message Flow"; "SSL Session Encryption".
-use Rattle.std.specs.Prelude.{◌≡◌, ◌≢◌, ◌⊎◌, ℕ, ◌+◌, nat_eq, nat_lt, Bool, true, false, not, List, [], ◌∷◌, ◌++◌, drop, take, Option, Some, None, Result, Ok, Err, if◌then◌else◌, codes, ◌==◌, ◌&&◌, ◌||◌, min, ℤ, pos}
+use Rattle.std.specs.Prelude.{◌≡◌, ◌≢◌, ◌⊎◌, ℕ, ◌+◌, nat_eq, nat_lt, Bool, true, false, not, List, [], ◌∷◌, ◌++◌, drop, map, take, Option, Some, None, Result, Ok, Err, if◌then◌else◌, codes, ◌==◌, ◌&&◌, ◌||◌, min, ℤ, pos}
 use Rattle.std.specs.Int.Signed.{lt_z}
-use Rattle.std.specs.List.{list_any, starts_with}
+use Rattle.std.specs.List.{filter, list_all, list_any, starts_with}
+use Rattle.std.specs.Str.{bytes_eq}
+use Rattle.pgp_base.specs.Items.{CountedItems}
 use Rattle.pgp_base.specs.declared.error.Error.{Error}
 use Rattle.pgp_base.specs.declared.error.Error.TheVariants.{OutOfMemory as NoMemory}
 use Rattle.pgp_client.specs.Kinds.{kind_of, request_of}
@@ -16,6 +18,7 @@ use Rattle.pgp_client.specs.declared.stage.Stage.TheVariants.{Over as NothingMor
 use Rattle.pgp_frontend.specs.ClientMessage.{ClientMessage, Bind, CancelRequest, Close, CopyData, CopyDone, CopyFail, Describe, Execute, Flush, Parse, Query, Startup, Sync}
 use Rattle.pgp_frontend.specs.Payload.{bytes_of}
 use Rattle.pgp_message.specs.BackendMessage.{Message, CopyData as DataCame, DataRow, NegotiateProtocolVersion, NoticeResponse, NotificationResponse, ParameterStatus, ReadyForQuery}
+use Rattle.pgp_message.specs.Items.{StringSpelled, StringRefused}
 use Rattle.pgp_message.specs.Parts.{Negotiation}
 use Rattle.pgp_message.specs.Remembered.{header_of}
 use Rattle.pgp_client.specs.declared.event.Refusal.{Refusal}
@@ -46,15 +49,15 @@ pub record Shown : Type 0 where
   pub talk : Talk
   -- what the server said last of its session
   pub server : Said
-  -- the startup packet has protocol options
-  pub options : Bool
+  -- the names of the startup packet's protocol options
+  pub options : List (List ℕ)
   -- the next request's name
   pub names : ℕ
   -- how long a message may be
   pub limit : ℕ
 
 abbrev pub begun : Ways → ℕ → Shown
-begun ways limit = record { phase = Opening; login = record { phase = AwaitsOffer; ways = ways }; out = []; incoming = []; talk = start; server = nothing_said; options = false; names = 0; limit = limit }
+begun ways limit = record { phase = Opening; login = record { phase = AwaitsOffer; ways = ways }; out = []; incoming = []; talk = start; server = nothing_said; options = []; names = 0; limit = limit }
 
 -- the log-in is done
 abbrev pub done_at : LoginPhase → Bool
@@ -196,22 +199,30 @@ left_at phase t l s c = record { phase = phase; login = l; out = c.out; incoming
 abbrev pub is_3_0 : ℤ → Bool
 is_3_0 version = not (lt_z version (pos 196608) || lt_z (pos 196608) version)
 
--- An answer about versions is due once, right behind the startup packet. It says that the server speaks the packet's version, 3.0, and names protocol options only where
--- the packet has some.
-abbrev pub is_answered : Bool → Bool → Negotiation → Bool
-is_answered first options v = first && is_3_0 v.version && (options || (v.count == 0))
+-- this name is one of these
+abbrev pub is_among : List (List ℕ) → List ℕ → Bool
+is_among sent name = list_any (λ (s : List ℕ). bytes_eq s name) sent
 
--- A message that has a place among the answers before the log-in is done, and isn't taken there: `first` says that no message came before. A server asks for a password,
--- reports an error, or answers about versions; what else it says would be kept of one that has proved nothing.
-abbrev pub is_early : LoginPhase → Bool → Bool → Message → Bool
-is_early p first options (ParameterStatus setting) = not (done_at p)
-is_early p first options (NoticeResponse fields) = not (done_at p)
-is_early p first options (NotificationResponse n) = not (done_at p)
-is_early p first options (NegotiateProtocolVersion v) = not (is_answered first options v)
-is_early p first options m = false
+-- An answer about versions is due once, right behind the startup packet. It says that the server speaks the packet's version, 3.0, and lists, to the end, protocol
+-- options of the packet alone.
+pub record IsAnswered (first : Bool) (sent : List (List ℕ)) (v : Negotiation) : Type 0 where
+  pub due : first ≡ true
+  pub version : is_3_0 v.version ≡ true
+  pub options : List (List ℕ)
+  pub whole : CountedItems StringSpelled StringRefused v.count v.options options None
+  pub sent : list_all (is_among sent) options ≡ true
 
-abbrev pub comes_early : Shown → Message → Bool
-comes_early c m = is_early c.login.phase (is_between c.talk) c.options m
+-- A message that may come now. Before the log-in is done a server asks for a password, reports an error, or answers about versions; what else it says would be kept of one
+-- that has proved nothing. `first` says that no message came before.
+abbrev pub IsTimely : LoginPhase → Bool → List (List ℕ) → Message → Type 0
+IsTimely p first sent (ParameterStatus setting) = done_at p ≡ true
+IsTimely p first sent (NoticeResponse fields) = done_at p ≡ true
+IsTimely p first sent (NotificationResponse n) = done_at p ≡ true
+IsTimely p first sent (NegotiateProtocolVersion v) = IsAnswered first sent v
+IsTimely p first sent m = Unit {0}
+
+abbrev pub ComesInTime : Shown → Message → Type 0
+ComesInTime c m = IsTimely c.login.phase (is_between c.talk) c.options m
 
 -- The status of a ReadyForQuery is that of no transaction, of one, or of a failed one.
 abbrev pub is_status : ℕ → Bool
@@ -238,7 +249,7 @@ is_bulk m e = false
 -- The message was attributed so, what it reports was kept, and the log-in took it: its reply was appended.
 pub record Took (m : Message) (old new : Shown) (e : Event) : Type 0 where
   pub taken : taken old.talk (kind_of m) ≡ Ok (e, new.talk)
-  pub due : comes_early old m ≡ false
+  pub due : ComesInTime old m
   pub sound : lacks_status m ≡ false
   pub kept : HasRoom most (setting_in m) old.server.settings
   pub goes_on : is_end e ≡ false
@@ -256,7 +267,7 @@ module _ {A : Type 0} (lacks : Type 0) where
   -- Why a message isn't taken, and what is left in this phase: it isn't attributed, so that no message is any more; or it comes before the log-in is done; or its
   -- status is none; or what it reports can't be kept; or the log-in stops at it, and is no further.
   abbrev pub IsUnfit : Shown → Message → ConnectionError A → Type 0
-  IsUnfit c m e = ((comes_early c m ≡ true) × (e ≡ Undue)) ⊎ ((comes_early c m ≡ false) × (lacks_status m ≡ true) × (e ≡ BadStatus))
+  IsUnfit c m e = (¬ ComesInTime c m × (e ≡ Undue)) ⊎ (ComesInTime c m × (lacks_status m ≡ true) × (e ≡ BadStatus))
 
   abbrev pub Stops : ConnectionPhase → Message → Shown → Shown → ConnectionError A → Type 0
   Stops phase m old new e = ((r : Refusal) × (taken old.talk (kind_of m) ≡ Err r) × (e ≡ Misplaced r) × (new.talk.stage ≡ NothingMore)
@@ -348,13 +359,13 @@ Answers piece old new (Err e) = ⊥
 abbrev pub is_option : List ℕ → Bool
 is_option name = starts_with nat_eq name (codes "_pq_.")
 
--- the packet has some
-abbrev pub has_options : ClientMessage → Bool
-has_options (Startup minor parameters) = list_any (λ (p : List ℕ × List ℕ). is_option p.0) parameters
-has_options m = false
+-- those of a packet
+abbrev pub options_of : ClientMessage → List (List ℕ)
+options_of (Startup minor parameters) = filter is_option (map (λ (p : List ℕ × List ℕ). p.0) parameters)
+options_of m = []
 
 abbrev pub started : ClientMessage → Shown → Shown
-started m c = record { phase = Started; login = c.login; out = c.out ++ bytes_of m; incoming = c.incoming; talk = asked_of (request_of m) c.names c.talk; server = c.server; options = has_options m; names = next_name c.names; limit = c.limit }
+started m c = record { phase = Started; login = c.login; out = c.out ++ bytes_of m; incoming = c.incoming; talk = asked_of (request_of m) c.names c.talk; server = c.server; options = options_of m; names = next_name c.names; limit = c.limit }
 
 -- The startup packet was written, and asked of the server under this name.
 pub record HasStarted (m : ClientMessage) (old new : Shown) (name : ℕ) : Type 0 where
@@ -382,10 +393,10 @@ Cancels lacks c old new (Err e) = ⊥
 
 -- *private*: what the messages of the server change, with all else as it is there
 abbrev pub in_state : {A : Type 0} → ConnectionState A → Shown → Shown
-in_state s c = record { phase = s.phase; login = seen s.login; out = s.out.items; incoming = c.incoming; talk = talk_of (λ q. q.items) s.dialogue; server = record { state = s.server; settings = s.settings.entries.items }; options = s.options; names = c.names; limit = c.limit }
+in_state s c = record { phase = s.phase; login = seen s.login; out = s.out.items; incoming = c.incoming; talk = talk_of (λ q. q.items) s.dialogue; server = record { state = s.server; settings = s.settings.entries.items }; options = s.options.items; names = c.names; limit = c.limit }
 
 abbrev pub shown : {A : Type 0} → Kept A → Shown
-shown c = record { phase = c.state.phase; login = seen c.state.login; out = c.state.out.items; incoming = c.incoming.rest; talk = talk_of (λ q. q.items) c.state.dialogue; server = record { state = c.state.server; settings = c.state.settings.entries.items }; options = c.state.options; names = c.names; limit = c.limit }
+shown c = record { phase = c.state.phase; login = seen c.state.login; out = c.state.out.items; incoming = c.incoming.rest; talk = talk_of (λ q. q.items) c.state.dialogue; server = record { state = c.state.server; settings = c.state.settings.entries.items }; options = c.state.options.items; names = c.names; limit = c.limit }
 
 -- the frame of the message that is read in place, or nothing
 abbrev pub current : {A : Type 0} → Kept A → List ℕ

@@ -14,10 +14,11 @@ ghost use Rattle.pgp_session.specs.Incoming.{Reads};
 ghost use Rattle.pgp_session.specs.Connection.{Advances, Answers, Cancels, Feeds, Nexts, Sends, Starts, Writes, begun, can_send, current, dropped, is_logged_in, limit_of, may_ask, nexted, shown};
 
 use crate::connection_error::ConnectionError;
-use crate::connection_parts::{encrypts, has_option, may_send, next_name, put_startup};
+use crate::connection_parts::{encrypts, may_send, next_name, put_startup};
 use crate::connection_state::ConnectionState;
 use crate::incoming::Incoming;
 use crate::login::{Ways, put};
+use crate::protocol_options::option_names;
 use crate::scram_login::LoginPhase;
 use crate::server_state::BackendKey;
 use bytes::{Buf, Bytes, BytesMut};
@@ -117,7 +118,7 @@ impl<'a, A: Memory> Connection<'a, A> {
     ///
     /// On error nothing changes. `OutOfPhase` after the startup packet, while an answer about encryption is awaited, and after the end;
     /// `Unwritten` of `EmbeddedNull` if a name or a value has a 0 byte, of `TooLarge` if the message exceeds `i32::MAX`, and of `OutOfMemory`;
-    /// `OutOfMemory` if there is no memory to take note of the request.
+    /// `OutOfMemory` if there is no memory to take note of the request, or of the names of protocol options.
     pub fn start(&mut self, parameters: &[(&str, &str)]) -> Result<u64, ConnectionError<A>>
         requires { IsNamed (Startup 0 (map shown_pair parameters.now)) }
         ensures { Starts A.Lacks (Startup 0 (map shown_pair parameters.now)) (shown self.old) (shown self.new) result }
@@ -125,6 +126,9 @@ impl<'a, A: Memory> Connection<'a, A> {
         if self.state.phase != ConnectionPhase::Opening {
             return Err(ConnectionError::OutOfPhase);
         }
+        let Ok(options) = option_names(self.state.login.alloc, parameters) else {
+            return Err(ConnectionError::OutOfMemory);
+        };
         let start = self.state.out.len();
         if let Err(e) = put_startup(self.state.login.alloc, parameters, &mut self.state.out) {
             return Err(ConnectionError::Unwritten(e));
@@ -135,7 +139,7 @@ impl<'a, A: Memory> Connection<'a, A> {
             return Err(ConnectionError::OutOfMemory);
         }
         self.names = next_name(name);
-        self.state.options = has_option(parameters);
+        self.state.options = options;
         self.state.phase = ConnectionPhase::Started;
         Ok(name)
     }

@@ -1,6 +1,7 @@
 //! What the calls of a connection test, and what they append.
 
 ghost use Rattle.std.specs.Prelude.{◌≡◌, ◌≢◌, ◌∷◌, ◌++◌, [], Bool, map, None, IfErr, IfSome, OnErr, OnOk};
+ghost use Rattle.std.specs.Bool.{Decides};
 ghost use Rattle.pgp_base.specs.Cause.{WantsMemory};
 ghost use Rattle.pgp_frontend.specs.ClientMessage.{Startup};
 ghost use Rattle.pgp_frontend.specs.Given.{shown as shown_pair};
@@ -8,17 +9,18 @@ ghost use Rattle.pgp_frontend.specs.Reading.{IsNamed};
 ghost use Rattle.pgp_frontend_read.specs.Views.{view as sent_view};
 ghost use Rattle.pgp_session.specs.Login.{Puts};
 ghost use Rattle.pgp_message.specs.Views.{view};
-ghost use Rattle.pgp_session.specs.Connection.{has_options, is_3_0, is_answered, is_bulk, is_early, is_end, is_part, is_longer, is_status, lacks_status, letter, may_send, next_name};
+ghost use Rattle.pgp_session.specs.Connection.{IsTimely, is_bulk, is_end, is_part, is_longer, is_status, lacks_status, letter, may_send, next_name};
 
+use crate::protocol_options::{OptionName, is_answered};
 use crate::scram_login::LoginPhase;
 use crate::session_storage::SessionStorage;
 use bytes::BytesMut;
 use pgp_base::{Error, Memory};
 use pgp_client::Event;
-use pgp_frontend::ProtocolVersion;
 use pgp_frontend_read::ClientMessage;
-use pgp_message::{Message, NegotiateProtocolVersionBody, Storage};
+use pgp_message::{Message, Storage};
 use pgp_stream::ClientStream;
+use std::alloc::Allocator;
 
 /// Whether it ends the session.
 pub(crate) fn is_end(event: Event) -> bool
@@ -52,50 +54,22 @@ pub(crate) fn is_bulk<S: Storage>(message: &Message<S>, event: Event) -> bool
     }
 }
 
-/// Whether the message isn't taken before the log-in is done: all but what asks for a password, an error, and the answer about versions where no message came
-/// before (`first`), which names options only where the startup packet has some.
-pub(crate) fn is_early<S: SessionStorage>(
+/// Whether the message may come now. Before the log-in is done only what asks for a password, an error, and the answer about versions where no message came
+/// before (`first`), which lists options that were sent.
+pub(crate) fn is_timely<A: Allocator, S: SessionStorage>(
     phase: LoginPhase,
     first: bool,
-    options: bool,
+    sent: &[OptionName<A>],
     message: &Message<S>,
 ) -> bool
-    ensures { result ≡ is_early phase first options (view message.now) }
+    ensures { Decides result (IsTimely phase first sent.now (view message.now)) }
 {
     match message {
-        Message::ParameterStatus(_) => phase != LoginPhase::Done,
-        Message::NoticeResponse(_) | Message::NotificationResponse(_) => phase != LoginPhase::Done,
-        Message::NegotiateProtocolVersion(answer) => !is_answered(first, options, answer),
-        _ => false,
+        Message::ParameterStatus(_) => phase == LoginPhase::Done,
+        Message::NoticeResponse(_) | Message::NotificationResponse(_) => phase == LoginPhase::Done,
+        Message::NegotiateProtocolVersion(answer) => is_answered(first, sent, answer),
+        _ => true,
     }
-}
-
-/// Whether the answer about versions is due, and what it says could be said.
-fn is_answered<S: SessionStorage>(
-    first: bool,
-    options: bool,
-    answer: &NegotiateProtocolVersionBody<S>,
-) -> bool
-    ensures { result ≡ is_answered first options answer.now }
-{
-    first && is_3_0(answer.version()) && (options || S::option_count(answer) == 0)
-}
-
-/// Whether a parameter of a startup packet is a protocol option.
-pub(crate) fn has_option(parameters: &[(&str, &str)]) -> bool
-    ensures { result ≡ has_options (Startup 0 (map shown_pair parameters.now)) }
-{
-    let mut found = false;
-    'each: for parameter in parameters {
-        found |= parameter.0.as_bytes().starts_with(b"_pq_.");
-    }
-    found
-}
-
-fn is_3_0(version: i32) -> bool
-    ensures { result ≡ is_3_0 version }
-{
-    !(version < ProtocolVersion::V3_0.code() || ProtocolVersion::V3_0.code() < version)
 }
 
 /// Whether it is a ReadyForQuery whose status is none of the three that there are.

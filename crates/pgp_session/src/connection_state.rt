@@ -7,8 +7,9 @@ ghost use Rattle.pgp_session.specs.Connection.{Hears, Shown, Takes, answered, be
 
 use crate::connection::ConnectionPhase;
 use crate::connection_error::ConnectionError;
-use crate::connection_parts::{is_bulk, is_early, is_end, lacks_status};
+use crate::connection_parts::{is_bulk, is_end, is_timely, lacks_status};
 use crate::login::{Login, Ways};
+use crate::protocol_options::OptionName;
 use crate::scram_login::LoginPhase;
 use crate::server_state::ServerState;
 use crate::session_storage::SessionStorage;
@@ -28,8 +29,8 @@ pub(crate) struct ConnectionState<'a, A: Memory> {
     pub(crate) dialogue: Dialogue<VecDeque<Asked, A>>,
     pub(crate) server: ServerState,
     pub(crate) settings: Settings<A>,
-    /// Whether the startup packet has protocol options.
-    pub(crate) options: bool,
+    /// The protocol options of the startup packet.
+    pub(crate) options: Vec<OptionName<A>, A>,
 }
 
 impl<'a, A: Memory> ConnectionState<'a, A> {
@@ -48,7 +49,7 @@ impl<'a, A: Memory> ConnectionState<'a, A> {
             dialogue: Dialogue::new(alloc),
             server: ServerState::new(),
             settings: Settings::new(alloc),
-            options: false,
+            options: Vec::new(alloc),
         }
     }
 
@@ -82,7 +83,7 @@ impl<'a, A: Memory> ConnectionState<'a, A> {
         if is_bulk(message, event) {
             return Ok(event);
         }
-        if is_early(self.login.phase, first, self.options, message) {
+        if !is_timely(self.login.phase, first, &self.options, message) {
             return Err(ConnectionError::Undue);
         }
         if lacks_status(message) {

@@ -12,6 +12,7 @@ pub mod laws;
 mod login;
 mod out_buffer;
 pub mod pooler;
+mod protocol_options;
 pub mod proxy;
 mod requests;
 pub mod scram_login;

@@ -1,14 +1,17 @@
 //! What a connection reads of a message, whose bytes are shared or in place.
 
 ghost use Rattle.std.specs.Prelude.{◌≡◌};
+ghost use Rattle.pgp_base.specs.Items.{CountedItems};
+ghost use Rattle.pgp_message.specs.Items.{StringSpelled, StringRefused};
 
 use crate::scram_login::SaslStorage;
 use bytes::Bytes;
-use pgp_base::FallibleIterator;
-use pgp_message::{BackendKeyDataBody, NegotiateProtocolVersionBody, ParameterStatusBody};
+use pgp_message::{
+    BackendKeyDataBody, NegotiateProtocolVersionBody, ParameterStatusBody, RawOptions,
+};
 use std::alloc::Allocator;
 
-/// Bytes that a message keeps, where a setting and a key can be read beside a SASL exchange.
+/// Bytes that a message keeps, where a setting, a key and options can be read beside a SASL exchange.
 pub(crate) trait SessionStorage: SaslStorage {
     /// The setting's name.
     fn name<'m>(body: &'m ParameterStatusBody<Self>) -> &'m [u8]
@@ -22,9 +25,9 @@ pub(crate) trait SessionStorage: SaslStorage {
     fn secret_key<'m>(body: &'m BackendKeyDataBody<Self>) -> &'m [u8]
         ensures { result.now ≡ body.now.secret_key };
 
-    /// How many options an answer about versions names.
-    fn option_count(body: &NegotiateProtocolVersionBody<Self>) -> usize
-        ensures { result ≡ body.now.count };
+    /// The options that an answer about versions lists, by name.
+    fn options<'m>(body: &'m NegotiateProtocolVersionBody<Self>) -> RawOptions<'m>
+        ensures { CountedItems StringSpelled StringRefused body.now.count body.now.options result.items result.end };
 }
 
 impl<A: Allocator> SessionStorage for Bytes<A> {
@@ -40,8 +43,8 @@ impl<A: Allocator> SessionStorage for Bytes<A> {
         body.secret_key_bytes()
     }
 
-    fn option_count(body: &NegotiateProtocolVersionBody<Bytes<A>>) -> usize {
-        body.raw_options().size_hint().0
+    fn options<'m>(body: &'m NegotiateProtocolVersionBody<Bytes<A>>) -> RawOptions<'m> {
+        body.raw_options()
     }
 }
 
@@ -58,7 +61,7 @@ impl<'a> SessionStorage for &'a [u8] {
         body.secret_key_bytes()
     }
 
-    fn option_count(body: &NegotiateProtocolVersionBody<&'a [u8]>) -> usize {
-        body.raw_options().size_hint().0
+    fn options<'m>(body: &'m NegotiateProtocolVersionBody<&'a [u8]>) -> RawOptions<'m> {
+        body.raw_options()
     }
 }

@@ -47,7 +47,7 @@ pub use Rattle.pgp_message.specs.Items.{TextSpelled, TextRefused, FieldPart}
 pub use Rattle.pgp_message.specs.Stream.{Frames, TakesFrame, IsPartial, Step, Frame, frame_bytes, BeginsWithHeader, IsFrame, IsEnding, Bodies}
 pub use Rattle.pgp_message.specs.Views.{view, parsed}
 pub use Rattle.pgp_message_write.specs.Reply.{IsInRange, IsMechanism, IsReply, names_of}
-pub use Rattle.pgp_session.specs.Connection.{IsCut, Nexts, Shown, nexted, Took, TookEnd, with_incoming, Hears, IsUnfit, comes_early, is_end, is_logged_in, lacks_status, logged_in_at, begun, shown}
+pub use Rattle.pgp_session.specs.Connection.{IsCut, Nexts, Shown, nexted, Took, TookEnd, with_incoming, Hears, IsUnfit, ComesInTime, is_end, is_logged_in, lacks_status, logged_in_at, begun, shown}
 pub use Rattle.pgp_session.specs.ScramLogin.{Lists, Offers, initial, mechanism_by, mechanism_of, observed}
 pub use Rattle.pgp_session.specs.Serving.{Comes, Outcome, Challenge, Denied, Signed, IsAdmitted, IsChallenged, IsNoFinal, IsNoFirst, admission, cause_of, challenge, due, final_message, first_message, kind_in, scram, scram_offer, signature, spelled}
 pub use Rattle.pgp_session.specs.declared.connection_error.ConnectionError.{ConnectionError}

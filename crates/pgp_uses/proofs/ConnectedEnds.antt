@@ -1,5 +1,5 @@
 -- A client's connection and a server's core, turn by turn.
-use Rattle.pgp_uses.proofs.Common.{◌≡◌, ℕ, Bool, List, [], ◌∷◌, ◌++◌, Option, Some, None, Result, Ok, Err, refl, sym, ap, subst, ◌∙◌, inl, inr, true, false, max, ◌≤◌, arith, ◌⊎◌, AllByRecursion, Held, MarkedItems, Error, Client, Answers, message_of, refusal, Meeting, Server, Challenges, Admits, answer_meets, last_is, message_is, signature_never_refused, text_is, update_memory_met, Event, ClientMessage, Message, TextSpelled, TextRefused, Frames, TakesFrame, IsMechanism, IsReply, names_of, ConnectionLogsIn, Facing, HasStarted, IsConnectionsWant, Hears, IsUnfit, Shown, comes_early, is_end, is_logged_in, lacks_status, logged_in_at, Offers, initial, mechanism_of, admission, challenge, final_message, first_message, kind_in, scram, scram_offer, signature, ConnectionError, LoginPhase, Serving, ServingPhase, Lists, codes}
+use Rattle.pgp_uses.proofs.Common.{◌≡◌, ℕ, Bool, List, [], ◌∷◌, ◌++◌, Option, Some, None, Result, Ok, Err, refl, sym, ap, subst, ◌∙◌, inl, inr, true, false, max, ◌≤◌, arith, ◌⊎◌, AllByRecursion, Held, MarkedItems, Error, Client, Answers, message_of, refusal, Meeting, Server, Challenges, Admits, answer_meets, last_is, message_is, signature_never_refused, text_is, update_memory_met, Event, ClientMessage, Message, TextSpelled, TextRefused, Frames, TakesFrame, IsMechanism, IsReply, names_of, ConnectionLogsIn, Facing, HasStarted, IsConnectionsWant, Hears, IsUnfit, Shown, ComesInTime, is_end, is_logged_in, lacks_status, logged_in_at, Offers, initial, mechanism_of, admission, challenge, final_message, first_message, kind_in, scram, scram_offer, signature, ConnectionError, LoginPhase, Serving, ServingPhase, Lists, codes}
 use Rattle.pgp_auth.specs.ScramClient.{first_text as text_of}
 use Rattle.pgp_auth.proofs.FirstTexts.{one_count}
 use Rattle.pgp_base.specs.OneList.{HasOneMarkedList}
@@ -74,9 +74,9 @@ module _ {E : Type 0} (lacks : Type 0) where
 
 -- a message of a log-in comes in time
 module _ {E : Type 0} (lacks : Type 0) where
-  in_time : (c : Shown) (m : Message) → comes_early c m ≡ false → lacks_status m ≡ false → (e : ConnectionError E) → IsUnfit lacks c m e → ⊥
-  in_time c m late status e (inl h) = let f = h.0 in cc
-  in_time c m late status e (inr h) = let f = h.1 in cc
+  in_time : (c : Shown) (m : Message) → ComesInTime c m → lacks_status m ≡ false → (e : ConnectionError E) → IsUnfit lacks c m e → ⊥
+  in_time c m timely status e (inl h) = absurd (h.0 timely)
+  in_time c m timely status e (inr h) = let f = h.1 in cc
 
 -- ---- the log-in's steps
 
@@ -202,7 +202,7 @@ module _ {E : Type 0} (lacks : Type 0) (name : ℕ) where
       → Is name AwaitsOffer x (asked unasked (record { request = Startup; name = name })) old → Hears lacks scram_offer old new result
       → ((result ≡ Ok (Some (Part name, scram_offer))) × Begun name x (text_of meeting.begun) old new) ⊎ IsConnectionsWant lacks first_message result
   takes_offer there x meeting unbound old new result offers bare here h =
-      by (heard lacks scram_offer name (under_way name) old new result (ap (λ (t : Talk). taken t (kind_of scram_offer)) here.talk) (λ cause unkept. unkept) (λ cause unfit. in_time lacks old scram_offer refl refl cause unfit) h)
+      by (heard lacks scram_offer name (under_way name) old new result (ap (λ (t : Talk). taken t (kind_of scram_offer)) here.talk) (λ cause unkept. unkept) (λ cause unfit. in_time lacks old scram_offer tt refl cause unfit) h)
     where
       by : ((result ≡ Ok (Some (Part name, scram_offer))) × (new.phase ≡ old.phase) × (new.talk ≡ under_way name) × LoggedOn (asking scram_offer) old.login new.login old.out new.out)
           ⊎ ((e : ConnectionError E) × (result ≡ Err e) × (after : Login) × (grown : List ℕ) × login.Hears lacks (asking scram_offer) old.login after old.out grown (Err e))
@@ -217,7 +217,7 @@ module _ {E : Type 0} (lacks : Type 0) (name : ℕ) where
       → Is name AwaitsFirst start (under_way name) old → Hears lacks (challenge text) old new result
       → ((result ≡ Ok (Some (Part name, challenge text))) × Replied name start text old new) ⊎ IsConnectionsWant lacks final_message result
   takes_text server mid start meeting first text is ch old new enough result here h =
-      by (heard lacks (challenge text) name (under_way name) old new result (ap (λ (t : Talk). taken t (kind_of (challenge text))) here.talk) (λ cause unkept. unkept) (λ cause unfit. in_time lacks old (challenge text) refl refl cause unfit) h)
+      by (heard lacks (challenge text) name (under_way name) old new result (ap (λ (t : Talk). taken t (kind_of (challenge text))) here.talk) (λ cause unkept. unkept) (λ cause unfit. in_time lacks old (challenge text) tt refl cause unfit) h)
     where
       by : ((result ≡ Ok (Some (Part name, challenge text))) × (new.phase ≡ old.phase) × (new.talk ≡ under_way name) × LoggedOn (First text) old.login new.login old.out new.out)
           ⊎ ((e : ConnectionError E) × (result ≡ Err e) × (after : Login) × (grown : List ℕ) × login.Hears lacks (First text) old.login after old.out grown (Err e))
@@ -233,7 +233,7 @@ module _ {E : Type 0} (lacks : Type 0) (name : ℕ) where
       → Admits mid final done signed → (old new : Shown) (result : Result (Option (Event × Message)) (ConnectionError E)) → Is name AwaitsFinal x (under_way name) old → Hears lacks (signature signed) old new result
       → (result ≡ Ok (Some (Part name, signature signed))) × (y : Client) × Is name AwaitsOk y (under_way name) new
   takes_signature server mid done start x meeting first text final signed is ch answers admits old new result here h =
-      by (heard lacks (signature signed) name (under_way name) old new result (ap (λ (t : Talk). taken t (kind_of (signature signed))) here.talk) (λ cause unkept. unkept) (λ cause unfit. in_time lacks old (signature signed) refl refl cause unfit) h)
+      by (heard lacks (signature signed) name (under_way name) old new result (ap (λ (t : Talk). taken t (kind_of (signature signed))) here.talk) (λ cause unkept. unkept) (λ cause unfit. in_time lacks old (signature signed) tt refl cause unfit) h)
     where
       by : ((result ≡ Ok (Some (Part name, signature signed))) × (new.phase ≡ old.phase) × (new.talk ≡ under_way name) × LoggedOn (Final signed) old.login new.login old.out new.out)
           ⊎ ((e : ConnectionError E) × (result ≡ Err e) × (after : Login) × (grown : List ℕ) × login.Hears lacks (Final signed) old.login after old.out grown (Err e))
@@ -249,7 +249,7 @@ module _ {E : Type 0} (lacks : Type 0) (name : ℕ) where
   pub takes_welcome : (x : Client) (old new : Shown) (result : Result (Option (Event × Message)) (ConnectionError E)) → Is name AwaitsOk x (under_way name) old → Hears lacks admission old new result
       → (result ≡ Ok (Some (Part name, admission))) × (is_logged_in new ≡ true)
   takes_welcome x old new result here h =
-      by (heard lacks admission name (record { stage = Starting; name = name; pending = [] }) old new result (ap (λ (t : Talk). taken t (kind_of admission)) here.talk) (λ cause unkept. unkept) (λ cause unfit. in_time lacks old admission refl refl cause unfit) h)
+      by (heard lacks admission name (record { stage = Starting; name = name; pending = [] }) old new result (ap (λ (t : Talk). taken t (kind_of admission)) here.talk) (λ cause unkept. unkept) (λ cause unfit. in_time lacks old admission tt refl cause unfit) h)
     where
       by : ((result ≡ Ok (Some (Part name, admission))) × (new.phase ≡ old.phase) × (new.talk ≡ record { stage = Starting; name = name; pending = [] }) × LoggedOn Welcome old.login new.login old.out new.out)
           ⊎ ((e : ConnectionError E) × (result ≡ Err e) × (after : Login) × (grown : List ℕ) × login.Hears lacks Welcome old.login after old.out grown (Err e))
