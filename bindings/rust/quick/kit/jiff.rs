@@ -266,17 +266,32 @@ pub mod fmt {
 
             pub fn time_text(&self, t: Time) -> ArrayString<18> {
                 let mut text = ArrayString::new();
-                text.push_str(&format!("{:02}:{:02}:{:02}{}", t.hour, t.minute, t.second, fraction(t.nanosecond)));
+                for (between, number) in [("", t.hour), (":", t.minute), (":", t.second)] {
+                    text.push_str(between);
+                    text.push(digit(number as u32 / 10));
+                    text.push(digit(number as u32 % 10));
+                }
+                text.push_str(&fraction(t.nanosecond));
                 text
             }
         }
 
+        fn digit(number: u32) -> char {
+            char::from(b'0' + number as u8)
+        }
+
         /// A point and the digits of so many nanoseconds, with no 0 at their end.
-        pub fn fraction(nanosecond: u32) -> String {
-            if nanosecond == 0 {
-                return String::new();
+        pub fn fraction(nanosecond: u32) -> ArrayString<10> {
+            let mut text = ArrayString::new();
+            let (mut left, mut unit) = (nanosecond, 100_000_000);
+            if left > 0 {
+                text.push('.');
             }
-            format!(".{:09}", nanosecond).trim_end_matches('0').to_string()
+            while left > 0 {
+                text.push(digit(left / unit));
+                (left, unit) = (left % unit, unit / 10);
+            }
+            text
         }
     }
 }
