@@ -1,5 +1,4 @@
-//! A client's connection, without input or output: what is to be sent, what came, the log-in, and to which request each of the server's
-//! messages belongs.
+//! A client's connection, without input or output: what is sent, what came, the log-in, and to which request each message of the server belongs.
 
 ghost use Rattle.std.specs.Prelude.{◌≡◌, ◌≤◌, length, map, option_map, None};
 ghost use Rattle.pgp_frontend.specs.ClientMessage.{SslRequest, Startup, Terminate};
@@ -11,7 +10,7 @@ ghost use Rattle.pgp_session.specs.Login.{given};
 ghost use Rattle.pgp_client.specs.Taking.{is_idle};
 ghost use Rattle.pgp_session.specs.Settings.{value_of};
 ghost use Rattle.pgp_session.specs.Incoming.{Reads};
-ghost use Rattle.pgp_session.specs.Connection.{Advances, Answers, Cancels, Feeds, Nexts, Sends, Starts, Writes, begun, can_send, current, dropped, is_logged_in, limit_of, may_ask, nexted, shown};
+ghost use Rattle.pgp_session.specs.Connection.{Advances, Answers, Feeds, Nexts, Sends, Starts, Writes, begun, can_send, current, dropped, is_logged_in, limit_of, may_ask, nexted, shown};
 
 use crate::connection_error::ConnectionError;
 use crate::connection_parts::{encrypts, may_send, next_name, put_startup};
@@ -397,26 +396,5 @@ impl<'a, A: Memory> Connection<'a, A> {
         ensures { option_map (λ value. value.now) result ≡ value_of name.now (shown self.now).server.settings }
     {
         self.state.settings.get(name)
-    }
-
-    /// Appends the request to cancel this session's query, which is sent as the only message of another connection.
-    ///
-    /// # Errors
-    ///
-    /// On error `out` is unchanged. `OutOfPhase` where the server sent no key; `Unwritten` of `OutOfMemory`.
-    pub fn cancel_request(&self, out: &mut BytesMut<A>) -> Result<(), ConnectionError<A>>
-        ensures { Cancels A.Lacks (shown self.now) out.old.items out.new.items result }
-    {
-        let Some(key) = self.state.server.key else {
-            return Err(ConnectionError::OutOfPhase);
-        };
-        let request = ClientMessage::CancelRequest {
-            process_id: key.process_id,
-            secret_key: &key.secret_key,
-        };
-        match put(&request, out) {
-            Ok(()) => Ok(()),
-            Err(e) => Err(ConnectionError::Unwritten(e)),
-        }
     }
 }

@@ -2,10 +2,12 @@
 
 ghost use Rattle.std.specs.Prelude.{◌≡◌};
 ghost use Rattle.pgp_frontend.specs.ClientMessage.{Close, CopyData as DataMessage, CopyDone, CopyFail, Describe, Execute, Flush, Query, Sync};
-ghost use Rattle.pgp_session.specs.Connection.{Sends, shown};
+ghost use Rattle.pgp_session.specs.Connection.{Cancels, Sends, shown};
 
 use crate::connection::Connection;
 use crate::connection_error::ConnectionError;
+use crate::login::put;
+use bytes::BytesMut;
 use pgp_base::Memory;
 use pgp_frontend_read::ClientMessage;
 
@@ -116,5 +118,26 @@ impl<'a, A: Memory> Connection<'a, A> {
         ensures { Sends A.Lacks (CopyFail reason.now) (shown self.old) (shown self.new) result }
     {
         self.send(&ClientMessage::CopyFail(reason.as_bytes()))
+    }
+
+    /// Appends the request to cancel this session's query, which is sent as the only message of another connection.
+    ///
+    /// # Errors
+    ///
+    /// On error `out` is unchanged. `OutOfPhase` where the server sent no key; `Unwritten` of `OutOfMemory`.
+    pub fn cancel_request(&self, out: &mut BytesMut<A>) -> Result<(), ConnectionError<A>>
+        ensures { Cancels A.Lacks (shown self.now) out.old.items out.new.items result }
+    {
+        let Some(key) = self.state.server.key else {
+            return Err(ConnectionError::OutOfPhase);
+        };
+        let request = ClientMessage::CancelRequest {
+            process_id: key.process_id,
+            secret_key: &key.secret_key,
+        };
+        match put(&request, out) {
+            Ok(()) => Ok(()),
+            Err(e) => Err(ConnectionError::Unwritten(e)),
+        }
     }
 }
