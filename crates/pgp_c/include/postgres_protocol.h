@@ -484,7 +484,7 @@ pgp_status pgp_dialogue_ask(struct pgp_dialogue *dialogue, uint8_t request, uint
 /* By the message's kind. PGP_E_UNEXPECTED and PGP_E_UNCERTAIN: close the connection; from then on no message is attributed. */
 pgp_status pgp_dialogue_take(struct pgp_dialogue *dialogue, uint8_t kind, struct pgp_event *event);
 /* Whether no request awaits an answer: a pooler may hand the server to another client. */
-pgp_status pgp_dialogue_is_idle(struct pgp_dialogue *dialogue, bool *idle);
+pgp_status pgp_dialogue_is_idle(const struct pgp_dialogue *dialogue, bool *idle);
 
 /* ---- values in the binary format ---- */
 

@@ -99,18 +99,15 @@ pub extern "C" fn pgp_dialogue_take(
 
 /// Whether no request awaits an answer.
 #[unsafe(no_mangle)]
-pub extern "C" fn pgp_dialogue_is_idle(dialogue: &mut PgpDialogue<'_>, idle: &mut bool) -> u32
-    ensures idle { result ≡ 0 → idle.new ≡ is_idle (talk_of dialogue.old) }
-    ensures broken { result ≢ 0 → (result ≡ 1) × IsBroken dialogue.old × (idle.new ≡ idle.old) }
-    ensures kept { talk_of dialogue.new ≡ talk_of dialogue.old }
-    ensures room { KeepsRoom dialogue.old dialogue.new }
+pub extern "C" fn pgp_dialogue_is_idle(dialogue: &PgpDialogue<'_>, idle: &mut bool) -> u32
+    ensures idle { result ≡ 0 → idle.new ≡ is_idle (talk_of dialogue.now) }
+    ensures broken { result ≢ 0 → (result ≡ 1) × IsBroken dialogue.now × (idle.new ≡ idle.old) }
 {
     if is_broken(dialogue) {
         return NO_ROOM;
     }
-    let kept = resumed(dialogue);
-    *idle = kept.is_idle();
-    put_back(kept, dialogue);
+    *idle = Stage::of_code(dialogue.stage) == Stage::Idle
+        && Slots::await_none(dialogue.room, dialogue.start, dialogue.end);
     0
 }
 
