@@ -107,7 +107,7 @@ pub extern "C" fn pgp_dialogue_is_idle(dialogue: &PgpDialogue<'_>, idle: &mut bo
         return NO_ROOM;
     }
     *idle = Stage::of_code(dialogue.stage) == Stage::Idle
-        && Slots::await_none(dialogue.room, dialogue.start, dialogue.end);
+        && Slots::await_none(&*dialogue.room, dialogue.start, dialogue.end);
     0
 }
 
