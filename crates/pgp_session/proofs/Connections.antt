@@ -120,12 +120,14 @@ pub took_so : (m : Meant) (l : Login) (out : List ℕ) (t : Talk) (k : Said) (ol
     → record { phase = old.phase; login = l; out = out; incoming = old.incoming; talk = t; server = k; options = old.options; names = old.names; limit = old.limit } ≡ with_login l out (moved old.phase t m old)
 took_so m l out t k old e = ap (λ (s : Said). record { phase = old.phase; login = l; out = out; incoming = old.incoming; talk = t; server = s; options = old.options; names = old.names; limit = old.limit }) e
 
-module _ (c : Shown) (m : Meant) (first result : Bool) (at : first ≡ is_between c.talk) (is : Decides result (IsTimely c.login.phase first c.options m)) where
+module _ (c : Shown) (m : Meant) (first result : Bool) (sent : List (List ℕ)) (at : first ≡ is_between c.talk) (same : sent ≡ c.options) (is : Decides result (IsTimely c.login.phase first sent m)) where
   pub timely_by : result ≡ true → ComesInTime c m
-  timely_by test = subst (λ (b : Bool). IsTimely c.login.phase b c.options m) at (is.0 test)
+  timely_by test = subst (λ (b : Bool). IsTimely c.login.phase b c.options m) at (subst (λ (l : List (List ℕ)). IsTimely c.login.phase first l m) same (is.0 test))
 
   pub untimely_by : result ≡ false → ¬ ComesInTime c m
-  untimely_by test timely = absurd (let both : true ≡ false = sym (is.1 (subst (λ (b : Bool). IsTimely c.login.phase b c.options m) (sym at) timely)) ∙ test in cc)
+  untimely_by test timely =
+      let there = subst (λ (l : List (List ℕ)). IsTimely c.login.phase first l m) (sym same) (subst (λ (b : Bool). IsTimely c.login.phase b c.options m) (sym at) timely) in
+      absurd (let both : true ≡ false = sym (is.1 there) ∙ test in cc)
 
 part_goes_on : (e : Event) → is_part e ≡ true → is_end e ≡ false
 part_goes_on (Part n) is = refl

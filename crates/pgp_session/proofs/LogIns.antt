@@ -1,5 +1,5 @@
 -- What a log-in took, as a relation.
-use Rattle.pgp_session.proofs.Common.{◌≡◌, ℕ, Bool, true, false, List, Option, Some, None, Result, Ok, Err, refl, sym, ap, subst, inl, inr, ◌<◌, Wants, Held, ◌⊕◌, items_held, lengthened, Error, OutOfMemory, WritesMessage, bytes_of, cause, ClientMessage, PasswordMessage, SaslResponse, md5_answer, Client, initial, AddsReply, Asking, Nothing, Cleartext, Md5, Sasl, First, Final, Welcome, Other, AnswersFirst, AsksCleartext, CountsFirst, AsksMd5, AsksSasl, HearsDue, LoggedOn, Login, LogsOn, Puts, RepliesFirst, NothingAsked, ByCleartext, ByMd5, ScramBegins, ScramGoesOn, ScramEnds, Welcomed, Trusted, VerifiesFinal, WelcomesAt, goes_on, is_due, ConnectionError, LoginPhase, AwaitsOffer, AwaitsFirst, AwaitsFinal, AwaitsOk, Done, Over}
+use Rattle.pgp_session.proofs.Common.{◌≡◌, ℕ, Bool, true, false, List, Option, Some, None, Result, Ok, Err, refl, sym, ap, subst, inl, inr, ◌<◌, Wants, Held, ◌⊕◌, items_held, lengthened, Error, OutOfMemory, WritesMessage, bytes_of, cause, ClientMessage, PasswordMessage, SaslResponse, md5_answer, Client, initial, AddsReply, Asking, Nothing, Cleartext, Md5, Sasl, First, Final, Welcome, Other, AnswersFirst, AsksCleartext, CountsFirst, AsksMd5, AsksSasl, HearsDue, LoggedOn, Login, LogsOn, Puts, RepliesFirst, NothingAsked, ByCleartext, ByMd5, ScramBegins, ScramGoesOn, ScramEnds, Welcomed, Trusted, VerifiesFinal, WelcomesAt, goes_on, is_due, ConnectionError, LoginPhase, AwaitsOffer, AwaitsFirst, AwaitsFinal, AwaitsOk, Done}
 use Rattle.std.specs.Prelude.{◌⊎◌, ◌++◌, length}
 use Rattle.pgp_auth.specs.ScramRefusal.{AsksFewer}
 use Rattle.pgp_session.specs.Login.{Hears, Unsent, in_phase}

@@ -1,5 +1,5 @@
 -- The names under which messages were asked.
-use Rattle.pgp_session.proofs.Common.{◌≡◌, ℕ, ◌+◌, ◌<◌, ◌≤◌, Bool, if◌then◌else◌, List, [], ◌∷◌, ◌++◌, length, Option, Some, None, true, false, refl, sym, ap, subst, ◌∙◌, arith, append-nil, length-append, option_to_list, request_of, Turn, Asks, asked_in, ClientMessage, Request, Shown, turns_of}
+use Rattle.pgp_session.proofs.Common.{◌≡◌, ℕ, ◌+◌, ◌<◌, ◌≤◌, Bool, if◌then◌else◌, List, [], ◌∷◌, ◌++◌, length, Option, Some, None, refl, sym, ap, subst, ◌∙◌, arith, append-nil, length-append, option_to_list, request_of, Turn, Asks, asked_in, ClientMessage, Request, turns_of}
 use Rattle.std.proofs.Common.{◌^◌}
 use Rattle.std.proofs.lemmas.Bool.{ne_eqb}
 use Rattle.pgp_client.specs.Telling.{Hears, names}

@@ -1,5 +1,5 @@
 -- What is known of a session of a server stays known with each step.
-use Rattle.pgp_session.proofs.Common.{◌≡◌, ℕ, Bool, true, false, List, Some, Result, Ok, Err, [], ◌∷◌, ◌++◌, refl, sym, subst, inl, inr, append_assoc, ◌==◌, if◌then◌else◌, append-nil, Held, Error, ClientMessage, PasswordMessage, SaslInitialResponse, SaslResponse, Terminate, Startup, CancelRequest, SslRequest, GssEncRequest, Due, Outcome, StepsAll, IsAsked, Proves, HasShown, IsUnderWay, IsChallenged, IsAdmitted, ReceivedIn, due, starts, at_opening, at_password, at_first, at_final, at_open, phase_after, password_message, first_message, final_message, scram}
+use Rattle.pgp_session.proofs.Common.{◌≡◌, ℕ, Bool, true, false, List, Some, Result, Ok, Err, [], ◌∷◌, ◌++◌, refl, sym, subst, inl, inr, append_assoc, ◌==◌, if◌then◌else◌, append-nil, Held, Error, ClientMessage, PasswordMessage, SaslInitialResponse, SaslResponse, Terminate, Startup, CancelRequest, SslRequest, GssEncRequest, Due, Outcome, StepsAll, IsAsked, Proves, HasShown, IsUnderWay, IsChallenged, IsAdmitted, ReceivedIn, due, starts, at_opening, at_password, at_first, at_final, at_open, phase_after, password_message, first_message, final_message}
 use Rattle.pgp_session.specs.Serving as spec
 use Rattle.pgp_session.specs.Serving.{Comes, Steps, Knows, NoneWanted, OneReceived, OtherReceived}
 use Rattle.pgp_session.specs.declared.serving.Denial.TheVariants.{WrongPassword, Violation}

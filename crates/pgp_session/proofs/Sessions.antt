@@ -9,7 +9,7 @@ use Rattle.pgp_client.specs.declared.request.Asked.{Asked}
 use Rattle.pgp_frontend.specs.Reading.{IsNamed}
 use Rattle.pgp_frontend.specs.ClientRun.{ClientRun, MayCome, is_opened, is_startup, kinds_of}
 use Rattle.pgp_session.specs.Session.{nothing as no_history}
-use Rattle.pgp_session.proofs.Naming.{named_all, named_heard, named_next, named_same, named_still}
+use Rattle.pgp_session.proofs.Naming.{named_all, named_heard, named_next, named_still}
 use Rattle.pgp_session.proofs.Reported.{said_more, states_follow, values_follow}
 use Rattle.pgp_session.specs.Session.{AreNamed}
 use Rattle.pgp_session.specs.declared.connection.ConnectionPhase.TheVariants.{Opening, Over as OverPhase}

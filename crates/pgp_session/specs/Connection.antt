@@ -205,12 +205,12 @@ is_among sent name = list_any (λ (s : List ℕ). bytes_eq s name) sent
 
 -- An answer about versions is due once, right behind the startup packet. It says that the server speaks the packet's version, 3.0, and lists, to the end, protocol
 -- options of the packet alone.
-pub record IsAnswered (first : Bool) (sent : List (List ℕ)) (v : Negotiation) : Type 0 where
+pub record IsAnswered (first : Bool) (asked : List (List ℕ)) (v : Negotiation) : Type 0 where
   pub due : first ≡ true
   pub version : is_3_0 v.version ≡ true
   pub options : List (List ℕ)
   pub whole : CountedItems StringSpelled StringRefused v.count v.options options None
-  pub sent : list_all (is_among sent) options ≡ true
+  pub sent : list_all (is_among asked) options ≡ true
 
 -- A message that may come now. Before the log-in is done a server asks for a password, reports an error, or answers about versions; what else it says would be kept of one
 -- that has proved nothing. `first` says that no message came before.

@@ -1,6 +1,6 @@
 //! The protocol options of a startup packet, by name, and which of them an answer about versions may list.
 
-ghost use Rattle.std.specs.Prelude.{◌≡◌, ◌×◌, ◌∷◌, ◌++◌, [], map, true, None, IfErr, IfOk, OnOk};
+ghost use Rattle.std.specs.Prelude.{◌≡◌, ◌∷◌, ◌++◌, [], map, true, None, IfErr, IfOk, OnOk};
 ghost use Rattle.std.specs.Bool.{Decides};
 ghost use Rattle.std.specs.List.{filter, list_all};
 ghost use Rattle.pgp_base.specs.Cause.{WantsMemory};
@@ -73,7 +73,10 @@ pub(crate) fn is_answered<A: Allocator, S: SessionStorage>(
     ensures { Decides result (IsAnswered first sent.now answer.now) }
 {
     pgp_message::laws::one_list_of_options();
-    first && is_3_0(answer.version()) && all_among(S::options(answer), sent)
+    if !first || !is_3_0(answer.version()) {
+        return false;
+    }
+    all_among(S::options(answer), sent)
 }
 
 fn is_3_0(version: i32) -> bool

@@ -3,4 +3,4 @@ use Rattle.pgp_session.specs.Connection.{is_among}
 use Rattle.pgp_session.proofs.protocol_options.is_among.Given as goal
 
 abbrev pub invariant-each : goal.invariant-each
-invariant-each l = l.found ≡ is_among (take l.option-index l.sent) l.name
+invariant-each g l = l.found ≡ is_among (take l.option-index l.sent) l.name

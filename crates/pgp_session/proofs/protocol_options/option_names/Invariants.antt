@@ -5,4 +5,4 @@ use Rattle.pgp_session.specs.Connection.{is_option}
 use Rattle.pgp_session.proofs.protocol_options.option_names.Given as goal
 
 abbrev pub invariant-each : goal.invariant-each
-invariant-each l = l.names.items ≡ filter is_option (map (λ (p : List ℕ × List ℕ). p.0) (map shown_pair (take l.parameter-index l.parameters)))
+invariant-each g l = l.names.items ≡ filter is_option (map (λ (p : List ℕ × List ℕ). p.0) (map shown_pair (take l.parameter-index l.parameters)))

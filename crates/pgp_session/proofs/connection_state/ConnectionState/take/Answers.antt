@@ -1,4 +1,4 @@
-use Rattle.pgp_session.proofs.Common.{List, ap, refl, sym, inl, inr, ◌∙◌, kind_of, taken, view, asking, seen, in_state, left_at, Setting, true, false}
+use Rattle.pgp_session.proofs.Common.{rules, List, ap, refl, sym, inl, inr, ◌∙◌, kind_of, taken, view, asking, seen, in_state, left_at, Setting}
 use Rattle.pgp_client.specs.Talk.{shown as talk_of}
 use Rattle.pgp_session.proofs.Connections.{stopped_log_in, taken_no, taken_ok, timely_by, took_bulk, took_so, untimely_by}
 use Rattle.pgp_session.proofs.LogIns.{logs_on}
@@ -17,7 +17,7 @@ returns-in-Ok-hear g c = λ s.
     let old = in_state c.args.self.now s in
     inl (record {
       taken = taken_ok (taken old.talk (kind_of m)) c.in-Ok.event (talk_of (λ q. q.items) c.take_message.new.self) c.in-Ok.ensures;
-      due = timely_by (in_state c.args.self.now s) (view c.args.message.now) c.is_between-first.result c.is_timely.result c.is_between-first.ensures c.is_timely.ensures c.if-is_timely.true;
+      due = timely_by (in_state c.args.self.now s) (view c.args.message.now) c.is_between-first.result c.is_timely.result c.deref.result.now c.is_between-first.ensures c.deref.ensures.value c.is_timely.ensures (search rules);
       sound = sym c.lacks_status.ensures ∙ c.if-lacks_status.false;
       kept = c.in-Ok-keep.ensures.0;
       goes_on = sym c.is_end.ensures ∙ c.if-is_end.false;
@@ -57,16 +57,16 @@ returns-in-Err-hear g c = λ s.
     is c.in-Ok-keep.ensures.0 (sym c.is_end.ensures ∙ c.if-is_end.false) c.in-Err-hear.ensures.observed c.in-Err-hear.ensures.kept c.in-Err-hear.ensures.phase
     (heard_so m c.note.new.self c.keep.new.self.entries.items old.server c.note.ensures c.in-Ok-keep.ensures.1)
 
-pub returns-not-is_timely : goal.returns-not-is_timely
-returns-not-is_timely g c = λ s.
+pub returns-then-not-is_timely : goal.returns-then-not-is_timely
+returns-then-not-is_timely g c = λ s.
     let old = in_state c.args.self.now s in
     let talk = talk_of (λ q. q.items) c.take_message.new.self in
     let is = taken_ok (taken old.talk (kind_of (view c.args.message.now))) c.in-Ok.event talk c.in-Ok.ensures in
-    inr (inl ((c.in-Ok.event, talk), is, inl (untimely_by (in_state c.args.self.now s) (view c.args.message.now) c.is_between-first.result c.is_timely.result c.is_between-first.ensures c.is_timely.ensures c.if-is_timely.false, refl), refl))
+    inr (inl ((c.in-Ok.event, talk), is, inl (untimely_by (in_state c.args.self.now s) (view c.args.message.now) c.is_between-first.result c.is_timely.result c.deref.result.now c.is_between-first.ensures c.deref.ensures.value c.is_timely.ensures (search rules), refl), refl))
 
 pub returns-then-lacks_status : goal.returns-then-lacks_status
 returns-then-lacks_status g c = λ s.
     let old = in_state c.args.self.now s in
     let talk = talk_of (λ q. q.items) c.take_message.new.self in
     let is = taken_ok (taken old.talk (kind_of (view c.args.message.now))) c.in-Ok.event talk c.in-Ok.ensures in
-    inr (inl ((c.in-Ok.event, talk), is, inr (timely_by (in_state c.args.self.now s) (view c.args.message.now) c.is_between-first.result c.is_timely.result c.is_between-first.ensures c.is_timely.ensures c.if-is_timely.true, sym c.lacks_status.ensures ∙ c.if-lacks_status.true, refl), refl))
+    inr (inl ((c.in-Ok.event, talk), is, inr (timely_by (in_state c.args.self.now s) (view c.args.message.now) c.is_between-first.result c.is_timely.result c.deref.result.now c.is_between-first.ensures c.deref.ensures.value c.is_timely.ensures (search rules), sym c.lacks_status.ensures ∙ c.if-lacks_status.true, refl), refl))
