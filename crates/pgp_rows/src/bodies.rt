@@ -27,7 +27,7 @@ impl Show for Option<Range<usize>> {
     }
 }
 
-/// The values that a row's table has, and `more` where it has one after its last; or why there is no table.
+/// The values that a row's table has, and `more` where it has one after its last, or why there is none.
 fn show_values(index: Result<RowIndex<'_>, Error>, out: &mut Shown) {
     let index = match index {
         Ok(index) => index,
@@ -88,7 +88,9 @@ macro_rules! login_parts {
         match $message {
             Message::AuthenticationGssContinue(body) => $out.bytes(body.data()),
             Message::AuthenticationMd5Password(body) => $out.bytes(&body.salt()),
-            Message::AuthenticationSasl(body) => show_list(body.mechanisms(), body.mechanisms(), $out),
+            Message::AuthenticationSasl(body) => {
+                show_list(body.mechanisms(), body.mechanisms(), $out)
+            }
             Message::AuthenticationSaslContinue(body) => $out.bytes(body.data()),
             Message::AuthenticationSaslFinal(body) => $out.bytes(body.data()),
             Message::BackendKeyData(body) => {
@@ -114,7 +116,9 @@ macro_rules! query_parts {
                 $out.bytes(body.buffer());
                 show_values(body.index($out.alloc()), $out)
             }
-            Message::ParameterDescription(body) => show_list(body.parameters(), body.parameters(), $out),
+            Message::ParameterDescription(body) => {
+                show_list(body.parameters(), body.parameters(), $out)
+            }
             Message::RowDescription(body) => show_list(body.fields(), body.fields(), $out),
             Message::ReadyForQuery(body) => $out.bytes(&[body.status()]),
             other => $others(other, $out),

@@ -282,11 +282,8 @@ fn a_long_list_of_names_is_sent(rt: HostRuntime) -> Result<(), Fail> {
     let sent = joined_bytes(rt.alloc(), open, b"\0\0\0\x04name", 10_000, b"\0\0");
     holds(&rt, buf.as_slice() == sent.as_slice());
     let mut packet = BytesMut::new(rt.alloc());
-    same(
-        &rt,
-        startup_message(parameters.iter().copied(), &mut packet),
-        Ok(()),
-    );
+    let answer = startup_message(parameters.iter().copied(), &mut packet);
+    same(&rt, answer, Ok(()));
     let open = b"\0\x01\x38\x89\0\x03\0\0";
     let sent = joined_bytes(rt.alloc(), open, b"name\0of\0", 10_000, b"\0");
     holds(&rt, packet.as_slice() == sent.as_slice());

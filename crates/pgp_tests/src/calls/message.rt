@@ -166,11 +166,8 @@ fn a_parser_reads_the_same_however_the_bytes_are_cut(rt: HostRuntime) {
     }
     let fault: &[u8] = b"\x5a\0\0\0\x03\x31\0\0\0\x04";
     for cuts in 0..512u32 {
-        same(
-            &rt,
-            read_in_pieces(rt.alloc(), fault, cuts, &results),
-            Ok((0, 10, 1)),
-        );
+        let answer = read_in_pieces(rt.alloc(), fault, cuts, &results);
+        same(&rt, answer, Ok((0, 10, 1)));
     }
 }
 
@@ -180,18 +177,12 @@ fn the_header_of_a_long_frame_is_read_once(rt: HostRuntime) {
     for first in 0..20u32 {
         for second in 0..20u32 {
             let cuts = (1 << first) | (1 << second);
-            same(
-                &rt,
-                read_in_pieces(rt.alloc(), ROW, cuts, &row),
-                Ok((1, 0, 1)),
-            );
+            let answer = read_in_pieces(rt.alloc(), ROW, cuts, &row);
+            same(&rt, answer, Ok((1, 0, 1)));
         }
     }
-    same(
-        &rt,
-        read_in_pieces(rt.alloc(), ROW, u32::MAX, &row),
-        Ok((1, 0, 1)),
-    );
+    let answer = read_in_pieces(rt.alloc(), ROW, u32::MAX, &row);
+    same(&rt, answer, Ok((1, 0, 1)));
 }
 
 /// What stands there in a list of results.
@@ -264,22 +255,13 @@ fn read_found(alloc: Global, bytes: &[u8]) -> Result<Vec<Read<Bytes>>, Error> {
 #[test]
 fn found_frames_are_read_onto_a_list(rt: HostRuntime) -> Result<(), Fail> {
     let list = read_found(rt.alloc(), FOUR_AND_A_CUT_ROW)?;
-    same(
-        &rt,
-        reported(list.as_slice(), 0),
-        Some(Err(Error::NotDrained)),
-    );
+    let event = reported(list.as_slice(), 0);
+    same(&rt, event, Some(Err(Error::NotDrained)));
     same(&rt, reported(list.as_slice(), 1), Some(Ok("ParseComplete")));
-    same(
-        &rt,
-        reported(list.as_slice(), 2),
-        Some(Ok("CommandComplete")),
-    );
-    same(
-        &rt,
-        reported(list.as_slice(), 3),
-        Some(Ok("AuthenticationOk")),
-    );
+    let event = reported(list.as_slice(), 2);
+    same(&rt, event, Some(Ok("CommandComplete")));
+    let event = reported(list.as_slice(), 3);
+    same(&rt, event, Some(Ok("AuthenticationOk")));
     same(&rt, reported(list.as_slice(), 4), None);
     Ok(())
 }
