@@ -101,10 +101,7 @@ fn an_array_is_bound(rt: HostRuntime) {
 fn an_array_that_is_refused_is_not_bound(rt: HostRuntime) {
     let mut buf = buffer(rt.alloc(), b"S\0\0\0\x04");
     let answer = bind_array([Element::Number(5), Element::Refuse], &mut buf);
-    same(
-        &rt,
-        answer,
-        Err(BindError::Conversion(BindError::Conversion(2))),
-    );
+    let refusal = BindError::Conversion(BindError::Conversion(2));
+    same(&rt, answer, Err(refusal));
     same(&rt, buf.as_slice(), b"S\0\0\0\x04".as_slice());
 }

@@ -79,11 +79,8 @@ fn a_row_is_cloned(rt: HostRuntime) -> Result<(), Fail> {
 fn the_places_of_a_row_are_collected(rt: HostRuntime) -> Result<(), Fail> {
     let whole = row(rt.alloc(), ROW)?;
     let places = whole.ranges().collect(rt.alloc())?;
-    same(
-        &rt,
-        places.as_slice(),
-        [Some(4..5), None, Some(13..13)].as_slice(),
-    );
+    let wanted = [Some(4..5), None, Some(13..13)];
+    same(&rt, places.as_slice(), wanted.as_slice());
     let cut = row(rt.alloc(), b"\x44\0\0\0\x0a\0\x01\0\0\0\x05")?;
     let places = cut.ranges().collect(rt.alloc());
     same(&rt, places.err(), Some(Error::UnexpectedEof));

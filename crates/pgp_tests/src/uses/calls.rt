@@ -93,11 +93,9 @@ fn a_binding_without_room_is_refused(rt: HostRuntime) -> Result<(), Fail> {
     let mut room = [0u8; 56];
     let mut stream = ClientStream::over(Window::new(&mut room));
     stream.startup_message(&[("user", "app")])?;
-    same(
-        &rt,
-        ask_named("s", "select $1", -2, &mut stream),
-        Err(AskError::Binding(BindError::Conversion(Error::OutOfMemory))),
-    );
+    let refusal = AskError::Binding(BindError::Conversion(Error::OutOfMemory));
+    let answer = ask_named("s", "select $1", -2, &mut stream);
+    same(&rt, answer, Err(refusal));
     let wanted =
         b"\x00\x00\x00\x12\x00\x03\x00\x00user\x00app\x00\x00P\x00\x00\x00\x12s\x00select $1\x00\x00\x00";
     same(&rt, stream.bytes(), wanted.as_slice());
@@ -256,12 +254,8 @@ fn a_challenge_is_answered(rt: HostRuntime) -> Result<(), Fail> {
     let wanted =
         b"p\x00\x00\x00\x6cc=biws,r=9IZ2O01zb9IgiIZ1WJ/zgpJBjx/oIRLs02gGSHcw1KEty3eY,p=AmNKosjJzS31NTlQYNs5BTeQjdHdk7lOflDo5re2an8=";
     same(&rt, out.as_slice(), wanted.as_slice());
-    holds(
-        &rt,
-        client
-            .finish(b"v=U+ppxD5XUKtradnv8e2MkeupiA8FU87Sg8CXzXHDAzw=")
-            .is_ok(),
-    );
+    let last = b"v=U+ppxD5XUKtradnv8e2MkeupiA8FU87Sg8CXzXHDAzw=";
+    holds(&rt, client.finish(last).is_ok());
     Ok(())
 }
 
@@ -270,11 +264,8 @@ fn a_challenge_is_answered(rt: HostRuntime) -> Result<(), Fail> {
 fn a_login_begins(rt: HostRuntime) -> Result<(), Fail> {
     let mut out = BytesMut::new(rt.alloc());
     let client = begin(rt.alloc(), b"foobar", &mut Counting(0), &mut out)?;
-    same(
-        &rt,
-        out.as_slice().get(..31),
-        Some(b"p\x00\x00\x00\x36SCRAM-SHA-256\x00\x00\x00\x00\x20n,,n=,r=".as_slice()),
-    );
+    let front = b"p\x00\x00\x00\x36SCRAM-SHA-256\x00\x00\x00\x00\x20n,,n=,r=";
+    holds(&rt, out.as_slice().starts_with(front));
     same(&rt, out.len(), 55);
     same(&rt, client.message(), out.as_slice().get(23..));
     Ok(())

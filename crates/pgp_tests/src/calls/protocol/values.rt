@@ -62,11 +62,9 @@ fn arrays_without_nulls(rt: HostRuntime) -> Result<(), Fail> {
 fn a_step_refuses(rt: HostRuntime) -> Result<(), Fail> {
     let steps = five_and(rt.alloc(), Step::Refuse(Error::InvalidSize))?;
     let mut buf = buffer(rt.alloc(), SYNC);
-    same(
-        &rt,
-        bind_array(&[PAIR], 23, &steps, &mut buf),
-        Err(BindError::Conversion(BindError::Conversion(Error::InvalidSize))),
-    );
+    let refusal = BindError::Conversion(BindError::Conversion(Error::InvalidSize));
+    let answer = bind_array(&[PAIR], 23, &steps, &mut buf);
+    same(&rt, answer, Err(refusal));
     same(&rt, buf.as_slice(), SYNC);
     Ok(())
 }
@@ -88,29 +86,17 @@ fn has_values(rt: &impl Abort, alloc: Global, frame: &[u8], wanted: &[Option<Res
 
 #[test]
 fn rows_of_numbers(rt: HostRuntime) {
-    has_values(
-        &rt,
-        rt.alloc(),
-        &ROW,
-        &[
-            Some(Err(Error::UnexpectedEof)),
-            None,
-            Some(Err(Error::UnexpectedEof)),
-        ],
-    );
+    let cut = Some(Err(Error::UnexpectedEof));
+    has_values(&rt, rt.alloc(), &ROW, &[cut, None, cut]);
     let row =
         b"D\0\0\0\x23\0\x04\0\0\0\x04\0\0\0\x05\xff\xff\xff\xff\0\0\0\x04\xff\xff\xff\xfe\0\0\0\x05\0\0\0\0\0";
-    has_values(
-        &rt,
-        rt.alloc(),
-        row,
-        &[
-            Some(Ok(5)),
-            None,
-            Some(Ok(-2)),
-            Some(Err(Error::NotDrained)),
-        ],
-    );
+    let values = [
+        Some(Ok(5)),
+        None,
+        Some(Ok(-2)),
+        Some(Err(Error::NotDrained)),
+    ];
+    has_values(&rt, rt.alloc(), row, &values);
     has_values(&rt, rt.alloc(), b"D\0\0\0\x06\0\0", &[]);
 }
 
