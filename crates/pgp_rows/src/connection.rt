@@ -39,16 +39,13 @@ fn look<A: Allocator + Copy>(
             None => out.word("null"),
         },
         name => {
-            let times = if name == "times" {
-                words.number()
-            } else {
-                1u32
+            let (times, name) = match name {
+                "times" => (words.number(), words.name()),
+                name => (1u32, name),
             };
-            let name = if name == "times" { words.name() } else { name };
-            let values = if name == "bind" {
-                words.list()
-            } else {
-                Vec::new(out.alloc())
+            let values = match name {
+                "bind" => words.list(),
+                _ => Vec::new(out.alloc()),
             };
             for _ in 0..times {
                 ask(connection, name, &values, turn, out);

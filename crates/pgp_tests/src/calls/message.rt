@@ -251,15 +251,13 @@ fn read_found(alloc: Global, bytes: &[u8]) -> Result<Vec<Read<Bytes>>, Error> {
 
 #[test]
 fn found_frames_are_read_onto_a_list(rt: HostRuntime) -> Result<(), Fail> {
-    let list = read_found(rt.alloc(), FOUR_AND_A_CUT_ROW)?;
-    let event = reported(list.as_slice(), 0);
-    same(&rt, event, Some(Err(Error::NotDrained)));
-    same(&rt, reported(list.as_slice(), 1), Some(Ok("ParseComplete")));
-    let event = reported(list.as_slice(), 2);
-    same(&rt, event, Some(Ok("CommandComplete")));
-    let event = reported(list.as_slice(), 3);
-    same(&rt, event, Some(Ok("AuthenticationOk")));
-    same(&rt, reported(list.as_slice(), 4), None);
+    let results = read_found(rt.alloc(), FOUR_AND_A_CUT_ROW)?;
+    let list = results.as_slice();
+    same(&rt, reported(list, 0), Some(Err(Error::NotDrained)));
+    same(&rt, reported(list, 1), Some(Ok("ParseComplete")));
+    same(&rt, reported(list, 2), Some(Ok("CommandComplete")));
+    same(&rt, reported(list, 3), Some(Ok("AuthenticationOk")));
+    same(&rt, reported(list, 4), None);
     Ok(())
 }
 
