@@ -8,19 +8,19 @@ use std::alloc::AllocError;
 
 // A lexeme and its places.
 #[derive(Drop)]
-struct PlacedLexeme<'w> {
-    text: &'w str,
+struct PlacedLexeme {
+    text: String,
     places: Vec<u16>,
 }
 
-fn lexemes<'w>(words: &mut Words<'w>) -> Result<Vec<PlacedLexeme<'w>>, AllocError> {
+fn lexemes(words: &mut Words<'_>) -> Result<Vec<PlacedLexeme>, AllocError> {
     let mut lexemes = Vec::new(words.alloc());
     words.expect("[");
     for _ in 0..100 {
         if words.takes("]") {
             return Ok(lexemes);
         }
-        let text = words.text();
+        let text = String::from_str(words.alloc(), words.text())?;
         let places = words.list::<u16>();
         if lexemes.push(PlacedLexeme { text, places }).is_err() {
             return Err(AllocError);
@@ -34,7 +34,10 @@ pub fn write_tsvector<B: Buffer>(words: &mut Words<'_>, buf: &mut B) -> Result<(
     let lexemes = lexemes(words)?;
     let mut items = Vec::new(words.alloc());
     for lexeme in lexemes.iter() {
-        if items.push((lexeme.text, lexeme.places.as_slice())).is_err() {
+        if items
+            .push((lexeme.text.as_str(), lexeme.places.as_slice()))
+            .is_err()
+        {
             return Err(Error::OutOfMemory);
         }
     }

@@ -2,7 +2,7 @@
 //! formats of the PostgreSQL manual.
 #![tactic(auto, using(pgp_base::proofs::Parts::held_steps))]
 
-use crate::checks::{holds, same};
+use crate::checks::holds;
 use crate::turns::{DONE, Tried, Turn, WRONG, refused};
 use crate::writers::plain;
 use bytes::BytesMut;

@@ -1,6 +1,6 @@
 //! A log-in by SCRAM-SHA-256, on bytes of the message formats of the PostgreSQL manual.
 
-use crate::checks::{holds, same, same_at};
+use crate::checks::{same, same_at};
 use bytes::BytesMut;
 use pgp_saslprep::SaslPrepRfc4013;
 use pgp_session::scram_login::{LoginEvent, LoginFault, LoginPhase, SaslStorage, ScramLogin};
