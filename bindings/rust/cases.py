@@ -14,7 +14,7 @@ CALLS = {
     ('pgp_rows', 'connection.rt'): ('with_each_failing(&list, row.right, out)', 'Ok(())'),
     ('pgp_rows', 'server.rt'): ('    with_each_failing(bytes, wanted, out)?;\n', ''),
     ('pgp_rows', 'value_text.rt'): ('if !is_refused(alloc, type_oid, bytes, number, out)', 'if number == 1'),
-    ('pgp_hostile', 'walks.rt'): ('!is_modest(', '!is_collected('),
+    ('pgp_rows', 'walks.rt'): ('!is_modest(', '!is_collected('),
 }
 LEFT_OUT = re.compile(r'\b(?:Refusing|LocalHeap|linked_list_allocator|laws|Pcg32|rand_pcg)\b')
 ITEM = re.compile(r'\n\n(?=\S)')

@@ -19,7 +19,7 @@ CASES = [
     ('pgp_c/src/system.rt', 'left { result ≢ 0 →', 'left { result ≡ 35 →', 'crates/pgp_c/src/system.rt:'),
     ('pgp_c/src/dialogue.rt', 'dialogue.room = room;', 'dialogue.room = { room };', 'crates/pgp_c/src/dialogue.rt'),
     ('pgp_c/src/numeric.rt', 'pub extern "C" fn pgp_get_numeric(', 'pub unsafe extern "C" fn pgp_get_numeric(', 'crates/pgp_c/src/numeric.rt:'),
-    ('pgp_hostile/src/walks.rt', '!is_modest(', '!is_meek(', 'crates/pgp_hostile/src/walks.rt'),
+    ('pgp_rows/src/walks.rt', '!is_modest(', '!is_meek(', 'crates/pgp_rows/src/walks.rt'),
 ]
 
 

@@ -1,4 +1,4 @@
-"""Makes data/lengths.rows: `python3 expected/lengths.py > data/lengths.rows`, in crates/pgp_hostile.
+"""Makes the tables lengths.rows and server_lengths.rows of crates/pgp_rows: `python3 expected/lengths.py ../pgp_rows/data`, in crates/pgp_hostile.
 
 Written from the manual's "Message Formats" (the message `v` from this project's profile of protocol 3.2) and from what PostgreSQL's `array_send`, `hstore_send`, `path_send`, `range_send`,
 `varbit_send`, `network_send` (of `inet` and `cidr`), `record_send`, `multirange_send`, `poly_send`, `pg_snapshot_send`, `tsvectorsend`, `tsquerysend` and `numeric_send` write, and not from the code of this repository. Which refusal comes for what is the table of refusals in the
@@ -6,10 +6,14 @@ repository's README: a length or count that is cut is UnexpectedEof, one that ca
 left behind a list are NotDrained.
 """
 
+import pathlib
+import sys
+
 from streams import Parts, Refused
 
-HEAD = """# Bodies and values in which a length or a count is replaced: by the least and the greatest of its field, 0, 1, -1, the bytes that
-# are left behind it, and one more. How a row is written: README.md. Made by `python3 expected/lengths.py`.
+HEAD = """# %s in which a length or a count is replaced: by the least and the greatest of its field, 0, 1, -1, the bytes that
+# are left behind it, and one more. How a row is written: README.md. Made by
+# crates/pgp_hostile/expected/lengths.py.
 """
 
 
@@ -19,8 +23,13 @@ def hexed(data):
     return data.hex() or '""'
 
 
+def text(data):
+    """A quoted text: what isn't plain ASCII, a quote or a backslash is `\\x` and two digits."""
+    return '"' + "".join(chr(byte) if 32 <= byte < 127 and byte not in b'"\\' else f"\\x{byte:02x}" for byte in data) + '"'
+
+
 def walk(announced, count, data, item, at=0):
-    """What a list shows: the count, the items, its end."""
+    """What a list shows: the items, the error that ends it, and the count, where as many don't come."""
     parts, items, end = Parts(data), [], "end"
     parts.at = at
     try:
@@ -29,7 +38,8 @@ def walk(announced, count, data, item, at=0):
         parts.end()
     except Refused as refusal:
         end = refusal.name
-    return " ".join([str(announced), "["] + items + ["]", end]), end, len(items)
+    shown = " ".join(["["] + items + ([end] if end != "end" else []) + ["]"])
+    return shown + (f" of {announced}" if len(items) != announced else ""), end, len(items)
 
 
 def length(parts, refusal):
@@ -48,11 +58,8 @@ def place(parts):
 
 
 def column(parts):
-    name = parts.string()
-    parts.take(6)
-    oid = parts.number(4, False)
-    parts.take(8)
-    return f"{hexed(name)} {oid}"
+    name = text(utf8(parts.string()))
+    return " ".join([name] + [str(parts.number(size, signed)) for size, signed in [(4, False), (2, True), (4, False), (2, True), (4, True), (2, False)]])
 
 
 def utf8(data):
@@ -71,24 +78,26 @@ def pair(parts):
     value = length(parts, "InvalidValueLength")
     if value is not None:
         utf8(value)
-    return f"{hexed(key)} {hexed(value)}"
+    return f"{text(key)} {'null' if value is None else text(value)}"
 
 
 def row(data):
     parts = Parts(data)
     count = parts.number(2, False)
-    shown, end, items = walk(count, count, parts.rest(), place)
-    return f"{shown} {items if end == 'end' else end}"
+    behind = parts.rest()
+    shown, end, _ = walk(count, count, behind, place)
+    values = walk(count, count, behind, lambda p: hexed(length(p, "UnexpectedEof")))[0]
+    return f"DataRow {shown} {hexed(behind)} {values if end == 'end' else end}"
 
 
 def columns(data):
     parts = Parts(data)
     count = parts.number(2, False)
-    return walk(count, count, parts.rest(), column)[0]
+    return "RowDescription " + walk(count, count, parts.rest(), column)[0]
 
 
 def option(parts):
-    return hexed(utf8(parts.string()))
+    return text(utf8(parts.string()))
 
 
 def options(data):
@@ -96,7 +105,7 @@ def options(data):
     version, count = parts.number(4, True), parts.number(4, True)
     if count < 0:
         raise Refused("InvalidCount")
-    return f"{version} {walk(count, count, parts.rest(), option)[0]}"
+    return f"NegotiateProtocolVersion {version} {walk(count, count, parts.rest(), option)[0]}"
 
 
 def array(data):
@@ -104,7 +113,7 @@ def array(data):
     dimensions = parts.number(4, True)
     if dimensions < 0:
         raise Refused("InvalidCount")
-    parts.take(8)
+    nulls, element = parts.number(4, False), parts.number(4, False)
     start, elements, product = parts.at, 0, 1
     for _ in range(dimensions):
         size = parts.number(4, True)
@@ -117,7 +126,8 @@ def array(data):
         elements = product
     sizes = data[start:parts.at]
     shown = walk(dimensions, dimensions, sizes, lambda p: f"{p.number(4, True)} {p.number(4, True)}")[0]
-    return shown + " " + walk(elements, elements, parts.rest(), lambda p: hexed(length(p, "InvalidValueLength")))[0]
+    front = f"{element} {'nulls' if nulls else 'full'} {shown} "
+    return front + walk(elements, elements, parts.rest(), lambda p: hexed(length(p, "InvalidValueLength")))[0]
 
 
 def hstore(data):
@@ -190,7 +200,7 @@ def multirange(data):
 
 
 def polygon(data):
-    return listed(data, lambda p: f"{p.number(8, False)} {p.number(8, False)}")
+    return listed(data, lambda p: f"{p.take(8).hex()} {p.take(8).hex()}")
 
 
 def snapshot(data):
@@ -201,9 +211,9 @@ def snapshot(data):
 
 
 def lexeme(parts):
-    text = hexed(utf8(parts.string()))
+    name = text(utf8(parts.string()))
     places = [parts.number(2, False) for _ in range(parts.number(2, False))]
-    return " ".join(map(str, [text, len(places)] + places))
+    return " ".join(map(str, [name, "["] + places + ["]"]))
 
 
 def tsvector(data):
@@ -213,7 +223,7 @@ def tsvector(data):
 def query_item(parts):
     if parts.number(1, False) == 1:
         weights, prefix = parts.number(1, False), parts.number(1, False)
-        return f"{hexed(utf8(parts.string()))} {weights} {'prefix' if prefix else 'whole'}"
+        return f"{text(utf8(parts.string()))} {weights} {'prefix' if prefix else 'whole'}"
     operator = parts.number(1, False)
     return f"phrase {parts.number(2, False)}" if operator == 4 else {1: "not", 2: "and", 3: "or"}[operator]
 
@@ -227,7 +237,7 @@ def numeric(data):
     count, weight, sign, scale = (parts.number(2, signed) for signed in (False, True, False, False))
     digits = [parts.number(2, False) for _ in range(count)]
     parts.end()
-    return " ".join(map(str, ["-" if sign else "+", weight, scale] + digits))
+    return " ".join(map(str, (["minus"] if sign else []) + [weight, scale, "["] + digits + ["]"]))
 
 
 def inet(data):
@@ -281,7 +291,8 @@ CASES = [
     (cidr, "03 40 01 10 200104f8000300ba0000000000000000", {0: 1, 1: 1, 3: 1}),
     (bounds, "02 00000004 00000001 00000004 00000005", {1: 4, 9: 4}),
 ]
-NAMES = {bounds: "range"}
+NAMES = {bounds: "range", numeric: "numeric_digits"}
+TAGS = {row: "44", columns: "54", options: "76"}
 
 
 def changes(size, left):
@@ -298,14 +309,22 @@ def shown(call, data):
         return refusal.name
 
 
+def line(call, data):
+    if call in TAGS:
+        return f"read {TAGS[call]} {len(data) + 4:08x} {data.hex()} = {shown(call, data)} ; rest \"\""
+    return f"read {NAMES.get(call, call.__name__)} {data.hex()} = {shown(call, data)}"
+
+
+def lines(call, digits, fields):
+    data = bytes.fromhex(digits)
+    yield f"\n# {NAMES.get(call, call.__name__)} {digits}"
+    yield line(call, data)
+    for at, size in fields.items():
+        for new in changes(size, len(data) - at - size):
+            yield line(call, data[:at] + new + data[at + size:])
+
+
 if __name__ == "__main__":
-    print(HEAD, end="")
-    for call, digits, fields in CASES:
-        data = bytes.fromhex(digits)
-        name = NAMES.get(call, call.__name__)
-        print(f"\n# {name} {digits}")
-        print(f"{name} {data.hex()} = {shown(call, data)}")
-        for at, size in fields.items():
-            for new in changes(size, len(data) - at - size):
-                changed = data[:at] + new + data[at + size:]
-                print(f"{name} {changed.hex()} = {shown(call, changed)}")
+    for name, what, of_server in [("lengths.rows", "Values", False), ("server_lengths.rows", "Messages of a server", True)]:
+        table = [row for case in CASES if (case[0] in TAGS) == of_server for row in lines(*case)]
+        (pathlib.Path(sys.argv[1]) / name).write_text(HEAD % what + "\n".join(table) + "\n")

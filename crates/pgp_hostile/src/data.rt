@@ -13,31 +13,15 @@ pub(crate) struct Frames {
     pub(crate) fault: Option<Fault>,
 }
 
-/// Whether a line is data: it is neither empty nor a comment.
-pub(crate) fn is_data(line: &str) -> bool {
-    !line.is_empty() && !line.starts_with('#')
-}
-
 impl Frames {
-    pub(crate) fn new(alloc: Global) -> Frames {
-        Frames {
-            alloc,
-            bytes: Vec::new(alloc),
-            ends: Vec::new(alloc),
-            fault: None,
-        }
-    }
-
-    pub(crate) fn add(&mut self, bytes: &[u8]) {
-        if self.bytes.extend_from_slice(bytes).is_err() {
-            self.fault = Some(Fault::Memory);
-        }
-    }
-
     /// Appends the bytes of a word of hex digits.
     fn add_word(&mut self, word: &str) {
         match hex::decode(self.alloc, word) {
-            Ok(bytes) => self.add(bytes.as_slice()),
+            Ok(bytes) => {
+                if self.bytes.extend_from_slice(&bytes).is_err() {
+                    self.fault = Some(Fault::Memory);
+                }
+            }
             Err(_) => self.fault = Some(Fault::Data),
         }
     }
@@ -52,11 +36,16 @@ impl Frames {
         }
     }
 
-    /// The bytes of a text, one frame a line.
+    /// The bytes of a text, one frame a line, but for empty lines and comments.
     pub(crate) fn parse(alloc: Global, text: &str) -> Frames {
-        let mut frames = Frames::new(alloc);
+        let mut frames = Frames {
+            alloc,
+            bytes: Vec::new(alloc),
+            ends: Vec::new(alloc),
+            fault: None,
+        };
         for line in text.lines() {
-            if is_data(line) {
+            if !line.is_empty() && !line.starts_with('#') {
                 frames.add_line(line);
             }
         }

@@ -4,7 +4,6 @@
 mod cuts;
 mod data;
 mod fault;
-mod lengths;
 mod parts;
 mod reading;
 mod replaced;
@@ -13,8 +12,6 @@ mod server;
 mod sum;
 mod tally;
 mod text;
-mod values;
-mod walks;
 mod ways;
 
 use fault::Fault;
@@ -24,19 +21,17 @@ use text::Text;
 /// A part of what is printed.
 #[derive(Clone, Copy)]
 enum Part {
-    Lengths,
     Cuts,
     Session,
     Scram,
 }
 
 impl Part {
-    const ALL: [Part; 4] = [Part::Lengths, Part::Cuts, Part::Session, Part::Scram];
+    const ALL: [Part; 3] = [Part::Cuts, Part::Session, Part::Scram];
 
     /// The file of its data.
     fn file(self) -> &'static str {
         match self {
-            Part::Lengths => "lengths.rows",
             Part::Cuts => "stream.hex",
             Part::Session => "session.hex",
             Part::Scram => "keys.hex",
@@ -46,7 +41,6 @@ impl Part {
     /// Shows its lines, over the text of that file.
     fn show(self, text: &str, out: &mut Text) {
         match self {
-            Part::Lengths => lengths::run(text, out),
             Part::Cuts => cuts::run(text, out),
             Part::Session => replaced::run(text, out),
             Part::Scram => scram::run(text, out),

@@ -53,12 +53,12 @@ fn add_row(
 impl Summed for Field<'_> {
     fn add_to(self, sum: &mut Sum) {
         sum.bytes(self.name().as_bytes());
-        self.table_oid().add_to(sum);
-        self.column_id().add_to(sum);
-        self.type_oid().add_to(sum);
-        self.type_size().add_to(sum);
-        self.type_modifier().add_to(sum);
-        self.format().add_to(sum);
+        sum.plain(&self.table_oid().to_be_bytes());
+        sum.plain(&self.column_id().to_be_bytes());
+        sum.plain(&self.type_oid().to_be_bytes());
+        sum.plain(&self.type_size().to_be_bytes());
+        sum.plain(&self.type_modifier().to_be_bytes());
+        sum.plain(&self.format().to_be_bytes());
     }
 }
 
@@ -75,26 +75,12 @@ impl Summed for ErrorField<'_> {
 fn add_key(number: Option<i32>, bytes: &[u8], sum: &mut Sum) {
     sum.bytes(bytes);
     if let Some(number) = number {
-        number.add_to(sum);
+        sum.plain(&number.to_be_bytes());
     }
 }
 
 /// A type.
 impl Summed for u32 {
-    fn add_to(self, sum: &mut Sum) {
-        sum.plain(&self.to_be_bytes());
-    }
-}
-
-/// A number of 32 bits that may be negative.
-impl Summed for i32 {
-    fn add_to(self, sum: &mut Sum) {
-        sum.plain(&self.to_be_bytes());
-    }
-}
-
-/// The same of 16 bits.
-impl Summed for i16 {
     fn add_to(self, sum: &mut Sum) {
         sum.plain(&self.to_be_bytes());
     }
@@ -122,11 +108,11 @@ macro_rules! login_parts {
             Message::AuthenticationSaslContinue(body) => $sum.bytes(body.data()),
             Message::AuthenticationSaslFinal(body) => $sum.bytes(body.data()),
             Message::BackendKeyData(body) => {
-                body.process_id().add_to($sum);
+                $sum.plain(&body.process_id().to_be_bytes());
                 add_key(body.secret_key(), body.secret_key_bytes(), $sum);
             }
             Message::NegotiateProtocolVersion(body) => {
-                body.version().add_to($sum);
+                $sum.plain(&body.version().to_be_bytes());
                 add_walk(body.options(), $sum);
             }
             other => $others(other, $sum),
@@ -160,7 +146,7 @@ macro_rules! other_parts {
             Message::ErrorResponse(body) => add_walk(body.fields(), $sum),
             Message::NoticeResponse(body) => add_walk(body.fields(), $sum),
             Message::NotificationResponse(body) => {
-                body.process_id().add_to($sum);
+                $sum.plain(&body.process_id().to_be_bytes());
                 $sum.text(body.channel());
                 $sum.text(body.message());
             }

@@ -1,7 +1,6 @@
 //! A whole session of a server, with each byte replaced.
 
 use crate::data::Frames;
-use crate::fault::Fault;
 use crate::reading::{Entry, Reading};
 use crate::sum::Sum;
 use crate::tally::Tally;

@@ -1,14 +1,9 @@
-//! Texts that grow, mostly as words with one space between them.
+//! Texts that grow.
 
 use crate::fault::Fault;
 use pgp_base::Memory;
 use std::alloc::Global;
 use std::fmt::Display;
-
-/// An item of a list, which is shown as words.
-pub(crate) trait Show {
-    fn show(self, out: &mut Text);
-}
 
 /// A text that grows. It remembers why something of it is missing, where it does: so no call before the last has to tell.
 #[derive(Drop)]
@@ -74,43 +69,11 @@ impl Text {
         }
     }
 
-    /// A space, but for the first word.
-    fn space(&mut self) {
+    /// A number as a word, with a space before it but for the first.
+    pub(crate) fn number<N: Display + Drop>(&mut self, n: N) {
         if !self.text.is_empty() {
             self.push(" ");
         }
-    }
-
-    pub(crate) fn word(&mut self, word: &str) {
-        self.space();
-        self.push(word);
-    }
-
-    /// A number as a word.
-    pub(crate) fn number<N: Display + Drop>(&mut self, n: N) {
-        self.space();
         self.show(n);
-    }
-
-    /// Bytes as hex digits, or none as `""`, or `null`.
-    pub(crate) fn nullable(&mut self, bytes: Option<&[u8]>) {
-        self.space();
-        match bytes {
-            None => self.push("null"),
-            Some([]) => self.push("\"\""),
-            Some(bytes) => self.hex(bytes),
-        }
-    }
-}
-
-impl Show for Option<&[u8]> {
-    fn show(self, out: &mut Text) {
-        out.nullable(self)
-    }
-}
-
-impl Show for &str {
-    fn show(self, out: &mut Text) {
-        out.nullable(Some(self.as_bytes()))
     }
 }

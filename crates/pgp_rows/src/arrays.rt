@@ -1,12 +1,11 @@
 //! Arrays, whose elements are bytes.
 
-use crate::codec::Codec;
 use crate::fault::plain;
-use crate::shown::{Show, Shown, show_walk};
+use crate::shown::{Show, Shown};
+use crate::walks::show_list;
 use crate::word::{Item, Words};
 use pgp_base::{Buffer, Error, IsNull};
-use pgp_types::{Array, ArrayDimension, array_from_sql, array_to_sql};
-use std::alloc::Global;
+use pgp_types::{ArrayDimension, array_from_sql, array_to_sql};
 
 /// The length of a dimension, and its lower bound.
 impl<'w> Item<'w> for ArrayDimension {
@@ -18,13 +17,11 @@ impl<'w> Item<'w> for ArrayDimension {
     }
 }
 
-fn write_array<B: Buffer>(alloc: Global, words: &mut Words<'_>, buf: &mut B) -> Result<(), Error> {
+pub fn write_array<B: Buffer>(words: &mut Words<'_>, buf: &mut B) -> Result<(), Error> {
     let element_type = words.number();
-    if !words.takes("nulls") && !words.takes("full") {
-        words.fail_row();
-    }
-    let dimensions = words.list::<ArrayDimension>(alloc);
-    let elements = words.list::<Option<&[u8]>>(alloc);
+    words.either("nulls", "full");
+    let dimensions = words.list::<ArrayDimension>();
+    let elements = words.list::<Option<&[u8]>>();
     plain(array_to_sql(
         dimensions.iter().copied(),
         element_type,
@@ -49,33 +46,11 @@ impl Show for ArrayDimension {
     }
 }
 
-fn show_array(array: &Array<'_>, out: &mut Shown) {
+pub fn show_array(bytes: &[u8], out: &mut Shown) -> Result<(), Error> {
+    let array = array_from_sql(bytes)?;
     out.number(array.element_type());
     out.word(if array.has_nulls() { "nulls" } else { "full" });
-    show_walk(array.dimensions(), out);
-    show_walk(array.values(), out);
-}
-
-#[derive(Drop)]
-pub struct Arrays;
-
-impl Codec for Arrays {
-    fn write<B: Buffer>(
-        alloc: Global,
-        name: &str,
-        words: &mut Words<'_>,
-        buf: &mut B,
-    ) -> Result<(), Error> {
-        if name != "array" {
-            return words.no_call();
-        }
-        write_array(alloc, words, buf)
-    }
-
-    fn read(_name: &str, bytes: &[u8], out: &mut Shown) {
-        match array_from_sql(bytes) {
-            Ok(array) => show_array(&array, out),
-            Err(e) => out.refusal(e),
-        }
-    }
+    show_list(array.dimensions(), array.dimensions(), out);
+    show_list(array.values(), array.values(), out);
+    Ok(())
 }

@@ -1,10 +1,11 @@
 //! What the bodies of a server's messages hold, part by part.
 
 use crate::fault::Fault;
-use crate::shown::{Show, Shown, show_walk};
+use crate::shown::{Show, Shown};
+use crate::walks::show_list;
 use bytes::Bytes;
 use pgp_base::Error;
-use pgp_message::{ColumnFormats, DataRowRanges, ErrorField, Field, Message, RowIndex};
+use pgp_message::{ErrorField, Field, Message, RowIndex};
 use std::alloc::Allocator;
 use std::ops::Range;
 
@@ -26,8 +27,12 @@ impl Show for Option<Range<usize>> {
     }
 }
 
-/// The values that a row's table has, and `more` where it has one after its last.
-fn show_values(index: &RowIndex<'_>, out: &mut Shown) {
+/// The values that a row's table has, and `more` where it has one after its last, or why there is none.
+fn show_values(index: Result<RowIndex<'_>, Error>, out: &mut Shown) {
+    let index = match index {
+        Ok(index) => index,
+        Err(e) => return out.refusal(e),
+    };
     out.word("[");
     for i in 0..index.len() {
         match index.value(i) {
@@ -39,21 +44,6 @@ fn show_values(index: &RowIndex<'_>, out: &mut Shown) {
         out.word("more");
     }
     out.word("]")
-}
-
-/// The places of a row's values, its bytes, and the values by its table, or why there is no table.
-fn show_row(
-    ranges: DataRowRanges<'_>,
-    buffer: &[u8],
-    index: Result<RowIndex<'_>, Error>,
-    out: &mut Shown,
-) {
-    show_walk(ranges, out);
-    out.bytes(buffer);
-    match index {
-        Ok(index) => show_values(&index, out),
-        Err(e) => out.refusal(e),
-    }
 }
 
 /// A column of a row.
@@ -87,11 +77,6 @@ fn show_key(number: Option<i32>, bytes: &[u8], out: &mut Shown) {
     out.bytes(bytes)
 }
 
-fn show_copy(format: u8, columns: ColumnFormats<'_>, out: &mut Shown) {
-    out.number(format);
-    show_walk(columns, out)
-}
-
 fn show_texts(first: Result<&str, Error>, second: Result<&str, Error>, out: &mut Shown) {
     out.text_or_refusal(first);
     out.text_or_refusal(second)
@@ -103,7 +88,9 @@ macro_rules! login_parts {
         match $message {
             Message::AuthenticationGssContinue(body) => $out.bytes(body.data()),
             Message::AuthenticationMd5Password(body) => $out.bytes(&body.salt()),
-            Message::AuthenticationSasl(body) => show_walk(body.mechanisms(), $out),
+            Message::AuthenticationSasl(body) => {
+                show_list(body.mechanisms(), body.mechanisms(), $out)
+            }
             Message::AuthenticationSaslContinue(body) => $out.bytes(body.data()),
             Message::AuthenticationSaslFinal(body) => $out.bytes(body.data()),
             Message::BackendKeyData(body) => {
@@ -112,7 +99,7 @@ macro_rules! login_parts {
             }
             Message::NegotiateProtocolVersion(body) => {
                 $out.number(body.version());
-                show_walk(body.options(), $out)
+                show_list(body.options(), body.options(), $out)
             }
             other => $others(other, $out),
         }
@@ -125,10 +112,14 @@ macro_rules! query_parts {
         match $message {
             Message::CommandComplete(body) => $out.text_or_refusal(body.tag()),
             Message::DataRow(body) => {
-                show_row(body.ranges(), body.buffer(), body.index($out.alloc()), $out)
+                show_list(body.ranges(), body.ranges(), $out);
+                $out.bytes(body.buffer());
+                show_values(body.index($out.alloc()), $out)
             }
-            Message::ParameterDescription(body) => show_walk(body.parameters(), $out),
-            Message::RowDescription(body) => show_walk(body.fields(), $out),
+            Message::ParameterDescription(body) => {
+                show_list(body.parameters(), body.parameters(), $out)
+            }
+            Message::RowDescription(body) => show_list(body.fields(), body.fields(), $out),
             Message::ReadyForQuery(body) => $out.bytes(&[body.status()]),
             other => $others(other, $out),
         }
@@ -140,10 +131,16 @@ macro_rules! other_parts {
     ($message:ident, $out:ident) => {
         match $message {
             Message::CopyData(body) => $out.bytes(body.data()),
-            Message::CopyInResponse(body) => show_copy(body.format(), body.column_formats(), $out),
-            Message::CopyOutResponse(body) => show_copy(body.format(), body.column_formats(), $out),
-            Message::ErrorResponse(body) => show_walk(body.fields(), $out),
-            Message::NoticeResponse(body) => show_walk(body.fields(), $out),
+            Message::CopyInResponse(body) => {
+                $out.number(body.format());
+                show_list(body.column_formats(), body.column_formats(), $out)
+            }
+            Message::CopyOutResponse(body) => {
+                $out.number(body.format());
+                show_list(body.column_formats(), body.column_formats(), $out)
+            }
+            Message::ErrorResponse(body) => show_list(body.fields(), body.fields(), $out),
+            Message::NoticeResponse(body) => show_list(body.fields(), body.fields(), $out),
             Message::NotificationResponse(body) => {
                 $out.number(body.process_id());
                 show_texts(body.channel(), body.message(), $out)

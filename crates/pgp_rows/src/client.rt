@@ -2,7 +2,6 @@
 
 use crate::codec::Codec;
 use crate::fault::plain;
-use crate::shown::Shown;
 use crate::word::{Item, Words};
 use pgp_base::{Buffer, Error, IsNull};
 use pgp_frontend::{
@@ -10,7 +9,6 @@ use pgp_frontend::{
     copy_fail, describe, execute, flush, parse, password_message, query, sasl_initial_response,
     sasl_response, ssl_request, startup_message, startup_message_version, sync, terminate,
 };
-use std::alloc::Global;
 
 /// A name and its value.
 impl<'w> Item<'w> for (&'w str, &'w str) {
@@ -20,49 +18,39 @@ impl<'w> Item<'w> for (&'w str, &'w str) {
     }
 }
 
-fn write_startup<B: Buffer>(
-    alloc: Global,
-    words: &mut Words<'_>,
-    buf: &mut B,
-) -> Result<(), Error> {
-    let parameters = words.list::<(&str, &str)>(alloc);
+fn write_startup<B: Buffer>(words: &mut Words<'_>, buf: &mut B) -> Result<(), Error> {
+    let parameters = words.list::<(&str, &str)>();
     startup_message(parameters.iter().copied(), buf)
 }
 
 /// The version of a word, as `3.2`.
 fn version(words: &mut Words<'_>) -> ProtocolVersion {
-    if words.takes("3.2") {
-        return ProtocolVersion::V3_2;
+    if words.either("3.2", "3.0") {
+        ProtocolVersion::V3_2
+    } else {
+        ProtocolVersion::V3_0
     }
-    if !words.takes("3.0") {
-        words.fail_row();
-    }
-    ProtocolVersion::V3_0
 }
 
-fn write_startup_version<B: Buffer>(
-    alloc: Global,
-    words: &mut Words<'_>,
-    buf: &mut B,
-) -> Result<(), Error> {
+fn write_startup_version<B: Buffer>(words: &mut Words<'_>, buf: &mut B) -> Result<(), Error> {
     let version = version(words);
-    let parameters = words.list::<(&str, &str)>(alloc);
+    let parameters = words.list::<(&str, &str)>();
     startup_message_version(version, parameters.iter().copied(), buf)
 }
 
-fn write_parse<B: Buffer>(alloc: Global, words: &mut Words<'_>, buf: &mut B) -> Result<(), Error> {
+fn write_parse<B: Buffer>(words: &mut Words<'_>, buf: &mut B) -> Result<(), Error> {
     let name = words.text();
     let text = words.text();
-    let types = words.list::<u32>(alloc);
+    let types = words.list::<u32>();
     parse(name, text, types.iter().copied(), buf)
 }
 
-fn write_bind<B: Buffer>(alloc: Global, words: &mut Words<'_>, buf: &mut B) -> Result<(), Error> {
+fn write_bind<B: Buffer>(words: &mut Words<'_>, buf: &mut B) -> Result<(), Error> {
     let portal = words.text();
     let statement = words.text();
-    let formats = words.list::<i16>(alloc);
-    let values = words.list::<Option<&[u8]>>(alloc);
-    let result_formats = words.list::<i16>(alloc);
+    let formats = words.list::<i16>();
+    let values = words.list::<Option<&[u8]>>();
+    let result_formats = words.list::<i16>();
     plain(bind(
         portal,
         statement,
@@ -120,66 +108,33 @@ fn write_sasl<B: Buffer>(words: &mut Words<'_>, buf: &mut B) -> Result<(), Error
     sasl_initial_response(mechanism, words.bytes(), buf)
 }
 
-/// A message of the simple or the extended query.
-fn write_query<B: Buffer>(
-    alloc: Global,
-    name: &str,
-    words: &mut Words<'_>,
-    buf: &mut B,
-) -> Result<(), Error> {
-    match name {
-        "bind" => write_bind(alloc, words, buf),
-        "close" => write_close(words, buf),
-        "describe" => write_describe(words, buf),
-        "execute" => write_execute(words, buf),
-        "parse" => write_parse(alloc, words, buf),
-        "query" => query(words.text(), buf),
-        _ => words.no_call(),
-    }
-}
-
-/// A message of a log-in.
-fn write_login<B: Buffer>(
-    alloc: Global,
-    name: &str,
-    words: &mut Words<'_>,
-    buf: &mut B,
-) -> Result<(), Error> {
-    match name {
-        "cancel_request" => write_cancel(words, buf),
-        "cancel_request_key" => write_cancel_key(words, buf),
-        "password_message" => password_message(words.bytes(), buf),
-        "sasl_initial_response" => write_sasl(words, buf),
-        "sasl_response" => sasl_response(words.bytes(), buf),
-        "startup_message" => write_startup(alloc, words, buf),
-        "startup_message_version" => write_startup_version(alloc, words, buf),
-        _ => write_query(alloc, name, words, buf),
-    }
-}
-
 #[derive(Drop)]
 pub struct Client;
 
 impl Codec for Client {
-    fn write<B: Buffer>(
-        alloc: Global,
-        name: &str,
-        words: &mut Words<'_>,
-        buf: &mut B,
-    ) -> Result<(), Error> {
+    fn write<B: Buffer>(name: &str, words: &mut Words<'_>, buf: &mut B) -> Result<(), Error> {
         match name {
+            "bind" => write_bind(words, buf),
+            "cancel_request" => write_cancel(words, buf),
+            "cancel_request_key" => write_cancel_key(words, buf),
+            "close" => write_close(words, buf),
             "copy_data" => write_copy_data(words, buf),
             "copy_done" => copy_done(buf),
             "copy_fail" => copy_fail(words.text(), buf),
+            "describe" => write_describe(words, buf),
+            "execute" => write_execute(words, buf),
             "flush" => flush(buf),
+            "parse" => write_parse(words, buf),
+            "password_message" => password_message(words.bytes(), buf),
+            "query" => query(words.text(), buf),
+            "sasl_initial_response" => write_sasl(words, buf),
+            "sasl_response" => sasl_response(words.bytes(), buf),
             "ssl_request" => ssl_request(buf),
+            "startup_message" => write_startup(words, buf),
+            "startup_message_version" => write_startup_version(words, buf),
             "sync" => sync(buf),
             "terminate" => terminate(buf),
-            _ => write_login(alloc, name, words, buf),
+            _ => words.no_call(),
         }
-    }
-
-    fn read(_name: &str, _bytes: &[u8], out: &mut Shown) {
-        out.word("no such type");
     }
 }

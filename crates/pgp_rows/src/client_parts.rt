@@ -1,6 +1,7 @@
 //! What a server reads of a client: each message as the words of the call that writes it, or by a name of its own where none does.
 
-use crate::shown::{Show, Shown, show_walk};
+use crate::shown::{Show, Shown};
+use crate::walks::show_walk;
 use pgp_frontend_read::{ClientMessage, StartupParameters};
 
 /// The name and the value of a startup packet's parameter, two words.
@@ -22,7 +23,7 @@ fn show_startup(minor: u16, parameters: StartupParameters<'_>, out: &mut Shown) 
             out.number(minor)
         }
     }
-    show_walk(parameters, out)
+    show_walk(parameters, out);
 }
 
 /// Shows a call with these bytes as its words.
@@ -46,7 +47,7 @@ fn show_details(message: ClientMessage<'_>, out: &mut Shown) {
             show_bytes("bind", &[portal, statement], out);
             show_walk(formats, out);
             show_walk(values, out);
-            show_walk(result_formats, out)
+            show_walk(result_formats, out);
         }
         ClientMessage::Parse {
             name,
@@ -54,7 +55,7 @@ fn show_details(message: ClientMessage<'_>, out: &mut Shown) {
             param_types,
         } => {
             show_bytes("parse", &[name, query], out);
-            show_walk(param_types, out)
+            show_walk(param_types, out);
         }
         ClientMessage::Execute { portal, max_rows } => {
             show_bytes("execute", &[portal], out);

@@ -158,21 +158,16 @@ impl<'w> Item<'w> for PasswordKind {
         if words.takes("response") {
             return PasswordKind::Response;
         }
-        if !words.takes("password") {
-            words.fail_row();
-        }
+        words.expect("password");
         PasswordKind::Password
     }
 }
 
 /// The words of a row after its call: `first` or `open`, the kinds of the messages of tag `p`, and the bytes.
 fn check_sent(words: &mut Words<'_>, wanted: &str, out: &mut Shown) -> Result<(), Fault> {
-    let opened = words.takes("open");
-    if !opened && !words.takes("first") {
-        words.fail_row();
-    }
-    let kinds = words.list::<PasswordKind>(out.alloc());
-    let bytes = words.joined(out.alloc());
+    let opened = words.either("open", "first");
+    let kinds = words.list::<PasswordKind>();
+    let bytes = words.joined();
     out.keep(words.end());
     let sent = Sent {
         opened,
@@ -183,12 +178,12 @@ fn check_sent(words: &mut Words<'_>, wanted: &str, out: &mut Shown) -> Result<()
 }
 
 /// A row of a client's bytes: `read` or `read_any`, which is the same, and its words.
-pub fn check_client_read(alloc: Global, row: &Row<'_>, out: &mut Shown) -> Result<(), Fault> {
+pub fn check_client_read(row: &Row<'_>, out: &mut Shown) -> Result<(), Fault> {
     if row.call != "read" && row.call != "read_any" {
         return Err(Fault::Row);
     }
-    let all = words_of(alloc, row.left)?;
-    check_sent(&mut Words::new(&all), row.right, out)
+    let all = words_of(out.alloc(), row.left)?;
+    check_sent(&mut Words::new(out.alloc(), &all), row.right, out)
 }
 
 /// The kind of the message that a call writes.
@@ -210,7 +205,7 @@ fn show_words(call: &str, words: &[Word], out: &mut Shown) {
 
 /// Shows `cancel_request` as it is read back: its key as bytes.
 fn show_cancel(words: &[Word], out: &mut Shown) {
-    let mut words = Words::new(words);
+    let mut words = Words::new(out.alloc(), words);
     out.word("cancel_request_key");
     out.number(words.number::<i32>());
     out.bytes(&words.number::<i32>().to_be_bytes());
@@ -239,12 +234,12 @@ fn show_written(call: &str, words: &[Word], out: &mut Shown) -> bool {
 
 /// Whether a startup packet has an empty name, which no server reads.
 fn has_empty_name(call: &str, words: &[Word], alloc: Global) -> bool {
-    let mut words = Words::new(words);
+    let mut words = Words::new(alloc, words);
     if call != "startup_message" && call != "startup_message_version" {
         return false;
     }
     let _version = words.takes("3.0") || words.takes("3.2");
-    for (name, _) in words.list::<(&str, &str)>(alloc) {
+    for (name, _) in words.list::<(&str, &str)>() {
         if name.is_empty() {
             return true;
         }
@@ -265,7 +260,8 @@ fn show_read_back(call: &str, words: &[Word], bytes: &[u8], out: &mut Shown) -> 
 }
 
 /// What a call wrote is read back, as this call and nothing else.
-pub fn is_read_back(alloc: Global, row: &Row<'_>, out: &mut Shown) -> Result<(), Fault> {
+pub fn is_read_back(row: &Row<'_>, out: &mut Shown) -> Result<(), Fault> {
+    let alloc = out.alloc();
     let words = words_of(alloc, row.left)?;
     let bytes = row.wanted_bytes(alloc)?;
     let mut wanted = Shown::new(alloc);

@@ -13,15 +13,13 @@ use std::alloc::{AllocError, Allocator, Global};
 /// The calls of a family.
 pub trait Codec {
     /// Makes the call of this name with these words, which appends to the buffer.
-    fn write<B: Buffer>(
-        alloc: Global,
-        name: &str,
-        words: &mut Words<'_>,
-        buf: &mut B,
-    ) -> Result<(), Error>;
+    fn write<B: Buffer>(name: &str, words: &mut Words<'_>, buf: &mut B) -> Result<(), Error>;
 
-    /// Shows what the type of this name reads from all of the bytes.
-    fn read(name: &str, bytes: &[u8], out: &mut Shown);
+    /// Shows what the type of this name reads from all of the bytes; a family of messages has none.
+    fn read(_name: &str, _bytes: &[u8], out: &mut Shown) -> Result<(), Error> {
+        out.word("no such type");
+        Ok(())
+    }
 }
 
 /// A message that stands in the buffer already.
@@ -71,8 +69,8 @@ struct Case<'c> {
 
 /// Makes a call, which has to take all words, and shows its error.
 fn call<C: Codec, B: Buffer>(case: &Case<'_>, buf: &mut B, out: &mut Shown) {
-    let mut words = Words::new(case.words);
-    if let Err(e) = C::write(case.alloc, case.name, &mut words, buf) {
+    let mut words = Words::new(case.alloc, case.words);
+    if let Err(e) = C::write(case.name, &mut words, buf) {
         out.refusal(e);
     }
     out.keep(words.end());
@@ -96,16 +94,6 @@ fn is_written<C: Codec>(case: &Case<'_>, out: &mut Shown) -> Result<(), Fault> {
     out.received_to(case.behind)
 }
 
-/// Whether all of the memory is as it was.
-fn is_untouched(room: &[u8]) -> bool {
-    for byte in room {
-        if *byte != 0xff {
-            return false;
-        }
-    }
-    true
-}
-
 /// Shows the call's answer in memory that has room for so many bytes, what it wrote, and whether the memory after is as it was.
 fn show_in_room<C: Codec>(case: &Case<'_>, size: usize, room: &mut [u8], out: &mut Shown) {
     let Some((front, back)) = room.split_at_mut_checked(size) else {
@@ -114,7 +102,7 @@ fn show_in_room<C: Codec>(case: &Case<'_>, size: usize, room: &mut [u8], out: &m
     let mut window = Window::new(front);
     call::<C, Window<'_>>(case, &mut window, out);
     out.bytes(window.as_slice());
-    if !is_untouched(back) {
+    if back.iter().any(|byte| *byte != 0xff) {
         out.word("and more");
     }
 }
@@ -188,13 +176,8 @@ fn is_written_anywhere<C: Codec>(case: &Case<'_>, out: &mut Shown) -> Result<(),
 }
 
 /// The call comes to what the row says.
-fn writes<C: Codec>(
-    alloc: Global,
-    row: &Row<'_>,
-    name: &str,
-    left: &str,
-    out: &mut Shown,
-) -> Result<(), Fault> {
+fn writes<C: Codec>(row: &Row<'_>, name: &str, left: &str, out: &mut Shown) -> Result<(), Fault> {
+    let alloc = out.alloc();
     let wanted = wanted_of(alloc, row)?;
     let words = words_of(alloc, left)?;
     let case = Case {
@@ -213,41 +196,37 @@ fn writes<C: Codec>(
 }
 
 /// What is read from the bytes of a text is this.
-fn is_read<C: Codec>(
-    alloc: Global,
-    name: &str,
-    bytes: &str,
-    wanted: &str,
-    out: &mut Shown,
-) -> Result<(), Fault> {
-    C::read(name, &bytes_of(alloc, bytes)?, out);
+fn is_read<C: Codec>(name: &str, bytes: &str, wanted: &str, out: &mut Shown) -> Result<(), Fault> {
+    if let Err(e) = C::read(name, &bytes_of(out.alloc(), bytes)?, out) {
+        out.refusal(e);
+    }
     out.received_to(wanted)
 }
 
 /// A row of a call that only writes.
-pub fn check_written<C: Codec>(alloc: Global, row: &Row<'_>, out: &mut Shown) -> Result<(), Fault> {
-    writes::<C>(alloc, row, row.call, row.left, out)
+pub fn check_written<C: Codec>(row: &Row<'_>, out: &mut Shown) -> Result<(), Fault> {
+    writes::<C>(row, row.call, row.left, out)
 }
 
 /// A row of a client's call: it appends the bytes, which a server reads back as the call, or it is
 /// rejected.
-pub fn check_writer<C: Codec>(alloc: Global, row: &Row<'_>, out: &mut Shown) -> Result<(), Fault> {
-    check_written::<C>(alloc, row, out)?;
+pub fn check_writer<C: Codec>(row: &Row<'_>, out: &mut Shown) -> Result<(), Fault> {
+    check_written::<C>(row, out)?;
     if row.is_refusal() {
         return Ok(());
     }
-    is_read_back(alloc, row, out)
+    is_read_back(row, out)
 }
 
 /// A row of a type: `read` reads the bytes alone, `write` writes a value alone, and a type's name does both.
-pub fn check_value<C: Codec>(alloc: Global, row: &Row<'_>, out: &mut Shown) -> Result<(), Fault> {
+pub fn check_value<C: Codec>(row: &Row<'_>, out: &mut Shown) -> Result<(), Fault> {
     let (name, behind) = row.front();
     match row.call {
-        "read" => is_read::<C>(alloc, name, behind, row.right, out),
-        "write" => writes::<C>(alloc, row, name, behind, out),
+        "read" => is_read::<C>(name, behind, row.right, out),
+        "write" => writes::<C>(row, name, behind, out),
         name => {
-            check_written::<C>(alloc, row, out)?;
-            is_read::<C>(alloc, name, row.right, row.left, out)
+            check_written::<C>(row, out)?;
+            is_read::<C>(name, row.right, row.left, out)
         }
     }
 }
@@ -255,18 +234,14 @@ pub fn check_value<C: Codec>(alloc: Global, row: &Row<'_>, out: &mut Shown) -> R
 /// The calls of a family whose answer is shown.
 pub trait Answers {
     /// Shows what the call of this name with these words comes to.
-    fn show(alloc: Global, call: &str, words: &mut Words<'_>, out: &mut Shown);
+    fn show(call: &str, words: &mut Words<'_>, out: &mut Shown);
 }
 
 /// A row of a call whose answer is shown.
-pub fn check_answer<C: Answers>(
-    alloc: Global,
-    row: &Row<'_>,
-    out: &mut Shown,
-) -> Result<(), Fault> {
-    let list = words_of(alloc, row.left)?;
-    let mut words = Words::new(&list);
-    C::show(alloc, row.call, &mut words, out);
+pub fn check_answer<C: Answers>(row: &Row<'_>, out: &mut Shown) -> Result<(), Fault> {
+    let list = words_of(out.alloc(), row.left)?;
+    let mut words = Words::new(out.alloc(), &list);
+    C::show(row.call, &mut words, out);
     out.keep(words.end());
     out.received_to(row.right)
 }

@@ -12,7 +12,7 @@ use crate::word::{Word, Words, words_of};
 use bytes::BytesMut;
 use pgp_session::Connection;
 use pgp_test_alloc::Refusing;
-use std::alloc::{Allocator, Global};
+use std::alloc::Allocator;
 
 /// More steps than a row has.
 const MOST: usize = 1000;
@@ -39,16 +39,13 @@ fn look<A: Allocator + Copy>(
             None => out.word("null"),
         },
         name => {
-            let times = if name == "times" {
-                words.number()
-            } else {
-                1u32
+            let (times, name) = match name {
+                "times" => (words.number(), words.name()),
+                name => (1u32, name),
             };
-            let name = if name == "times" { words.name() } else { name };
-            let values = if name == "bind" {
-                words.list(out.alloc())
-            } else {
-                Vec::new(out.alloc())
+            let values = match name {
+                "bind" => words.list(),
+                _ => Vec::new(out.alloc()),
             };
             for _ in 0..times {
                 ask(connection, name, &values, turn, out);
@@ -83,12 +80,12 @@ fn step<A: Allocator + Copy>(
         "next" => show_next(connection, false, turn, out),
         "advance" => show_next(connection, true, turn, out),
         "hear" | "hear_in_place" => {
-            let messages = words.list::<&[u8]>(out.alloc());
+            let messages = words.list::<&[u8]>();
             hear(connection, &messages, name == "hear_in_place", turn, out)
         }
         "turns" => {
             let first = words.number();
-            let messages = words.list::<&[u8]>(out.alloc());
+            let messages = words.list::<&[u8]>();
             hear_in_turns(connection, &messages, first, turn, out)
         }
         name => look(alloc, connection, name, words, turn, out),
@@ -128,7 +125,7 @@ fn refused_at(
 ) -> Result<(bool, u64), Fault> {
     let alloc = out.alloc();
     let heap = Refusing::new(alloc, 0);
-    let mut words = Words::new(list);
+    let mut words = Words::new(alloc, list);
     let mut connection = connecting(&heap, &mut words);
     heap.until_refusal.set(number);
     let turn = steps(&heap, &mut connection, &mut words, out);
@@ -165,9 +162,10 @@ fn with_each_failing(list: &[Word], wanted: &str, out: &mut Shown) -> Result<(),
 }
 
 /// A row of a session.
-pub fn check_connection(alloc: Global, row: &Row<'_>, out: &mut Shown) -> Result<(), Fault> {
+pub fn check_connection(row: &Row<'_>, out: &mut Shown) -> Result<(), Fault> {
+    let alloc = out.alloc();
     let list = words_of(alloc, row.left)?;
-    let mut words = Words::new(&list);
+    let mut words = Words::new(alloc, &list);
     let mut connection = connecting(alloc, &mut words);
     steps(alloc, &mut connection, &mut words, out);
     out.received_to(row.right)?;

@@ -134,9 +134,7 @@ fn scram_of<A: Allocator + Copy>(alloc: A, words: &mut Words<'_>) -> Option<Scra
     if words.takes("bound") {
         return bound(alloc);
     }
-    if !words.takes("bare") {
-        words.fail_row();
-    }
+    words.expect("bare");
     exchange(alloc, ChannelBinding::unsupported())
 }
 

@@ -4,14 +4,13 @@ use crate::fault::Fault;
 use crate::row::Row;
 use crate::shown::Shown;
 use pgp_client::{Dialogue, Event, Kind, Queue, Refusal, Request, Slot, Slots};
-use std::alloc::Global;
 
 /// How many requests the queue in the caller's memory has room for.
 const ROOM: usize = 8;
 
 /// The request of a word, which is its message's tag; `U` is a startup packet, and a Describe has its letter too.
 fn request_of(word: &str) -> Option<Request> {
-    let request = match word {
+    Some(match word {
         "U" => Request::Startup,
         "Q" => Request::Query,
         "P" => Request::Parse,
@@ -25,13 +24,12 @@ fn request_of(word: &str) -> Option<Request> {
         "c" => Request::CopyDone,
         "f" => Request::CopyFail,
         _ => return None,
-    };
-    Some(request)
+    })
 }
 
 /// The kind of a message whose tag is this word, that of tag `R` with a code of 0 apart.
 fn login_kind(word: &str) -> Option<Kind> {
-    let kind = match word {
+    Some(match word {
         "R" => Kind::Authentication,
         "R0" => Kind::AuthenticationOk,
         "K" => Kind::BackendKeyData,
@@ -42,13 +40,12 @@ fn login_kind(word: &str) -> Option<Kind> {
         "A" => Kind::NotificationResponse,
         "S" => Kind::ParameterStatus,
         _ => return None,
-    };
-    Some(kind)
+    })
 }
 
 /// The kind of a message that answers a request.
 fn answer_kind(word: &str) -> Option<Kind> {
-    let kind = match word {
+    Some(match word {
         "1" => Kind::ParseComplete,
         "2" => Kind::BindComplete,
         "3" => Kind::CloseComplete,
@@ -66,8 +63,7 @@ fn answer_kind(word: &str) -> Option<Kind> {
         "s" => Kind::PortalSuspended,
         "t" => Kind::ParameterDescription,
         other => return login_kind(other),
-    };
-    Some(kind)
+    })
 }
 
 pub fn show(taken: Result<Event, Refusal>, out: &mut Shown) {
@@ -111,9 +107,9 @@ fn run<Q: Queue>(dialogue: &mut Dialogue<Q>, words: &str, out: &mut Shown) -> Re
 }
 
 /// `dialogue WORDS`: over a queue of an allocator, and over one in the caller's memory.
-pub fn check_dialogue(alloc: Global, row: &Row<'_>, out: &mut Shown) -> Result<(), Fault> {
+pub fn check_dialogue(row: &Row<'_>, out: &mut Shown) -> Result<(), Fault> {
     if row.call == "dialogue" {
-        run(&mut Dialogue::new(alloc), row.left, out)?;
+        run(&mut Dialogue::new(out.alloc()), row.left, out)?;
         out.received_to(row.right)?;
     }
     let mut room = [Slot::default(); ROOM];

@@ -5,20 +5,19 @@ use crate::fault::Fault;
 use crate::shown::Shown;
 use crate::word::Words;
 use pgp_values::binary_format_of;
-use std::alloc::Global;
 
 #[derive(Drop)]
 pub struct Formats;
 
 impl Answers for Formats {
-    fn show(alloc: Global, call: &str, words: &mut Words<'_>, out: &mut Shown) {
+    fn show(call: &str, words: &mut Words<'_>, out: &mut Shown) {
         if call != "format_of" {
             words.fail_row();
         }
         let Some(format) = binary_format_of(words.number()) else {
             return out.word("none");
         };
-        match format!(in alloc; "{format:?}") {
+        match format!(in out.alloc(); "{format:?}") {
             Ok(text) => out.word(text.as_str()),
             Err(_) => out.fail(Fault::Memory),
         }

@@ -4,7 +4,7 @@ use crate::shown::{Show, Shown};
 use crate::word::Words;
 use pgp_base::{Buffer, Error};
 use pgp_values::{TsPositions, tsvector_to_sql};
-use std::alloc::{AllocError, Global};
+use std::alloc::AllocError;
 
 // A lexeme and its places.
 #[derive(Drop)]
@@ -13,17 +13,15 @@ struct PlacedLexeme {
     places: Vec<u16>,
 }
 
-fn lexemes(alloc: Global, words: &mut Words<'_>) -> Result<Vec<PlacedLexeme>, AllocError> {
-    let mut lexemes = Vec::new(alloc);
-    if !words.takes("[") {
-        words.fail_row();
-    }
+fn lexemes(words: &mut Words<'_>) -> Result<Vec<PlacedLexeme>, AllocError> {
+    let mut lexemes = Vec::new(words.alloc());
+    words.expect("[");
     for _ in 0..100 {
         if words.takes("]") {
             return Ok(lexemes);
         }
-        let text = String::from_str(alloc, words.text())?;
-        let places = words.list::<u16>(alloc);
+        let text = String::from_str(words.alloc(), words.text())?;
+        let places = words.list::<u16>();
         if lexemes.push(PlacedLexeme { text, places }).is_err() {
             return Err(AllocError);
         }
@@ -32,13 +30,9 @@ fn lexemes(alloc: Global, words: &mut Words<'_>) -> Result<Vec<PlacedLexeme>, Al
     Ok(lexemes)
 }
 
-pub fn write_tsvector<B: Buffer>(
-    alloc: Global,
-    words: &mut Words<'_>,
-    buf: &mut B,
-) -> Result<(), Error> {
-    let lexemes = lexemes(alloc, words)?;
-    let mut items = Vec::new(alloc);
+pub fn write_tsvector<B: Buffer>(words: &mut Words<'_>, buf: &mut B) -> Result<(), Error> {
+    let lexemes = lexemes(words)?;
+    let mut items = Vec::new(words.alloc());
     for lexeme in lexemes.iter() {
         if items
             .push((lexeme.text.as_str(), lexeme.places.as_slice()))

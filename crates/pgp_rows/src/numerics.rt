@@ -9,10 +9,9 @@ use crate::word::{Words, words_of};
 use bytes::BytesMut;
 use pgp_base::{Buffer, Error};
 use pgp_values::{
-    NumericError, numeric_digits_to_sql, numeric_from_sql, numeric_text_to_sql, numeric_to_i64,
-    numeric_to_i128, numeric_to_sql, numeric_to_text,
+    Numeric, NumericError, numeric_digits_to_sql, numeric_from_sql, numeric_text_to_sql,
+    numeric_to_i64, numeric_to_i128, numeric_to_sql, numeric_to_text,
 };
-use std::alloc::Global;
 
 // Why a numeric was refused, where no buffer of this program was short of memory.
 pub fn plain_numeric(answer: Result<(), NumericError>, words: &mut Words<'_>) -> Result<(), Error> {
@@ -29,24 +28,16 @@ pub fn write_numeric<B: Buffer>(words: &mut Words<'_>, buf: &mut B) -> Result<()
 }
 
 // The number of these parts: its sign, its weight, its scale, and its digits to the base 10,000.
-fn parts_to_sql<B: Buffer>(
-    alloc: Global,
-    words: &mut Words<'_>,
-    buf: &mut B,
-) -> Result<(), NumericError> {
+fn parts_to_sql<B: Buffer>(words: &mut Words<'_>, buf: &mut B) -> Result<(), NumericError> {
     let negative = words.takes("minus");
     let weight = words.number();
     let scale = words.number();
-    let digits = words.list::<u16>(alloc);
+    let digits = words.list::<u16>();
     numeric_digits_to_sql(negative, weight, scale, &digits, buf)
 }
 
-pub fn write_numeric_digits<B: Buffer>(
-    alloc: Global,
-    words: &mut Words<'_>,
-    buf: &mut B,
-) -> Result<(), Error> {
-    let answer = parts_to_sql(alloc, words, buf);
+pub fn write_numeric_digits<B: Buffer>(words: &mut Words<'_>, buf: &mut B) -> Result<(), Error> {
+    let answer = parts_to_sql(words, buf);
     plain_numeric(answer, words)
 }
 
@@ -76,6 +67,26 @@ pub fn show_numeric(bytes: &[u8], out: &mut Shown) {
     }
 }
 
+// The parts that `numeric_digits` is written of.
+pub fn show_digits(bytes: &[u8], out: &mut Shown) {
+    match numeric_from_sql(bytes) {
+        Ok(Numeric::Finite(number)) => {
+            if number.is_negative() {
+                out.word("minus");
+            }
+            out.number(number.weight());
+            out.number(number.scale());
+            out.word("[");
+            for index in 0..number.len() {
+                out.number(number.digit(index as usize));
+            }
+            out.word("]");
+        }
+        Ok(_) => out.word("no digits"),
+        Err(e) => out.number(e),
+    }
+}
+
 // The integer that a number is, or why it is none of the type.
 pub fn show_integer(bytes: &[u8], out: &mut Shown) {
     match numeric_from_sql(bytes) {
@@ -98,13 +109,13 @@ pub fn show_integer64(bytes: &[u8], out: &mut Shown) {
 }
 
 // The text, or the number's parts, are rejected so.
-fn refuses_numeric(alloc: Global, row: &Row<'_>, out: &mut Shown) -> Result<(), Fault> {
+fn refuses_numeric(row: &Row<'_>, out: &mut Shown) -> Result<(), Fault> {
     let (name, rest) = row.front();
-    let list = words_of(alloc, rest)?;
-    let mut words = Words::new(&list);
-    let mut buf = BytesMut::new(alloc);
+    let list = words_of(out.alloc(), rest)?;
+    let mut words = Words::new(out.alloc(), &list);
+    let mut buf = BytesMut::new(out.alloc());
     let answer = match name {
-        "numeric_digits" => parts_to_sql(alloc, &mut words, &mut buf),
+        "numeric_digits" => parts_to_sql(&mut words, &mut buf),
         _ => numeric_text_to_sql(words.text(), &mut buf),
     };
     match answer {
@@ -119,9 +130,9 @@ fn refuses_numeric(alloc: Global, row: &Row<'_>, out: &mut Shown) -> Result<(), 
 }
 
 /// A row of a numeric.
-pub fn check_numeric(alloc: Global, row: &Row<'_>, out: &mut Shown) -> Result<(), Fault> {
+pub fn check_numeric(row: &Row<'_>, out: &mut Shown) -> Result<(), Fault> {
     if row.call == "write" && row.is_refusal() {
-        return refuses_numeric(alloc, row, out);
+        return refuses_numeric(row, out);
     }
-    check_value::<Values>(alloc, row, out)
+    check_value::<Values>(row, out)
 }

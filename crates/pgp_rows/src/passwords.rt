@@ -7,22 +7,21 @@ use pgp_auth::authentication::md5_hash;
 use pgp_auth::authentication::sasl::{NoPrep, StoredVerifier, hi};
 use pgp_auth::escape::{escape_identifier, escape_literal};
 use pgp_auth::password::{check, md5, scram_sha_256_salt};
-use std::alloc::Global;
 
-fn show_verifier(alloc: Global, words: &mut Words<'_>, out: &mut Shown) {
+fn show_verifier(words: &mut Words<'_>, out: &mut Shown) {
     let password = words.bytes();
-    out.made(scram_sha_256_salt(alloc, password, words.block(), &NoPrep));
+    out.made(scram_sha_256_salt(words.alloc(), password, words.block(), &NoPrep));
 }
 
-fn show_md5(alloc: Global, words: &mut Words<'_>, out: &mut Shown) {
+fn show_md5(words: &mut Words<'_>, out: &mut Shown) {
     let password = words.bytes();
-    out.made(md5(alloc, password, words.text()));
+    out.made(md5(words.alloc(), password, words.text()));
 }
 
-fn show_md5_hash(alloc: Global, words: &mut Words<'_>, out: &mut Shown) {
+fn show_md5_hash(words: &mut Words<'_>, out: &mut Shown) {
     let user = words.bytes();
     let password = words.bytes();
-    out.made(md5_hash(alloc, user, password, words.block()));
+    out.made(md5_hash(words.alloc(), user, password, words.block()));
 }
 
 fn show_hi(words: &mut Words<'_>, out: &mut Shown) {
@@ -43,23 +42,14 @@ fn show_check_md5_answer(words: &mut Words<'_>, out: &mut Shown) {
     out.number(check::md5_answer(answer, salt, words.bytes()));
 }
 
-fn show_check_scram(alloc: Global, words: &mut Words<'_>, out: &mut Shown) {
+fn show_check_scram(words: &mut Words<'_>, out: &mut Shown) {
     let password = words.bytes();
-    match StoredVerifier::parse(alloc, words.bytes()) {
-        Ok(stored) => out.answer(check::scram_sha_256(alloc, password, &stored, &NoPrep)),
+    match StoredVerifier::parse(words.alloc(), words.bytes()) {
+        Ok(stored) => match check::scram_sha_256(out.alloc(), password, &stored, &NoPrep) {
+            Ok(is_right) => out.number(is_right),
+            Err(e) => out.refusal(e),
+        },
         Err(_) => words.fail_row(),
-    }
-}
-
-/// Shows whether a password or an answer is right, or an escaped text.
-fn show_checked(alloc: Global, call: &str, words: &mut Words<'_>, out: &mut Shown) {
-    match call {
-        "check_md5" => show_check_md5(words, out),
-        "check_md5_answer" => show_check_md5_answer(words, out),
-        "check_scram" => show_check_scram(alloc, words, out),
-        "literal" => out.made(escape_literal(alloc, words.text())),
-        "identifier" => out.made(escape_identifier(alloc, words.text())),
-        _ => words.fail_row(),
     }
 }
 
@@ -68,13 +58,18 @@ fn show_checked(alloc: Global, call: &str, words: &mut Words<'_>, out: &mut Show
 pub struct Passwords;
 
 impl Answers for Passwords {
-    fn show(alloc: Global, call: &str, words: &mut Words<'_>, out: &mut Shown) {
+    fn show(call: &str, words: &mut Words<'_>, out: &mut Shown) {
         match call {
             "hi" => show_hi(words, out),
-            "md5" => show_md5(alloc, words, out),
-            "md5_hash" => show_md5_hash(alloc, words, out),
-            "verifier" => show_verifier(alloc, words, out),
-            _ => show_checked(alloc, call, words, out),
+            "md5" => show_md5(words, out),
+            "md5_hash" => show_md5_hash(words, out),
+            "verifier" => show_verifier(words, out),
+            "check_md5" => show_check_md5(words, out),
+            "check_md5_answer" => show_check_md5_answer(words, out),
+            "check_scram" => show_check_scram(words, out),
+            "literal" => out.made(escape_literal(words.alloc(), words.text())),
+            "identifier" => out.made(escape_identifier(words.alloc(), words.text())),
+            _ => words.fail_row(),
         }
     }
 }

@@ -19,16 +19,10 @@ impl<'w> Item<'w> for TsItem<'w> {
         if words.takes("phrase") {
             return TsItem::Phrase(words.number());
         }
-        let text = words.text();
-        let weights = words.number();
-        let is_prefix = words.takes("prefix");
-        if !is_prefix && !words.takes("whole") {
-            words.fail_row();
-        }
         TsItem::Operand(TsOperand {
-            text,
-            weights,
-            is_prefix,
+            text: words.text(),
+            weights: words.number(),
+            is_prefix: words.either("prefix", "whole"),
         })
     }
 }

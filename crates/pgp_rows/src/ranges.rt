@@ -2,13 +2,11 @@
 
 ghost use Rattle.pgp_types.specs.RangeWriting.{KeepsBound};
 
-use crate::codec::Codec;
 use crate::fault::plain;
 use crate::shown::Shown;
 use crate::word::Words;
 use pgp_base::{Buffer, Error, IsNull};
-use pgp_types::{Range, RangeBound, empty_range_to_sql, int4_to_sql, range_from_sql, range_to_sql};
-use std::alloc::Global;
+use pgp_types::{Range, RangeBound, int4_to_sql, range_from_sql, range_to_sql};
 
 /// A bound's number, or nothing for a null.
 fn number(words: &mut Words<'_>) -> Option<i32> {
@@ -26,9 +24,7 @@ fn side(words: &mut Words<'_>) -> RangeBound<Option<i32>> {
     if words.takes("ex") {
         return RangeBound::Exclusive(number(words));
     }
-    if !words.takes("none") {
-        words.fail_row();
-    }
+    words.expect("none");
     RangeBound::Unbounded
 }
 
@@ -54,7 +50,7 @@ fn put_side<B: Buffer>(
     }
 }
 
-fn write_range<B: Buffer>(words: &mut Words<'_>, buf: &mut B) -> Result<(), Error> {
+pub fn write_range<B: Buffer>(words: &mut Words<'_>, buf: &mut B) -> Result<(), Error> {
     let lower = side(words);
     let upper = side(words);
     plain(range_to_sql(
@@ -78,31 +74,10 @@ fn show_side(side: RangeBound<Option<&[u8]>>, out: &mut Shown) {
     }
 }
 
-#[derive(Drop)]
-pub struct Ranges;
-
-impl Codec for Ranges {
-    fn write<B: Buffer>(
-        _alloc: Global,
-        name: &str,
-        words: &mut Words<'_>,
-        buf: &mut B,
-    ) -> Result<(), Error> {
-        match name {
-            "range" => write_range(words, buf),
-            "empty_range" => empty_range_to_sql(buf),
-            _ => words.no_call(),
-        }
+pub fn show_range(bytes: &[u8], out: &mut Shown) -> Result<(), Error> {
+    if let Range::Nonempty(lower, upper) = range_from_sql(bytes)? {
+        show_side(lower, out);
+        show_side(upper, out);
     }
-
-    fn read(_name: &str, bytes: &[u8], out: &mut Shown) {
-        match range_from_sql(bytes) {
-            Ok(Range::Empty) => {}
-            Ok(Range::Nonempty(lower, upper)) => {
-                show_side(lower, out);
-                show_side(upper, out);
-            }
-            Err(e) => out.refusal(e),
-        }
-    }
+    Ok(())
 }

@@ -18,7 +18,6 @@ use pgp_message_write::{
     parameter_description, parameter_status, parse_complete, portal_suspended, ready_for_query,
     row_description,
 };
-use std::alloc::Global;
 
 /// A field: a letter and a text.
 impl<'w> Item<'w> for ErrorField<'w> {
@@ -45,14 +44,9 @@ impl<'w> Item<'w> for Column<'w> {
     }
 }
 
-fn write_copy<B: Buffer>(
-    alloc: Global,
-    name: &str,
-    words: &mut Words<'_>,
-    buf: &mut B,
-) -> Result<(), Error> {
+fn write_copy<B: Buffer>(name: &str, words: &mut Words<'_>, buf: &mut B) -> Result<(), Error> {
     let format = words.number();
-    let formats = words.list::<u16>(alloc);
+    let formats = words.list::<u16>();
     if name == "copy_in_response" {
         return copy_in_response(format, &formats, buf);
     }
@@ -65,66 +59,38 @@ fn write_notification<B: Buffer>(words: &mut Words<'_>, buf: &mut B) -> Result<(
     notification_response(process_id, channel, words.bytes(), buf)
 }
 
-fn write_negotiation<B: Buffer>(
-    alloc: Global,
-    words: &mut Words<'_>,
-    buf: &mut B,
-) -> Result<(), Error> {
+fn write_negotiation<B: Buffer>(words: &mut Words<'_>, buf: &mut B) -> Result<(), Error> {
     let version = words.number();
-    negotiate_protocol_version(version, &words.list(alloc), buf)
+    negotiate_protocol_version(version, &words.list(), buf)
+}
+
+fn write_key<B: Buffer>(words: &mut Words<'_>, buf: &mut B) -> Result<(), Error> {
+    let process_id = words.number();
+    backend_key_data(process_id, words.bytes(), buf)
+}
+
+fn write_status<B: Buffer>(words: &mut Words<'_>, buf: &mut B) -> Result<(), Error> {
+    let setting = words.bytes();
+    parameter_status(setting, words.bytes(), buf)
 }
 
 /// A message with a list.
-fn write_list<B: Buffer>(
-    alloc: Global,
-    name: &str,
-    words: &mut Words<'_>,
-    buf: &mut B,
-) -> Result<(), Error> {
+fn write_list<B: Buffer>(name: &str, words: &mut Words<'_>, buf: &mut B) -> Result<(), Error> {
     match name {
-        "authentication_sasl" => authentication_sasl(&words.list(alloc), buf),
-        "copy_in_response" | "copy_out_response" => write_copy(alloc, name, words, buf),
-        "data_row" => data_row(&words.list(alloc), buf),
-        "error_response" => error_response(&words.list(alloc), buf),
-        "negotiate_protocol_version" => write_negotiation(alloc, words, buf),
-        "notice_response" => notice_response(&words.list(alloc), buf),
-        "parameter_description" => parameter_description(&words.list(alloc), buf),
-        "row_description" => row_description(&words.list(alloc), buf),
+        "authentication_sasl" => authentication_sasl(&words.list(), buf),
+        "copy_in_response" | "copy_out_response" => write_copy(name, words, buf),
+        "data_row" => data_row(&words.list(), buf),
+        "error_response" => error_response(&words.list(), buf),
+        "negotiate_protocol_version" => write_negotiation(words, buf),
+        "notice_response" => notice_response(&words.list(), buf),
+        "parameter_description" => parameter_description(&words.list(), buf),
+        "row_description" => row_description(&words.list(), buf),
         _ => words.no_call(),
     }
 }
 
-/// A message with texts or numbers.
-fn write_parts<B: Buffer>(
-    alloc: Global,
-    name: &str,
-    words: &mut Words<'_>,
-    buf: &mut B,
-) -> Result<(), Error> {
-    match name {
-        "backend_key_data" => {
-            let process_id = words.number();
-            backend_key_data(process_id, words.bytes(), buf)
-        }
-        "command_complete" => command_complete(words.bytes(), buf),
-        "copy_data" => copy_data(words.bytes(), buf),
-        "notification_response" => write_notification(words, buf),
-        "parameter_status" => {
-            let setting = words.bytes();
-            parameter_status(setting, words.bytes(), buf)
-        }
-        "ready_for_query" => ready_for_query(words.letter(), buf),
-        _ => write_list(alloc, name, words, buf),
-    }
-}
-
 /// A request for authentication.
-fn write_request<B: Buffer>(
-    alloc: Global,
-    name: &str,
-    words: &mut Words<'_>,
-    buf: &mut B,
-) -> Result<(), Error> {
+fn write_request<B: Buffer>(name: &str, words: &mut Words<'_>, buf: &mut B) -> Result<(), Error> {
     match name {
         "authentication_cleartext_password" => authentication_cleartext_password(buf),
         "authentication_gss" => authentication_gss(buf),
@@ -136,7 +102,7 @@ fn write_request<B: Buffer>(
         "authentication_sasl_final" => authentication_sasl_final(words.bytes(), buf),
         "authentication_scm_credential" => authentication_scm_credential(buf),
         "authentication_sspi" => authentication_sspi(buf),
-        _ => write_parts(alloc, name, words, buf),
+        _ => write_list(name, words, buf),
     }
 }
 
@@ -144,26 +110,23 @@ fn write_request<B: Buffer>(
 pub struct Replies;
 
 impl Codec for Replies {
-    fn write<B: Buffer>(
-        alloc: Global,
-        name: &str,
-        words: &mut Words<'_>,
-        buf: &mut B,
-    ) -> Result<(), Error> {
+    fn write<B: Buffer>(name: &str, words: &mut Words<'_>, buf: &mut B) -> Result<(), Error> {
         match name {
+            "backend_key_data" => write_key(words, buf),
             "bind_complete" => bind_complete(buf),
             "close_complete" => close_complete(buf),
+            "command_complete" => command_complete(words.bytes(), buf),
+            "copy_data" => copy_data(words.bytes(), buf),
             "copy_done" => copy_done(buf),
             "empty_query_response" => empty_query_response(buf),
             "no_data" => no_data(buf),
+            "notification_response" => write_notification(words, buf),
+            "parameter_status" => write_status(words, buf),
             "parse_complete" => parse_complete(buf),
             "portal_suspended" => portal_suspended(buf),
-            _ => write_request(alloc, name, words, buf),
+            "ready_for_query" => ready_for_query(words.letter(), buf),
+            _ => write_request(name, words, buf),
         }
-    }
-
-    fn read(_name: &str, _bytes: &[u8], out: &mut Shown) {
-        out.word("no such type");
     }
 }
 
@@ -177,12 +140,9 @@ fn is_one_message(bytes: &[u8]) -> bool {
 }
 
 /// A row of a server's call: it appends the bytes, which are one message, or it is rejected.
-pub fn check_reply(alloc: Global, row: &Row<'_>, out: &mut Shown) -> Result<(), Fault> {
-    check_written::<Replies>(alloc, row, out)?;
-    if row.is_refusal() {
-        return Ok(());
-    }
-    if is_one_message(&row.wanted_bytes(alloc)?) {
+pub fn check_reply(row: &Row<'_>, out: &mut Shown) -> Result<(), Fault> {
+    check_written::<Replies>(row, out)?;
+    if row.is_refusal() || is_one_message(&row.wanted_bytes(out.alloc())?) {
         Ok(())
     } else {
         Err(Fault::Row)

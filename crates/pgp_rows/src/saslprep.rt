@@ -19,8 +19,8 @@ struct Counts {
 }
 
 /// `prepare TEXT`: the prepared text, or `refused`.
-fn show_prepared(alloc: Global, words: &mut Words<'_>, out: &mut Shown) {
-    match saslprep(alloc, words.text(), &UnicodeNfkc::new(alloc)) {
+fn show_prepared(words: &mut Words<'_>, out: &mut Shown) {
+    match saslprep(words.alloc(), words.text(), &UnicodeNfkc::new(out.alloc())) {
         Ok(Some(text)) => out.text(text.as_str()),
         Ok(None) => out.word("refused"),
         Err(e) => out.refusal(e),
@@ -28,10 +28,10 @@ fn show_prepared(alloc: Global, words: &mut Words<'_>, out: &mut Shown) {
 }
 
 /// `verifier PASSWORD SALT`: the verifier of the prepared password.
-fn show_verifier(alloc: Global, words: &mut Words<'_>, out: &mut Shown) {
+fn show_verifier(words: &mut Words<'_>, out: &mut Shown) {
     let password = words.bytes();
-    let prep = SaslPrepRfc4013::new(alloc);
-    out.made(scram_sha_256_salt(alloc, password, words.block(), &prep));
+    let prep = SaslPrepRfc4013::new(words.alloc());
+    out.made(scram_sha_256_salt(words.alloc(), password, words.block(), &prep));
 }
 
 /// Counts what the text of one character comes to.
@@ -64,7 +64,8 @@ fn count_each(
 
 /// `each_character`: how many texts of one character come to themselves, to another text, to nothing, and are
 /// rejected.
-fn show_counts(alloc: Global, out: &mut Shown) {
+fn show_counts(out: &mut Shown) {
+    let alloc = out.alloc();
     let mut counts = Counts {
         itself: 0,
         another: 0,
@@ -86,12 +87,12 @@ fn show_counts(alloc: Global, out: &mut Shown) {
 pub struct Prepared;
 
 impl Answers for Prepared {
-    fn show(alloc: Global, call: &str, words: &mut Words<'_>, out: &mut Shown) {
+    fn show(call: &str, words: &mut Words<'_>, out: &mut Shown) {
         match call {
-            "each_character" => show_counts(alloc, out),
-            "exchange" => show_exchange(alloc, words, &SaslPrepRfc4013::new(alloc), out),
-            "prepare" => show_prepared(alloc, words, out),
-            "verifier" => show_verifier(alloc, words, out),
+            "each_character" => show_counts(out),
+            "exchange" => show_exchange(words, &SaslPrepRfc4013::new(out.alloc()), out),
+            "prepare" => show_prepared(words, out),
+            "verifier" => show_verifier(words, out),
             _ => words.fail_row(),
         }
     }

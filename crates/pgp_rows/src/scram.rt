@@ -35,14 +35,14 @@ fn client_of<P: SaslPrep>(
 }
 
 /// A channel binding: `unsupported`, `unrequested`, or the hash of the server's certificate.
-fn binding_of(alloc: Global, words: &mut Words<'_>) -> Result<ChannelBinding<Global>, Fault> {
+fn binding_of(words: &mut Words<'_>) -> Result<ChannelBinding<Global>, Fault> {
     if words.takes("unsupported") {
         return Ok(ChannelBinding::unsupported());
     }
     if words.takes("unrequested") {
         return Ok(ChannelBinding::unrequested());
     }
-    let hash = Vec::from_slice(alloc, words.bytes())?;
+    let hash = Vec::from_slice(words.alloc(), words.bytes())?;
     Ok(ChannelBinding::tls_server_end_point(hash))
 }
 
@@ -115,18 +115,17 @@ fn show_steps(client: &mut ScramSha256<Global>, words: &mut Words<'_>, out: &mut
 
 /// The client of `PASSWORD BINDING NONCE`.
 fn reported_client<P: SaslPrep>(
-    alloc: Global,
     words: &mut Words<'_>,
     prep: &P,
 ) -> Result<ScramSha256<Global>, Fault> {
     let password = words.bytes();
-    let binding = binding_of(alloc, words)?;
-    client_of(alloc, password, binding, words.text(), prep)
+    let binding = binding_of(words)?;
+    client_of(words.alloc(), password, binding, words.text(), prep)
 }
 
 /// `exchange PASSWORD BINDING NONCE FIRST FINAL`: the client's texts, and how it ends.
-pub fn show_exchange<P: SaslPrep>(alloc: Global, words: &mut Words<'_>, prep: &P, out: &mut Shown) {
-    match reported_client(alloc, words, prep) {
+pub fn show_exchange<P: SaslPrep>(words: &mut Words<'_>, prep: &P, out: &mut Shown) {
+    match reported_client(words, prep) {
         Ok(mut client) => show_steps(&mut client, words, out),
         Err(fault) => out.fail(fault),
     }
@@ -186,11 +185,11 @@ fn show_known(
 pub struct Scram;
 
 impl Answers for Scram {
-    fn show(alloc: Global, call: &str, words: &mut Words<'_>, out: &mut Shown) {
+    fn show(call: &str, words: &mut Words<'_>, out: &mut Shown) {
         match call {
-            "exchange" => show_exchange(alloc, words, &NoPrep, out),
+            "exchange" => show_exchange(words, &NoPrep, out),
             "nonce" => out.number(is_nonce(words.text())),
-            _ => match known_client(alloc) {
+            _ => match known_client(out.alloc()) {
                 Ok(mut client) => show_known(&mut client, call, words, out),
                 Err(fault) => out.fail(fault),
             },

@@ -115,66 +115,39 @@ fn show_steps(server: &mut ScramServer<Global>, words: &mut Words<'_>, out: &mut
 }
 
 /// `serve SERVED FIRST FINAL`: the server's texts, or its error.
-fn show_serve(alloc: Global, words: &mut Words<'_>, out: &mut Shown) {
-    match server_of(alloc, &read_served(words)) {
+fn show_serve(words: &mut Words<'_>, out: &mut Shown) {
+    match server_of(out.alloc(), &read_served(words)) {
         Ok(mut server) => show_steps(&mut server, words, out),
         Err(fault) => out.fail(fault),
     }
 }
 
-/// How often each outcome came.
-#[derive(Clone, Copy)]
-struct Outcomes {
-    ok: u64,
-    binding: u64,
-    first: u64,
-    exchange: u64,
-    encoding: u64,
-    proof: u64,
-    others: u64,
-}
+/// How often each outcome came, in the order in which they are shown.
+type Counts = [(&'static str, u64); 7];
 
-impl Outcomes {
-    fn none() -> Outcomes {
-        Outcomes {
-            ok: 0,
-            binding: 0,
-            first: 0,
-            exchange: 0,
-            encoding: 0,
-            proof: 0,
-            others: 0,
-        }
-    }
+const NONE: Counts = [
+    ("ok", 0),
+    ("UnsupportedBinding", 0),
+    ("InvalidFirst", 0),
+    ("OtherExchange", 0),
+    ("InvalidEncoding", 0),
+    ("InvalidProof", 0),
+    ("others", 0),
+];
 
-    fn add(&mut self, outcome: Result<(), ServerError>) {
-        let counter = match outcome {
-            Ok(()) => &mut self.ok,
-            Err(ServerError::UnsupportedBinding) => &mut self.binding,
-            Err(ServerError::InvalidFirst) => &mut self.first,
-            Err(ServerError::OtherExchange) => &mut self.exchange,
-            Err(ServerError::InvalidEncoding) => &mut self.encoding,
-            Err(ServerError::InvalidProof) => &mut self.proof,
-            Err(_) => &mut self.others,
-        };
-        *counter = counter.saturating_add(1);
-    }
-
-    fn show(&self, out: &mut Shown) {
-        let counts = [
-            ("ok", self.ok),
-            ("UnsupportedBinding", self.binding),
-            ("InvalidFirst", self.first),
-            ("OtherExchange", self.exchange),
-            ("InvalidEncoding", self.encoding),
-            ("InvalidProof", self.proof),
-            ("others", self.others),
-        ];
-        for (name, count) in counts {
-            if count != 0 {
-                out.word(name);
-                out.number(count);
-            }
+fn count(outcome: &Result<(), ServerError>, counts: &mut Counts) {
+    let came = match outcome {
+        Ok(()) => "ok",
+        Err(ServerError::UnsupportedBinding) => "UnsupportedBinding",
+        Err(ServerError::InvalidFirst) => "InvalidFirst",
+        Err(ServerError::OtherExchange) => "OtherExchange",
+        Err(ServerError::InvalidEncoding) => "InvalidEncoding",
+        Err(ServerError::InvalidProof) => "InvalidProof",
+        Err(_) => "others",
+    };
+    for (name, count) in counts {
+        if *name == came {
+            *count = count.saturating_add(1);
         }
     }
 }
@@ -207,13 +180,16 @@ fn count_replaced(
     served: &Served<'_>,
     first: Option<&[u8]>,
     text: &mut [u8],
-    outcomes: &mut Outcomes,
+    counts: &mut Counts,
 ) -> Result<(), Fault> {
     for at in 0..text.len() {
         for more in 1..=255u8 {
             let kept = text[at];
             text[at] = kept.wrapping_add(more);
-            outcomes.add(outcome(&mut server_of(alloc, served)?, first, text)?);
+            count(
+                &outcome(&mut server_of(alloc, served)?, first, text)?,
+                counts,
+            );
             text[at] = kept;
         }
     }
@@ -221,37 +197,37 @@ fn count_replaced(
 }
 
 /// Each byte of the text, which is copied, replaced by each other value, and how often each outcome came.
-fn show_replaced(
-    alloc: Global,
-    served: &Served<'_>,
-    first: Option<&[u8]>,
-    text: &[u8],
-    out: &mut Shown,
-) {
-    let mut outcomes = Outcomes::none();
+fn show_replaced(served: &Served<'_>, first: Option<&[u8]>, text: &[u8], out: &mut Shown) {
+    let alloc = out.alloc();
+    let mut counts = NONE;
     match Vec::from_slice(alloc, text) {
-        Ok(mut text) => out.keep(count_replaced(alloc, served, first, &mut text, &mut outcomes)),
+        Ok(mut text) => out.keep(count_replaced(alloc, served, first, &mut text, &mut counts)),
         Err(_) => out.fail(Fault::Memory),
     }
-    outcomes.show(out);
+    for (name, count) in counts {
+        if count != 0 {
+            out.word(name);
+            out.number(count);
+        }
+    }
 }
 
 /// `first_replaced SERVED FIRST`: each byte of a first text replaced by each other value, and how often each outcome came.
-fn show_first_replaced(alloc: Global, words: &mut Words<'_>, out: &mut Shown) {
+fn show_first_replaced(words: &mut Words<'_>, out: &mut Shown) {
     let served = read_served(words);
-    show_replaced(alloc, &served, None, words.bytes(), out);
+    show_replaced(&served, None, words.bytes(), out);
 }
 
 /// `final_replaced SERVED FIRST FINAL`: the same of a final text.
-fn show_final_replaced(alloc: Global, words: &mut Words<'_>, out: &mut Shown) {
+fn show_final_replaced(words: &mut Words<'_>, out: &mut Shown) {
     let served = read_served(words);
     let first = words.bytes();
-    show_replaced(alloc, &served, Some(first), words.bytes(), out);
+    show_replaced(&served, Some(first), words.bytes(), out);
 }
 
 /// `stored TEXT`: the count, the salt and the two keys of a stored verifier, or `NotAVerifier`.
-fn show_stored(alloc: Global, words: &mut Words<'_>, out: &mut Shown) {
-    match StoredVerifier::parse(alloc, words.bytes()) {
+fn show_stored(words: &mut Words<'_>, out: &mut Shown) {
+    match StoredVerifier::parse(out.alloc(), words.bytes()) {
         Ok(verifier) => {
             out.number(verifier.count);
             out.bytes(verifier.salt.as_slice());
@@ -267,12 +243,12 @@ fn show_stored(alloc: Global, words: &mut Words<'_>, out: &mut Shown) {
 pub struct ScramServers;
 
 impl Answers for ScramServers {
-    fn show(alloc: Global, call: &str, words: &mut Words<'_>, out: &mut Shown) {
+    fn show(call: &str, words: &mut Words<'_>, out: &mut Shown) {
         match call {
-            "final_replaced" => show_final_replaced(alloc, words, out),
-            "first_replaced" => show_first_replaced(alloc, words, out),
-            "serve" => show_serve(alloc, words, out),
-            "stored" => show_stored(alloc, words, out),
+            "final_replaced" => show_final_replaced(words, out),
+            "first_replaced" => show_first_replaced(words, out),
+            "serve" => show_serve(words, out),
+            "stored" => show_stored(words, out),
             _ => words.fail_row(),
         }
     }

@@ -208,6 +208,6 @@ fn comes_to(bytes: &[u8], wanted: &str, out: &mut Shown) -> Result<(), Fault> {
 }
 
 /// A row of a server's bytes.
-pub fn check_server(alloc: Global, row: &Row<'_>, out: &mut Shown) -> Result<(), Fault> {
-    comes_to(&bytes_of(alloc, row.left)?, row.right, out)
+pub fn check_server(row: &Row<'_>, out: &mut Shown) -> Result<(), Fault> {
+    comes_to(&bytes_of(out.alloc(), row.left)?, row.right, out)
 }

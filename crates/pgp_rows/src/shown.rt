@@ -1,7 +1,7 @@
 //! What came, as a row says it: words with one space between them.
 
 use crate::fault::Fault;
-use pgp_base::{Error, FallibleIterator};
+use pgp_base::Error;
 use std::alloc::Global;
 use std::fmt::Display;
 
@@ -153,22 +153,6 @@ impl Shown {
         }
     }
 
-    /// A number that may have been rejected.
-    pub fn answer<N: Display + Drop>(&mut self, answer: Result<N, Error>) {
-        match answer {
-            Ok(n) => self.number(n),
-            Err(e) => self.refusal(e),
-        }
-    }
-
-    /// Bytes that may have been rejected.
-    pub fn block<const N: usize>(&mut self, block: Result<[u8; N], Error>) {
-        match block {
-            Ok(block) => self.bytes(&block),
-            Err(e) => self.refusal(e),
-        }
-    }
-
     /// A text that was made, or why it wasn't.
     pub fn made(&mut self, text: Result<String, Error>) {
         match text {
@@ -221,72 +205,16 @@ impl Show for i16 {
     }
 }
 
-/// A list longer than any row's.
-const MOST: usize = 1000;
-
-/// Shows the items and the error that ends them, and says how many items came.
-fn show_items<W: FallibleIterator>(walk: &mut W, out: &mut Shown) -> usize
-where
-    W::Item: Show,
-{
-    for received in 0..MOST {
-        match walk.next() {
-            Ok(Some(item)) => item.show(out),
-            Ok(None) => return received,
-            Err(e) => {
-                out.refusal(e);
-                return received;
-            }
-        }
-    }
-    out.word("endless");
-    MOST
-}
-
-/// What an iterator returns after its last item: whether it gives one more.
-fn end_of<W: FallibleIterator>(walk: &mut W) -> Result<bool, Error>
-where
-    W::Item: Drop,
-{
-    match walk.next() {
-        Ok(item) => Ok(item.is_some()),
-        Err(e) => Err(e),
+/// A transaction.
+impl Show for u64 {
+    fn show(self, out: &mut Shown) {
+        out.number(self);
     }
 }
 
-/// Whether the end is answered twice, and nothing is announced there.
-fn is_over<W: FallibleIterator>(walk: &mut W) -> bool
-where
-    W::Item: Drop,
-{
-    let end = end_of(walk);
-    end != Ok(true) && end_of(walk) == end && walk.size_hint().0 == 0
-}
-
-/// Shows how many items were announced, where that isn't how many came.
-fn show_announced(announced: (usize, Option<usize>), received: usize, out: &mut Shown) {
-    match announced {
-        (least, Some(most)) if least == received && most == received => {}
-        (0, None) => out.word("of any"),
-        (least, _) => {
-            out.word("of");
-            out.number(least);
-        }
-    }
-}
-
-/// Shows an iterator as a list, `[ .. ]`; after it `of` and how many were announced, where that isn't how many came;
-/// and `unsteady` where the end isn't answered again.
-pub fn show_walk<W: FallibleIterator + Drop>(mut walk: W, out: &mut Shown)
-where
-    W::Item: Show + Drop,
-{
-    let announced = walk.size_hint();
-    out.word("[");
-    let received = show_items(&mut walk, out);
-    out.word("]");
-    show_announced(announced, received, out);
-    if !is_over(&mut walk) {
-        out.word("unsteady");
+/// Bytes.
+impl Show for &[u8] {
+    fn show(self, out: &mut Shown) {
+        out.bytes(self);
     }
 }

@@ -45,10 +45,11 @@ fn is_refused(alloc: Global, type_oid: u32, bytes: &[u8], number: u64, out: &mut
 }
 
 impl Answers for ValueTexts {
-    fn show(alloc: Global, call: &str, words: &mut Words<'_>, out: &mut Shown) {
+    fn show(call: &str, words: &mut Words<'_>, out: &mut Shown) {
         if call != "text_of" {
             words.fail_row();
         }
+        let alloc = out.alloc();
         let type_oid = words.number();
         let bytes = words.bytes();
         show_text(alloc, type_oid, bytes, out);

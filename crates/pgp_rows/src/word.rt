@@ -106,8 +106,8 @@ pub fn words_of(alloc: Global, text: &str) -> Result<Vec<Word>, Fault> {
 /// The bytes of all words of a text.
 pub fn bytes_of(alloc: Global, text: &str) -> Result<Vec<u8>, Fault> {
     let all = words_of(alloc, text)?;
-    let mut words = Words::new(&all);
-    let bytes = words.joined(alloc);
+    let mut words = Words::new(alloc, &all);
+    let bytes = words.joined();
     match words.end() {
         Ok(()) => Ok(bytes),
         Err(fault) => Err(fault),
@@ -117,6 +117,7 @@ pub fn bytes_of(alloc: Global, text: &str) -> Result<Vec<u8>, Fault> {
 /// Words that are read from the left. A word that isn't there, or is of another kind, is remembered as a fault, which the end says.
 #[derive(Drop)]
 pub struct Words<'w> {
+    alloc: Global,
     rest: &'w [Word],
     fault: Option<Fault>,
 }
@@ -127,11 +128,16 @@ pub trait Item<'w> {
 }
 
 impl<'w> Words<'w> {
-    pub fn new(words: &'w [Word]) -> Words<'w> {
+    pub fn new(alloc: Global, words: &'w [Word]) -> Words<'w> {
         Words {
+            alloc,
             rest: words,
             fault: None,
         }
+    }
+
+    pub fn alloc(&self) -> Global {
+        self.alloc
     }
 
     /// Remembers a fault.
@@ -162,10 +168,19 @@ impl<'w> Words<'w> {
     }
 
     /// The next word has to be this one.
-    fn expect(&mut self, name: &str) {
+    pub fn expect(&mut self, name: &str) {
         if !self.takes(name) {
             self.fail_row();
         }
+    }
+
+    /// The next word has to be one of these two: whether it is the first.
+    pub fn either(&mut self, first: &str, second: &str) -> bool {
+        let is_first = self.takes(first);
+        if !is_first {
+            self.expect(second);
+        }
+        is_first
     }
 
     fn word(&mut self) -> Option<&'w Word> {
@@ -244,9 +259,14 @@ impl<'w> Words<'w> {
         N::default()
     }
 
+    /// The eight bytes of a coordinate.
+    pub fn coordinate(&mut self) -> u64 {
+        u64::from_be_bytes(self.block())
+    }
+
     /// A list, `[ .. ]`.
-    pub fn list<T: Item<'w> + Drop>(&mut self, alloc: Global) -> Vec<T> {
-        let mut items = Vec::new(alloc);
+    pub fn list<T: Item<'w> + Drop>(&mut self) -> Vec<T> {
+        let mut items = Vec::new(self.alloc);
         self.expect("[");
         for _ in 0..self.rest.len() {
             if self.takes("]") {
@@ -262,8 +282,8 @@ impl<'w> Words<'w> {
     }
 
     /// The bytes of all words that are left.
-    pub fn joined(&mut self, alloc: Global) -> Vec<u8> {
-        let mut bytes = Vec::new(alloc);
+    pub fn joined(&mut self) -> Vec<u8> {
+        let mut bytes = Vec::new(self.alloc);
         for _ in 0..self.rest.len() {
             if bytes.extend_from_slice(self.bytes()).is_err() {
                 self.fail(Fault::Memory);
@@ -299,6 +319,13 @@ impl<'w> Item<'w> for u16 {
 /// A format.
 impl<'w> Item<'w> for i16 {
     fn read(words: &mut Words<'w>) -> i16 {
+        words.number()
+    }
+}
+
+/// A transaction.
+impl<'w> Item<'w> for u64 {
+    fn read(words: &mut Words<'w>) -> u64 {
         words.number()
     }
 }

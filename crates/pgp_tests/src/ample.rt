@@ -126,26 +126,15 @@ fn long_passwords_have_verifiers(rt: HostRuntime) {
     let short = joined(rt.alloc(), "", "p", 1000, "");
     let password = joined(rt.alloc(), "", "p", 100_000, "");
     let name = joined(rt.alloc(), "", "u", 100_000, "");
-    made(
-        &rt,
-        scram_sha_256_salt(rt.alloc(), short.as_bytes(), SALT, &NoPrep),
-        "SCRAM-SHA-256$4096:AQIDBAUGBwgJCgsMDQ4PEA==$MqHTeIBAypAlamHflntsk3zPy83+iYEDYEVin3aoA0I=:7QXhJ4hzUp9xadcB9Htgr/vq1ByQLTHpg7TSvQUfst8=",
-    );
-    made(
-        &rt,
-        md5(rt.alloc(), password.as_bytes(), &name),
-        "md553bd144500396c93c81d33cd009a3acd",
-    );
-    made(
-        &rt,
-        md5_hash(
-            rt.alloc(),
-            name.as_bytes(),
-            password.as_bytes(),
-            [1, 2, 3, 4],
-        ),
-        "md56c6ea7c94ba1b5d4ec344a8c55f0595e",
-    );
+    let verifier = scram_sha_256_salt(rt.alloc(), short.as_bytes(), SALT, &NoPrep);
+    let wanted =
+        "SCRAM-SHA-256$4096:AQIDBAUGBwgJCgsMDQ4PEA==$MqHTeIBAypAlamHflntsk3zPy83+iYEDYEVin3aoA0I=:7QXhJ4hzUp9xadcB9Htgr/vq1ByQLTHpg7TSvQUfst8=";
+    made(&rt, verifier, wanted);
+    let key = md5(rt.alloc(), password.as_bytes(), &name);
+    made(&rt, key, "md553bd144500396c93c81d33cd009a3acd");
+    let (name, password) = (name.as_bytes(), password.as_bytes());
+    let answer = md5_hash(rt.alloc(), name, password, [1, 2, 3, 4]);
+    made(&rt, answer, "md56c6ea7c94ba1b5d4ec344a8c55f0595e");
 }
 
 fn copy(data: &[u8], buf: &mut BytesMut) -> Result<(), Error> {
@@ -282,11 +271,8 @@ fn a_long_list_of_names_is_sent(rt: HostRuntime) -> Result<(), Fail> {
     let sent = joined_bytes(rt.alloc(), open, b"\0\0\0\x04name", 10_000, b"\0\0");
     holds(&rt, buf.as_slice() == sent.as_slice());
     let mut packet = BytesMut::new(rt.alloc());
-    same(
-        &rt,
-        startup_message(parameters.iter().copied(), &mut packet),
-        Ok(()),
-    );
+    let answer = startup_message(parameters.iter().copied(), &mut packet);
+    same(&rt, answer, Ok(()));
     let open = b"\0\x01\x38\x89\0\x03\0\0";
     let sent = joined_bytes(rt.alloc(), open, b"name\0of\0", 10_000, b"\0");
     holds(&rt, packet.as_slice() == sent.as_slice());

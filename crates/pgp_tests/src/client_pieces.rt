@@ -150,29 +150,20 @@ fn refusal(parser: &mut ClientParser, piece: &mut &[u8]) -> Option<ParserError> 
 fn limit_of_opening_packets(rt: HostRuntime) {
     let mut parser = ClientParser::new(rt.alloc(), SERVER);
     let mut piece = b"\0\0\x27\x11".as_slice();
-    same(
-        &rt,
-        refusal(&mut parser, &mut piece),
-        Some(ParserError::TooLong(10_001)),
-    );
+    let refused = refusal(&mut parser, &mut piece);
+    same(&rt, refused, Some(ParserError::TooLong(10_001)));
     same(&rt, piece, b"\0\0\x27\x11".as_slice());
     holds(&rt, parser.rest().is_empty());
 
     let mut parser = ClientParser::new(rt.alloc(), SERVER);
     same(&rt, refusal(&mut parser, &mut b"\0\0".as_slice()), None);
-    same(
-        &rt,
-        refusal(&mut parser, &mut b"\x27\x11".as_slice()),
-        Some(ParserError::TooLong(10_001)),
-    );
+    let refused = refusal(&mut parser, &mut b"\x27\x11".as_slice());
+    same(&rt, refused, Some(ParserError::TooLong(10_001)));
     same(&rt, parser.rest(), b"\0\0".as_slice());
 
     let mut parser = ClientParser::new(rt.alloc(), SERVER);
-    same(
-        &rt,
-        refusal(&mut parser, &mut b"\0\0\x27\x10\0\x03".as_slice()),
-        None,
-    );
+    let refused = refusal(&mut parser, &mut b"\0\0\x27\x10\0\x03".as_slice());
+    same(&rt, refused, None);
     same(&rt, parser.rest(), b"\0\0\x27\x10\0\x03".as_slice());
 }
 
@@ -213,11 +204,8 @@ fn cut_refusals_stay(rt: HostRuntime) {
     let front = b"\0\0\0\x08\0".as_slice();
     let back = b"\x04\0\0Q".as_slice();
     let e = ParserError::Refused(ClientError::UnknownPacket(262_144));
-    same(
-        &rt,
-        refusal(&mut parser, &mut b"\0\0\0\x08\0".as_slice()),
-        None,
-    );
+    let refused = refusal(&mut parser, &mut b"\0\0\0\x08\0".as_slice());
+    same(&rt, refused, None);
     let mut piece = back;
     same(&rt, refusal(&mut parser, &mut piece), Some(e));
     same(&rt, refusal(&mut parser, &mut piece), Some(e));

@@ -46,11 +46,9 @@ fn a_number_and_a_null_are_bound(rt: HostRuntime) {
         &mut buf,
     );
     same(&rt, answer, Ok(()));
-    same(
-        &rt,
-        buf.as_slice(),
-        b"B\0\0\0\x1d\0s\0\0\x01\0\x01\0\x02\0\0\0\x04\0\0\0\x05\xff\xff\xff\xff\0\x01\0\x01".as_slice(),
-    );
+    let wanted =
+        b"B\0\0\0\x1d\0s\0\0\x01\0\x01\0\x02\0\0\0\x04\0\0\0\x05\xff\xff\xff\xff\0\x01\0\x01";
+    same(&rt, buf.as_slice(), wanted.as_slice());
 }
 
 // The array of these elements, as a value that is never a null.
@@ -93,11 +91,9 @@ fn an_array_is_bound(rt: HostRuntime) {
     let mut buf = BytesMut::new(rt.alloc());
     let answer = bind_array([Element::Number(5), Element::Null], &mut buf);
     same(&rt, answer, Ok(()));
-    same(
-        &rt,
-        buf.as_slice(),
-        b"B\0\0\0\x32\0\0\0\x01\0\x01\0\x01\0\0\0\x20\0\0\0\x01\0\0\0\x01\0\0\0\x17\0\0\0\x02\0\0\0\x01\0\0\0\x04\0\0\0\x05\xff\xff\xff\xff\0\0".as_slice(),
-    );
+    let wanted =
+        b"B\0\0\0\x32\0\0\0\x01\0\x01\0\x01\0\0\0\x20\0\0\0\x01\0\0\0\x01\0\0\0\x17\0\0\0\x02\0\0\0\x01\0\0\0\x04\0\0\0\x05\xff\xff\xff\xff\0\0";
+    same(&rt, buf.as_slice(), wanted.as_slice());
 }
 
 // The error of an element is the serializer's own, inside the array and inside the message.
@@ -105,10 +101,7 @@ fn an_array_is_bound(rt: HostRuntime) {
 fn an_array_that_is_refused_is_not_bound(rt: HostRuntime) {
     let mut buf = buffer(rt.alloc(), b"S\0\0\0\x04");
     let answer = bind_array([Element::Number(5), Element::Refuse], &mut buf);
-    same(
-        &rt,
-        answer,
-        Err(BindError::Conversion(BindError::Conversion(2))),
-    );
+    let refusal = BindError::Conversion(BindError::Conversion(2));
+    same(&rt, answer, Err(refusal));
     same(&rt, buf.as_slice(), b"S\0\0\0\x04".as_slice());
 }

@@ -4,7 +4,7 @@
 ghost use Rattle.std.specs.Prelude.{Some, [], ◌∷◌};
 
 use crate::checks::{holds, same};
-use crate::turns::{DONE, MANY, Tried, Turn, WRONG, refuse_each, refused};
+use crate::turns::{DONE, MANY, Tried, Turn, WRONG, refused};
 use pgp_auth::authentication::md5_hash;
 use pgp_auth::authentication::sasl::{
     ChannelBinding, NoPrep, SaslPrep, ScramError, ScramSha256, is_nonce,
@@ -72,12 +72,10 @@ fn text_of<A: Allocator + Copy>(
         Call::Verifier => scram_sha_256_salt(alloc, b"secret", SALT, &NoPrep),
         Call::MappedVerifier => scram_sha_256_salt(alloc, b"\xc3\xa9", SALT, &ToX),
         Call::PreparedVerifier => { scram_sha_256_salt(alloc, b"\xc3\xa9", SALT, prep) }
-        Call::DrawnVerifier => scram_sha_256(
-            alloc,
-            b"secret",
-            &NoPrep,
-            &mut Pcg32::seed_from_u64(1),
-        ),
+        Call::DrawnVerifier => {
+            let mut rng = Pcg32::seed_from_u64(1);
+            scram_sha_256(alloc, b"secret", &NoPrep, &mut rng)
+        }
     }
 }
 
@@ -92,11 +90,12 @@ struct Text<'a> {
 impl Tried for Text<'_> {
     fn outcome<A: Allocator + Copy>(&self, alloc: A, turn: Turn<'_>) -> Result<usize, Error> {
         turn.begin();
-        match text_of(alloc, self.prep, self.call) {
-            Ok(text) if text.as_str() == self.ample => Ok(DONE),
-            Ok(_) => Ok(WRONG),
-            Err(e) => Err(e),
-        }
+        let text = text_of(alloc, self.prep, self.call)?;
+        Ok(if text.as_str() == self.ample {
+            DONE
+        } else {
+            WRONG
+        })
     }
 }
 
@@ -143,11 +142,8 @@ fn is_raw(alloc: Global, password: &[u8]) -> Result<bool, Error> {
 
 #[test]
 fn a_mapping_without_memory_is_reported(rt: HostRuntime) {
-    same(
-        &rt,
-        is_raw(rt.alloc(), b"\xc3\xa9"),
-        Err(Error::OutOfMemory),
-    );
+    let mapped = is_raw(rt.alloc(), b"\xc3\xa9");
+    same(&rt, mapped, Err(Error::OutOfMemory));
     same(&rt, is_raw(rt.alloc(), b"secret"), Ok(true));
 }
 
@@ -170,47 +166,22 @@ fn made<A: Allocator + Copy>(
 
 const NONCE: &str = "9IZ2O01zb9IgiIZ1WJ/zgpJB";
 
-// A client whose nonce is drawn.
-fn with_drawn<A: Allocator + Copy>(
-    alloc: A,
-    binding: ChannelBinding<A>,
-) -> Result<ScramSha256<A>, Error> {
-    let mut rng = Pcg32::seed_from_u64(1);
-    made(ScramSha256::new(alloc, PASSWORD, binding, &ToX, &mut rng))
-}
-
-// A client with the nonce above.
-fn with_nonce<A: Allocator + Copy>(
-    alloc: A,
-    binding: ChannelBinding<A>,
-) -> Result<ScramSha256<A>, Error> {
-    match String::from_str(alloc, NONCE) {
-        Ok(nonce) => {
-            if is_nonce(&nonce) {
-                made(ScramSha256::with_nonce(alloc, PASSWORD, binding, nonce, &ToX))
-            } else {
-                Err(Error::InvalidCount)
-            }
-        }
-        Err(_) => Err(Error::OutOfMemory),
-    }
-}
-
+// A client whose nonce is drawn, or the one above.
 pub(crate) fn begun<A: Allocator + Copy>(
     alloc: A,
     is_drawn: bool,
 ) -> Result<ScramSha256<A>, Error> {
-    match Vec::from_slice(alloc, b"a hash") {
-        Ok(hash) => {
-            let binding = ChannelBinding::tls_server_end_point(hash);
-            if is_drawn {
-                with_drawn(alloc, binding)
-            } else {
-                with_nonce(alloc, binding)
-            }
-        }
-        Err(_) => Err(Error::OutOfMemory),
+    let hash = Vec::from_slice(alloc, b"a hash")?;
+    let binding = ChannelBinding::tls_server_end_point(hash);
+    if is_drawn {
+        let mut rng = Pcg32::seed_from_u64(1);
+        return made(ScramSha256::new(alloc, PASSWORD, binding, &ToX, &mut rng));
     }
+    let nonce = String::from_str(alloc, NONCE)?;
+    if !is_nonce(&nonce) {
+        return Err(Error::InvalidCount);
+    }
+    made(ScramSha256::with_nonce(alloc, PASSWORD, binding, nonce, &ToX))
 }
 
 // The server's first text for a client's first text: its nonce goes on, and it has a salt and a count.
@@ -262,17 +233,6 @@ struct Exchange<'a> {
 }
 
 impl Exchange<'_> {
-    fn end<A: Allocator + Copy>(
-        &self,
-        alloc: A,
-        client: &mut ScramSha256<A>,
-    ) -> Result<usize, Error> {
-        match server_first(alloc, client) {
-            Ok(first) => self.reported(steps(client, first.as_slice(), self.server_final)),
-            Err(_) => Err(Error::OutOfMemory),
-        }
-    }
-
     // A rejected `update` ends it, so that `finish` isn't due. A rejected `finish` is reported.
     fn reported(&self, steps: Option<(u8, u8, u64)>) -> Result<usize, Error> {
         match steps {
@@ -286,10 +246,9 @@ impl Exchange<'_> {
 impl Tried for Exchange<'_> {
     fn outcome<A: Allocator + Copy>(&self, alloc: A, turn: Turn<'_>) -> Result<usize, Error> {
         turn.begin();
-        match begun(alloc, self.is_drawn) {
-            Ok(mut client) => self.end(alloc, &mut client),
-            Err(e) => Err(e),
-        }
+        let mut client = begun(alloc, self.is_drawn)?;
+        let first = server_first(alloc, &client)?;
+        self.reported(steps(&mut client, first.as_slice(), self.server_final))
     }
 }
 
@@ -303,31 +262,24 @@ const LONG: Exchange<'static> = Exchange {
 #[test]
 fn exchanges_with_each_allocation_refused(rt: HostRuntime) {
     let exchanges = [
-        (
-            Exchange {
-                is_drawn: true,
-                ..LONG
-            },
-            Ok(DONE),
-        ),
-        (LONG, Ok(DONE)),
-        (
-            Exchange {
-                server_final: b"e=other-error",
-                ample: (0, 11, 3),
-                ..LONG
-            },
-            Ok(DONE),
-        ),
-        (
-            Exchange {
-                server_final: b"v=AAAA",
-                ..LONG
-            },
-            Ok(DONE),
-        ),
+        Exchange {
+            is_drawn: true,
+            ..LONG
+        },
+        LONG,
+        Exchange {
+            server_final: b"e=other-error",
+            ample: (0, 11, 3),
+            ..LONG
+        },
+        Exchange {
+            server_final: b"v=AAAA",
+            ..LONG
+        },
     ];
-    refuse_each(&rt, rt.alloc(), 10..MANY, &exchanges);
+    for exchange in &exchanges {
+        holds(&rt, refused(&rt, rt.alloc(), exchange, Ok(DONE)) >= 10);
+    }
 }
 
 // The client's first text with a nonce that the generator draws, if the text has 32 bytes.

@@ -3,7 +3,6 @@
 
 use crate::auth::{begun, number, server_first};
 use crate::turns::{Tried, Turn, WRONG, refuse_each};
-use pgp_auth::authentication::sasl::ScramSha256;
 use pgp_base::Error;
 use std::alloc::Allocator;
 
@@ -11,32 +10,16 @@ use std::alloc::Allocator;
 #[derive(Clone, Copy)]
 struct Last<'a>(&'a [u8]);
 
-impl Last<'_> {
-    // The number of its error. The turn begins after the first text.
-    fn refusal<A: Allocator + Copy>(
-        &self,
-        alloc: A,
-        client: &mut ScramSha256<A>,
-        turn: Turn<'_>,
-    ) -> Result<usize, Error> {
-        let first = server_first(alloc, client)?;
-        let updated = number(client.update(first.as_slice()));
-        turn.begin();
-        let finished = number(client.finish(self.0));
-        Ok(if updated == 0 {
-            usize::from(finished)
-        } else {
-            WRONG
-        })
-    }
-}
-
 impl Tried for Last<'_> {
+    // The number of its error. The turn begins after the first text.
     fn outcome<A: Allocator + Copy>(&self, alloc: A, turn: Turn<'_>) -> Result<usize, Error> {
-        match begun(alloc, false) {
-            Ok(mut client) => self.refusal(alloc, &mut client, turn),
-            Err(e) => Err(e),
+        let mut client = begun(alloc, false)?;
+        let first = server_first(alloc, &client)?;
+        if number(client.update(first.as_slice())) != 0 {
+            return Ok(WRONG);
         }
+        turn.begin();
+        Ok(usize::from(number(client.finish(self.0))))
     }
 }
 

@@ -29,16 +29,12 @@ fn verifier<A: Allocator + Copy>(alloc: A, is_mock: bool) -> Result<StoredVerifi
 }
 
 fn begun<A: Allocator + Copy>(alloc: A, is_mock: bool) -> Result<ScramServer<A>, Error> {
-    let Ok(nonce) = String::from_str(alloc, "%hvYDpWUa2RaTCAfuxFIlj)hNlF$k0") else {
-        return Err(Error::OutOfMemory);
-    };
+    let nonce = String::from_str(alloc, "%hvYDpWUa2RaTCAfuxFIlj)hNlF$k0")?;
     if !is_nonce(&nonce) {
         return Err(Error::InvalidCount);
     }
-    match verifier(alloc, is_mock) {
-        Ok(stored) => Ok(ScramServer::with_nonce(stored, ChannelOffer::NotOffered, nonce)),
-        Err(e) => Err(e),
-    }
+    let stored = verifier(alloc, is_mock)?;
+    Ok(ScramServer::with_nonce(stored, ChannelOffer::NotOffered, nonce))
 }
 
 // What the exchange comes to where the proof is accepted, and where it isn't.
@@ -49,11 +45,11 @@ const REFUSED: usize = 0;
 // How the exchange ends. After a first text that was refused memory it is over, and its last step takes no memory.
 fn end_of<A: Allocator + Copy>(server: &mut ScramServer<A>) -> Result<usize, Error> {
     match server.first(FIRST) {
-        Ok(_) => match server.finish(FINAL) {
-            Ok(_) => Ok(ACCEPTED),
-            Err(ServerError::OtherExchange) => Ok(WRONG),
-            Err(_) => Ok(REFUSED),
-        },
+        Ok(_) => Ok(match server.finish(FINAL) {
+            Ok(_) => ACCEPTED,
+            Err(ServerError::OtherExchange) => WRONG,
+            Err(_) => REFUSED,
+        }),
         Err(ServerError::OutOfMemory) => match server.finish(FINAL) {
             Err(ServerError::WrongState) => Err(Error::OutOfMemory),
             _ => Ok(WRONG),
@@ -70,10 +66,7 @@ struct Exchange {
 impl Tried for Exchange {
     fn outcome<A: Allocator + Copy>(&self, alloc: A, turn: Turn<'_>) -> Result<usize, Error> {
         turn.begin();
-        match begun(alloc, self.is_mock) {
-            Ok(mut server) => end_of(&mut server),
-            Err(e) => Err(e),
-        }
+        end_of(&mut begun(alloc, self.is_mock)?)
     }
 }
 

@@ -79,12 +79,8 @@ fn no_memory_past_the_limit(rt: HostRuntime) {
     };
     let mut parser = ClientParser::resume(&alloc, limits, true);
     let mut piece = b"Q\0\0\0\x65SELECT".as_slice();
-    ask(
-        &rt,
-        &mut parser,
-        &mut piece,
-        &[Err(ParserError::TooLong(101))],
-    );
+    let too_long = [Err(ParserError::TooLong(101))];
+    ask(&rt, &mut parser, &mut piece, &too_long);
     same(&rt, piece.len(), 11);
     same(&rt, alloc.until_refusal.get(), 1);
 }

@@ -2,15 +2,14 @@
 //! formats of the PostgreSQL manual.
 #![tactic(auto, using(pgp_base::proofs::Parts::held_steps))]
 
-use crate::checks::{holds, same};
+use crate::checks::holds;
 use crate::turns::{DONE, Tried, Turn, WRONG, refused};
 use crate::writers::plain;
 use bytes::BytesMut;
 use pgp_base::{BindError, Buffer, Error, IsNull, put_u32};
 use pgp_frontend::{CopyData, ProtocolVersion};
 use postgres_protocol::session::ClientStream;
-use std::alloc::{Allocator, Global};
-use std::process::Abort;
+use std::alloc::Allocator;
 
 /// A startup packet with no parameters.
 const STARTUP: &[u8] = b"\0\0\0\x09\0\x03\0\0\0";
@@ -140,12 +139,21 @@ fn continue_by<B: Buffer>(name: &str, stream: &mut ClientStream<B>) -> Result<()
     }
 }
 
+/// Makes a call.
+fn make<B: Buffer>(
+    name: &str,
+    in_session: bool,
+    stream: &mut ClientStream<B>,
+) -> Result<(), Error> {
+    match in_session {
+        true => continue_by(name, stream),
+        false => begin(name, stream),
+    }
+}
+
 impl Made {
     fn make<B: Buffer>(&self, stream: &mut ClientStream<B>) -> Result<(), Error> {
-        match self.in_session {
-            true => continue_by(self.name, stream),
-            false => begin(self.name, stream),
-        }
+        make(self.name, self.in_session, stream)
     }
 
     /// A stream in which the call can be made: new, or of a session, with no room left.
@@ -194,21 +202,13 @@ impl Made {
 
 impl Tried for Made {
     fn outcome<A: Allocator + Copy>(&self, alloc: A, turn: Turn<'_>) -> Result<usize, Error> {
-        match self.stream(alloc) {
-            Ok(mut stream) => {
-                turn.begin();
-                self.end(&mut stream)
-            }
-            Err(e) => Err(e),
-        }
+        let mut stream = self.stream(alloc)?;
+        turn.begin();
+        self.end(&mut stream)
     }
 }
 
-/// The call writes its bytes. Where an allocation fails, which happens at least once, it changes neither the bytes nor the phase, and can be made again.
-fn refuse_call(rt: &impl Abort, alloc: Global, made: Made) {
-    holds(rt, refused(rt, alloc, &made, Ok(DONE)) > 0);
-}
-
+/// A call writes its bytes. Where an allocation fails, which happens at least once, it changes neither the bytes nor the phase, and can be made again.
 #[test]
 fn requests_with_each_allocation_refused(rt: HostRuntime) {
     for (in_session, calls) in [(false, OPENINGS.as_slice()), (true, &CALLS)] {
@@ -218,7 +218,7 @@ fn requests_with_each_allocation_refused(rt: HostRuntime) {
                 in_session,
                 written,
             };
-            refuse_call(&rt, rt.alloc(), made);
+            holds(&rt, refused(&rt, rt.alloc(), &made, Ok(DONE)) > 0);
         }
     }
 }
@@ -227,39 +227,21 @@ fn requests_with_each_allocation_refused(rt: HostRuntime) {
 const SESSION: &[u8] =
     b"\0\0\0\x14\0\x03\0\0user\0alice\0\0Q\0\0\0\x0dSELECT 1\0S\0\0\0\x04X\0\0\0\x04";
 
-/// The calls of that session.
-const SAID: [Made; 4] = [
-    Made {
-        name: "startup",
-        in_session: false,
-        written: b"",
-    },
-    Made {
-        name: "query",
-        in_session: true,
-        written: b"",
-    },
-    Made {
-        name: "sync",
-        in_session: true,
-        written: b"",
-    },
-    Made {
-        name: "terminate",
-        in_session: true,
-        written: b"",
-    },
+/// The calls of that session, and whether each comes in it.
+const SAID: [(&str, bool); 4] = [
+    ("startup", false),
+    ("query", true),
+    ("sync", true),
+    ("terminate", true),
 ];
 
 /// How many calls of that session were rejected, each of which is made again.
 fn made_again<B: Buffer>(stream: &mut ClientStream<B>) -> Result<usize, Error> {
     let mut again = 0usize;
-    for said in SAID {
-        if said.make(stream).is_err() {
+    for (name, in_session) in SAID {
+        if make(name, in_session, stream).is_err() {
             again = again.saturating_add(1);
-            if let Err(e) = said.make(stream) {
-                return Err(e);
-            }
+            make(name, in_session, stream)?;
         }
     }
     Ok(again)

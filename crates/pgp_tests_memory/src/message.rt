@@ -4,7 +4,7 @@
 
 use crate::checks::{holds, same};
 use crate::reads::{Read, WAITS, buffer, count, next_row, read_as};
-use crate::turns::{DONE, MANY, Tried, Turn, WRONG, refusals_of, refuse_each, refused};
+use crate::turns::{DONE, Tried, Turn, WRONG, refusals_of, refused};
 use bytes::{Bytes, BytesMut};
 use pgp_base::Error;
 use pgp_message::{DataRowBody, FrameParser, Message, Messages, read_frames};
@@ -43,9 +43,7 @@ impl Frame<'_> {
             false => Ok(WRONG),
         }
     }
-}
 
-impl Frame<'_> {
     // A refused frame is taken once memory is there.
     fn read_again<A: Allocator + Copy>(
         &self,
@@ -62,13 +60,9 @@ impl Frame<'_> {
 
 impl Tried for Frame<'_> {
     fn outcome<A: Allocator + Copy>(&self, alloc: A, turn: Turn<'_>) -> Result<usize, Error> {
-        match buffer(alloc, self.bytes) {
-            Ok(mut buf) => {
-                turn.begin();
-                self.read_again(&mut FrameParser::new(), &mut buf)
-            }
-            Err(e) => Err(e),
-        }
+        let mut buf = buffer(alloc, self.bytes)?;
+        turn.begin();
+        self.read_again(&mut FrameParser::new(), &mut buf)
     }
 }
 
@@ -97,33 +91,34 @@ fn unfinished_frame_with_each_allocation_refused(rt: HostRuntime) {
     holds(&rt, refusals.asked > 0);
 }
 
-// A frame of no copy.
-fn plain(bytes: &[u8]) -> Frame<'_> {
-    Frame {
-        bytes,
-        data: None,
-        headers: 0,
-    }
-}
-
 // A message that keeps no bytes of its frame asks for no memory, and neither does a frame of no message.
 #[test]
 fn bare_frames_ask_for_no_memory(rt: HostRuntime) {
-    let frames = [
-        (plain(b"\x31\0\0\0\x04"), Ok(DONE)),
-        (plain(b"\x5a\0\0\0\x05I"), Ok(DONE)),
-        (plain(b"\x52\0\0\0\x08\0\0\0\0"), Ok(DONE)),
-        (plain(b"\x52\0\0\0\x0c\0\0\0\x05\x01\x02\x03\x04"), Ok(DONE)),
-        (plain(b"\x5a\0\0\0\x06I\0"), Err(Error::NotDrained)),
-        (plain(b"\x57\0\0\0\x06ab"), Err(Error::UnknownTag(0x57))),
+    let frames: [(&[u8], Result<usize, Error>); 8] = [
+        (b"\x31\0\0\0\x04", Ok(DONE)),
+        (b"\x5a\0\0\0\x05I", Ok(DONE)),
+        (b"\x52\0\0\0\x08\0\0\0\0", Ok(DONE)),
+        (b"\x52\0\0\0\x0c\0\0\0\x05\x01\x02\x03\x04", Ok(DONE)),
+        (b"\x5a\0\0\0\x06I\0", Err(Error::NotDrained)),
+        (b"\x57\0\0\0\x06ab", Err(Error::UnknownTag(0x57))),
         (
-            plain(b"\x52\0\0\0\x08\0\0\0\x63"),
+            b"\x52\0\0\0\x08\0\0\0\x63",
             Err(Error::UnknownAuthentication(99)),
         ),
-        (plain(b"\x52\0\0\0\x06\0\0"), Err(Error::UnexpectedEof)),
+        (b"\x52\0\0\0\x06\0\0", Err(Error::UnexpectedEof)),
     ];
-    refuse_each(&rt, rt.alloc(), 0..1, &frames);
+    for (bytes, end) in frames {
+        let frame = Frame {
+            bytes,
+            data: None,
+            headers: 0,
+        };
+        same(&rt, refused(&rt, rt.alloc(), &frame, end), 0);
+    }
 }
+
+const FIVE_NULLS: &[u8] =
+    b"\x44\0\0\0\x1a\0\x05\xff\xff\xff\xff\xff\xff\xff\xff\xff\xff\xff\xff\xff\xff\xff\xff\xff\xff\xff\xff";
 
 // What is made of frames that came.
 #[derive(Clone, Copy)]
@@ -196,11 +191,8 @@ fn read_frames_with_each_allocation_refused(rt: HostRuntime) {
 
 // Whether a row's copy holds these bytes.
 fn cloned<A: Allocator + Copy>(row: &DataRowBody<Bytes<A>>, buffer: &[u8]) -> Result<usize, Error> {
-    match row.clone() {
-        Ok(copy) if copy.buffer() == buffer => Ok(DONE),
-        Ok(_) => Ok(WRONG),
-        Err(e) => Err(e),
-    }
+    let copy = row.clone()?;
+    Ok(if copy.buffer() == buffer { DONE } else { WRONG })
 }
 
 fn copied<A: Allocator + Copy>(alloc: A, turn: Turn<'_>, frame: &[u8]) -> Result<usize, Error> {
@@ -244,48 +236,35 @@ fn items<A: Allocator + Copy>(alloc: A, turn: Turn<'_>, frame: &[u8]) -> Result<
     received
 }
 
-const LISTS: [(Made<'static>, Result<usize, Error>); 7] = [
+// The frames of such bodies, and how many items each has.
+const LISTS: [(&[u8], usize); 7] = [
+    (b"\x47\0\0\0\x11\0\0\x05\0\x01\0\x01\0\x01\0\x01\0\x01", 5),
     (
-        Made::Items(b"\x47\0\0\0\x11\0\0\x05\0\x01\0\x01\0\x01\0\x01\0\x01"),
-        Ok(5),
+        b"\x74\0\0\0\x1a\0\x05\0\0\0\x17\0\0\0\x17\0\0\0\x17\0\0\0\x17\0\0\0\x17",
+        5,
     ),
+    (FIVE_NULLS, 5),
     (
-        Made::Items(b"\x74\0\0\0\x1a\0\x05\0\0\0\x17\0\0\0\x17\0\0\0\x17\0\0\0\x17\0\0\0\x17"),
-        Ok(5),
+        b"\x54\0\0\0\x1a\0\x01a\0\0\0\0\0\0\0\0\0\0\x17\0\x04\xff\xff\xff\xff\0\0",
+        1,
     ),
-    (
-        Made::Items(
-            b"\x44\0\0\0\x1a\0\x05\xff\xff\xff\xff\xff\xff\xff\xff\xff\xff\xff\xff\xff\xff\xff\xff\xff\xff\xff\xff",
-        ),
-        Ok(5),
-    ),
-    (
-        Made::Items(b"\x54\0\0\0\x1a\0\x01a\0\0\0\0\0\0\0\0\0\0\x17\0\x04\xff\xff\xff\xff\0\0"),
-        Ok(1),
-    ),
-    (Made::Items(b"\x45\0\0\0\x14Sa\0Cb\0Mc\0Dd\0He\0\0"), Ok(5)),
-    (
-        Made::Items(b"\x52\0\0\0\x13\0\0\0\x0aa\0b\0c\0d\0e\0\0"),
-        Ok(5),
-    ),
-    (
-        Made::Items(b"\x76\0\0\0\x16\0\x03\0\0\0\0\0\x05a\0b\0c\0d\0e\0"),
-        Ok(5),
-    ),
+    (b"\x45\0\0\0\x14Sa\0Cb\0Mc\0Dd\0He\0\0", 5),
+    (b"\x52\0\0\0\x13\0\0\0\x0aa\0b\0c\0d\0e\0\0", 5),
+    (b"\x76\0\0\0\x16\0\x03\0\0\0\0\0\x05a\0b\0c\0d\0e\0", 5),
 ];
 
 #[test]
 fn collect_with_each_allocation_refused(rt: HostRuntime) {
-    refuse_each(&rt, rt.alloc(), 1..MANY, &LISTS);
+    for (frame, count) in LISTS {
+        let asked = refused(&rt, rt.alloc(), &Made::Items(frame), Ok(count));
+        holds(&rt, asked > 0);
+    }
 }
 
 // How many columns the table of the first message has, which has to be a row.
 fn columns<A: Allocator + Copy>(alloc: A, bytes: &[u8]) -> Result<usize, Error> {
     match Messages::new(bytes).next_row() {
-        Some(row) => match row.index(alloc) {
-            Ok(index) => Ok(index.len()),
-            Err(e) => Err(e),
-        },
+        Some(row) => Ok(row.index(alloc)?.len()),
         None => Err(Error::InvalidCount),
     }
 }
@@ -293,17 +272,15 @@ fn columns<A: Allocator + Copy>(alloc: A, bytes: &[u8]) -> Result<usize, Error> 
 // The table of a short row is one allocation, that of a row without columns none, and neither one of a row that is cut.
 #[test]
 fn index_with_each_allocation_refused(rt: HostRuntime) {
-    let five =
-        b"\x44\0\0\0\x1a\0\x05\xff\xff\xff\xff\xff\xff\xff\xff\xff\xff\xff\xff\xff\xff\xff\xff\xff\xff\xff\xff";
-    refuse_each(&rt, rt.alloc(), 1..2, &[(Made::Table(five), Ok(5))]);
-    let others = [
-        (Made::Table(b"\x44\0\0\0\x06\0\0"), Ok(0)),
-        (
-            Made::Table(b"\x44\0\0\0\x0a\xff\xff\0\0\0\x05"),
-            Err(Error::UnexpectedEof),
-        ),
+    let cut = b"\x44\0\0\0\x0a\xff\xff\0\0\0\x05";
+    let rows: [(&[u8], _, u64); 3] = [
+        (FIVE_NULLS, Ok(5), 1),
+        (b"\x44\0\0\0\x06\0\0", Ok(0), 0),
+        (cut, Err(Error::UnexpectedEof), 0),
     ];
-    refuse_each(&rt, rt.alloc(), 0..1, &others);
+    for (row, end, asked) in rows {
+        same(&rt, refused(&rt, rt.alloc(), &Made::Table(row), end), asked);
+    }
 }
 
 // Front, and so many bytes of this value after it.

@@ -85,11 +85,8 @@ const REST: &[u8] = b"Z\0\0\0\x03";
 fn take_each(rt: &impl Abort, parser: &mut StreamParser) {
     let mut marks = Marks::new();
     for byte in &HOSTILE {
-        same(
-            rt,
-            read_pieces(parser, &[&[*byte]], true, &mut marks),
-            Ok(()),
-        );
+        let read = read_pieces(parser, &[&[*byte]], true, &mut marks);
+        same(rt, read, Ok(()));
     }
     holds(rt, has_all(parser, marks));
     let read = read_pieces(parser, &[b"1\0\0\0\x04"], true, &mut marks);

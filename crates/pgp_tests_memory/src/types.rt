@@ -21,22 +21,10 @@ impl Tried for Walk<'_> {
     fn outcome<A: Allocator + Copy>(&self, alloc: A, turn: Turn<'_>) -> Result<usize, Error> {
         turn.begin();
         match self {
-            Walk::Pairs(value) => match hstore_from_sql(value) {
-                Ok(pairs) => count(alloc, pairs),
-                Err(e) => Err(e),
-            },
-            Walk::Points(value) => match path_from_sql(value) {
-                Ok(path) => count(alloc, path.points()),
-                Err(e) => Err(e),
-            },
-            Walk::Dimensions(value) => match array_from_sql(value) {
-                Ok(array) => count(alloc, array.dimensions()),
-                Err(e) => Err(e),
-            },
-            Walk::Elements(value) => match array_from_sql(value) {
-                Ok(array) => count(alloc, array.values()),
-                Err(e) => Err(e),
-            },
+            Walk::Pairs(value) => count(alloc, hstore_from_sql(value)?),
+            Walk::Points(value) => count(alloc, path_from_sql(value)?.points()),
+            Walk::Dimensions(value) => count(alloc, array_from_sql(value)?.dimensions()),
+            Walk::Elements(value) => count(alloc, array_from_sql(value)?.values()),
         }
     }
 }
@@ -46,11 +34,8 @@ impl Tried for Walk<'_> {
 fn collect_reserves_nothing_by_the_count(rt: HostRuntime) {
     let array = b"\0\0\0\x01\0\0\0\0\0\0\0\x17\x7f\xff\xff\xff\0\0\0\x01";
     let end = Err(Error::UnexpectedEof);
-    same(
-        &rt,
-        refused(&rt, rt.alloc(), &Walk::Elements(array), end),
-        0,
-    );
+    let asked = refused(&rt, rt.alloc(), &Walk::Elements(array), end);
+    same(&rt, asked, 0);
 }
 
 const PAIRS: &[u8] =

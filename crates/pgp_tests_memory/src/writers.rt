@@ -90,13 +90,9 @@ impl Written<'_> {
 
 impl Tried for Written<'_> {
     fn outcome<A: Allocator + Copy>(&self, alloc: A, turn: Turn<'_>) -> Result<usize, Error> {
-        match full(alloc) {
-            Ok(mut buf) => {
-                turn.begin();
-                self.write(&mut buf)
-            }
-            Err(_) => Err(Error::OutOfMemory),
-        }
+        let mut buf = full(alloc)?;
+        turn.begin();
+        self.write(&mut buf)
     }
 }
 

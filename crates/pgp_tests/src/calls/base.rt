@@ -75,11 +75,8 @@ fn parts_stand_behind_a_length_or_a_count(rt: HostRuntime) {
     buf.truncate(0);
     same(&rt, write_value(false, false, &mut buf), Ok(()));
     same(&rt, write_value(true, false, &mut buf), Ok(()));
-    same(
-        &rt,
-        buf.as_slice(),
-        b"\0\0\0\x01a\xff\xff\xff\xff".as_slice(),
-    );
+    let wanted = b"\0\0\0\x01a\xff\xff\xff\xff";
+    same(&rt, buf.as_slice(), wanted.as_slice());
 
     buf.truncate(0);
     same(&rt, write_bytes(97..98, &mut buf), Ok(()));
@@ -91,21 +88,12 @@ fn a_refusal_restores_the_buffer(rt: HostRuntime) {
     let mut buf = BytesMut::new(rt.alloc());
     same(&rt, write_cstr(b"x", &mut buf), Ok(()));
     same(&rt, write_cstr(b"a\0b", &mut buf), Err(Error::EmbeddedNull));
-    same(
-        &rt,
-        write_text(b"a\0b", &mut buf),
-        Err(BindError::Conversion(Error::EmbeddedNull)),
-    );
-    same(
-        &rt,
-        write_value(false, true, &mut buf),
-        Err(BindError::Conversion(Error::NotUtf8)),
-    );
-    same(
-        &rt,
-        write_bytes(0..65_536, &mut buf),
-        Err(BindError::Serialization(Error::TooLarge)),
-    );
+    let answer = write_text(b"a\0b", &mut buf);
+    same(&rt, answer, Err(BindError::Conversion(Error::EmbeddedNull)));
+    let answer = write_value(false, true, &mut buf);
+    same(&rt, answer, Err(BindError::Conversion(Error::NotUtf8)));
+    let answer = write_bytes(0..65_536, &mut buf);
+    same(&rt, answer, Err(BindError::Serialization(Error::TooLarge)));
     same(&rt, buf.as_slice(), b"x\0".as_slice());
 }
 
@@ -180,11 +168,8 @@ fn a_text_takes_the_room_of_its_bytes(rt: HostRuntime) {
 
     let mut room = [0xffu8; 6];
     let mut window = Window::new(&mut room[..3]);
-    same(
-        &rt,
-        write_cstr(b"abc", &mut window),
-        Err(Error::OutOfMemory),
-    );
+    let answer = write_cstr(b"abc", &mut window);
+    same(&rt, answer, Err(Error::OutOfMemory));
     same(&rt, window.len(), 0);
     same(&rt, &room[3..], b"\xff\xff\xff".as_slice());
 }

@@ -79,11 +79,8 @@ fn a_row_is_cloned(rt: HostRuntime) -> Result<(), Fail> {
 fn the_places_of_a_row_are_collected(rt: HostRuntime) -> Result<(), Fail> {
     let whole = row(rt.alloc(), ROW)?;
     let places = whole.ranges().collect(rt.alloc())?;
-    same(
-        &rt,
-        places.as_slice(),
-        [Some(4..5), None, Some(13..13)].as_slice(),
-    );
+    let wanted = [Some(4..5), None, Some(13..13)];
+    same(&rt, places.as_slice(), wanted.as_slice());
     let cut = row(rt.alloc(), b"\x44\0\0\0\x0a\0\x01\0\0\0\x05")?;
     let places = cut.ranges().collect(rt.alloc());
     same(&rt, places.err(), Some(Error::UnexpectedEof));
@@ -166,11 +163,8 @@ fn a_parser_reads_the_same_however_the_bytes_are_cut(rt: HostRuntime) {
     }
     let fault: &[u8] = b"\x5a\0\0\0\x03\x31\0\0\0\x04";
     for cuts in 0..512u32 {
-        same(
-            &rt,
-            read_in_pieces(rt.alloc(), fault, cuts, &results),
-            Ok((0, 10, 1)),
-        );
+        let answer = read_in_pieces(rt.alloc(), fault, cuts, &results);
+        same(&rt, answer, Ok((0, 10, 1)));
     }
 }
 
@@ -180,18 +174,12 @@ fn the_header_of_a_long_frame_is_read_once(rt: HostRuntime) {
     for first in 0..20u32 {
         for second in 0..20u32 {
             let cuts = (1 << first) | (1 << second);
-            same(
-                &rt,
-                read_in_pieces(rt.alloc(), ROW, cuts, &row),
-                Ok((1, 0, 1)),
-            );
+            let answer = read_in_pieces(rt.alloc(), ROW, cuts, &row);
+            same(&rt, answer, Ok((1, 0, 1)));
         }
     }
-    same(
-        &rt,
-        read_in_pieces(rt.alloc(), ROW, u32::MAX, &row),
-        Ok((1, 0, 1)),
-    );
+    let answer = read_in_pieces(rt.alloc(), ROW, u32::MAX, &row);
+    same(&rt, answer, Ok((1, 0, 1)));
 }
 
 /// What stands there in a list of results.
@@ -263,24 +251,13 @@ fn read_found(alloc: Global, bytes: &[u8]) -> Result<Vec<Read<Bytes>>, Error> {
 
 #[test]
 fn found_frames_are_read_onto_a_list(rt: HostRuntime) -> Result<(), Fail> {
-    let list = read_found(rt.alloc(), FOUR_AND_A_CUT_ROW)?;
-    same(
-        &rt,
-        reported(list.as_slice(), 0),
-        Some(Err(Error::NotDrained)),
-    );
-    same(&rt, reported(list.as_slice(), 1), Some(Ok("ParseComplete")));
-    same(
-        &rt,
-        reported(list.as_slice(), 2),
-        Some(Ok("CommandComplete")),
-    );
-    same(
-        &rt,
-        reported(list.as_slice(), 3),
-        Some(Ok("AuthenticationOk")),
-    );
-    same(&rt, reported(list.as_slice(), 4), None);
+    let results = read_found(rt.alloc(), FOUR_AND_A_CUT_ROW)?;
+    let list = results.as_slice();
+    same(&rt, reported(list, 0), Some(Err(Error::NotDrained)));
+    same(&rt, reported(list, 1), Some(Ok("ParseComplete")));
+    same(&rt, reported(list, 2), Some(Ok("CommandComplete")));
+    same(&rt, reported(list, 3), Some(Ok("AuthenticationOk")));
+    same(&rt, reported(list, 4), None);
     Ok(())
 }
 

@@ -68,9 +68,7 @@ fn begin_and_end(rt: &impl Abort, stream: &mut ClientStream<BytesMut>) -> Result
 fn a_session(rt: HostRuntime) {
     let mut stream = ClientStream::<BytesMut>::new(rt.alloc());
     same(&rt, begin_and_end(&rt, &mut stream), Ok(()));
-    same(
-        &rt,
-        stream.bytes(),
-        b"\x00\x00\x00\x08\x04\xd2\x16\x2f\x00\x00\x00\x14\x00\x03\x00\x00user\x00alice\x00\x00Q\x00\x00\x00\x0dSELECT 1\x00S\x00\x00\x00\x04X\x00\x00\x00\x04".as_slice(),
-    );
+    let wanted =
+        b"\x00\x00\x00\x08\x04\xd2\x16\x2f\x00\x00\x00\x14\x00\x03\x00\x00user\x00alice\x00\x00Q\x00\x00\x00\x0dSELECT 1\x00S\x00\x00\x00\x04X\x00\x00\x00\x04";
+    same(&rt, stream.bytes(), wanted.as_slice());
 }

@@ -77,11 +77,9 @@ fn records_stand_in_an_array_in_a_record(rt: HostRuntime) {
         &mut buf,
     );
     same(&rt, answer, Ok(()));
-    same(
-        &rt,
-        buf.as_slice(),
-        b"S\0\0\0\x04\0\0\0\x01\0\0\x08\xef\0\0\0\x4c\0\0\0\x01\0\0\0\0\0\0\x08\xc9\0\0\0\x02\0\0\0\x01\0\0\0\x18\0\0\0\x02\0\0\0\x17\0\0\0\x04\0\0\0\x02\0\0\0\x17\xff\xff\xff\xff\0\0\0\x18\0\0\0\x02\0\0\0\x17\0\0\0\x04\0\0\0\x03\0\0\0\x17\xff\xff\xff\xff".as_slice(),
-    );
+    let wanted =
+        b"S\0\0\0\x04\0\0\0\x01\0\0\x08\xef\0\0\0\x4c\0\0\0\x01\0\0\0\0\0\0\x08\xc9\0\0\0\x02\0\0\0\x01\0\0\0\x18\0\0\0\x02\0\0\0\x17\0\0\0\x04\0\0\0\x02\0\0\0\x17\xff\xff\xff\xff\0\0\0\x18\0\0\0\x02\0\0\0\x17\0\0\0\x04\0\0\0\x03\0\0\0\x17\xff\xff\xff\xff";
+    same(&rt, buf.as_slice(), wanted.as_slice());
 }
 
 // The serializer isn't called after its error, and the bytes before the record stay.

@@ -47,11 +47,8 @@ fn too_many_columns_are_refused(rt: HostRuntime) -> Result<(), Fail> {
     let columns = vec![in rt.alloc(); NAMELESS; MANY]?;
     let mut buf = BytesMut::new(rt.alloc());
     same(&rt, ready_for_query(b'I', &mut buf), Ok(()));
-    same(
-        &rt,
-        row_description(&columns, &mut buf),
-        Err(Error::TooLarge),
-    );
+    let answer = row_description(&columns, &mut buf);
+    same(&rt, answer, Err(Error::TooLarge));
     same(&rt, buf.as_slice(), READY);
     same(&rt, row_description(&columns[1..], &mut buf), Ok(()));
     same(&rt, buf.len(), 6 + 7 + 19 * 65_535);
@@ -66,16 +63,10 @@ fn too_many_types_and_formats_are_refused(rt: HostRuntime) -> Result<(), Fail> {
     let formats = vec![in rt.alloc(); 1u16; MANY]?;
     let mut buf = BytesMut::new(rt.alloc());
     same(&rt, ready_for_query(b'I', &mut buf), Ok(()));
-    same(
-        &rt,
-        parameter_description(&types, &mut buf),
-        Err(Error::TooLarge),
-    );
-    same(
-        &rt,
-        copy_out_response(0, &formats, &mut buf),
-        Err(Error::TooLarge),
-    );
+    let answer = parameter_description(&types, &mut buf);
+    same(&rt, answer, Err(Error::TooLarge));
+    let answer = copy_out_response(0, &formats, &mut buf);
+    same(&rt, answer, Err(Error::TooLarge));
     same(&rt, buf.as_slice(), READY);
     same(&rt, parameter_description(&types[1..], &mut buf), Ok(()));
     same(&rt, copy_out_response(0, &formats[1..], &mut buf), Ok(()));

@@ -291,10 +291,8 @@ fn is_refused(
     let is_refused = heap.until_refusal.get() == 0;
     same_at(rt, number, status, u8::from(is_refused));
     if is_refused {
-        holds(
-            rt,
-            errors.as_slice() == b"pgtrace: out of memory\n".as_slice(),
-        );
+        let wanted = b"pgtrace: out of memory\n";
+        holds(rt, errors.as_slice() == wanted.as_slice());
         holds(rt, lines.starts_with(output.as_slice()));
     } else {
         holds(rt, errors.as_slice() == listing.reported.as_bytes());

@@ -29,23 +29,14 @@ fn arrays_are_lists(rt: HostRuntime) -> Result<(), Fail> {
         return Err(Error::UnexpectedEof.into());
     };
     same(&rt, list.as_slice(), [Some(7), None].as_slice());
-    same(
-        &rt,
-        size_of(rt.alloc(), &index, 1),
-        Err(ArrayError::Dimensions),
-    );
+    let size = size_of(rt.alloc(), &index, 1);
+    same(&rt, size, Err(ArrayError::Dimensions));
     same(&rt, size_of(rt.alloc(), &index, 2), Ok(Some(0)));
     same(&rt, size_of(rt.alloc(), &index, 3), Ok(None));
-    same(
-        &rt,
-        size_of(rt.alloc(), &index, 4),
-        Err(ArrayError::Value(Error::UnexpectedEof)),
-    );
-    same(
-        &rt,
-        size_of(rt.alloc(), &index, 5),
-        Err(ArrayError::NoColumn),
-    );
+    let size = size_of(rt.alloc(), &index, 4);
+    same(&rt, size, Err(ArrayError::Value(Error::UnexpectedEof)));
+    let size = size_of(rt.alloc(), &index, 5);
+    same(&rt, size, Err(ArrayError::NoColumn));
     Ok(())
 }
 
@@ -66,10 +57,8 @@ fn size_of(
 fn an_array_is_bound(rt: HostRuntime) -> Result<(), Fail> {
     let mut buf = BytesMut::new(rt.alloc());
     holds(&rt, bind_int4s(&[Some(7), None], &mut buf).is_ok());
-    same(
-        &rt,
-        buf.as_slice(),
-        b"B\x00\x00\x00\x32\x00\x00\x00\x01\x00\x01\x00\x01\x00\x00\x00\x20\x00\x00\x00\x01\x00\x00\x00\x01\x00\x00\x00\x17\x00\x00\x00\x02\x00\x00\x00\x01\x00\x00\x00\x04\x00\x00\x00\x07\xff\xff\xff\xff\x00\x00".as_slice(),
-    );
+    let wanted =
+        b"B\x00\x00\x00\x32\x00\x00\x00\x01\x00\x01\x00\x01\x00\x00\x00\x20\x00\x00\x00\x01\x00\x00\x00\x01\x00\x00\x00\x17\x00\x00\x00\x02\x00\x00\x00\x01\x00\x00\x00\x04\x00\x00\x00\x07\xff\xff\xff\xff\x00\x00";
+    same(&rt, buf.as_slice(), wanted.as_slice());
     Ok(())
 }

@@ -46,33 +46,22 @@ fn a_query_is_appended(rt: HostRuntime) -> Result<(), Fail> {
 fn a_query_is_written_in_place(rt: HostRuntime) -> Result<(), Fail> {
     let mut room = [0xffu8; 16];
     same(&rt, ask_in_place("SELECT 1", &mut room), Ok(14));
-    same(
-        &rt,
-        room.as_slice(),
-        b"Q\x00\x00\x00\x0dSELECT 1\x00\xff\xff".as_slice(),
-    );
+    let wanted = b"Q\x00\x00\x00\x0dSELECT 1\x00\xff\xff";
+    same(&rt, room.as_slice(), wanted.as_slice());
     let mut short = [0xffu8; 13];
-    same(
-        &rt,
-        ask_in_place("SELECT 1", &mut short),
-        Err(Error::OutOfMemory),
-    );
-    same(
-        &rt,
-        ask_in_place("a\0b", &mut room),
-        Err(Error::EmbeddedNull),
-    );
+    let answer = ask_in_place("SELECT 1", &mut short);
+    same(&rt, answer, Err(Error::OutOfMemory));
+    let answer = ask_in_place("a\0b", &mut room);
+    same(&rt, answer, Err(Error::EmbeddedNull));
     Ok(())
 }
 
 #[test]
 fn a_session_of_one_query(rt: HostRuntime) -> Result<(), Fail> {
     let stream = one_query(rt.alloc(), "alice", "SELECT 1")?;
-    same(
-        &rt,
-        stream.bytes(),
-        b"\x00\x00\x00\x14\x00\x03\x00\x00user\x00alice\x00\x00Q\x00\x00\x00\x0dSELECT 1\x00X\x00\x00\x00\x04".as_slice(),
-    );
+    let wanted =
+        b"\x00\x00\x00\x14\x00\x03\x00\x00user\x00alice\x00\x00Q\x00\x00\x00\x0dSELECT 1\x00X\x00\x00\x00\x04";
+    same(&rt, stream.bytes(), wanted.as_slice());
     Ok(())
 }
 
@@ -81,11 +70,9 @@ fn a_named_statement_is_asked(rt: HostRuntime) -> Result<(), Fail> {
     let mut stream = ClientStream::<BytesMut>::new(rt.alloc());
     stream.startup_message(&[("user", "app")])?;
     same(&rt, ask_named("s", "select $1", -2, &mut stream), Ok(()));
-    same(
-        &rt,
-        stream.bytes(),
-        b"\x00\x00\x00\x12\x00\x03\x00\x00user\x00app\x00\x00P\x00\x00\x00\x12s\x00select $1\x00\x00\x00B\x00\x00\x00\x19\x00s\x00\x00\x01\x00\x01\x00\x01\x00\x00\x00\x04\xff\xff\xff\xfe\x00\x01\x00\x01D\x00\x00\x00\x06P\x00E\x00\x00\x00\x09\x00\x00\x00\x00\x00S\x00\x00\x00\x04".as_slice(),
-    );
+    let wanted =
+        b"\x00\x00\x00\x12\x00\x03\x00\x00user\x00app\x00\x00P\x00\x00\x00\x12s\x00select $1\x00\x00\x00B\x00\x00\x00\x19\x00s\x00\x00\x01\x00\x01\x00\x01\x00\x00\x00\x04\xff\xff\xff\xfe\x00\x01\x00\x01D\x00\x00\x00\x06P\x00E\x00\x00\x00\x09\x00\x00\x00\x00\x00S\x00\x00\x00\x04";
+    same(&rt, stream.bytes(), wanted.as_slice());
     Ok(())
 }
 
@@ -93,16 +80,10 @@ fn a_named_statement_is_asked(rt: HostRuntime) -> Result<(), Fail> {
 fn a_refused_statement_is_not_asked(rt: HostRuntime) -> Result<(), Fail> {
     let mut stream = ClientStream::<BytesMut>::new(rt.alloc());
     stream.startup_message(&[("user", "app")])?;
-    same(
-        &rt,
-        ask_named("s", "a\0b", 7, &mut stream),
-        Err(AskError::Message(Error::EmbeddedNull)),
-    );
-    same(
-        &rt,
-        stream.bytes(),
-        b"\x00\x00\x00\x12\x00\x03\x00\x00user\x00app\x00\x00".as_slice(),
-    );
+    let answer = ask_named("s", "a\0b", 7, &mut stream);
+    same(&rt, answer, Err(AskError::Message(Error::EmbeddedNull)));
+    let wanted = b"\x00\x00\x00\x12\x00\x03\x00\x00user\x00app\x00\x00";
+    same(&rt, stream.bytes(), wanted.as_slice());
     Ok(())
 }
 
@@ -112,16 +93,12 @@ fn a_binding_without_room_is_refused(rt: HostRuntime) -> Result<(), Fail> {
     let mut room = [0u8; 56];
     let mut stream = ClientStream::over(Window::new(&mut room));
     stream.startup_message(&[("user", "app")])?;
-    same(
-        &rt,
-        ask_named("s", "select $1", -2, &mut stream),
-        Err(AskError::Binding(BindError::Conversion(Error::OutOfMemory))),
-    );
-    same(
-        &rt,
-        stream.bytes(),
-        b"\x00\x00\x00\x12\x00\x03\x00\x00user\x00app\x00\x00P\x00\x00\x00\x12s\x00select $1\x00\x00\x00".as_slice(),
-    );
+    let refusal = AskError::Binding(BindError::Conversion(Error::OutOfMemory));
+    let answer = ask_named("s", "select $1", -2, &mut stream);
+    same(&rt, answer, Err(refusal));
+    let wanted =
+        b"\x00\x00\x00\x12\x00\x03\x00\x00user\x00app\x00\x00P\x00\x00\x00\x12s\x00select $1\x00\x00\x00";
+    same(&rt, stream.bytes(), wanted.as_slice());
     Ok(())
 }
 
@@ -129,19 +106,13 @@ fn a_binding_without_room_is_refused(rt: HostRuntime) -> Result<(), Fail> {
 fn pieces_complete_frames(rt: HostRuntime) -> Result<(), Fail> {
     let mut parser = StreamParser::new(rt.alloc());
     let (front, back) = ROW.split_at(27);
-    same(
-        &rt,
-        completed(front, &mut parser).map(|got| got.len()),
-        Ok(1),
-    );
+    let answer = completed(front, &mut parser).map(|got| got.len());
+    same(&rt, answer, Ok(1));
     if parser.failed() {
         return Err(Error::OutOfMemory.into());
     }
-    same(
-        &rt,
-        completed(back, &mut parser).map(|got| got.len()),
-        Ok(1),
-    );
+    let answer = completed(back, &mut parser).map(|got| got.len());
+    same(&rt, answer, Ok(1));
     same(&rt, frame_count(rt.alloc(), &[front, back]), Ok(2));
     same(&rt, frame_count(rt.alloc(), &[front]), Ok(1));
     Ok(())
@@ -156,22 +127,16 @@ fn columns_of_a_row(rt: HostRuntime) -> Result<(), Fail> {
     let index = row.index(rt.alloc())?;
     same(&rt, int4_column(&index, 0), Ok(Some(7)));
     same(&rt, text_column(&index, 1), Ok(Some("ab")));
-    same(
-        &rt,
-        int4_column(&index, 1),
-        Err(ColumnError::Value(Error::UnexpectedEof)),
-    );
+    let answer = int4_column(&index, 1);
+    same(&rt, answer, Err(ColumnError::Value(Error::UnexpectedEof)));
     same(&rt, int4_column(&index, 2), Ok(None));
     same(&rt, text_column(&index, 2), Ok(None));
     same(&rt, text_column(&index, 3), Err(ColumnError::NoColumn));
     same(&rt, value_of::<i32, _>(&index, 0), Ok(Some(7)));
     same(&rt, value_of::<&str, _>(&index, 1), Ok(Some("ab")));
     same(&rt, value_of::<&str, _>(&index, 2), Ok(None));
-    same(
-        &rt,
-        value_of::<i32, _>(&index, 3),
-        Err(ColumnError::NoColumn),
-    );
+    let answer = value_of::<i32, _>(&index, 3);
+    same(&rt, answer, Err(ColumnError::NoColumn));
     holds(&rt, front_row(rest).is_none());
     Ok(())
 }
@@ -212,11 +177,9 @@ fn parameters_of_a_statement(rt: HostRuntime) -> Result<(), Fail> {
         &mut buf,
     );
     holds(&rt, bound.is_ok());
-    same(
-        &rt,
-        buf.as_slice(),
-        b"B\x00\x00\x00\x1d\x00s\x00\x00\x01\x00\x01\x00\x02\x00\x00\x00\x04\x00\x00\x00\x05\xff\xff\xff\xff\x00\x01\x00\x01".as_slice(),
-    );
+    let wanted =
+        b"B\x00\x00\x00\x1d\x00s\x00\x00\x01\x00\x01\x00\x02\x00\x00\x00\x04\x00\x00\x00\x05\xff\xff\xff\xff\x00\x01\x00\x01";
+    same(&rt, buf.as_slice(), wanted.as_slice());
     Ok(())
 }
 
@@ -226,11 +189,9 @@ fn one_value_is_bound(rt: HostRuntime) -> Result<(), Fail> {
     let mut buf = BytesMut::new(rt.alloc());
     holds(&rt, bind_int4(Some(5), &mut buf).is_ok());
     holds(&rt, bind_int4(None, &mut buf).is_ok());
-    same(
-        &rt,
-        buf.as_slice(),
-        b"B\x00\x00\x00\x16\x00\x00\x00\x01\x00\x01\x00\x01\x00\x00\x00\x04\x00\x00\x00\x05\x00\x00B\x00\x00\x00\x12\x00\x00\x00\x01\x00\x01\x00\x01\xff\xff\xff\xff\x00\x00".as_slice(),
-    );
+    let wanted =
+        b"B\x00\x00\x00\x16\x00\x00\x00\x01\x00\x01\x00\x01\x00\x00\x00\x04\x00\x00\x00\x05\x00\x00B\x00\x00\x00\x12\x00\x00\x00\x01\x00\x01\x00\x01\xff\xff\xff\xff\x00\x00";
+    same(&rt, buf.as_slice(), wanted.as_slice());
     Ok(())
 }
 
@@ -265,16 +226,10 @@ fn frames_are_passed_up_to_a_limit(rt: HostRuntime) -> Result<(), Fail> {
     same(&rt, pass(13, QUERY, &mut out), Ok(Some(14)));
     same(&rt, pass(13, &QUERY[..13], &mut out), Ok(None));
     same(&rt, pass(12, &QUERY[..4], &mut out), Ok(None));
-    same(
-        &rt,
-        pass(12, &QUERY[..5], &mut out),
-        Err(FilterError::PastLimit),
-    );
-    same(
-        &rt,
-        pass(12, b"Q\x00\x00\x00\x03", &mut out),
-        Err(FilterError::InvalidLength),
-    );
+    let passed = pass(12, &QUERY[..5], &mut out);
+    same(&rt, passed, Err(FilterError::PastLimit));
+    let passed = pass(12, b"Q\x00\x00\x00\x03", &mut out);
+    same(&rt, passed, Err(FilterError::InvalidLength));
     same(&rt, out.as_slice(), QUERY.as_slice());
     Ok(())
 }
@@ -284,11 +239,8 @@ fn answers_are_frames(rt: HostRuntime) -> Result<(), Fail> {
     let mut buf = BytesMut::new(rt.alloc());
     same(&rt, answer(b'1', b"", &mut buf), Ok(()));
     same(&rt, answer(b'Z', b"I", &mut buf), Ok(()));
-    same(
-        &rt,
-        buf.as_slice(),
-        b"1\x00\x00\x00\x04Z\x00\x00\x00\x05I".as_slice(),
-    );
+    let wanted = b"1\x00\x00\x00\x04Z\x00\x00\x00\x05I";
+    same(&rt, buf.as_slice(), wanted.as_slice());
     Ok(())
 }
 
@@ -299,17 +251,11 @@ fn a_challenge_is_answered(rt: HostRuntime) -> Result<(), Fail> {
     let mut out = BytesMut::new(rt.alloc());
     let first = b"r=9IZ2O01zb9IgiIZ1WJ/zgpJBjx/oIRLs02gGSHcw1KEty3eY,s=fs3IXBy7U7+IvVjZ,i=4096";
     holds(&rt, respond(first, &mut client, &mut out).is_ok());
-    same(
-        &rt,
-        out.as_slice(),
-        b"p\x00\x00\x00\x6cc=biws,r=9IZ2O01zb9IgiIZ1WJ/zgpJBjx/oIRLs02gGSHcw1KEty3eY,p=AmNKosjJzS31NTlQYNs5BTeQjdHdk7lOflDo5re2an8=".as_slice(),
-    );
-    holds(
-        &rt,
-        client
-            .finish(b"v=U+ppxD5XUKtradnv8e2MkeupiA8FU87Sg8CXzXHDAzw=")
-            .is_ok(),
-    );
+    let wanted =
+        b"p\x00\x00\x00\x6cc=biws,r=9IZ2O01zb9IgiIZ1WJ/zgpJBjx/oIRLs02gGSHcw1KEty3eY,p=AmNKosjJzS31NTlQYNs5BTeQjdHdk7lOflDo5re2an8=";
+    same(&rt, out.as_slice(), wanted.as_slice());
+    let last = b"v=U+ppxD5XUKtradnv8e2MkeupiA8FU87Sg8CXzXHDAzw=";
+    holds(&rt, client.finish(last).is_ok());
     Ok(())
 }
 
@@ -318,11 +264,8 @@ fn a_challenge_is_answered(rt: HostRuntime) -> Result<(), Fail> {
 fn a_login_begins(rt: HostRuntime) -> Result<(), Fail> {
     let mut out = BytesMut::new(rt.alloc());
     let client = begin(rt.alloc(), b"foobar", &mut Counting(0), &mut out)?;
-    same(
-        &rt,
-        out.as_slice().get(..31),
-        Some(b"p\x00\x00\x00\x36SCRAM-SHA-256\x00\x00\x00\x00\x20n,,n=,r=".as_slice()),
-    );
+    let front = b"p\x00\x00\x00\x36SCRAM-SHA-256\x00\x00\x00\x00\x20n,,n=,r=";
+    holds(&rt, out.as_slice().starts_with(front));
     same(&rt, out.len(), 55);
     same(&rt, client.message(), out.as_slice().get(23..));
     Ok(())

@@ -89,21 +89,12 @@ fn a_client_opens(rt: HostRuntime) -> Result<(), Fail> {
     let mut serving = Serving::new();
     let mut from = ClientMessages::new(OPENING);
     let mut out = BytesMut::new(rt.alloc());
-    same(
-        &rt,
-        read(&mut serving, &mut from, &mut out),
-        Some(ServingEvent::Unencrypted),
-    );
-    same(
-        &rt,
-        read(&mut serving, &mut from, &mut out),
-        Some(ServingEvent::Unencrypted),
-    );
-    same(
-        &rt,
-        read(&mut serving, &mut from, &mut out),
-        Some(ServingEvent::Named),
-    );
+    let event = read(&mut serving, &mut from, &mut out);
+    same(&rt, event, Some(ServingEvent::Unencrypted));
+    let event = read(&mut serving, &mut from, &mut out);
+    same(&rt, event, Some(ServingEvent::Unencrypted));
+    let event = read(&mut serving, &mut from, &mut out);
+    same(&rt, event, Some(ServingEvent::Named));
     same(&rt, out.as_slice(), b"NN".as_slice());
     let mut refused = BytesMut::new(rt.alloc());
     serving.deny(Denial::NotAllowed, &mut refused)?;
@@ -139,17 +130,11 @@ fn a_proof_logs_a_client_in(rt: HostRuntime) -> Result<(), Fail> {
         mechanism: b"SCRAM-SHA-256",
         response: Some(FIRST),
     };
-    same(
-        &rt,
-        observed(&mut serving, first, &mut out),
-        Some(ServingEvent::Challenged),
-    );
+    let event = observed(&mut serving, first, &mut out);
+    same(&rt, event, Some(ServingEvent::Challenged));
     let last = ClientMessage::SaslResponse(FINAL);
-    same(
-        &rt,
-        observed(&mut serving, last, &mut out),
-        Some(ServingEvent::LoggedIn),
-    );
+    let event = observed(&mut serving, last, &mut out);
+    same(&rt, event, Some(ServingEvent::LoggedIn));
     same(&rt, out.as_slice(), ANSWERS);
     holds(&rt, serving.phase == ServingPhase::Open);
     Ok(())
@@ -168,18 +153,12 @@ fn another_proof_does_not(rt: HostRuntime) -> Result<(), Fail> {
         mechanism: b"SCRAM-SHA-256",
         response: Some(FIRST),
     };
-    same(
-        &rt,
-        observed(&mut serving, first, &mut asked),
-        Some(ServingEvent::Challenged),
-    );
+    let event = observed(&mut serving, first, &mut asked);
+    same(&rt, event, Some(ServingEvent::Challenged));
     let mut out = BytesMut::new(rt.alloc());
     let last = ClientMessage::SaslResponse(FALSE);
-    same(
-        &rt,
-        observed(&mut serving, last, &mut out),
-        Some(ServingEvent::Refused),
-    );
+    let event = observed(&mut serving, last, &mut out);
+    same(&rt, event, Some(ServingEvent::Refused));
     same(&rt, out.as_slice(), DENIED);
     Ok(())
 }
@@ -200,11 +179,8 @@ fn reported(
 fn a_password_logs_a_client_in(rt: HostRuntime) -> Result<(), Fail> {
     let mut out = BytesMut::new(rt.alloc());
     let stored = StoredVerifier::parse(rt.alloc(), STORED)?;
-    same(
-        &rt,
-        reported(&rt, stored, b"pencil", &mut out)?,
-        Some(ServingEvent::LoggedIn),
-    );
+    let event = reported(&rt, stored, b"pencil", &mut out)?;
+    same(&rt, event, Some(ServingEvent::LoggedIn));
     same(&rt, out.as_slice(), b"R\0\0\0\x08\0\0\0\0".as_slice());
     Ok(())
 }
@@ -213,11 +189,8 @@ fn a_password_logs_a_client_in(rt: HostRuntime) -> Result<(), Fail> {
 fn an_unknown_user_is_denied(rt: HostRuntime) -> Result<(), Fail> {
     let mut out = BytesMut::new(rt.alloc());
     let stored = StoredVerifier::mock(rt.alloc(), b"secret", b"nobody")?;
-    same(
-        &rt,
-        reported(&rt, stored, b"pencil", &mut out)?,
-        Some(ServingEvent::Refused),
-    );
+    let event = reported(&rt, stored, b"pencil", &mut out)?;
+    same(&rt, event, Some(ServingEvent::Refused));
     same(&rt, out.as_slice(), DENIED);
     Ok(())
 }
@@ -238,21 +211,12 @@ fn digested(
 fn a_digest_logs_a_client_in(rt: HostRuntime) -> Result<(), Fail> {
     let mut out = BytesMut::new(rt.alloc());
     let answer = b"md54376eb6913b38f9aaff38dc7cf19ca76";
-    same(
-        &rt,
-        digested(&rt, answer, &mut out)?,
-        Some(ServingEvent::LoggedIn),
-    );
-    same(
-        &rt,
-        out.as_slice(),
-        b"R\0\0\0\x0c\0\0\0\x05\x01\x02\x03\x04R\0\0\0\x08\0\0\0\0".as_slice(),
-    );
-    same(
-        &rt,
-        digested(&rt, b"pencil", &mut out)?,
-        Some(ServingEvent::Refused),
-    );
+    let event = digested(&rt, answer, &mut out)?;
+    same(&rt, event, Some(ServingEvent::LoggedIn));
+    let wanted = b"R\0\0\0\x0c\0\0\0\x05\x01\x02\x03\x04R\0\0\0\x08\0\0\0\0";
+    same(&rt, out.as_slice(), wanted.as_slice());
+    let event = digested(&rt, b"pencil", &mut out)?;
+    same(&rt, event, Some(ServingEvent::Refused));
     Ok(())
 }
 
@@ -261,17 +225,11 @@ fn a_message_out_of_place_ends_a_session(rt: HostRuntime) -> Result<(), Fail> {
     let mut serving = named();
     let mut out = BytesMut::new(rt.alloc());
     let query = ClientMessage::Query(b"SELECT 1");
-    same(
-        &rt,
-        observed(&mut serving, query, &mut out),
-        Some(ServingEvent::Refused),
-    );
+    let event = observed(&mut serving, query, &mut out);
+    same(&rt, event, Some(ServingEvent::Refused));
     same(&rt, out.as_slice(), MISPLACED);
-    same(
-        &rt,
-        observed(&mut serving, ClientMessage::Sync, &mut out),
-        Some(ServingEvent::Ignored),
-    );
+    let event = observed(&mut serving, ClientMessage::Sync, &mut out);
+    same(&rt, event, Some(ServingEvent::Ignored));
     Ok(())
 }
 
@@ -281,16 +239,10 @@ fn requests_are_handed_on(rt: HostRuntime) -> Result<(), Fail> {
     let mut out = BytesMut::new(rt.alloc());
     serving.trust(&mut out)?;
     let query = ClientMessage::Query(b"SELECT 1");
-    same(
-        &rt,
-        observed(&mut serving, query, &mut out),
-        Some(ServingEvent::Requested),
-    );
-    same(
-        &rt,
-        observed(&mut serving, ClientMessage::Terminate, &mut out),
-        Some(ServingEvent::Ended),
-    );
+    let event = observed(&mut serving, query, &mut out);
+    same(&rt, event, Some(ServingEvent::Requested));
+    let event = observed(&mut serving, ClientMessage::Terminate, &mut out);
+    same(&rt, event, Some(ServingEvent::Ended));
     same(&rt, out.as_slice(), b"R\0\0\0\x08\0\0\0\0".as_slice());
     Ok(())
 }

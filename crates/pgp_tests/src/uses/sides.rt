@@ -21,22 +21,13 @@ fn a_refused_statement_is_held_back(rt: HostRuntime) -> Result<(), Fail> {
     let mut from = ClientMessages::resume(received, true);
     let mut to = BytesMut::new(rt.alloc());
     let kind = PasswordKind::Password;
-    same(
-        &rt,
-        pass_on(&REFUSED, kind, &mut from, &mut to),
-        Ok(Some(Passed::HeldBack)),
-    );
+    let passed = pass_on(&REFUSED, kind, &mut from, &mut to);
+    same(&rt, passed, Ok(Some(Passed::HeldBack)));
     holds(&rt, to.is_empty());
-    same(
-        &rt,
-        pass_on(&REFUSED, kind, &mut from, &mut to),
-        Ok(Some(Passed::Forwarded)),
-    );
-    same(
-        &rt,
-        to.as_slice(),
-        b"P\0\0\0\x12\0DROP TABLE\0\0\0".as_slice(),
-    );
+    let passed = pass_on(&REFUSED, kind, &mut from, &mut to);
+    same(&rt, passed, Ok(Some(Passed::Forwarded)));
+    let wanted = b"P\0\0\0\x12\0DROP TABLE\0\0\0";
+    same(&rt, to.as_slice(), wanted.as_slice());
     same(&rt, pass_on(&REFUSED, kind, &mut from, &mut to), Ok(None));
     same(&rt, from.rest(), b"S\0\0\0".as_slice());
     Ok(())
@@ -47,11 +38,8 @@ fn a_refused_statement_is_held_back(rt: HostRuntime) -> Result<(), Fail> {
 fn a_query_at_the_front_is_read(rt: HostRuntime) -> Result<(), Fail> {
     let (query, rest) = SENT.split_at(18);
     let (cut, _) = query.split_at(17);
-    same(
-        &rt,
-        front_query(SENT),
-        Some((b"DROP TABLE t".as_slice(), rest)),
-    );
+    let answer = front_query(SENT);
+    same(&rt, answer, Some((b"DROP TABLE t".as_slice(), rest)));
     same(&rt, front_query(rest), None);
     same(&rt, front_query(cut), None);
     Ok(())
@@ -65,16 +53,10 @@ fn a_message_without_room_is_read_again(rt: HostRuntime) -> Result<(), Fail> {
     let kind = PasswordKind::Password;
     let mut short = [0u8; 4];
     let mut room = [0u8; 5];
-    same(
-        &rt,
-        pass_on(&REFUSED, kind, &mut from, &mut Window::new(&mut short)),
-        Err(ProxyError::OutOfMemory),
-    );
-    same(
-        &rt,
-        pass_on(&REFUSED, kind, &mut from, &mut Window::new(&mut room)),
-        Ok(Some(Passed::Forwarded)),
-    );
+    let passed = pass_on(&REFUSED, kind, &mut from, &mut Window::new(&mut short));
+    same(&rt, passed, Err(ProxyError::OutOfMemory));
+    let passed = pass_on(&REFUSED, kind, &mut from, &mut Window::new(&mut room));
+    same(&rt, passed, Ok(Some(Passed::Forwarded)));
     same(&rt, room.as_slice(), b"S\0\0\0\x04".as_slice());
     Ok(())
 }
@@ -88,11 +70,8 @@ fn a_function_call_is_passed_on(rt: HostRuntime) -> Result<(), Fail> {
     let (_, call) = OTHERS.split_at(9);
     let mut from = ClientMessages::resume(call, true);
     let mut to = BytesMut::new(rt.alloc());
-    same(
-        &rt,
-        pass_on(&REFUSED, PasswordKind::Password, &mut from, &mut to),
-        Ok(Some(Passed::Forwarded)),
-    );
+    let passed = pass_on(&REFUSED, PasswordKind::Password, &mut from, &mut to);
+    same(&rt, passed, Ok(Some(Passed::Forwarded)));
     same(&rt, to.as_slice(), call);
     Ok(())
 }

@@ -67,12 +67,8 @@ fn is_escaped(rt: &impl Abort, alloc: Global, kind: u32, len: usize) -> Result<(
 fn texts_of_each_length_are_escaped(rt: HostRuntime) {
     for kind in 0..8u32 {
         for len in 0..301usize {
-            same_at(
-                &rt,
-                (kind, len),
-                is_escaped(&rt, rt.alloc(), kind, len),
-                Ok(()),
-            );
+            let escaped = is_escaped(&rt, rt.alloc(), kind, len);
+            same_at(&rt, (kind, len), escaped, Ok(()));
         }
     }
 }

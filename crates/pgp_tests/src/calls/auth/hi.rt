@@ -52,13 +52,8 @@ fn it_is_the_same_as_with_the_key_padded_anew(rt: HostRuntime) {
     for len in [0, 63, 64, 65, 200] {
         let key = bytes.get(..len).unwrap_or(b"");
         for count in [0, 1, 2, 100] {
-            let place = (len, count);
-            same_at(
-                &rt,
-                place,
-                hi(key, b"salt", count),
-                padded_hi(key, b"salt", count),
-            );
+            let wanted = padded_hi(key, b"salt", count);
+            same_at(&rt, (len, count), hi(key, b"salt", count), wanted);
         }
     }
 }

@@ -22,11 +22,8 @@ const VERIFIER_OF_X: &str =
 #[test]
 fn a_verifier_draws_its_salt(rt: HostRuntime) {
     let mut bytes = Counting(0xfffe_fdfd);
-    made(
-        &rt,
-        scram_sha_256(rt.alloc(), b"secret", &NoPrep, &mut bytes),
-        VERIFIER,
-    );
+    let drawn = scram_sha_256(rt.alloc(), b"secret", &NoPrep, &mut bytes);
+    made(&rt, drawn, VERIFIER);
 }
 
 // A mapping that returns `x`, and counts how often it was asked.

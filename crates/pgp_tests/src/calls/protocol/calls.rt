@@ -95,11 +95,8 @@ fn refused_calls_in_a_session(rt: HostRuntime) {
         (Rejected::ParseOfManyTypes, Error::TooLarge),
         (Rejected::Bind, Error::InvalidSize),
     ] {
-        same(
-            &rt,
-            (rejected, call(rejected, &mut stream)),
-            (rejected, Err(e)),
-        );
+        let answer = (rejected, call(rejected, &mut stream));
+        same(&rt, answer, (rejected, Err(e)));
         same(&rt, stream.bytes(), STARTUP);
         holds(&rt, stream.is_open());
     }

@@ -37,11 +37,9 @@ fn an_array_is_bound(rt: HostRuntime) -> Result<(), Fail> {
     let steps = five_and(rt.alloc(), Step::Null)?;
     let mut buf = buffer(rt.alloc(), SYNC);
     same(&rt, bind_array(&[PAIR], 23, &steps, &mut buf), Ok(()));
-    same(
-        &rt,
-        buf.as_slice(),
-        b"S\0\0\0\x04B\0\0\0\x32\0\0\0\x01\0\x01\0\x01\0\0\0\x20\0\0\0\x01\0\0\0\x01\0\0\0\x17\0\0\0\x02\0\0\0\x01\0\0\0\x04\0\0\0\x05\xff\xff\xff\xff\0\0".as_slice(),
-    );
+    let wanted =
+        b"S\0\0\0\x04B\0\0\0\x32\0\0\0\x01\0\x01\0\x01\0\0\0\x20\0\0\0\x01\0\0\0\x01\0\0\0\x17\0\0\0\x02\0\0\0\x01\0\0\0\x04\0\0\0\x05\xff\xff\xff\xff\0\0";
+    same(&rt, buf.as_slice(), wanted.as_slice());
     Ok(())
 }
 
@@ -49,19 +47,14 @@ fn an_array_is_bound(rt: HostRuntime) -> Result<(), Fail> {
 fn arrays_without_nulls(rt: HostRuntime) -> Result<(), Fail> {
     let mut buf = BytesMut::new(rt.alloc());
     same(&rt, bind_array(&[], 23, &[], &mut buf), Ok(()));
-    same(
-        &rt,
-        buf.as_slice(),
-        b"B\0\0\0\x1e\0\0\0\x01\0\x01\0\x01\0\0\0\x0c\0\0\0\0\0\0\0\0\0\0\0\x17\0\0".as_slice(),
-    );
+    let wanted = b"B\0\0\0\x1e\0\0\0\x01\0\x01\0\x01\0\0\0\x0c\0\0\0\0\0\0\0\0\0\0\0\x17\0\0";
+    same(&rt, buf.as_slice(), wanted.as_slice());
     let steps = five_and(rt.alloc(), Step::Append(Vec::new(rt.alloc())))?;
     let mut buf = BytesMut::new(rt.alloc());
     same(&rt, bind_array(&[PAIR], 17, &steps, &mut buf), Ok(()));
-    same(
-        &rt,
-        buf.as_slice(),
-        b"B\0\0\0\x32\0\0\0\x01\0\x01\0\x01\0\0\0\x20\0\0\0\x01\0\0\0\0\0\0\0\x11\0\0\0\x02\0\0\0\x01\0\0\0\x04\0\0\0\x05\0\0\0\0\0\0".as_slice(),
-    );
+    let wanted =
+        b"B\0\0\0\x32\0\0\0\x01\0\x01\0\x01\0\0\0\x20\0\0\0\x01\0\0\0\0\0\0\0\x11\0\0\0\x02\0\0\0\x01\0\0\0\x04\0\0\0\x05\0\0\0\0\0\0";
+    same(&rt, buf.as_slice(), wanted.as_slice());
     Ok(())
 }
 
@@ -69,11 +62,9 @@ fn arrays_without_nulls(rt: HostRuntime) -> Result<(), Fail> {
 fn a_step_refuses(rt: HostRuntime) -> Result<(), Fail> {
     let steps = five_and(rt.alloc(), Step::Refuse(Error::InvalidSize))?;
     let mut buf = buffer(rt.alloc(), SYNC);
-    same(
-        &rt,
-        bind_array(&[PAIR], 23, &steps, &mut buf),
-        Err(BindError::Conversion(BindError::Conversion(Error::InvalidSize))),
-    );
+    let refusal = BindError::Conversion(BindError::Conversion(Error::InvalidSize));
+    let answer = bind_array(&[PAIR], 23, &steps, &mut buf);
+    same(&rt, answer, Err(refusal));
     same(&rt, buf.as_slice(), SYNC);
     Ok(())
 }
@@ -95,29 +86,17 @@ fn has_values(rt: &impl Abort, alloc: Global, frame: &[u8], wanted: &[Option<Res
 
 #[test]
 fn rows_of_numbers(rt: HostRuntime) {
-    has_values(
-        &rt,
-        rt.alloc(),
-        &ROW,
-        &[
-            Some(Err(Error::UnexpectedEof)),
-            None,
-            Some(Err(Error::UnexpectedEof)),
-        ],
-    );
+    let cut = Some(Err(Error::UnexpectedEof));
+    has_values(&rt, rt.alloc(), &ROW, &[cut, None, cut]);
     let row =
         b"D\0\0\0\x23\0\x04\0\0\0\x04\0\0\0\x05\xff\xff\xff\xff\0\0\0\x04\xff\xff\xff\xfe\0\0\0\x05\0\0\0\0\0";
-    has_values(
-        &rt,
-        rt.alloc(),
-        row,
-        &[
-            Some(Ok(5)),
-            None,
-            Some(Ok(-2)),
-            Some(Err(Error::NotDrained)),
-        ],
-    );
+    let values = [
+        Some(Ok(5)),
+        None,
+        Some(Ok(-2)),
+        Some(Err(Error::NotDrained)),
+    ];
+    has_values(&rt, rt.alloc(), row, &values);
     has_values(&rt, rt.alloc(), b"D\0\0\0\x06\0\0", &[]);
 }
 
