@@ -18,6 +18,7 @@ SAID = {
     'Q.items pending ≡ []': ('pending.pop().is_none()', 'a queue that holds requests'),
     'start ≤ end': ('start <= end', 'an end before the start'),
     'end ≤ length room.old': ('end <= room.len()', 'an end behind the room'),
+    'end ≤ length room.now': ('end <= room.len()', 'an end behind the room'),
     'self.old.failed ≡ false': ('!self.failed', 'the parser has failed'),
     'self.failed ≡ false': ('!self.failed', 'the parser has failed'),
     'count ≤ length (shown self.old).out': ('count <= self.state.out.len()', 'more than was to be sent'),
