@@ -39,10 +39,12 @@ fn look<A: Allocator + Copy>(
             None => out.word("null"),
         },
         name => {
-            let (times, name) = match name {
-                "times" => (words.number(), words.name()),
-                name => (1u32, name),
+            let times = if name == "times" {
+                words.number()
+            } else {
+                1u32
             };
+            let name = if name == "times" { words.name() } else { name };
             let values = match name {
                 "bind" => words.list(),
                 _ => Vec::new(out.alloc()),
