@@ -1,8 +1,8 @@
 //! Values of a script in binary format, by the codecs of `pgp_types` and `pgp_values`.
 
 use crate::array_text::elements_of;
-use crate::list::push;
 use crate::moment_text::{clock_of, date_of, interval_of, timestamp_of, timestamptz_of};
+use crate::outbox::push;
 use crate::types::{
     BOOL, BPCHAR, BYTEA, DATE, FLOAT4, FLOAT8, INT2, INT4, INT8, INTERVAL, JSON, JSONB, NAME,
     NUMERIC, OID, TEXT, TIME, TIMESTAMP, TIMESTAMPTZ, UUID, VARCHAR, element_of,
@@ -65,28 +65,11 @@ fn put_integer(oid: Oid, word: &str, out: &mut BytesMut) -> Result<(), Unwritten
     }
 }
 
-/// The bits of a number, and of `NaN` those that a server sends.
-fn bits4(number: f32) -> u32 {
-    if number.is_nan() {
-        0x7fc0_0000
-    } else {
-        number.to_bits()
-    }
-}
-
-fn bits8(number: f64) -> u64 {
-    if number.is_nan() {
-        0x7ff8_0000_0000_0000
-    } else {
-        number.to_bits()
-    }
-}
-
 /// Appends a number with a fraction.
 fn put_number(oid: Oid, word: &str, out: &mut BytesMut) -> Result<(), Unwritten> {
     match oid {
-        FLOAT4 => written(types::float4_to_sql(bits4(read(word.parse().ok())?), out)),
-        FLOAT8 => written(types::float8_to_sql(bits8(read(word.parse().ok())?), out)),
+        FLOAT4 => written(types::float4_to_sql(read(word.parse::<f32>().ok())?.to_bits(), out)),
+        FLOAT8 => written(types::float8_to_sql(read(word.parse::<f64>().ok())?.to_bits(), out)),
         _ => match values::numeric_text_to_sql(word, out) {
             Ok(()) => Ok(()),
             Err(NumericError::OutOfMemory) => Err(Unwritten::Memory),

@@ -3,7 +3,7 @@
 //! PostgreSQL manual, "Numeric Types", "Boolean Type", "UUID Type"; its errors are those of PostgreSQL 15's functions of input.
 
 use crate::answer::format_of;
-use crate::asked::Refusal;
+use crate::asked::{Refusal, not_utf8};
 use crate::binary::{Unwritten, value_in};
 use crate::extended::Binding;
 use crate::outbox::Outbox;
@@ -121,7 +121,7 @@ fn is_integer(text: &[u8]) -> bool {
 /// Why a text is none of this type, if it isn't. Of other types than these nothing is said.
 fn rejects_text<'v>(oid: Oid, text: &'v [u8], out: &mut Outbox) -> Option<Refusal<'v>> {
     if !is_text(text) {
-        return Some(Refusal::NotUtf8);
+        return Some(not_utf8());
     }
     let is_short = matches!(oid, INT2 | INT4 | INT8);
     if !is_short && !matches!(oid, BOOL | FLOAT4 | FLOAT8 | NUMERIC | UUID) {
@@ -129,9 +129,13 @@ fn rejects_text<'v>(oid: Oid, text: &'v [u8], out: &mut Outbox) -> Option<Refusa
     }
     match written(oid, text, out) {
         Err(Unwritten::NotOfType) if is_short && is_integer(text) => {
-            Some(Refusal::OutOfRange(text))
+            let front = "value out of range for the parameter's type: ";
+            Some(Refusal::of("22003", front, text, ""))
         }
-        Err(Unwritten::NotOfType) => Some(Refusal::NotOfType(text)),
+        Err(Unwritten::NotOfType) => {
+            let front = "invalid input syntax for the parameter's type: ";
+            Some(Refusal::of("22P02", front, text, ""))
+        }
         Err(Unwritten::Memory) => {
             out.lack();
             None
@@ -146,14 +150,15 @@ fn rejects_bytes<'v>(oid: Oid, bytes: &[u8]) -> Option<Refusal<'v>> {
         return if is_text(bytes) {
             None
         } else {
-            Some(Refusal::NotUtf8)
+            Some(not_utf8())
         };
     }
     let size = size_of(oid)?;
     if bytes.len() < size {
-        Some(Refusal::TooShort)
+        Some(Refusal::new("08P01", "insufficient data left in message"))
     } else if bytes.len() > size {
-        Some(Refusal::TooLong)
+        let message = "incorrect binary data format in bind parameter";
+        Some(Refusal::new("22P03", message))
     } else {
         None
     }

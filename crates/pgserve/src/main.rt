@@ -8,6 +8,7 @@ mod asked;
 mod binary;
 mod bound;
 mod carried;
+mod channels;
 mod column;
 mod command;
 mod connection;
@@ -17,20 +18,17 @@ mod extended;
 mod fault;
 mod host;
 mod input;
-mod line;
-mod list;
-mod log;
-mod log_json;
 mod moment_text;
 mod opening;
 mod outbox;
 mod part;
-mod parts;
 mod pattern;
 mod pause;
 mod portals;
 mod reader;
 mod reading;
+mod record;
+mod rejection;
 mod report;
 mod row_text;
 mod script;
@@ -50,7 +48,6 @@ mod wrong;
 use fault::Fault;
 use host::Host;
 use reading::{script_of, unmarked};
-use script::Script;
 use std::process::ExitCode;
 use std::{fs, io};
 use words::Words;
@@ -70,15 +67,8 @@ fn read_text(rt: &HostRuntime, path: &str) -> Result<String, Fault> {
 
 /// Serves the client that is connected, by a script of this text.
 fn serve(rt: &HostRuntime, words: &Words<'_>, text: &str) -> Result<(), Fault> {
-    match script_of(rt.alloc(), text) {
-        Ok(script) => serve_script(rt, words, &script),
-        Err(fault) => Err(fault),
-    }
-}
-
-/// The same with this script.
-fn serve_script(rt: &HostRuntime, words: &Words<'_>, script: &Script) -> Result<(), Fault> {
-    let host = Host::new(words, script)?;
+    let script = script_of(rt.alloc(), text)?;
+    let host = Host::new(words, &script)?;
     // A verifier or a nonce that isn't one is reported before a client comes.
     host.test(rt.alloc())?;
     stream::run(rt, &host, &mut rt.reader(), &mut io::writer(rt))
@@ -86,7 +76,7 @@ fn serve_script(rt: &HostRuntime, words: &Words<'_>, script: &Script) -> Result<
 
 /// Says what is wrong with a script of this text: what should stand there, and what stands there.
 fn complain_of(rt: &HostRuntime, path: &str, text: &str, place: Place) -> io::Result<()> {
-    let (line, column, why) = (place.line, place.column, place.wrong.message());
+    let (line, column, why) = (place.line, place.column, place.wanted);
     match place.seen(unmarked(text)) {
         "" => eprintln!(rt; "pgserve: {path}:{line}:{column}: {why}; the line ends here"),
         seen => eprintln!(rt; "pgserve: {path}:{line}:{column}: {why}; here stands `{seen}`"),
@@ -106,23 +96,18 @@ fn complain(rt: &HostRuntime, path: &str, text: &str, fault: Fault) -> io::Resul
 
 /// Serves as the words say, and returns the status.
 fn obey(rt: &HostRuntime, words: &Words<'_>) -> io::Result<u8> {
-    match read_text(rt, words.script) {
-        Ok(text) => obey_text(rt, words, &text),
-        Err(fault) => {
-            complain(rt, words.script, "", fault)?;
-            Ok(1)
+    let (text, served) = match read_text(rt, words.script) {
+        Ok(text) => {
+            let served = serve(rt, words, &text);
+            (text, served)
         }
-    }
-}
-
-fn obey_text(rt: &HostRuntime, words: &Words<'_>, text: &str) -> io::Result<u8> {
-    match serve(rt, words, text) {
-        Ok(()) => Ok(0),
-        Err(fault) => {
-            complain(rt, words.script, text, fault)?;
-            Ok(1)
-        }
-    }
+        Err(fault) => (String::new(rt.alloc()), Err(fault)),
+    };
+    let Err(fault) = served else {
+        return Ok(0);
+    };
+    complain(rt, words.script, &text, fault)?;
+    Ok(1)
 }
 
 /// Says what is wrong with the words, or the help that they ask for, and returns the status.

@@ -2,11 +2,9 @@
 //!
 //! PostgreSQL manual, "Message Flow", "Start-up"; NegotiateProtocolVersion of "Message Formats".
 
-use crate::fault::Fault;
 use crate::outbox::Outbox;
-use pgp_base::FallibleIterator;
 use pgp_frontend::codes::VERSION_3_0;
-use pgp_frontend_read::{ClientMessage, StartupParameters};
+use pgp_frontend_read::ClientMessage;
 use pgp_message_write as reply;
 
 /// What a startup packet asks for.
@@ -47,17 +45,6 @@ impl<'m> Opening<'m> {
         }
     }
 
-    /// Adds what all names and values say.
-    fn add_all(&mut self, parameters: &mut StartupParameters<'m>, out: &mut Outbox) {
-        for _ in 0..u64::MAX {
-            match parameters.next() {
-                Ok(Some((name, value))) => self.add(name, value, out),
-                Ok(None) => return,
-                Err(why) => return out.fail(Fault::from(why)),
-            }
-        }
-    }
-
     /// Appends which version of the protocol is spoken, and which options aren't known, unless the client has what it asks for.
     pub(crate) fn negotiate(&self, minor: u16, out: &mut Outbox) {
         let spoken = spoken_minor(minor);
@@ -81,7 +68,10 @@ pub(crate) fn opening_of<'m>(message: &mut ClientMessage<'m>, out: &mut Outbox) 
         unknown: Vec::new(out.alloc),
     };
     if let ClientMessage::Startup { parameters, .. } = message {
-        opening.add_all(parameters, out);
+        let pairs = out.listed(parameters);
+        for (name, value) in &pairs {
+            opening.add(name, value, out);
+        }
     }
     opening
 }
