@@ -8,6 +8,7 @@ use crate::types::{
     NUMERIC, OID, TEXT, TIME, TIMESTAMP, TIMESTAMPTZ, UUID, VARCHAR, element_of,
 };
 use bytes::BytesMut;
+use json::Scratch;
 use pgp_base::{Error, IsNull, Oid};
 use pgp_types::{self as types, ArrayDimension};
 use pgp_values::{self as values, NumericError};
@@ -65,11 +66,28 @@ fn put_integer(oid: Oid, word: &str, out: &mut BytesMut) -> Result<(), Unwritten
     }
 }
 
+/// The bits of a number, and of `NaN` those that a server sends.
+fn bits4(number: f32) -> u32 {
+    if number.is_nan() {
+        0x7fc0_0000
+    } else {
+        number.to_bits()
+    }
+}
+
+fn bits8(number: f64) -> u64 {
+    if number.is_nan() {
+        0x7ff8_0000_0000_0000
+    } else {
+        number.to_bits()
+    }
+}
+
 /// Appends a number with a fraction.
 fn put_number(oid: Oid, word: &str, out: &mut BytesMut) -> Result<(), Unwritten> {
     match oid {
-        FLOAT4 => written(types::float4_to_sql(read(word.parse::<f32>().ok())?.to_bits(), out)),
-        FLOAT8 => written(types::float8_to_sql(read(word.parse::<f64>().ok())?.to_bits(), out)),
+        FLOAT4 => written(types::float4_to_sql(bits4(read(word.parse().ok())?), out)),
+        FLOAT8 => written(types::float8_to_sql(bits8(read(word.parse().ok())?), out)),
         _ => match values::numeric_text_to_sql(word, out) {
             Ok(()) => Ok(()),
             Err(NumericError::OutOfMemory) => Err(Unwritten::Memory),
@@ -118,6 +136,17 @@ fn put_uuid(word: &str, out: &mut BytesMut) -> Result<(), Unwritten> {
     }
 }
 
+/// Appends a `json` or a `jsonb`.
+fn put_json(alloc: Global, oid: Oid, text: &str, out: &mut BytesMut) -> Result<(), Unwritten> {
+    if !json::is_valid(text, &mut Scratch::new(alloc))? {
+        return Err(Unwritten::NotOfType);
+    }
+    match oid {
+        JSONB => written(values::jsonb_to_sql(text, out)),
+        _ => written(types::text_to_sql(text, out)),
+    }
+}
+
 /// Appends a value of this type, which is no array.
 fn put_scalar(alloc: Global, oid: Oid, text: &str, out: &mut BytesMut) -> Result<(), Unwritten> {
     match oid {
@@ -127,8 +156,8 @@ fn put_scalar(alloc: Global, oid: Oid, text: &str, out: &mut BytesMut) -> Result
         DATE | TIME | TIMESTAMP | TIMESTAMPTZ | INTERVAL => put_moment(oid, text, out),
         BYTEA => put_bytea(alloc, text, out),
         UUID => put_uuid(text, out),
-        JSONB => written(values::jsonb_to_sql(text, out)),
-        NAME | TEXT | JSON | BPCHAR | VARCHAR => written(types::text_to_sql(text, out)),
+        JSON | JSONB => put_json(alloc, oid, text, out),
+        NAME | TEXT | BPCHAR | VARCHAR => written(types::text_to_sql(text, out)),
         _ => Err(Unwritten::NoFormat),
     }
 }

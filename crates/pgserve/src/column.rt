@@ -12,8 +12,11 @@ pub(crate) fn known_type(name: &str, reader: &mut Reader) -> Type {
 
 /// The column of this line: its name, and after the last space its type.
 fn column_of(line: &str, reader: &mut Reader) -> Column {
-    let wanted = "a column has a name and, after a space, a type";
-    let (name, kind) = reader.found(line.rsplit_once(' '), wanted, ("", ""));
+    let parts = line.rsplit_once(' ');
+    if parts.is_none() {
+        reader.wrong("a column has a name and, after a space, a type");
+    }
+    let (name, kind) = parts.unwrap_or(("", ""));
     Column {
         kind: known_type(kind, reader),
         name: reader.text(name),

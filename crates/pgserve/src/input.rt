@@ -8,8 +8,8 @@ use crate::binary::{Unwritten, value_in};
 use crate::extended::Binding;
 use crate::outbox::Outbox;
 use crate::types::{
-    BOOL, BPCHAR, FLOAT4, FLOAT8, INT2, INT4, INT8, JSON, NAME, NUMERIC, TEXT, UUID, VARCHAR,
-    size_of,
+    BOOL, BPCHAR, FLOAT4, FLOAT8, INT2, INT4, INT8, JSON, JSONB, NAME, NUMERIC, TEXT, UUID,
+    VARCHAR, size_of,
 };
 use bytes::BytesMut;
 use pgp_base::Oid;
@@ -124,7 +124,7 @@ fn rejects_text<'v>(oid: Oid, text: &'v [u8], out: &mut Outbox) -> Option<Refusa
         return Some(not_utf8());
     }
     let is_short = matches!(oid, INT2 | INT4 | INT8);
-    if !is_short && !matches!(oid, BOOL | FLOAT4 | FLOAT8 | NUMERIC | UUID) {
+    if !is_short && !matches!(oid, BOOL | FLOAT4 | FLOAT8 | JSON | JSONB | NUMERIC | UUID) {
         return None;
     }
     match written(oid, text, out) {
@@ -145,13 +145,12 @@ fn rejects_text<'v>(oid: Oid, text: &'v [u8], out: &mut Outbox) -> Option<Refusa
 }
 
 /// Why bytes aren't the binary format of this type, if they aren't.
-fn rejects_bytes<'v>(oid: Oid, bytes: &[u8]) -> Option<Refusal<'v>> {
-    if matches!(oid, TEXT | VARCHAR | BPCHAR | NAME | JSON) {
-        return if is_text(bytes) {
-            None
-        } else {
-            Some(not_utf8())
-        };
+fn rejects_bytes<'v>(oid: Oid, bytes: &'v [u8], out: &mut Outbox) -> Option<Refusal<'v>> {
+    match (oid, bytes) {
+        (TEXT | VARCHAR | BPCHAR | NAME | JSON, text) | (JSONB, [1, text @ ..]) => {
+            return rejects_text(oid, text, out);
+        }
+        _ => {}
     }
     let size = size_of(oid)?;
     if bytes.len() < size {
@@ -164,6 +163,19 @@ fn rejects_bytes<'v>(oid: Oid, bytes: &[u8]) -> Option<Refusal<'v>> {
     }
 }
 
+/// Why a value in this format is none of this type, if it isn't.
+fn rejects_value<'v>(
+    oid: Oid,
+    format: i16,
+    value: &'v [u8],
+    out: &mut Outbox,
+) -> Option<Refusal<'v>> {
+    match format {
+        0 => rejects_text(oid, value, out),
+        _ => rejects_bytes(oid, value, out),
+    }
+}
+
 /// Why the values of a binding aren't of these types, if they aren't.
 pub(crate) fn rejects_values<'m>(
     types: &[Oid],
@@ -171,15 +183,11 @@ pub(crate) fn rejects_values<'m>(
     out: &mut Outbox,
 ) -> Option<Refusal<'m>> {
     for (place, value) in binding.values.iter().enumerate() {
-        let (Some(bytes), Some(oid)) = (value, types.get(place)) else {
-            continue;
-        };
-        let refusal = match format_of(binding.formats, place) {
-            0 => rejects_text(*oid, bytes, out),
-            _ => rejects_bytes(*oid, bytes),
-        };
-        if refusal.is_some() {
-            return refusal;
+        if let (Some(value), Some(oid)) = (value, types.get(place)) {
+            let refusal = rejects_value(*oid, format_of(binding.formats, place), value, out);
+            if refusal.is_some() {
+                return refusal;
+            }
         }
     }
     None

@@ -48,6 +48,7 @@ mod wrong;
 use fault::Fault;
 use host::Host;
 use reading::{script_of, unmarked};
+use script::Script;
 use std::process::ExitCode;
 use std::{fs, io};
 use words::Words;
@@ -67,8 +68,15 @@ fn read_text(rt: &HostRuntime, path: &str) -> Result<String, Fault> {
 
 /// Serves the client that is connected, by a script of this text.
 fn serve(rt: &HostRuntime, words: &Words<'_>, text: &str) -> Result<(), Fault> {
-    let script = script_of(rt.alloc(), text)?;
-    let host = Host::new(words, &script)?;
+    match script_of(rt.alloc(), text) {
+        Ok(script) => serve_script(rt, words, &script),
+        Err(fault) => Err(fault),
+    }
+}
+
+/// The same with this script.
+fn serve_script(rt: &HostRuntime, words: &Words<'_>, script: &Script) -> Result<(), Fault> {
+    let host = Host::new(words, script)?;
     // A verifier or a nonce that isn't one is reported before a client comes.
     host.test(rt.alloc())?;
     stream::run(rt, &host, &mut rt.reader(), &mut io::writer(rt))

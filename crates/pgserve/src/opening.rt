@@ -2,7 +2,7 @@
 //!
 //! PostgreSQL manual, "Message Flow", "Start-up"; NegotiateProtocolVersion of "Message Formats".
 
-use crate::outbox::Outbox;
+use crate::outbox::{Outbox, push};
 use pgp_frontend::codes::VERSION_3_0;
 use pgp_frontend_read::ClientMessage;
 use pgp_message_write as reply;
@@ -41,7 +41,7 @@ impl<'m> Opening<'m> {
         } else if name == b"user".as_slice() {
             self.user = Some(value);
         } else if !IS_NO_SETTING.contains(&name) {
-            out.add(&mut self.settings, (name, value));
+            out.keep(push(&mut self.settings, (name, value)));
         }
     }
 

@@ -107,8 +107,10 @@ fn method_of(name: &str, at: usize, reader: &mut Reader) -> Auth {
 /// The user of this line: the name, the method, and the method's verifier.
 fn user_of(line: &str, reader: &mut Reader) -> User {
     let parts = line.split_once(' ');
-    let wanted = "a user has a name and, after a space, a method";
-    let (name, rest) = reader.found(parts, wanted, ("", ""));
+    if parts.is_none() {
+        reader.wrong("a user has a name and, after a space, a method");
+    }
+    let (name, rest) = parts.unwrap_or(("", ""));
     let (method, verifier) = rest.split_once(' ').unwrap_or((rest, ""));
     let at = name.len().saturating_add(1);
     let auth = method_of(method, at, reader);

@@ -7,8 +7,14 @@ use pgp_frontend_read::ClientMessage;
 /// The characters of a proof, which is base64 of 32 bytes.
 const PROOF: usize = 44;
 
+/// The text of these bytes; empty where they are none.
+fn text_of(bytes: &[u8]) -> &str {
+    str::from_utf8(bytes).unwrap_or("")
+}
+
 /// Why the first text of an exchange isn't taken.
-fn of_first<'a>(mechanism: &[u8], text: &str, is_bound: bool) -> Refusal<'a> {
+fn of_first<'a>(mechanism: &[u8], text: Option<&[u8]>, is_bound: bool) -> Refusal<'a> {
+    let text = text_of(text.unwrap_or(&[]));
     if mechanism != SCRAM_SHA_256.as_bytes() {
         return violation("client selected an invalid SASL authentication mechanism");
     }
@@ -40,20 +46,20 @@ fn split_final(text: &str) -> Option<(&str, &str, &str)> {
 }
 
 /// Why the final text isn't taken.
-fn of_final<'a>(text: &str, user: &'a [u8], nonce: &str, is_bound: bool) -> Refusal<'a> {
-    match split_final(text) {
-        Some((binding, _, _)) if !is_bound && binding != "biws" && binding != "eSws" => {
-            violation("unexpected SCRAM channel-binding attribute in client-final-message")
-        }
-        Some((_, both, proof)) if proof.len() == PROOF => {
-            if both.ends_with(nonce) {
-                wrong_password(user)
-            } else {
-                violation("invalid SCRAM response")
-            }
-        }
-        _ => violation("malformed SCRAM message"),
+fn of_final<'a>(text: &[u8], user: &'a [u8], nonce: &str, is_bound: bool) -> Refusal<'a> {
+    let Some((binding, both, proof)) = split_final(text_of(text)) else {
+        return violation("malformed SCRAM message");
+    };
+    if !is_bound && binding != "biws" && binding != "eSws" {
+        return violation("unexpected SCRAM channel-binding attribute in client-final-message");
     }
+    if proof.len() != PROOF {
+        return violation("malformed SCRAM message");
+    }
+    if both.ends_with(nonce) {
+        return wrong_password(user);
+    }
+    violation("invalid SCRAM response")
 }
 
 fn wrong_password(user: &[u8]) -> Refusal<'_> {
@@ -73,20 +79,16 @@ pub(crate) fn rejection<'a>(
     is_bound: bool,
 ) -> Refusal<'a> {
     match message {
-        ClientMessage::PasswordMessage(text) if text.is_empty() => {
-            Refusal::new("28P01", "empty password returned by client")
+        ClientMessage::PasswordMessage(b"") => {
+            return Refusal::new("28P01", "empty password returned by client");
         }
-        ClientMessage::PasswordMessage(_) => wrong_password(user),
+        ClientMessage::PasswordMessage(_) => return wrong_password(user),
         ClientMessage::SaslInitialResponse {
             mechanism,
             response,
-        } => {
-            let text = str::from_utf8(response.unwrap_or(&[])).unwrap_or("");
-            of_first(mechanism, text, is_bound)
-        }
-        ClientMessage::SaslResponse(text) => {
-            of_final(str::from_utf8(text).unwrap_or(""), user, nonce, is_bound)
-        }
-        _ => malformed(),
+        } => return of_first(mechanism, *response, is_bound),
+        ClientMessage::SaslResponse(text) => return of_final(text, user, nonce, is_bound),
+        _ => {}
     }
+    malformed()
 }

@@ -22,6 +22,7 @@ use crate::wording::Wording;
 use pgp_frontend_read::ClientMessage;
 use pgp_message_write as reply;
 use pgp_monitor::Status;
+use std::mem;
 
 /// What a statement asks for.
 #[derive(Clone, Copy)]
@@ -277,17 +278,17 @@ impl<'h> Session<'h> {
         if self.is_skipping {
             return self.answer_in_place(message, out);
         }
-        match message {
+        match mem::replace(message, ClientMessage::Sync) {
             ClientMessage::Bind {
                 portal,
                 statement,
-                formats,
-                values,
-                result_formats,
+                mut formats,
+                mut values,
+                mut result_formats,
             } => {
-                let formats = out.listed(formats);
-                let values = out.listed(values);
-                let results = out.listed(result_formats);
+                let formats = out.listed(&mut formats);
+                let values = out.listed(&mut values);
+                let results = out.listed(&mut result_formats);
                 let binding = Binding {
                     portal,
                     statement,
@@ -300,12 +301,12 @@ impl<'h> Session<'h> {
             ClientMessage::Parse {
                 name,
                 query,
-                param_types,
+                mut param_types,
             } => {
-                let types = out.listed(param_types);
+                let types = out.listed(&mut param_types);
                 self.parse(name, query, &types, out);
             }
-            _ => self.answer_in_place(message, out),
+            other => self.answer_in_place(&other, out),
         }
     }
 }

@@ -40,12 +40,15 @@ static TEXTS: [(&str, &str); 5] = [
     ),
 ];
 
+fn text_of(alloc: Global, name: &'static str, help: &'static str) -> Arg<'static> {
+    let text = Arg::new(alloc, name).long(name).help(help);
+    text.action(ArgAction::Set).required(name == "user")
+}
+
 fn with_texts<'a>(alloc: Global, bare: Command<'a>) -> Result<Command<'a>, AllocError> {
     let mut command = bare;
     for (name, help) in &TEXTS {
-        let text = Arg::new(alloc, name).long(name).help(help);
-        let is_needed = *name == "user";
-        command = command.arg(text.action(ArgAction::Set).required(is_needed))?;
+        command = command.arg(text_of(alloc, name, help))?;
     }
     Ok(command)
 }
