@@ -87,6 +87,8 @@ def shown(tag, body):
         words.append(body[:-1].decode())
     elif tag == "Z":
         words.append(body.decode())
+    elif tag == "A":
+        words += body[4:-1].decode().split("\0")
     elif tag == "S":
         words += body[:-1].decode().split("\0")
     elif tag == "t":
@@ -172,3 +174,45 @@ def rows_of(path):
         if line and not line.startswith("#"):
             sent, _, answered = line.partition("=>")
             yield sent.strip(), [part.strip() for part in answered.split(" / ")]
+
+
+def opening(words):
+    """The bytes of a startup packet of a version, with names and values: `4.0 user=a`."""
+    version, _, rest = words.partition(" ")
+    major, minor = map(int, version.split("."))
+    body = struct.pack(">HH", major, minor) + b"".join(text(part) for pair in rest.split() for part in pair.split("=", 1)) + b"\0"
+    return struct.pack(">I", len(body) + 4) + body
+
+
+def login_message(row, nonce):
+    """The bytes of a message of a log-in, in which {nonce} stands for both sides' nonce."""
+    tag, _, rest = row.replace("{nonce}", nonce).partition(" ")
+    if tag == "V":
+        return opening(rest)
+    if tag == "u":
+        return bytes.fromhex(rest)
+    if tag == "f":
+        mechanism, _, first = rest.partition(";")
+        return frame(b"p", text(mechanism) + struct.pack(">i", len(first)) + first.encode())
+    if tag == "r":
+        return frame(b"p", rest.encode())
+    return message(row)
+
+
+def login(client, row):
+    """What is answered to the messages of a log-in, each of which is sent once the one before was answered: the codes of R, and of E the message too."""
+    answers, nonce = [], ""
+    for part in row.split(" / "):
+        client.send(login_message(part, nonce))
+        came = client.take()
+        if came is None:
+            break
+        tag, body = came
+        if tag == "R":
+            code = struct.unpack_from(">i", body)[0]
+            nonce = body[6:].split(b",")[0].decode() if code == 11 else nonce
+            answers.append(f"R {code}")
+        else:
+            said = fields(body)
+            answers.append(" ".join([tag, said["V"], said["C"], said["M"]]))
+    return answers

@@ -247,7 +247,8 @@ def read(path):
 def is_known(text, answers):
     """Whether pgserve answers the statement so by itself."""
     word = re.match(rb"\s*(\w*)", text)[1].decode().lower()
-    return word in KNOWN and all(len(results) == 1 and results[0].shown()[1][0].startswith("tag ") for results in answers)
+    lines = [results[0].shown()[1] for results in answers if len(results) == 1]
+    return word in KNOWN and len(lines) == len(answers) and all(one[0].startswith("tag ") and "notify " not in [line[:7] for line in one] for one in lines)
 
 
 def statement(text, parameters, answers):

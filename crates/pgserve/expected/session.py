@@ -105,15 +105,15 @@ def not_scripted(text):
 
 
 def no_statement(name):
-    return error(b"26000", b"no statement was prepared under this name: " + name)
+    return error(b"26000", b'prepared statement "' + name + b'" does not exist' if name else b"unnamed prepared statement does not exist")
 
 
 def no_portal(name):
-    return error(b"34000", b"there is no portal of this name: " + name)
+    return error(b"34000", b'portal "' + name + b'" does not exist')
 
 
 NOT_SUPPORTED = error(b"0A000", b"this server doesn't do that")
-MALFORMED = error(b"08P01", b"the message's bytes aren't those of its type")
+MALFORMED = error(b"08P01", b"invalid message format")
 ABORTED = error(b"25P02", b"current transaction is aborted, commands ignored until end of transaction block")
 BAD_FORMAT = error(b"22023", b"a format is 0 (text) or 1 (binary)")
 BROKEN = error(b"42703", b'column "broken" does not exist')
@@ -165,10 +165,10 @@ STEPS = [
     (query(b""), frame(b"I") + FAILED),
     (query(b"ROLLBACK TO SAVEPOINT s"), tag(b"ROLLBACK") + INSIDE),
     (query(b"release s"), tag(b"RELEASE") + INSIDE),
-    (query(b"RELEASE s"), error(b"3B001", b"there is no savepoint of this name: s") + FAILED),
+    (query(b"RELEASE s"), error(b"3B001", b'savepoint "s" does not exist') + FAILED),
     (query(b"COMMIT"), tag(b"ROLLBACK") + IDLE),
     (query(b"COMMIT"), WARNINGS[b"25P01"] + tag(b"COMMIT") + IDLE),
-    (query(b"SAVEPOINT s"), error(b"25P01", b"this command has its place in a transaction block: SAVEPOINT") + IDLE),
+    (query(b"SAVEPOINT s"), error(b"25P01", b"SAVEPOINT can only be used in transaction blocks") + IDLE),
     (query(b"START TRANSACTION ISOLATION LEVEL SERIALIZABLE"), tag(b"START TRANSACTION") + INSIDE),
     (query(b"END AND CHAIN"), tag(b"COMMIT") + INSIDE),
     (query(b"ABORT"), tag(b"ROLLBACK") + IDLE),
@@ -178,7 +178,7 @@ STEPS = [
     # names in quotes are as they stand, and words that have no place are a fault
     (query(b'SAVEPOINT "A b"'), tag(b"SAVEPOINT") + INSIDE),
     (query(b'ROLLBACK TO "A b"'), tag(b"ROLLBACK") + INSIDE),
-    (query(b"DISCARD ALL"), error(b"25001", b"this command can't be run in a transaction block: DISCARD ALL") + FAILED),
+    (query(b"DISCARD ALL"), error(b"25001", b"DISCARD ALL cannot run inside a transaction block") + FAILED),
     (query(b"ROLLBACK TRANSACTION AND NO CHAIN"), tag(b"ROLLBACK") + IDLE),
     (query(b"ROLLBACK x"), not_scripted(b"ROLLBACK x") + IDLE),
     (query(b"SET a"), not_scripted(b"SET a") + IDLE),
@@ -192,7 +192,7 @@ STEPS = [
     (query(b"SHOW extra_float_digits"), frame(b"T", int16(1) + column(b"extra_float_digits", 25, -1, 0)) + row(b"3") + tag(b"SHOW") + IDLE),
     (query(b"SET SESSION TimeZone TO 'Europe/Berlin'"), tag(b"SET") + status(b"TimeZone", b"Europe/Berlin") + IDLE),
     (query(b"RESET timezone"), tag(b"RESET") + status(b"TimeZone", b"UTC") + IDLE),
-    (query(b"SHOW nothing"), error(b"42704", b"there is no setting of this name: nothing") + IDLE),
+    (query(b"SHOW nothing"), error(b"42704", b'unrecognized configuration parameter "nothing"') + IDLE),
     # a statement with a parameter, its result in binary format
     (parse(b"s1", b"SELECT $1::int4"), PARSED),
     (frame(b"D", b"Ss1\0"), frame(b"t", int16(1) + int32(23)) + frame(b"T", int16(1) + column(b"int4", 23, 4, 0))),
@@ -203,12 +203,12 @@ STEPS = [
     (SYNC, IDLE),
     (frame(b"D", b"P\0"), no_portal(b"")),
     (SYNC, IDLE),
-    (parse(b"s1", b"BEGIN"), error(b"42P05", b"a statement of this name was prepared: s1")),
+    (parse(b"s1", b"BEGIN"), error(b"42P05", b'prepared statement "s1" already exists')),
     (SYNC, IDLE),
     # the types that a Parse names, and the script's where it names none
     (frame(b"P", b"s3\0SELECT $1::int4;\0" + int16(2) + int32(0, 1043)), PARSED),
     (frame(b"D", b"Ss3\0"), frame(b"t", int16(2) + int32(23, 1043)) + frame(b"T", int16(1) + column(b"int4", 23, 4, 0))),
-    (frame(b"P", b"s4\0SELECT $1::int4\0" + int16(2) + int32(0, 0)), error(b"42P18", b"a parameter's type is said neither by the client nor by the script")),
+    (frame(b"P", b"s4\0SELECT $1::int4\0" + int16(2) + int32(0, 0)), error(b"42P18", b"could not determine data type of a parameter")),
     (SYNC, IDLE),
     # a pattern; rows by a parameter, which comes as a text, in binary format, as a null, and as none of the script's
     (query(b"SELECT name FROM city LIMIT 12;"), NAME + row(b"Oslo") + tag(b"SELECT 1") + IDLE),
@@ -241,7 +241,7 @@ STEPS = [
     (SYNC, INSIDE),
     (execute(b"p", 1), ROWS[1] + SUSPENDED),
     (SYNC, INSIDE),
-    (bind(b"p", b"", [], []), error(b"42P03", b"there is a portal of this name: p")),
+    (bind(b"p", b"", [], []), error(b"42P03", b'cursor "p" already exists')),
     (SYNC, FAILED),
     (execute(b"p", 0), ABORTED),
     (SYNC, FAILED),
@@ -262,7 +262,7 @@ STEPS = [
     *extended(b"BEGIN"),
     (frame(b"D", b"S\0"), frame(b"t", int16(0)) + NO_DATA),
     (execute(b"", 0), tag(b"BEGIN")),
-    (execute(b"", 0), error(b"55000", b"the portal was run, and returns no rows: ")),
+    (execute(b"", 0), error(b"55000", b'portal "" cannot be run')),
     (SYNC, FAILED),
     (query(b"END"), tag(b"ROLLBACK") + IDLE),
     # the unnamed statement ends with a simple query
@@ -285,23 +285,23 @@ STEPS = [
     (execute(b"p", 0), no_portal(b"p")),
     (SYNC, IDLE),
     # bugs of a client
-    (bind(b"", b"s1", [], []), error(b"08P01", b"another number of values than the statement has parameters")),
+    (bind(b"", b"s1", [], []), error(b"08P01", b"bind message supplies another number of parameters than the statement has")),
     (execute(b"", 0), b""),
     (SYNC, IDLE),
-    (frame(b"B", b"\0s1\0" + int16(2, 0, 0, 1) + value(b"7") + int16(0)), error(b"08P01", b"another number of formats than there are values")),
+    (frame(b"B", b"\0s1\0" + int16(2, 0, 0, 1) + value(b"7") + int16(0)), error(b"08P01", b"bind message has another number of parameter formats than of parameters")),
     (SYNC, IDLE),
     (frame(b"B", b"\0s1\0" + int16(1, 2, 1) + value(b"7") + int16(0)), BAD_FORMAT),
     (SYNC, IDLE),
-    (bind(b"", b"s1", [b"7"], [0, 0]), error(b"08P01", b"another number of formats than there are columns")),
+    (bind(b"", b"s1", [b"7"], [0, 0]), error(b"08P01", b"bind message has another number of result formats than the query has columns")),
     (SYNC, IDLE),
     (bind(b"", b"s1", [b"7"], [2]), BOUND),
     (execute(b"", 0), BAD_FORMAT),
     (SYNC, IDLE),
     (parse(b"", b"BEGIN; ROLLBACK"), error(b"42601", b"cannot insert multiple commands into a prepared statement")),
     (SYNC, IDLE),
-    (frame(b"D", b"X\0"), error(b"08P01", b"a Describe is of a statement (S) or a portal (P)")),
+    (frame(b"D", b"X\0"), error(b"08P01", b"invalid DESCRIBE message subtype")),
     (SYNC, IDLE),
-    (frame(b"C", b"Xs1\0"), error(b"08P01", b"a Close is of a statement (S) or a portal (P)")),
+    (frame(b"C", b"Xs1\0"), error(b"08P01", b"invalid CLOSE message subtype")),
     (SYNC, IDLE),
     # bodies that are none of their message
     (frame(b"Q", b"BEGIN"), MALFORMED + IDLE),
@@ -359,7 +359,7 @@ STEPS = [
     *extended(b"COPY city FROM STDIN"),
     (execute(b"", 0), frame(b"G", b"\0" + int16(2, 0, 0))),
     (frame(b"H"), b""),
-    (frame(b"f", b"no\0"), error(b"57014", b"the client gave the copy up: no")),
+    (frame(b"f", b"no\0"), error(b"57014", b"COPY from stdin failed: no")),
     (SYNC, IDLE),
     # answers in turn, of which the last stays; a portal has the answer of the time when it was bound
     (
@@ -406,6 +406,11 @@ STEPS = [
     (SYNC, IDLE),
     # a statement by its words
     (query(b"Select\n  LOOSE -- all\n;"), frame(b"T", int16(1) + column(b"loose", 25, -1, 0)) + row(b"ok") + tag(b"SELECT 1") + IDLE),
+    # channels: what is sent in a transaction comes at its end, once each, to who listens
+    (query(b"LISTEN told; NOTIFY told, 'x'; NOTIFY told, 'x'"), tag(b"LISTEN") + tag(b"NOTIFY") * 2 + frame(b"A", int32(1) + b"told\0x\0") + IDLE),
+    (query(b"BEGIN; NOTIFY told, 'y'"), tag(b"BEGIN") + tag(b"NOTIFY") + INSIDE),
+    (query(b"ROLLBACK"), tag(b"ROLLBACK") + IDLE),
+    (query(b'UNLISTEN *; NOTIFY "told"'), tag(b"UNLISTEN") + tag(b"NOTIFY") + IDLE),
     # a cursor, whose query the script has
     (query(b"BEGIN"), tag(b"BEGIN") + INSIDE),
     (query(b"DECLARE c CURSOR FOR SELECT id, name FROM city"), tag(b"DECLARE CURSOR") + INSIDE),

@@ -1,12 +1,13 @@
 //! What is answered to a statement.
 
-use crate::asked::{Refusal, put_error, put_notice, refuse};
+use crate::asked::{
+    Refusal, bad_format, not_scripted, not_supported, put_error, put_notice, refuse,
+};
 use crate::binary::{Unwritten, value_in};
 use crate::bound::{Bound, is_sent};
 use crate::copy::put_copy_out;
 use crate::extended::are_formats;
-use crate::list::push;
-use crate::outbox::Outbox;
+use crate::outbox::{Outbox, push};
 use crate::script::{Column, End, Statement};
 use crate::types::PLAIN_TEXT;
 use bytes::BytesMut;
@@ -128,26 +129,17 @@ fn add_values(
     Ok(())
 }
 
-fn slice_of(value: &Option<BytesMut>) -> Option<&[u8]> {
-    match value {
-        Some(bytes) => Some(bytes),
-        None => None,
-    }
-}
-
-/// The values, lent out.
-fn lent<'v>(values: &'v [Option<BytesMut>], out: &mut Outbox) -> Vec<Option<&'v [u8]>> {
-    let mut list = Vec::new(out.alloc);
-    for value in values {
-        out.add(&mut list, slice_of(value));
-    }
-    list
-}
-
 /// Appends a row of these values.
 fn put_values(values: &[Option<BytesMut>], out: &mut Outbox) {
-    let values = lent(values, out);
-    let put = reply::data_row(&values, &mut out.bytes);
+    let mut lent = Vec::new(out.alloc);
+    for value in values {
+        let bytes: Option<&[u8]> = match value {
+            Some(bytes) => Some(bytes),
+            None => None,
+        };
+        out.add(&mut lent, bytes);
+    }
+    let put = reply::data_row(&lent, &mut out.bytes);
     out.put(put);
 }
 
@@ -159,13 +151,13 @@ fn put_row<'r>(
     out: &mut Outbox,
 ) -> Result<(), Refusal<'r>> {
     if !are_formats(formats) {
-        return Err(Refusal::BadFormat);
+        return Err(bad_format());
     }
     let mut values = Vec::new(out.alloc);
     match add_values(out.alloc, columns, formats, row, &mut values) {
         Ok(()) => put_values(&values, out),
         Err(Unwritten::Memory) => out.lack(),
-        Err(_) => return Err(Refusal::NotSupported),
+        Err(_) => return Err(not_supported()),
     }
     Ok(())
 }
@@ -234,7 +226,7 @@ fn complete_part(tag: &[u8], rows: usize, out: &mut Outbox) {
 fn put_end(statement: &Statement, part: Option<usize>, out: &mut Outbox) -> Went {
     match &statement.end {
         End::Error(report) => put_error(report, out),
-        End::Open => refuse(Refusal::NotScripted(&statement.text), out),
+        End::Open => refuse(not_scripted(&statement.text), out),
         End::Tag(tag) => {
             match part {
                 Some(rows) => complete_part(tag, rows, out),

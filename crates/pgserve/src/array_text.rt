@@ -3,100 +3,45 @@
 //! PostgreSQL manual, "Arrays", "Array Input and Output Syntax".
 
 use crate::binary::Unwritten;
-use crate::list::push;
+use crate::outbox::push;
 use std::alloc::Global;
 
-/// An element that is read.
-#[derive(Drop)]
-struct Element {
-    bytes: Vec<u8>,
-    is_quoted: bool,
-    /// In quotes.
-    is_inside: bool,
-    /// After a backslash.
-    is_escaped: bool,
-    /// After its quotes.
-    is_closed: bool,
+/// Where a byte of an element stands.
+#[derive(Clone, Copy, PartialEq, Eq)]
+enum Place {
+    Before,
+    Bare,
+    Quotes,
+    /// After a backslash, in quotes or outside.
+    Escaped(bool),
+    /// Behind its quotes.
+    Behind,
 }
 
-impl Element {
-    fn new(alloc: Global) -> Element {
-        Element {
-            bytes: Vec::new(alloc),
-            is_quoted: false,
-            is_inside: false,
-            is_escaped: false,
-            is_closed: false,
+impl Place {
+    /// Where the next byte stands, and whether this one belongs to the value; `None` where it has no place.
+    fn after(self, byte: u8) -> Option<(Place, bool)> {
+        match (self, byte) {
+            (Place::Escaped(true), _) => Some((Place::Quotes, true)),
+            (Place::Escaped(false), _) => Some((Place::Bare, true)),
+            (Place::Quotes, b'"') => Some((Place::Behind, false)),
+            (Place::Before, b'"') => Some((Place::Quotes, false)),
+            (Place::Behind, _) => None,
+            (place, b'\\') => Some((Place::Escaped(place == Place::Quotes), false)),
+            (Place::Quotes, _) => Some((Place::Quotes, true)),
+            (_, b'"' | b'{' | b'}') => None,
+            _ => Some((Place::Bare, true)),
         }
     }
 
-    fn add(&mut self, byte: u8) -> Result<(), Unwritten> {
-        match self.bytes.push(byte) {
-            Ok(()) => Ok(()),
-            Err(_) => Err(Unwritten::Memory),
-        }
-    }
-
-    /// Takes a byte, which may have no place there.
-    fn take(&mut self, byte: u8) -> Result<(), Unwritten> {
-        if self.is_escaped {
-            self.is_escaped = false;
-            return self.add(byte);
-        }
-        match byte {
-            b'\\' => {
-                self.is_escaped = true;
-                Ok(())
-            }
-            b'"' => self.quote(),
-            _ if self.is_closed => Err(Unwritten::NotOfType),
-            b'{' | b'}' if !self.is_inside => Err(Unwritten::NotOfType),
-            _ => self.add(byte),
-        }
-    }
-
-    /// Takes a quotation mark.
-    fn quote(&mut self) -> Result<(), Unwritten> {
-        if self.is_inside {
-            self.is_inside = false;
-            self.is_closed = true;
-            return Ok(());
-        }
-        let is_first = !self.is_quoted && self.bytes.is_empty();
-        self.is_quoted = true;
-        self.is_inside = true;
-        if is_first {
-            Ok(())
-        } else {
-            Err(Unwritten::NotOfType)
-        }
-    }
-
-    /// Whether a comma ends it.
-    fn may_end(&self) -> bool {
-        !self.is_inside && !self.is_escaped
-    }
-
-    /// Whether it is an element.
-    fn is_whole(&self) -> bool {
-        self.may_end() && (self.is_quoted || !self.bytes.is_empty())
-    }
-
-    fn is_null(&self) -> bool {
-        !self.is_quoted && self.bytes.as_slice().eq_ignore_ascii_case(b"null")
-    }
-
-    /// Adds the element to the others.
-    fn end(self, elements: &mut Vec<Option<Vec<u8>>>) -> Result<(), Unwritten> {
-        if !self.is_whole() {
-            return Err(Unwritten::NotOfType);
-        }
-        let value = if self.is_null() {
-            None
-        } else {
-            Some(self.bytes)
+    /// Adds the element that ends here.
+    fn end(self, bytes: Vec<u8>, elements: &mut Vec<Option<Vec<u8>>>) -> Result<(), Unwritten> {
+        let element = match self {
+            Place::Bare if bytes.as_slice().eq_ignore_ascii_case(b"null") => None,
+            Place::Bare | Place::Behind => Some(bytes),
+            _ => return Err(Unwritten::NotOfType),
         };
-        Ok(push(elements, value)?)
+        Ok(push(elements, element)?)
     }
 }
 
@@ -106,21 +51,22 @@ fn add_elements(
     inside: &[u8],
     elements: &mut Vec<Option<Vec<u8>>>,
 ) -> Result<(), Unwritten> {
-    let mut element = Element::new(alloc);
+    let (mut place, mut bytes) = (Place::Before, Vec::new(alloc));
     for byte in inside {
-        if *byte == b',' && element.may_end() {
-            let whole = std::mem::replace(&mut element, Element::new(alloc));
-            whole.end(elements)?;
-        } else {
-            element.take(*byte)?;
+        if *byte == b',' && matches!(place, Place::Before | Place::Bare | Place::Behind) {
+            place.end(std::mem::replace(&mut bytes, Vec::new(alloc)), elements)?;
+            place = Place::Before;
+            continue;
+        }
+        let Some((next, is_part)) = place.after(*byte) else {
+            return Err(Unwritten::NotOfType);
+        };
+        place = next;
+        if is_part {
+            push(&mut bytes, *byte)?;
         }
     }
-    element.end(elements)
-}
-
-/// What stands between the braces.
-fn inside_of(text: &str) -> Option<&str> {
-    text.strip_prefix('{')?.strip_suffix('}')
+    place.end(bytes, elements)
 }
 
 /// The elements of `{1,NULL,"a b"}`, a null as `None`.
@@ -129,12 +75,11 @@ fn inside_of(text: &str) -> Option<&str> {
 ///
 /// Returns `NotOfType` of another text, and `Memory`.
 pub(crate) fn elements_of(alloc: Global, text: &str) -> Result<Vec<Option<Vec<u8>>>, Unwritten> {
-    let Some(inside) = inside_of(text) else {
-        return Err(Unwritten::NotOfType);
-    };
     let mut elements = Vec::new(alloc);
-    if !inside.is_empty() {
-        add_elements(alloc, inside.as_bytes(), &mut elements)?;
+    match text.strip_prefix('{').unwrap_or("").strip_suffix('}') {
+        Some("") => {}
+        Some(inside) => add_elements(alloc, inside.as_bytes(), &mut elements)?,
+        None => return Err(Unwritten::NotOfType),
     }
     Ok(elements)
 }

@@ -1,156 +1,120 @@
-//! Errors that no script says.
+//! Errors and warnings that no script says, in PostgreSQL's words.
 
 use crate::outbox::Outbox;
 use crate::script::Report;
-use crate::transaction::Warning;
 use pgp_message_write::{self as reply, ErrorField};
 
-/// Why a request gets an error, by its SQLSTATE (PostgreSQL manual, appendix "PostgreSQL Error Codes").
+/// Why a request gets an error or a warning: its SQLSTATE (PostgreSQL manual, appendix "PostgreSQL Error Codes"), and its message, in which a
+/// name may stand.
 #[derive(Clone, Copy)]
-pub(crate) enum Refusal<'a> {
-    /// `42601`: the script has no statement of this text.
-    NotScripted(&'a [u8]),
-    /// `42601`: more than one statement is to be prepared.
-    Several,
-    /// `26000`: no statement was prepared under this name.
-    NoStatement(&'a [u8]),
-    /// `42P05`: a statement of this name was prepared.
-    StatementThere(&'a [u8]),
-    /// `34000`: there is no portal of this name.
-    NoPortal(&'a [u8]),
-    /// `42P03`: there is a portal of this name.
-    PortalThere(&'a [u8]),
-    /// `55000`: the portal of this name was run, and returns no rows.
-    WasRun(&'a [u8]),
-    /// `42P02`: a simple query has no parameters.
-    NoParameter,
-    /// `22P02`: a text that is none of its parameter's type.
-    NotOfType(&'a [u8]),
-    /// `22003`: a number that its parameter's type doesn't have.
-    OutOfRange(&'a [u8]),
-    /// `22021`: a text that isn't UTF-8, or has a byte 0.
-    NotUtf8,
-    /// `08P01`: a value in binary format has less bytes than its type.
-    TooShort,
-    /// `22P03`: it has more.
-    TooLong,
-    /// `42P18`: neither the client nor the script says a parameter's type.
-    NoType,
-    /// `08P01`: another number of values than the statement has parameters.
-    WrongCount,
-    /// `08P01`: more than one format of parameters, and another number than there are values.
-    WrongFormats,
-    /// `08P01`: more than one format of results, and another number than there are columns.
-    WrongResultFormats,
-    /// `08P01`: a Describe of something else than a statement or a portal.
-    WrongDescribe,
-    /// `08P01`: a Close of something else.
-    WrongClose,
-    /// `08P01`: the message's bytes aren't those of its type.
-    Malformed,
-    /// `22023`: a format that is neither text nor binary.
-    BadFormat,
-    /// `25P02`: the transaction failed.
-    Aborted,
-    /// `25001`: this command stands in a transaction.
-    InTransaction(&'a [u8]),
-    /// `25P01`: this command stands in no transaction.
-    NoTransaction(&'a [u8]),
-    /// `3B001`: there is no savepoint of this name.
-    NoSavepoint(&'a [u8]),
-    /// `42704`: there is no setting of this name.
-    NoSetting(&'a [u8]),
-    /// `57014`: the client gave a copy up, by this text.
-    CopyFailed(&'a [u8]),
-    /// `08P01`: a message that has no place while the data of a copy are awaited.
-    NoCopyData,
-    /// `0A000`: a value in a format that this server doesn't write, or a call of a function.
-    NotSupported,
+pub(crate) struct Refusal<'a> {
+    code: &'static str,
+    before: &'static str,
+    name: &'a [u8],
+    behind: &'static str,
+}
+
+/// Each statement of a transaction that failed.
+pub(crate) fn aborted<'a>() -> Refusal<'a> {
+    let message = "current transaction is aborted, commands ignored until end of transaction block";
+    Refusal::new("25P02", message)
+}
+
+/// A message whose bytes aren't those of its type.
+pub(crate) fn malformed<'a>() -> Refusal<'a> {
+    Refusal::new("08P01", "invalid message format")
+}
+
+/// A message that has no place in the protocol.
+pub(crate) fn violation<'a>(message: &'static str) -> Refusal<'a> {
+    Refusal::new("08P01", message)
+}
+
+/// A text that isn't UTF-8, or has a byte 0.
+pub(crate) fn not_utf8<'a>() -> Refusal<'a> {
+    Refusal::new("22021", "invalid byte sequence for encoding \"UTF8\"")
+}
+
+/// A format that is neither text nor binary.
+pub(crate) fn bad_format<'a>() -> Refusal<'a> {
+    Refusal::new("22023", "a format is 0 (text) or 1 (binary)")
+}
+
+/// A value in a format that this server doesn't write, or a call of a function.
+pub(crate) fn not_supported<'a>() -> Refusal<'a> {
+    Refusal::new("0A000", "this server doesn't do that")
+}
+
+/// The script has no statement of this text.
+pub(crate) fn not_scripted(text: &[u8]) -> Refusal<'_> {
+    Refusal::of("42601", "the script has no such statement: ", text, "")
+}
+
+/// No statement was prepared under this name.
+pub(crate) fn no_statement(name: &[u8]) -> Refusal<'_> {
+    if name.is_empty() {
+        return Refusal::new("26000", "unnamed prepared statement does not exist");
+    }
+    Refusal::of("26000", "prepared statement \"", name, "\" does not exist")
+}
+
+/// There is no portal of this name.
+pub(crate) fn no_portal(name: &[u8]) -> Refusal<'_> {
+    Refusal::of("34000", "portal \"", name, "\" does not exist")
+}
+
+/// The same of one that SQL names.
+pub(crate) fn no_cursor(name: &[u8]) -> Refusal<'_> {
+    Refusal::of("34000", "cursor \"", name, "\" does not exist")
+}
+
+/// There is a portal of this name.
+pub(crate) fn portal_there(name: &[u8]) -> Refusal<'_> {
+    Refusal::of("42P03", "cursor \"", name, "\" already exists")
+}
+
+/// The portal of this name was run, and returns no rows.
+pub(crate) fn was_run(name: &[u8]) -> Refusal<'_> {
+    Refusal::of("55000", "portal \"", name, "\" cannot be run")
+}
+
+/// This command of one or two words stands in no transaction.
+pub(crate) fn no_transaction(command: &'static str, further: &'static str) -> Refusal<'static> {
+    let further = further.as_bytes();
+    Refusal::of(
+        "25P01",
+        command,
+        further,
+        " can only be used in transaction blocks",
+    )
 }
 
 impl<'a> Refusal<'a> {
-    fn code(self) -> &'static [u8] {
-        match self {
-            Refusal::NotScripted(_) | Refusal::Several => b"42601",
-            Refusal::NoStatement(_) => b"26000",
-            Refusal::StatementThere(_) => b"42P05",
-            Refusal::NoPortal(_) => b"34000",
-            Refusal::PortalThere(_) => b"42P03",
-            Refusal::WasRun(_) => b"55000",
-            Refusal::NoParameter => b"42P02",
-            Refusal::NotOfType(_) => b"22P02",
-            Refusal::OutOfRange(_) => b"22003",
-            Refusal::NotUtf8 => b"22021",
-            Refusal::TooLong => b"22P03",
-            Refusal::NoType => b"42P18",
-            Refusal::BadFormat => b"22023",
-            Refusal::Aborted => b"25P02",
-            Refusal::InTransaction(_) => b"25001",
-            Refusal::NoTransaction(_) => b"25P01",
-            Refusal::NoSavepoint(_) => b"3B001",
-            Refusal::NoSetting(_) => b"42704",
-            Refusal::CopyFailed(_) => b"57014",
-            Refusal::NotSupported => b"0A000",
-            _ => b"08P01",
+    /// An error whose message has no name.
+    pub(crate) fn new(code: &'static str, message: &'static str) -> Refusal<'a> {
+        Refusal::of(code, message, &[], "")
+    }
+
+    /// An error in whose message this name stands.
+    pub(crate) fn of(
+        code: &'static str,
+        before: &'static str,
+        name: &'a [u8],
+        behind: &'static str,
+    ) -> Refusal<'a> {
+        Refusal {
+            code,
+            before,
+            name,
+            behind,
         }
     }
 
-    /// The name or the text that stands at the end of the message, if it has one.
-    fn name(self) -> Option<&'a [u8]> {
-        match self {
-            Refusal::NotScripted(name)
-            | Refusal::NoStatement(name)
-            | Refusal::StatementThere(name)
-            | Refusal::NoPortal(name)
-            | Refusal::PortalThere(name)
-            | Refusal::WasRun(name)
-            | Refusal::InTransaction(name)
-            | Refusal::NoTransaction(name)
-            | Refusal::NoSavepoint(name)
-            | Refusal::NoSetting(name)
-            | Refusal::NotOfType(name)
-            | Refusal::OutOfRange(name)
-            | Refusal::CopyFailed(name) => Some(name),
-            _ => None,
-        }
-    }
-
-    /// The message, up to its name.
-    fn message(self) -> &'static [u8] {
-        match self {
-            Refusal::NotScripted(_) => b"the script has no such statement",
-            Refusal::Several => b"cannot insert multiple commands into a prepared statement",
-            Refusal::NoStatement(_) => b"no statement was prepared under this name",
-            Refusal::StatementThere(_) => b"a statement of this name was prepared",
-            Refusal::NoPortal(_) => b"there is no portal of this name",
-            Refusal::PortalThere(_) => b"there is a portal of this name",
-            Refusal::WasRun(_) => b"the portal was run, and returns no rows",
-            Refusal::NoParameter => b"there is no parameter $1",
-            Refusal::NotOfType(_) => b"invalid input syntax for the parameter's type",
-            Refusal::OutOfRange(_) => b"value out of range for the parameter's type",
-            Refusal::NotUtf8 => b"invalid byte sequence for encoding \"UTF8\"",
-            Refusal::TooShort => b"insufficient data left in message",
-            Refusal::TooLong => b"incorrect binary data format in bind parameter",
-            Refusal::NoType =>
-                b"a parameter's type is said neither by the client nor by the script",
-            Refusal::WrongCount => b"another number of values than the statement has parameters",
-            Refusal::WrongFormats => b"another number of formats than there are values",
-            Refusal::WrongResultFormats => b"another number of formats than there are columns",
-            Refusal::WrongDescribe => b"a Describe is of a statement (S) or a portal (P)",
-            Refusal::WrongClose => b"a Close is of a statement (S) or a portal (P)",
-            Refusal::Malformed => b"the message's bytes aren't those of its type",
-            Refusal::BadFormat => b"a format is 0 (text) or 1 (binary)",
-            Refusal::Aborted => {
-                b"current transaction is aborted, commands ignored until end of transaction block"
-            }
-            Refusal::InTransaction(_) => b"this command can't be run in a transaction block",
-            Refusal::NoTransaction(_) => b"this command has its place in a transaction block",
-            Refusal::NoSavepoint(_) => b"there is no savepoint of this name",
-            Refusal::NoSetting(_) => b"there is no setting of this name",
-            Refusal::CopyFailed(_) => b"the client gave the copy up",
-            Refusal::NoCopyData => b"the data of a copy are awaited",
-            Refusal::NotSupported => b"this server doesn't do that",
-        }
+    fn message(self, out: &mut Outbox) -> Vec<u8> {
+        let mut message = out.copy(self.before.as_bytes());
+        out.keep(message.extend_from_slice(self.name));
+        out.keep(message.extend_from_slice(self.behind.as_bytes()));
+        message
     }
 }
 
@@ -159,39 +123,39 @@ fn field(code: u8, value: &[u8]) -> ErrorField<'_> {
 }
 
 /// The fields that every error and notice has.
-fn fields<'a>(severity: &'a [u8], code: &'a [u8], message: &'a [u8]) -> [ErrorField<'a>; 4] {
+fn fields<'a>(severity: &'a str, code: &'a [u8], message: &'a [u8]) -> [ErrorField<'a>; 4] {
     [
-        field(b'S', severity),
-        field(b'V', severity),
+        field(b'S', severity.as_bytes()),
+        field(b'V', severity.as_bytes()),
         field(b'C', code),
         field(b'M', message),
     ]
 }
 
-/// Appends an error.
-fn error(code: &[u8], message: &[u8], out: &mut Outbox) {
-    let put = reply::error_response(&fields(b"ERROR", code, message), &mut out.bytes);
+/// Appends an error of this severity.
+pub(crate) fn refuse_as(severity: &str, refusal: Refusal<'_>, out: &mut Outbox) {
+    let message = refusal.message(out);
+    let fields = fields(severity, refusal.code.as_bytes(), &message);
+    let put = reply::error_response(&fields, &mut out.bytes);
     out.put(put);
 }
 
-/// Appends the error that ends a session in which it isn't known where the next message begins.
-pub(crate) fn end_session(out: &mut Outbox) {
-    let message = b"terminating connection because protocol sync was lost";
-    let put = reply::error_response(&fields(b"FATAL", b"08P01", message), &mut out.bytes);
-    out.put(put);
+/// Appends the error.
+pub(crate) fn refuse(refusal: Refusal<'_>, out: &mut Outbox) {
+    refuse_as("ERROR", refusal, out);
 }
 
 /// Appends a warning.
-pub(crate) fn warn(warning: Warning, out: &mut Outbox) {
-    let fields = fields(b"WARNING", warning.code(), warning.message());
+pub(crate) fn warn(warning: Refusal<'_>, out: &mut Outbox) {
+    let message = warning.message(out);
+    let fields = fields("WARNING", warning.code.as_bytes(), &message);
     let put = reply::notice_response(&fields, &mut out.bytes);
     out.put(put);
 }
 
 /// All fields of a report of the script.
 fn fields_of<'r>(report: &'r Report, out: &mut Outbox) -> Vec<ErrorField<'r>> {
-    let severity = report.severity.as_bytes();
-    let mut all = out.copy(&fields(severity, &report.code, &report.message));
+    let mut all = out.copy(&fields(report.severity, &report.code, &report.message));
     for detail in &report.details {
         out.add(&mut all, field(detail.code, &detail.value));
     }
@@ -210,20 +174,4 @@ pub(crate) fn put_error(report: &Report, out: &mut Outbox) {
     let fields = fields_of(report, out);
     let put = reply::error_response(&fields, &mut out.bytes);
     out.put(put);
-}
-
-/// Appends the error.
-pub(crate) fn refuse(refusal: Refusal<'_>, out: &mut Outbox) {
-    match refusal.name() {
-        Some(name) => refuse_name(refusal, name, out),
-        None => error(refusal.code(), refusal.message(), out),
-    }
-}
-
-/// Appends the error, with this name at the end of its message.
-fn refuse_name(refusal: Refusal<'_>, name: &[u8], out: &mut Outbox) {
-    let mut message = out.copy(refusal.message());
-    out.keep(message.extend_from_slice(b": "));
-    out.keep(message.extend_from_slice(name));
-    error(refusal.code(), &message, out);
 }

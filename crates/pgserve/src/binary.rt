@@ -1,13 +1,14 @@
 //! Values of a script in binary format, by the codecs of `pgp_types` and `pgp_values`.
 
 use crate::array_text::elements_of;
-use crate::list::push;
 use crate::moment_text::{clock_of, date_of, interval_of, timestamp_of, timestamptz_of};
+use crate::outbox::push;
 use crate::types::{
     BOOL, BPCHAR, BYTEA, DATE, FLOAT4, FLOAT8, INT2, INT4, INT8, INTERVAL, JSON, JSONB, NAME,
     NUMERIC, OID, TEXT, TIME, TIMESTAMP, TIMESTAMPTZ, UUID, VARCHAR, element_of,
 };
 use bytes::BytesMut;
+use json::Scratch;
 use pgp_base::{Error, IsNull, Oid};
 use pgp_types::{self as types, ArrayDimension};
 use pgp_values::{self as values, NumericError};
@@ -135,6 +136,17 @@ fn put_uuid(word: &str, out: &mut BytesMut) -> Result<(), Unwritten> {
     }
 }
 
+/// Appends a `json` or a `jsonb`.
+fn put_json(alloc: Global, oid: Oid, text: &str, out: &mut BytesMut) -> Result<(), Unwritten> {
+    if !json::is_valid(text, &mut Scratch::new(alloc))? {
+        return Err(Unwritten::NotOfType);
+    }
+    match oid {
+        JSONB => written(values::jsonb_to_sql(text, out)),
+        _ => written(types::text_to_sql(text, out)),
+    }
+}
+
 /// Appends a value of this type, which is no array.
 fn put_scalar(alloc: Global, oid: Oid, text: &str, out: &mut BytesMut) -> Result<(), Unwritten> {
     match oid {
@@ -144,8 +156,8 @@ fn put_scalar(alloc: Global, oid: Oid, text: &str, out: &mut BytesMut) -> Result
         DATE | TIME | TIMESTAMP | TIMESTAMPTZ | INTERVAL => put_moment(oid, text, out),
         BYTEA => put_bytea(alloc, text, out),
         UUID => put_uuid(text, out),
-        JSONB => written(values::jsonb_to_sql(text, out)),
-        NAME | TEXT | JSON | BPCHAR | VARCHAR => written(types::text_to_sql(text, out)),
+        JSON | JSONB => put_json(alloc, oid, text, out),
+        NAME | TEXT | BPCHAR | VARCHAR => written(types::text_to_sql(text, out)),
         _ => Err(Unwritten::NoFormat),
     }
 }

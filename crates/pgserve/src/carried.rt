@@ -1,7 +1,8 @@
 //! Commands that need no script, carried out.
 
 use crate::answer::{Went, complete, describe, describe_none, describe_one};
-use crate::asked::{Refusal, refuse, warn};
+use crate::asked::{Refusal, no_cursor, no_statement, refuse, warn};
+use crate::channels::Act;
 use crate::command::{Command, SEPARATOR};
 use crate::cursor::Fetch;
 use crate::outbox::Outbox;
@@ -21,9 +22,15 @@ fn tag_of(command: Command<'_>) -> &'static [u8] {
         Command::DiscardAll => b"DISCARD ALL",
         Command::CloseCursor(_) => b"CLOSE CURSOR",
         Command::CloseAll => b"CLOSE CURSOR ALL",
+        Command::Listen(_) => b"LISTEN",
+        Command::Unlisten(_) => b"UNLISTEN",
+        Command::Notify { .. } => b"NOTIFY",
         _ => b"",
     }
 }
+
+/// A notification has a shorter text.
+const LONGEST_TEXT: usize = 8000;
 
 /// The value of these words: lower-cased where it stands in no quotes, with a blank between two.
 fn joined(words: &str, out: &mut Outbox) -> Vec<u8> {
@@ -61,12 +68,6 @@ impl<'h> Session<'h> {
         self.settings.set(name.as_bytes(), &value, scope, out);
     }
 
-    /// Sets the modes of transactions from now on.
-    fn set_defaults(&mut self, modes: &str, out: &mut Outbox) {
-        let scope = self.scope(false);
-        self.settings.set_defaults(modes, scope, out);
-    }
-
     /// Carries out a command on the transaction, and what it does to settings and portals.
     pub(crate) fn carry<'c>(&mut self, command: Command<'c>, out: &mut Outbox) -> Taken<'c> {
         let before = self.transaction.status;
@@ -79,7 +80,7 @@ impl<'h> Session<'h> {
 
     /// What a command does to settings and portals, which was carried out in this status.
     fn settle(&mut self, command: Command<'_>, before: Status, out: &mut Outbox) {
-        let depth = self.transaction.depth();
+        let (scope, depth) = (self.scope(false), self.transaction.depth());
         match command {
             Command::Begin(_, modes) if before == Status::Idle => {
                 self.settings.begin_transaction(modes, out);
@@ -87,7 +88,7 @@ impl<'h> Session<'h> {
             Command::SetTransaction(modes) if before != Status::Idle => {
                 self.settings.set_modes(modes, Scope::Local(depth), out);
             }
-            Command::SetDefaults(modes) => self.set_defaults(modes, out),
+            Command::SetDefaults(modes) => self.settings.set_defaults(modes, scope, out),
             Command::Set {
                 name,
                 value,
@@ -96,26 +97,30 @@ impl<'h> Session<'h> {
             Command::Commit { .. } if before.commits() => {
                 self.settings.commit(out);
                 self.portals.commit();
+                self.channels.commit(out);
             }
             Command::Commit { .. } | Command::Rollback { .. } => {
                 self.settings.roll_back(0, out);
                 self.portals.roll_back();
+                self.channels.roll_back(0);
             }
             Command::RollbackTo(_) => {
                 self.settings.roll_back(depth, out);
                 self.portals.end_from(depth);
+                self.channels.roll_back(depth);
             }
             Command::Release(_) => {
                 self.settings.release(depth);
                 self.portals.keep_at(depth);
+                self.channels.release(depth);
             }
-            _ => {}
+            other => self.arrange(other, out),
         }
     }
 
     /// Carries out a command that is none of transactions.
     fn arrange(&mut self, command: Command<'_>, out: &mut Outbox) {
-        let scope = self.scope(false);
+        let (scope, depth) = (self.scope(false), self.transaction.depth());
         match command {
             Command::Reset(name) => self.settings.reset(name.as_bytes(), scope, out),
             Command::Deallocate(name) => self.prepared.remove(name.as_bytes()),
@@ -124,9 +129,15 @@ impl<'h> Session<'h> {
                 self.prepared.keep_unnamed();
                 self.portals.clear();
                 self.settings.reset(b"all", scope, out);
+                self.channels.ask(Act::Unlisten, "", "", depth, out);
             }
             Command::CloseCursor(name) => self.portals.remove(name.as_bytes()),
             Command::CloseAll => self.portals.clear(),
+            Command::Listen(name) => self.channels.ask(Act::Listen, name, "", depth, out),
+            Command::Unlisten(name) => self.channels.ask(Act::Unlisten, name, "", depth, out),
+            Command::Notify { name, text } => {
+                self.channels.ask(Act::Notify, name, text, depth, out);
+            }
             _ => {}
         }
     }
@@ -142,7 +153,8 @@ impl<'h> Session<'h> {
     /// Appends the row of a `SHOW`.
     fn show(&self, name: &str, out: &mut Outbox) -> Went {
         let Some(setting) = self.settings.find(name.as_bytes()) else {
-            refuse(Refusal::NoSetting(name.as_bytes()), out);
+            let (front, name) = ("unrecognized configuration parameter \"", name.as_bytes());
+            refuse(Refusal::of("42704", front, name, "\""), out);
             return Went::Wrong;
         };
         let put = reply::data_row(&[Some(setting.value.as_slice())], &mut out.bytes);
@@ -152,17 +164,14 @@ impl<'h> Session<'h> {
     }
 
     /// Appends what a command comes to.
-    fn put_taken(&mut self, taken: Taken<'_>, command: Command<'_>, out: &mut Outbox) -> Went {
+    fn put_taken(&self, taken: Taken<'_>, command: Command<'_>, out: &mut Outbox) -> Went {
         match taken {
             Taken::Done(tag) => complete(tag.as_bytes(), out),
             Taken::Warned(tag, warning) => {
                 warn(warning, out);
                 complete(tag.as_bytes(), out);
             }
-            Taken::Other => {
-                self.arrange(command, out);
-                complete(tag_of(command), out);
-            }
+            Taken::Other => complete(tag_of(command), out),
             Taken::Refused(refusal) => {
                 refuse(refusal, out);
                 return Went::Wrong;
@@ -175,13 +184,17 @@ impl<'h> Session<'h> {
     fn rejects_command<'c>(&self, command: Command<'c>) -> Option<Refusal<'c>> {
         match command {
             Command::Deallocate(name) if self.prepared.find(name.as_bytes()).is_none() => {
-                Some(Refusal::NoStatement(name.as_bytes()))
+                Some(no_statement(name.as_bytes()))
             }
             Command::DiscardAll if self.transaction.status != Status::Idle => {
-                Some(Refusal::InTransaction(b"DISCARD ALL"))
+                let message = "DISCARD ALL cannot run inside a transaction block";
+                Some(Refusal::new("25001", message))
+            }
+            Command::Notify { text, .. } if text.len() >= LONGEST_TEXT => {
+                Some(Refusal::new("22023", "payload string too long"))
             }
             Command::CloseCursor(name) if self.portals.find(name.as_bytes()).is_none() => {
-                Some(Refusal::NoPortal(name.as_bytes()))
+                Some(no_cursor(name.as_bytes()))
             }
             _ => None,
         }
@@ -230,7 +243,7 @@ impl<'h> Session<'h> {
     ) -> Went {
         let went = self.carry_out(command, &statement.bare, formats, out);
         if went == Went::Wrong {
-            self.transaction.fail();
+            self.fail_transaction();
         }
         went
     }

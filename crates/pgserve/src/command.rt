@@ -1,7 +1,7 @@
-//! The commands that need no script: those of transactions, and of settings.
+//! The commands that need no script: those of transactions, settings, statements, cursors and channels.
 //!
 //! PostgreSQL manual, "BEGIN", "COMMIT", "ROLLBACK", "SAVEPOINT", "RELEASE SAVEPOINT", "ROLLBACK TO SAVEPOINT", "SET", "RESET", "SHOW",
-//! "DEALLOCATE", "DISCARD", "DECLARE", "FETCH", "MOVE", "CLOSE".
+//! "DEALLOCATE", "DISCARD", "DECLARE", "FETCH", "MOVE", "CLOSE", "LISTEN", "UNLISTEN", "NOTIFY".
 
 /// What stands between two words.
 pub(crate) const SEPARATOR: char = '\0';
@@ -51,6 +51,13 @@ pub(crate) enum Command<'w> {
     /// `CLOSE` of a cursor.
     CloseCursor(&'w str),
     CloseAll,
+    Listen(&'w str),
+    /// `UNLISTEN`; of all channels without a name.
+    Unlisten(&'w str),
+    Notify {
+        name: &'w str,
+        text: &'w str,
+    },
 }
 
 impl Command<'_> {
@@ -62,46 +69,6 @@ impl Command<'_> {
         )
     }
 }
-
-/// What the first word of a command says.
-#[derive(Clone, Copy)]
-enum Verb {
-    Begin,
-    Start,
-    Commit,
-    Rollback,
-    Savepoint,
-    Release,
-    Set,
-    Reset,
-    Show,
-    Deallocate,
-    Discard,
-    Declare,
-    Fetch,
-    Move,
-    Close,
-}
-
-static VERBS: [(&str, Verb); 17] = [
-    ("begin", Verb::Begin),
-    ("start", Verb::Start),
-    ("commit", Verb::Commit),
-    ("end", Verb::Commit),
-    ("rollback", Verb::Rollback),
-    ("abort", Verb::Rollback),
-    ("savepoint", Verb::Savepoint),
-    ("release", Verb::Release),
-    ("set", Verb::Set),
-    ("reset", Verb::Reset),
-    ("show", Verb::Show),
-    ("deallocate", Verb::Deallocate),
-    ("discard", Verb::Discard),
-    ("declare", Verb::Declare),
-    ("fetch", Verb::Fetch),
-    ("move", Verb::Move),
-    ("close", Verb::Close),
-];
 
 /// The first of these words, and those after it.
 fn split(words: &str) -> (&str, &str) {
@@ -307,40 +274,47 @@ fn fetch(rest: &str, moves: bool) -> Option<Command<'_>> {
     })
 }
 
-/// The command of this first word, with these words after it.
-fn command_by(verb: Verb, rest: &str) -> Option<Command<'_>> {
-    match verb {
-        Verb::Begin if are_modes(after_work(rest)) => Some(Command::Begin("BEGIN", rest)),
-        Verb::Start if are_modes(after(rest, "transaction")?) => {
-            Some(Command::Begin("START TRANSACTION", rest))
-        }
-        Verb::Commit => Some(Command::Commit {
-            chains: chains(rest)?,
-        }),
-        Verb::Rollback => rollback(rest),
-        Verb::Savepoint => Some(Command::Savepoint(name_of(rest, "")?)),
-        Verb::Release => Some(Command::Release(name_of(rest, "savepoint")?)),
-        Verb::Set => set(rest),
-        Verb::Reset => Some(Command::Reset(setting(rest)?)),
-        Verb::Show => Some(Command::Show(setting(rest)?)),
-        Verb::Deallocate => deallocate(rest),
-        Verb::Discard if rest == "all" => Some(Command::DiscardAll),
-        Verb::Declare => declare(rest),
-        Verb::Fetch => fetch(rest, false),
-        Verb::Move => fetch(rest, true),
-        Verb::Close if rest == "all" => Some(Command::CloseAll),
-        Verb::Close => Some(Command::CloseCursor(name_of(rest, "")?)),
-        _ => None,
-    }
+/// `NOTIFY` of a channel, with a text behind a comma or without.
+fn notify(rest: &str) -> Option<Command<'_>> {
+    let (front, last) = rest.rsplit_once(SEPARATOR).unwrap_or((rest, ""));
+    let (names, text) = match last.strip_prefix('\'') {
+        Some(text) => (front.strip_suffix(',')?.trim_end_matches(SEPARATOR), text),
+        None => (rest, ""),
+    };
+    Some(Command::Notify {
+        name: name_of(names, "")?,
+        text,
+    })
 }
 
 /// The command that these words are, if they are one.
 pub(crate) fn command_of(words: &str) -> Option<Command<'_>> {
     let (first, rest) = split(words);
-    for (word, verb) in &VERBS {
-        if *word == first {
-            return command_by(*verb, rest);
+    match first {
+        "begin" if are_modes(after_work(rest)) => Some(Command::Begin("BEGIN", rest)),
+        "start" if are_modes(after(rest, "transaction")?) => {
+            Some(Command::Begin("START TRANSACTION", rest))
         }
+        "commit" | "end" => Some(Command::Commit {
+            chains: chains(rest)?,
+        }),
+        "rollback" | "abort" => rollback(rest),
+        "savepoint" => Some(Command::Savepoint(name_of(rest, "")?)),
+        "release" => Some(Command::Release(name_of(rest, "savepoint")?)),
+        "set" => set(rest),
+        "reset" => Some(Command::Reset(setting(rest)?)),
+        "show" => Some(Command::Show(setting(rest)?)),
+        "deallocate" => deallocate(rest),
+        "discard" if rest == "all" => Some(Command::DiscardAll),
+        "declare" => declare(rest),
+        "fetch" => fetch(rest, false),
+        "move" => fetch(rest, true),
+        "close" if rest == "all" => Some(Command::CloseAll),
+        "close" => Some(Command::CloseCursor(name_of(rest, "")?)),
+        "listen" => Some(Command::Listen(name_of(rest, "")?)),
+        "unlisten" if rest == "*" => Some(Command::Unlisten("")),
+        "unlisten" => Some(Command::Unlisten(name_of(rest, "")?)),
+        "notify" => notify(rest),
+        _ => None,
     }
-    None
 }

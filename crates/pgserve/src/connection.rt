@@ -2,12 +2,13 @@
 
 ghost use Rattle.pgp_frontend_read.specs.Pieces.{IsWhole};
 
+use crate::asked::{Refusal, malformed, refuse_as};
 use crate::fault::Fault;
 use crate::host::{Host, SCRAM_PLUS};
-use crate::log::line_of;
 use crate::opening::{Opening, opening_of, spoken};
 use crate::outbox::Outbox;
 use crate::pause::Pause;
+use crate::rejection::rejection;
 use crate::session::Session;
 use pgp_auth::authentication::sasl::SCRAM_SHA_256;
 use pgp_base::Error;
@@ -16,7 +17,7 @@ use pgp_frontend_read::{
     ClientError, ClientFrame, ClientMessage, ClientParser, Limits, ParserError,
 };
 use pgp_monitor::Monitor;
-use pgp_session::serving::{Denial, Method, Serving, ServingEvent, ServingPhase};
+use pgp_session::serving::{Method, Serving, ServingEvent, ServingPhase};
 use std::alloc::{AllocError, Global};
 
 /// How long messages may be.
@@ -29,15 +30,13 @@ const LIMITS: Limits = Limits {
 #[derive(Drop)]
 pub(crate) struct Connection<'h> {
     alloc: Global,
-    host: &'h Host<'h>,
+    pub(crate) host: &'h Host<'h>,
     serving: Serving,
     session: Session<'h>,
     /// What stands between what is answered and the client.
     pub(crate) monitor: Monitor,
     /// Where what is to be sent waits.
     pub(crate) pauses: Vec<Pause>,
-    /// What is reported of the requests.
-    pub(crate) log: String,
 }
 
 impl<'h> Connection<'h> {
@@ -50,7 +49,6 @@ impl<'h> Connection<'h> {
             session: Session::new(host.script, out),
             monitor: Monitor::new(alloc),
             pauses: Vec::new(alloc),
-            log: String::new(alloc),
         }
     }
 
@@ -59,25 +57,94 @@ impl<'h> Connection<'h> {
         self.serving.phase == ServingPhase::Over
     }
 
-    /// Says the client why the session ends.
-    fn deny(&mut self, denial: Denial, out: &mut Outbox) {
-        let put = self.serving.deny(denial, &mut out.bytes);
-        out.put(put);
+    /// Says the client why the session ends, in the place of what was answered.
+    fn reject(&mut self, refusal: Refusal<'_>, out: &mut Outbox) {
+        out.clear();
+        refuse_as("FATAL", refusal, out);
+        self.serving.phase = ServingPhase::Over;
+    }
+
+    /// The same of a message that has no place there, by its tag.
+    fn reject_tag(&mut self, phase: ServingPhase, tag: u8, out: &mut Outbox) {
+        let front = match phase {
+            ServingPhase::AwaitsPassword => "expected password response, got message type ",
+            ServingPhase::AwaitsFirst | ServingPhase::AwaitsFinal => {
+                "expected SASL response, got message type "
+            }
+            _ => "invalid frontend message type ",
+        };
+        match format!(in out.alloc; "{tag}") {
+            Ok(number) => {
+                let refusal = Refusal::of("08P01", front, number.as_bytes(), "");
+                self.reject(refusal, out);
+            }
+            Err(_) => out.lack(),
+        }
+    }
+
+    /// Says the client why its message of this tag isn't taken in this phase.
+    fn explain(
+        &mut self,
+        phase: ServingPhase,
+        message: &ClientMessage<'_>,
+        tag: u8,
+        out: &mut Outbox,
+    ) {
+        if tag != b'p' || phase == ServingPhase::Open {
+            return self.reject_tag(phase, tag, out);
+        }
+        let user = match self.session.settings.find(b"session_authorization") {
+            Some(user) => out.copy(&user.value),
+            None => return,
+        };
+        let is_bound = self.host.is_bound(&user);
+        let refusal = rejection(message, &user, self.host.nonce, is_bound);
+        self.reject(refusal, out);
     }
 
     /// Says the client that what it sent is no message here, where it isn't known where the next begins, and ends the session.
-    fn stop(&mut self, out: &mut Outbox) -> Result<(), Fault> {
-        out.clear();
-        self.deny(Denial::Violation, out);
+    fn stop(&mut self, why: ParserError, out: &mut Outbox) -> Result<(), Fault> {
+        let message = match why {
+            ParserError::OutOfMemory => return Err(Fault::Memory),
+            ParserError::Refused(ClientError::UnknownPacket(code)) => {
+                self.reject_version(code.to_be_bytes(), out);
+                return self.let_through(out);
+            }
+            ParserError::Refused(ClientError::Reading(Error::InvalidLength)) => {
+                "invalid message length"
+            }
+            ParserError::Refused(_) => {
+                "invalid startup packet layout: expected terminator as last byte"
+            }
+            ParserError::TooLong(_) => "invalid message length",
+        };
+        self.reject(Refusal::new("08P01", message), out);
         self.let_through(out)
+    }
+
+    /// Says the client that no such version of the protocol is spoken.
+    fn reject_version(&mut self, code: [u8; 4], out: &mut Outbox) {
+        let [a, b, c, d] = code;
+        let (major, minor) = (u16::from_be_bytes([a, b]), u16::from_be_bytes([c, d]));
+        match format!(in out.alloc; "{major}.{minor}") {
+            Ok(version) => {
+                let (front, version) = ("unsupported frontend protocol ", version.as_bytes());
+                let behind = ": server supports 3.0 to 3.0";
+                self.reject(Refusal::of("0A000", front, version, behind), out);
+            }
+            Err(_) => out.lack(),
+        }
     }
 
     /// Takes what the startup packet asks for, and asks the user for the proof.
     fn ask(&mut self, message: &mut ClientMessage<'_>, minor: u16, out: &mut Outbox) {
         let opening = opening_of(message, out);
         match opening.user {
-            Some(user) => self.begin(user, &opening, minor, out),
-            None => self.deny(Denial::NotAllowed, out),
+            Some(user) if !user.is_empty() => self.begin(user, &opening, minor, out),
+            _ => {
+                let message = "no PostgreSQL user name specified in startup packet";
+                self.reject(Refusal::new("28000", message), out);
+            }
         }
     }
 
@@ -140,16 +207,17 @@ impl<'h> Connection<'h> {
         }
     }
 
-    /// Takes note of what a message asks, and appends what is answered; returns the request's name.
-    fn take(&mut self, message: &mut ClientMessage<'_>, out: &mut Outbox) -> Option<u64> {
-        let name = self.note(Request::of(message), out);
+    /// Takes note of what a message asks, and appends what is answered.
+    fn take(&mut self, message: &mut ClientMessage<'_>, tag: u8, out: &mut Outbox) {
+        self.note(Request::of(message), out);
+        let phase = self.serving.phase;
         let minor = spoken(message);
         self.choose_by(message, out);
         match self.serving.step(message, &mut out.bytes) {
+            Ok(ServingEvent::Refused) => self.explain(phase, message, tag, out),
             Ok(event) => self.follow(event, message, minor, out),
             Err(why) => out.fail(Fault::from(why)),
         }
-        name
     }
 
     /// Does what a message leads to.
@@ -178,17 +246,16 @@ impl<'h> Connection<'h> {
     fn take_frame(&mut self, frame: ClientFrame<'_>, out: &mut Outbox) -> Result<(), Fault>
         requires { IsWhole frame.opened frame.bytes.now }
     {
-        let (bytes, is_open) = (frame.bytes(), self.is_tagged());
         let start = self.monitor.to_send().len();
         out.clear();
-        let name = self.answer_frame(frame, out);
+        self.answer_frame(frame, out);
         self.let_through(out)?;
         self.take_pauses(start)?;
         if let Some(end) = self.session.end_at {
             self.monitor.end(start.saturating_add(end));
             self.serving.phase = ServingPhase::Over;
         }
-        Ok(self.report(is_open, bytes, name, start)?)
+        Ok(())
     }
 
     /// Takes over the pauses of an answer that begins at this place among what is to be sent.
@@ -200,28 +267,26 @@ impl<'h> Connection<'h> {
         Ok(())
     }
 
-    /// Takes note of what the bytes of a message ask, and appends what is answered; returns the request's name.
-    fn answer_frame(&mut self, frame: ClientFrame<'_>, out: &mut Outbox) -> Option<u64>
+    /// Takes note of what the bytes of a message ask, and appends what is answered.
+    fn answer_frame(&mut self, frame: ClientFrame<'_>, out: &mut Outbox)
         requires { IsWhole frame.opened frame.bytes.now }
     {
+        let tag = first_of(frame.bytes());
         match frame.message(self.serving.kind()) {
             Ok(message) => {
                 let mut message = message;
-                let name = self.take(&mut message, out);
+                self.take(&mut message, tag, out);
                 drop(message);
-                name
             }
             Err(e) => self.take_malformed(frame.bytes(), e, out),
         }
     }
 
-    /// Takes note of a request, if it is one, and returns its name.
-    fn note(&mut self, request: Option<Request>, out: &mut Outbox) -> Option<u64> {
-        match self.monitor.note(request?) {
-            Ok(name) => name,
-            Err(_) => {
+    /// Takes note of a request, if it is one.
+    fn note(&mut self, request: Option<Request>, out: &mut Outbox) {
+        if let Some(request) = request {
+            if self.monitor.note(request).is_err() {
                 out.lack();
-                None
             }
         }
     }
@@ -240,34 +305,6 @@ impl<'h> Connection<'h> {
         Ok(())
     }
 
-    /// Whether messages have a tag.
-    fn is_tagged(&self) -> bool {
-        self.serving.phase != ServingPhase::Opening
-    }
-
-    /// Adds a line to the log, if there is one: a message, its name, and what stands from this place on among what is to be sent.
-    fn report(
-        &mut self,
-        is_open: bool,
-        message: &[u8],
-        name: Option<u64>,
-        start: usize,
-    ) -> Result<(), AllocError> {
-        let Some(form) = self.host.log else {
-            return Ok(());
-        };
-        let answer = self.answered(start);
-        match line_of(self.alloc, form, is_open, message, name, answer) {
-            Ok(line) => self.log.push_str(&line),
-            Err(why) => Err(why),
-        }
-    }
-
-    /// What stands from this place on among what is to be sent.
-    fn answered(&self, start: usize) -> &[u8] {
-        self.monitor.to_send().get(start..).unwrap_or(&[])
-    }
-
     /// What a message asks whose bytes aren't those of its type, by its tag and the first byte after its length. A malformed Flush is noted as a
     /// Close: a server answers it with an error, as a part of an extended query, and no Flush has an answer.
     fn malformed_request(&self, bytes: &[u8]) -> Option<Request> {
@@ -278,21 +315,26 @@ impl<'h> Connection<'h> {
     }
 
     /// Takes a message whose bytes aren't those of its type, as `take` does.
-    fn take_malformed(&mut self, bytes: &[u8], why: ClientError, out: &mut Outbox) -> Option<u64> {
-        let name = self.note(self.malformed_request(bytes), out);
+    fn take_malformed(&mut self, bytes: &[u8], why: ClientError, out: &mut Outbox) {
+        self.note(self.malformed_request(bytes), out);
+        let (phase, tag) = (self.serving.phase, first_of(bytes));
         let is_unknown = matches!(why, ClientError::Reading(Error::UnknownTag(_)));
-        if is_unknown || self.serving.phase != ServingPhase::Open {
-            self.deny(Denial::Violation, out);
-        } else {
-            self.answer_malformed(first_of(bytes), out);
+        match phase {
+            ServingPhase::Open if !is_unknown => self.answer_malformed(tag, out),
+            ServingPhase::AwaitsPassword if tag == b'p' => {
+                self.reject(Refusal::new("08P01", "invalid password packet size"), out);
+            }
+            ServingPhase::AwaitsFirst | ServingPhase::AwaitsFinal if tag == b'p' => {
+                self.reject(malformed(), out);
+            }
+            _ => self.reject_tag(phase, tag, out),
         }
-        name
     }
 
     /// In an open session such a message gets an error. A Terminate ends it all the same.
     fn answer_malformed(&mut self, tag: u8, out: &mut Outbox) {
         match tag {
-            b'p' => self.deny(Denial::Violation, out),
+            b'p' => self.reject_tag(ServingPhase::Open, tag, out),
             b'X' => self.serving.phase = ServingPhase::Over,
             _ => self.session.answer_malformed(tag, out),
         }
@@ -320,8 +362,7 @@ pub(crate) fn take_piece(
         match parser.next(&mut rest) {
             Ok(Some(frame)) => connection.take_frame(frame, out)?,
             Ok(None) => return Ok(()),
-            Err(ParserError::OutOfMemory) => return Err(Fault::Memory),
-            Err(_) => connection.stop(out)?,
+            Err(why) => connection.stop(why, out)?,
         }
     }
     Ok(())

@@ -3,7 +3,7 @@
 //! PostgreSQL manual, "Message Flow", "COPY Operations".
 
 use crate::answer::{Went, put_tag};
-use crate::asked::{Refusal, end_session, refuse};
+use crate::asked::{Refusal, malformed, refuse, refuse_as};
 use crate::outbox::Outbox;
 use crate::script::{Copy, Statement};
 use crate::session::Session;
@@ -78,8 +78,12 @@ impl<'h> Session<'h> {
 
     /// Ends the session after a message that has no place in a copy.
     fn lose_sync(&mut self, out: &mut Outbox) {
-        refuse(Refusal::NoCopyData, out);
-        end_session(out);
+        refuse(
+            Refusal::new("08P01", "unexpected message type during COPY from stdin"),
+            out,
+        );
+        let message = "terminating connection because protocol synchronization was lost";
+        refuse_as("FATAL", Refusal::new("08P01", message), out);
         self.end_at = Some(out.len());
     }
 
@@ -101,7 +105,7 @@ impl<'h> Session<'h> {
         match tag {
             b'd' | b'H' | b'S' => {}
             b'c' => self.end_copy(copy, out),
-            b'f' => self.fail_copy(copy, Refusal::Malformed, out),
+            b'f' => self.fail_copy(copy, malformed(), out),
             _ => self.lose_sync(out),
         }
     }
@@ -116,7 +120,10 @@ impl<'h> Session<'h> {
         match message {
             ClientMessage::CopyData(_) | ClientMessage::Flush | ClientMessage::Sync => {}
             ClientMessage::CopyDone => self.end_copy(copy, out),
-            ClientMessage::CopyFail(why) => self.fail_copy(copy, Refusal::CopyFailed(why), out),
+            ClientMessage::CopyFail(why) => {
+                let refusal = Refusal::of("57014", "COPY from stdin failed: ", why, "");
+                self.fail_copy(copy, refusal, out);
+            }
             _ => self.lose_sync(out),
         }
     }

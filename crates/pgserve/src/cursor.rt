@@ -3,7 +3,9 @@
 //! PostgreSQL manual, "DECLARE", "FETCH", "MOVE", "CLOSE".
 
 use crate::answer::{Went, complete, put_rows};
-use crate::asked::{Refusal, put_error, refuse};
+use crate::asked::{
+    Refusal, no_cursor, no_transaction, not_scripted, portal_there, put_error, refuse,
+};
 use crate::bound::Bound;
 use crate::command::Command;
 use crate::outbox::Outbox;
@@ -52,10 +54,10 @@ impl<'h> Session<'h> {
     /// Why a cursor of this name can't be declared, if it can't.
     fn rejects_cursor<'c>(&self, name: &'c str, is_held: bool) -> Option<Refusal<'c>> {
         if !is_held && self.transaction.status == Status::Idle {
-            return Some(Refusal::NoTransaction(b"DECLARE CURSOR"));
+            return Some(no_transaction("DECLARE", " CURSOR"));
         }
         match self.portals.find(name.as_bytes()) {
-            Some(_) => Some(Refusal::PortalThere(name.as_bytes())),
+            Some(_) => Some(portal_there(name.as_bytes())),
             None => None,
         }
     }
@@ -109,7 +111,7 @@ impl<'h> Session<'h> {
                 complete(b"DECLARE CURSOR", out);
                 return Went::Well;
             }
-            None => Refusal::NotScripted(statement),
+            None => not_scripted(statement),
         };
         refuse(refusal, out);
         Went::Wrong
@@ -136,7 +138,7 @@ impl<'h> Session<'h> {
         match found {
             Some(answer) => self.fetch_rows(answer, fetch, out),
             None => {
-                refuse(Refusal::NoPortal(fetch.name), out);
+                refuse(no_cursor(fetch.name), out);
                 Went::Wrong
             }
         }

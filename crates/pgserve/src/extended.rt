@@ -3,7 +3,10 @@
 //! PostgreSQL manual, "Message Flow", "Extended Query".
 
 use crate::answer::{Went, describe, describe_none, execute};
-use crate::asked::{Refusal, put_error};
+use crate::asked::{
+    Refusal, aborted, bad_format, no_portal, no_statement, not_scripted, not_utf8, portal_there,
+    put_error, violation, was_run,
+};
 use crate::bound::{Bound, given_of};
 use crate::input::{is_text, rejects_values};
 use crate::outbox::Outbox;
@@ -78,23 +81,19 @@ impl<'h> Session<'h> {
     /// The one statement of a Parse; `None` where it has more.
     fn only<'q>(&self, query: &'q [u8], out: &mut Outbox) -> Option<&'q [u8]> {
         let whole = Wording::new(query, out);
-        match self.script.find(out.alloc, &whole) {
-            Ok(Some(_)) => Some(trimmed(query)),
-            Ok(None) => only_of(query, out),
-            Err(_) => {
-                out.lack();
-                None
-            }
+        match self.script.find(&whole, out) {
+            Some(_) => Some(trimmed(query)),
+            None => only_of(query, out),
         }
     }
 
     /// Why the statement can't be prepared, if it can't.
     fn rejects<'q>(&self, asks: Asks<'h, '_>, statement: &'q Wording) -> Option<Refusal<'q>> {
         if !statement.text.is_empty() && self.is_aborted(statement) {
-            return Some(Refusal::Aborted);
+            return Some(aborted());
         }
         match asks {
-            Asks::Unknown => Some(Refusal::NotScripted(&statement.text)),
+            Asks::Unknown => Some(not_scripted(&statement.text)),
             _ => None,
         }
     }
@@ -105,11 +104,14 @@ impl<'h> Session<'h> {
             self.prepared.remove(name);
         }
         if !is_text(query) {
-            return self.fail(Refusal::NotUtf8, out);
+            return self.fail(not_utf8(), out);
         }
         match self.only(query, out) {
             Some(statement) => self.parse_only(name, statement, named, out),
-            None => self.fail(Refusal::Several, out),
+            None => {
+                let message = "cannot insert multiple commands into a prepared statement";
+                self.fail(Refusal::new("42601", message), out);
+            }
         }
     }
 
@@ -137,7 +139,8 @@ impl<'h> Session<'h> {
         }
         let types = types_of(named, scripted_types(asks), out);
         if types.is_none() {
-            self.fail(Refusal::NoType, out);
+            let message = "could not determine data type of a parameter";
+            self.fail(Refusal::new("42P18", message), out);
         }
         types
     }
@@ -160,7 +163,8 @@ impl<'h> Session<'h> {
     /// Keeps a statement under its name.
     fn prepare(&mut self, name: &[u8], plan: Plan, out: &mut Outbox) {
         if self.prepared.find(name).is_some() {
-            return self.fail(Refusal::StatementThere(name), out);
+            let refusal = Refusal::of("42P05", "prepared statement \"", name, "\" already exists");
+            return self.fail(refusal, out);
         }
         self.prepared.put(name, plan, out);
         let put = reply::parse_complete(&mut out.bytes);
@@ -188,14 +192,16 @@ impl<'h> Session<'h> {
         out: &mut Outbox,
     ) -> Option<Refusal<'q>> {
         if self.is_aborted(statement) {
-            return Some(Refusal::Aborted);
+            return Some(aborted());
         }
         if !portal.is_empty() && self.portals.find(portal).is_some() {
-            return Some(Refusal::PortalThere(portal));
+            return Some(portal_there(portal));
         }
         let width = self.width(statement, out);
         if results > 1 && width != 0 && results != width {
-            return Some(Refusal::WrongResultFormats);
+            return Some(violation(
+                "bind message has another number of result formats than the query has columns",
+            ));
         }
         None
     }
@@ -221,18 +227,22 @@ impl<'h> Session<'h> {
     /// Why this can't be bound, if it can't.
     fn rejects_binding<'m>(&self, binding: &Binding<'m>, out: &mut Outbox) -> Option<Refusal<'m>> {
         let Some(plan) = self.prepared.find(binding.statement) else {
-            return Some(Refusal::NoStatement(binding.statement));
+            return Some(no_statement(binding.statement));
         };
         let (formats, count) = (binding.formats, binding.values.len());
         if formats.len() > 1 && formats.len() != count {
-            return Some(Refusal::WrongFormats);
+            return Some(violation(
+                "bind message has another number of parameter formats than of parameters",
+            ));
         }
         if plan.types.len() != count {
-            return Some(Refusal::WrongCount);
+            return Some(violation(
+                "bind message supplies another number of parameters than the statement has",
+            ));
         }
         let results = binding.results.len();
         match self.rejects_portal(binding.portal, &plan.statement, results, out) {
-            None if count != 0 && !are_formats(formats) => Some(Refusal::BadFormat),
+            None if count != 0 && !are_formats(formats) => Some(bad_format()),
             None => rejects_values(&plan.types, binding, out),
             refusal => refusal,
         }
@@ -255,10 +265,10 @@ impl<'h> Session<'h> {
     /// Describes a prepared statement: its parameters, and its rows.
     fn describe_statement(&mut self, name: &[u8], out: &mut Outbox) {
         let Some(plan) = self.prepared.find(name) else {
-            return self.fail(Refusal::NoStatement(name), out);
+            return self.fail(no_statement(name), out);
         };
         if self.hides(&plan.statement, out) {
-            return self.fail(Refusal::Aborted, out);
+            return self.fail(aborted(), out);
         }
         let put = reply::parameter_description(&plan.types, &mut out.bytes);
         out.put(put);
@@ -268,10 +278,10 @@ impl<'h> Session<'h> {
     /// Describes a portal's rows.
     fn describe_portal(&mut self, name: &[u8], out: &mut Outbox) {
         let Some(portal) = self.portals.find(name) else {
-            return self.fail(Refusal::NoPortal(name), out);
+            return self.fail(no_portal(name), out);
         };
         if self.hides(&portal.statement, out) {
-            return self.fail(Refusal::Aborted, out);
+            return self.fail(aborted(), out);
         }
         self.describe_rows(&portal.statement, &portal.formats, out);
     }
@@ -279,7 +289,7 @@ impl<'h> Session<'h> {
     /// Runs a portal, for so many rows at most; 0 and less are no limit.
     fn execute(&mut self, name: &[u8], max_rows: i32, out: &mut Outbox) {
         let Some(portal) = self.portals.find(name) else {
-            return self.fail(Refusal::NoPortal(name), out);
+            return self.fail(no_portal(name), out);
         };
         let mut statement = Wording::new(&portal.statement.text, out);
         statement.place = portal.statement.place;
@@ -298,7 +308,7 @@ impl<'h> Session<'h> {
                 let put = reply::empty_query_response(&mut out.bytes);
                 out.put(put);
             }
-            _ if self.is_aborted(statement) => self.fail(Refusal::Aborted, out),
+            _ if self.is_aborted(statement) => self.fail(aborted(), out),
             Asks::Scripted(scripted) => {
                 let most = usize::try_from(max_rows).unwrap_or(0);
                 self.execute_scripted(name, scripted, most, out);
@@ -320,7 +330,7 @@ impl<'h> Session<'h> {
             return;
         };
         if portal.sent.is_some() && statement.columns.is_empty() {
-            return self.fail(Refusal::WasRun(name), out);
+            return self.fail(was_run(name), out);
         }
         if let Some(copy) = statement.copy_in() {
             portal.sent = Some(0);
@@ -353,13 +363,12 @@ impl<'h> Session<'h> {
 
     /// Runs a portal of a command, which is run once.
     fn execute_command(&mut self, name: &[u8], statement: &Wording, out: &mut Outbox) {
-        match self.portals.find_mut(name) {
-            Some(portal) if portal.sent.is_none() => portal.sent = Some(0),
-            _ => return self.fail(Refusal::WasRun(name), out),
-        }
-        let formats = match self.portals.find(name) {
-            Some(portal) => out.copy(&portal.formats),
-            None => out.copy(&[]),
+        let formats = match self.portals.find_mut(name) {
+            Some(portal) if portal.sent.is_none() => {
+                portal.sent = Some(0);
+                out.copy(&portal.formats)
+            }
+            _ => return self.fail(was_run(name), out),
         };
         self.is_skipping = match statement.command() {
             Some(command) => self.command(command, statement, &formats, out) == Went::Wrong,
@@ -372,7 +381,7 @@ impl<'h> Session<'h> {
         match variant {
             b'S' => self.prepared.remove(name),
             b'P' => self.portals.remove(name),
-            _ => return self.fail(Refusal::WrongClose, out),
+            _ => return self.fail(violation("invalid CLOSE message subtype"), out),
         }
         let put = reply::close_complete(&mut out.bytes);
         out.put(put);
@@ -389,7 +398,10 @@ impl<'h> Session<'h> {
                 variant: b'P',
                 name,
             } => self.describe_portal(name, out),
-            ClientMessage::Describe { .. } => self.fail(Refusal::WrongDescribe, out),
+            ClientMessage::Describe { .. } => self.fail(
+                violation("invalid DESCRIBE message subtype"),
+                out,
+            ),
             ClientMessage::Execute { portal, max_rows } => self.execute(portal, *max_rows, out),
             ClientMessage::Close { variant, name } => self.close(*variant, name, out),
             // What belongs to a copy is passed over, as PostgreSQL does outside of one.

@@ -5,33 +5,22 @@ use pgp_base::Error;
 use pgp_monitor::Stop;
 use std::alloc::AllocError;
 
-/// Why the program stops short.
+/// Why the program stops short, as `complaint` says it.
 #[derive(Clone, Copy)]
 pub(crate) enum Fault {
     Memory,
     Read,
     Write,
-    /// The clock can't be read.
     Clock,
-    /// A text of the script doesn't fit into a message.
     TooLong,
-    /// A message that was to be sent has no place after the requests that came.
     Misplaced,
-    /// There is no script of this path, or it can't be read.
     NoScript,
-    /// The script isn't UTF-8.
     NotText,
-    /// The script has a fault.
     Script(Place),
-    /// There is no such method of authentication.
     Auth,
-    /// The verifier isn't one.
     Verifier,
-    /// A verifier of one who has nothing to show.
     NoVerifier,
-    /// The nonce isn't one.
     Nonce,
-    /// The hash of the certificate isn't one.
     Certificate,
 }
 
@@ -47,7 +36,7 @@ impl Fault {
             Fault::Misplaced => "an answer has no place after the requests that came",
             Fault::NoScript => "the script can't be read",
             Fault::NotText => "the script isn't UTF-8",
-            Fault::Script(place) => place.wrong.message(),
+            Fault::Script(place) => place.wanted,
             Fault::Auth => "--auth is trust, password, md5, scram or scram-plus",
             Fault::Verifier =>
                 "the verifier is no text of the method's: SCRAM-SHA-256$.., or md5..",

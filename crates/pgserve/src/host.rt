@@ -1,7 +1,6 @@
 //! What is the same for each client: the users, the nonce, the certificate and the script.
 
 use crate::fault::Fault;
-use crate::log::Form;
 use crate::outbox::Outbox;
 use crate::script::Script;
 use crate::user::{Auth, verifier_of};
@@ -25,9 +24,10 @@ pub(crate) struct Host<'h> {
     /// The user whom the words name, and what another one is asked for.
     user: &'h str,
     account: Account<'h>,
-    nonce: &'h str,
+    pub(crate) nonce: &'h str,
     certificate: &'h str,
-    pub(crate) log: Option<Form>,
+    /// Whether the connection is recorded on standard error.
+    pub(crate) is_recorded: bool,
     pub(crate) script: &'h Script,
 }
 
@@ -78,7 +78,7 @@ impl<'h> Host<'h> {
             account,
             nonce: words.nonce,
             certificate: words.certificate,
-            log: words.log,
+            is_recorded: words.is_recorded,
             script,
         })
     }
@@ -147,7 +147,10 @@ impl<'h> Host<'h> {
             Auth::Trust => serving.trust(&mut out.bytes),
             Auth::Password => serving.ask_password(account.stored(alloc, user)?, &mut out.bytes),
             Auth::Md5 => serving.ask_md5(SALT, account.md5(alloc)?, &mut out.bytes),
-            Auth::Scram => serving.ask_scram(self.unbound(alloc, user)?, &mut out.bytes),
+            Auth::Scram => {
+                let exchange = self.with_offer(alloc, user, ChannelOffer::NotOffered)?;
+                serving.ask_scram(exchange, &mut out.bytes)
+            }
             Auth::ScramPlus => {
                 serving.phase = ServingPhase::AwaitsFirst;
                 let mechanisms = [SCRAM_PLUS, SCRAM_SHA_256.as_bytes()];
@@ -156,11 +159,6 @@ impl<'h> Host<'h> {
         };
         out.put(put);
         Ok(())
-    }
-
-    /// An exchange of a server that offers no binding.
-    fn unbound(&self, alloc: Global, user: &[u8]) -> Result<ScramServer, Fault> {
-        self.with_offer(alloc, user, ChannelOffer::NotOffered)
     }
 
     /// An exchange of a server that offers a binding, which the client chose, or didn't.
@@ -181,13 +179,18 @@ impl<'h> Host<'h> {
         user: &[u8],
         is_bound: bool,
     ) -> Result<Option<Method>, Fault> {
-        if self.account(user).auth != Auth::ScramPlus {
+        if !self.is_bound(user) {
             return Ok(None);
         }
         match self.exchange(alloc, user, is_bound) {
             Ok(exchange) => Ok(Some(Method::Exchange(exchange))),
             Err(fault) => Err(fault),
         }
+    }
+
+    /// Whether a user of this name may bind the log-in to the certificate.
+    pub(crate) fn is_bound(&self, user: &[u8]) -> bool {
+        self.account(user).auth == Auth::ScramPlus
     }
 
     /// The certificate's hash; `None` where the words have another form.

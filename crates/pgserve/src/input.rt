@@ -3,13 +3,13 @@
 //! PostgreSQL manual, "Numeric Types", "Boolean Type", "UUID Type"; its errors are those of PostgreSQL 15's functions of input.
 
 use crate::answer::format_of;
-use crate::asked::Refusal;
+use crate::asked::{Refusal, not_utf8};
 use crate::binary::{Unwritten, value_in};
 use crate::extended::Binding;
 use crate::outbox::Outbox;
 use crate::types::{
-    BOOL, BPCHAR, FLOAT4, FLOAT8, INT2, INT4, INT8, JSON, NAME, NUMERIC, TEXT, UUID, VARCHAR,
-    size_of,
+    BOOL, BPCHAR, FLOAT4, FLOAT8, INT2, INT4, INT8, JSON, JSONB, NAME, NUMERIC, TEXT, UUID,
+    VARCHAR, size_of,
 };
 use bytes::BytesMut;
 use pgp_base::Oid;
@@ -121,17 +121,21 @@ fn is_integer(text: &[u8]) -> bool {
 /// Why a text is none of this type, if it isn't. Of other types than these nothing is said.
 fn rejects_text<'v>(oid: Oid, text: &'v [u8], out: &mut Outbox) -> Option<Refusal<'v>> {
     if !is_text(text) {
-        return Some(Refusal::NotUtf8);
+        return Some(not_utf8());
     }
     let is_short = matches!(oid, INT2 | INT4 | INT8);
-    if !is_short && !matches!(oid, BOOL | FLOAT4 | FLOAT8 | NUMERIC | UUID) {
+    if !is_short && !matches!(oid, BOOL | FLOAT4 | FLOAT8 | JSON | JSONB | NUMERIC | UUID) {
         return None;
     }
     match written(oid, text, out) {
         Err(Unwritten::NotOfType) if is_short && is_integer(text) => {
-            Some(Refusal::OutOfRange(text))
+            let front = "value out of range for the parameter's type: ";
+            Some(Refusal::of("22003", front, text, ""))
         }
-        Err(Unwritten::NotOfType) => Some(Refusal::NotOfType(text)),
+        Err(Unwritten::NotOfType) => {
+            let front = "invalid input syntax for the parameter's type: ";
+            Some(Refusal::of("22P02", front, text, ""))
+        }
         Err(Unwritten::Memory) => {
             out.lack();
             None
@@ -141,21 +145,34 @@ fn rejects_text<'v>(oid: Oid, text: &'v [u8], out: &mut Outbox) -> Option<Refusa
 }
 
 /// Why bytes aren't the binary format of this type, if they aren't.
-fn rejects_bytes<'v>(oid: Oid, bytes: &[u8]) -> Option<Refusal<'v>> {
-    if matches!(oid, TEXT | VARCHAR | BPCHAR | NAME | JSON) {
-        return if is_text(bytes) {
-            None
-        } else {
-            Some(Refusal::NotUtf8)
-        };
+fn rejects_bytes<'v>(oid: Oid, bytes: &'v [u8], out: &mut Outbox) -> Option<Refusal<'v>> {
+    match (oid, bytes) {
+        (TEXT | VARCHAR | BPCHAR | NAME | JSON, text) | (JSONB, [1, text @ ..]) => {
+            return rejects_text(oid, text, out);
+        }
+        _ => {}
     }
     let size = size_of(oid)?;
     if bytes.len() < size {
-        Some(Refusal::TooShort)
+        Some(Refusal::new("08P01", "insufficient data left in message"))
     } else if bytes.len() > size {
-        Some(Refusal::TooLong)
+        let message = "incorrect binary data format in bind parameter";
+        Some(Refusal::new("22P03", message))
     } else {
         None
+    }
+}
+
+/// Why a value in this format is none of this type, if it isn't.
+fn rejects_value<'v>(
+    oid: Oid,
+    format: i16,
+    value: &'v [u8],
+    out: &mut Outbox,
+) -> Option<Refusal<'v>> {
+    match format {
+        0 => rejects_text(oid, value, out),
+        _ => rejects_bytes(oid, value, out),
     }
 }
 
@@ -166,15 +183,11 @@ pub(crate) fn rejects_values<'m>(
     out: &mut Outbox,
 ) -> Option<Refusal<'m>> {
     for (place, value) in binding.values.iter().enumerate() {
-        let (Some(bytes), Some(oid)) = (value, types.get(place)) else {
-            continue;
-        };
-        let refusal = match format_of(binding.formats, place) {
-            0 => rejects_text(*oid, bytes, out),
-            _ => rejects_bytes(*oid, bytes),
-        };
-        if refusal.is_some() {
-            return refusal;
+        if let (Some(value), Some(oid)) = (value, types.get(place)) {
+            let refusal = rejects_value(*oid, format_of(binding.formats, place), value, out);
+            if refusal.is_some() {
+                return refusal;
+            }
         }
     }
     None

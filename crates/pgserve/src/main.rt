@@ -8,6 +8,7 @@ mod asked;
 mod binary;
 mod bound;
 mod carried;
+mod channels;
 mod column;
 mod command;
 mod connection;
@@ -17,20 +18,17 @@ mod extended;
 mod fault;
 mod host;
 mod input;
-mod line;
-mod list;
-mod log;
-mod log_json;
 mod moment_text;
 mod opening;
 mod outbox;
 mod part;
-mod parts;
 mod pattern;
 mod pause;
 mod portals;
 mod reader;
 mod reading;
+mod record;
+mod rejection;
 mod report;
 mod row_text;
 mod script;
@@ -86,7 +84,7 @@ fn serve_script(rt: &HostRuntime, words: &Words<'_>, script: &Script) -> Result<
 
 /// Says what is wrong with a script of this text: what should stand there, and what stands there.
 fn complain_of(rt: &HostRuntime, path: &str, text: &str, place: Place) -> io::Result<()> {
-    let (line, column, why) = (place.line, place.column, place.wrong.message());
+    let (line, column, why) = (place.line, place.column, place.wanted);
     match place.seen(unmarked(text)) {
         "" => eprintln!(rt; "pgserve: {path}:{line}:{column}: {why}; the line ends here"),
         seen => eprintln!(rt; "pgserve: {path}:{line}:{column}: {why}; here stands `{seen}`"),
@@ -106,23 +104,18 @@ fn complain(rt: &HostRuntime, path: &str, text: &str, fault: Fault) -> io::Resul
 
 /// Serves as the words say, and returns the status.
 fn obey(rt: &HostRuntime, words: &Words<'_>) -> io::Result<u8> {
-    match read_text(rt, words.script) {
-        Ok(text) => obey_text(rt, words, &text),
-        Err(fault) => {
-            complain(rt, words.script, "", fault)?;
-            Ok(1)
+    let (text, served) = match read_text(rt, words.script) {
+        Ok(text) => {
+            let served = serve(rt, words, &text);
+            (text, served)
         }
-    }
-}
-
-fn obey_text(rt: &HostRuntime, words: &Words<'_>, text: &str) -> io::Result<u8> {
-    match serve(rt, words, text) {
-        Ok(()) => Ok(0),
-        Err(fault) => {
-            complain(rt, words.script, text, fault)?;
-            Ok(1)
-        }
-    }
+        Err(fault) => (String::new(rt.alloc()), Err(fault)),
+    };
+    let Err(fault) = served else {
+        return Ok(0);
+    };
+    complain(rt, words.script, &text, fault)?;
+    Ok(1)
 }
 
 /// Says what is wrong with the words, or the help that they ask for, and returns the status.

@@ -1,12 +1,9 @@
 //! Dates, times and intervals, by the texts in which a server shows them: `DateStyle` `ISO`, `IntervalStyle` `postgres`.
 
 use jiff::Timestamp;
-use jiff::civil::{Date, DateTime, Time};
-use jiff::tz::Offset;
+use jiff::civil::{Date, DateTime};
+use pgp_value_text::{date_from_civil, timestamp_from_civil, timestamptz_from_instant};
 use pgp_values::{Interval, Moment};
-
-/// The beginning of 2000 after that of 1970, in microseconds.
-const EPOCH: i64 = 946_684_800_000_000;
 
 /// Microseconds of a second.
 const SECOND: i64 = 1_000_000;
@@ -20,54 +17,27 @@ fn infinity_of<T>(text: &str) -> Option<Moment<T>> {
     }
 }
 
-fn since_2000(instant: Timestamp) -> Moment<i64> {
-    Moment::Value(instant.as_microsecond().saturating_sub(EPOCH))
-}
-
-/// The microseconds of a date and a time, as a clock at Greenwich shows it.
-fn instant_of(shown: DateTime) -> Option<Moment<i64>> {
-    match Offset::UTC.to_timestamp(shown) {
-        Ok(instant) => Some(since_2000(instant)),
-        Err(_) => None,
-    }
-}
-
 /// A `timestamp`, as `2026-11-26 10:20:30.5`.
 pub(crate) fn timestamp_of(text: &str) -> Option<Moment<i64>> {
-    if let Some(infinity) = infinity_of(text) {
-        return Some(infinity);
-    }
     match text.parse::<DateTime>() {
-        Ok(shown) => instant_of(shown),
-        Err(_) => None,
+        Ok(shown) => Some(Moment::Value(timestamp_from_civil(shown))),
+        Err(_) => infinity_of(text),
     }
 }
 
 /// A `timestamptz`, as `2026-11-26 10:20:30.5+00`.
 pub(crate) fn timestamptz_of(text: &str) -> Option<Moment<i64>> {
-    if let Some(infinity) = infinity_of(text) {
-        return Some(infinity);
-    }
     match text.parse::<Timestamp>() {
-        Ok(instant) => Some(since_2000(instant)),
-        Err(_) => None,
+        Ok(instant) => Some(Moment::Value(timestamptz_from_instant(instant))),
+        Err(_) => infinity_of(text),
     }
 }
 
 /// A `date`, as `2026-11-26`.
 pub(crate) fn date_of(text: &str) -> Option<Moment<i32>> {
-    if let Some(infinity) = infinity_of(text) {
-        return Some(infinity);
-    }
-    let Ok(date) = text.parse::<Date>() else {
-        return None;
-    };
-    match instant_of(date.to_datetime(Time::midnight())) {
-        Some(Moment::Value(microseconds)) => {
-            let days = microseconds.div_euclid(86_400 * SECOND);
-            Some(Moment::Value(i32::try_from(days).unwrap_or(0)))
-        }
-        _ => None,
+    match text.parse::<Date>() {
+        Ok(date) => Some(Moment::Value(date_from_civil(date))),
+        Err(_) => infinity_of(text),
     }
 }
 

@@ -2,11 +2,9 @@
 //!
 //! PostgreSQL manual, "Message Flow", "Start-up"; NegotiateProtocolVersion of "Message Formats".
 
-use crate::fault::Fault;
-use crate::outbox::Outbox;
-use pgp_base::FallibleIterator;
+use crate::outbox::{Outbox, push};
 use pgp_frontend::codes::VERSION_3_0;
-use pgp_frontend_read::{ClientMessage, StartupParameters};
+use pgp_frontend_read::ClientMessage;
 use pgp_message_write as reply;
 
 /// What a startup packet asks for.
@@ -43,18 +41,7 @@ impl<'m> Opening<'m> {
         } else if name == b"user".as_slice() {
             self.user = Some(value);
         } else if !IS_NO_SETTING.contains(&name) {
-            out.add(&mut self.settings, (name, value));
-        }
-    }
-
-    /// Adds what all names and values say.
-    fn add_all(&mut self, parameters: &mut StartupParameters<'m>, out: &mut Outbox) {
-        for _ in 0..u64::MAX {
-            match parameters.next() {
-                Ok(Some((name, value))) => self.add(name, value, out),
-                Ok(None) => return,
-                Err(why) => return out.fail(Fault::from(why)),
-            }
+            out.keep(push(&mut self.settings, (name, value)));
         }
     }
 
@@ -81,7 +68,10 @@ pub(crate) fn opening_of<'m>(message: &mut ClientMessage<'m>, out: &mut Outbox) 
         unknown: Vec::new(out.alloc),
     };
     if let ClientMessage::Startup { parameters, .. } = message {
-        opening.add_all(parameters, out);
+        let pairs = out.listed(parameters);
+        for (name, value) in &pairs {
+            opening.add(name, value, out);
+        }
     }
     opening
 }

@@ -1,9 +1,8 @@
 //! What is answered to a message.
 
 use crate::fault::Fault;
-use crate::list::push;
 use bytes::BytesMut;
-use pgp_base::Error;
+use pgp_base::{Error, FallibleIterator};
 use std::alloc::{AllocError, Global};
 
 /// What is answered to a message, and the first reason why it can't be, such as a lack of memory. Once there is one nothing of it is sent
@@ -72,6 +71,25 @@ impl Outbox {
         list
     }
 
+    /// All items of an iterator, or those up to a fault.
+    pub(crate) fn listed<I: FallibleIterator>(&mut self, items: &mut I) -> Vec<I::Item>
+    where
+        I::Item: Drop,
+    {
+        let mut list = Vec::new(self.alloc);
+        for _ in 0..u64::MAX {
+            match items.next() {
+                Ok(Some(item)) => self.add(&mut list, item),
+                Ok(None) => return list,
+                Err(why) => {
+                    self.fail(Fault::from(why));
+                    return list;
+                }
+            }
+        }
+        list
+    }
+
     /// The whole answer.
     ///
     /// # Errors
@@ -81,6 +99,17 @@ impl Outbox {
         match self.fault {
             Some(fault) => Err(fault),
             None => Ok(&self.bytes),
+        }
+    }
+}
+
+/// Appends an item to a list.
+pub(crate) fn push<T: Drop>(list: &mut Vec<T>, item: T) -> Result<(), AllocError> {
+    match list.push(item) {
+        Ok(()) => Ok(()),
+        Err(failed) => {
+            drop(failed);
+            Err(AllocError)
         }
     }
 }

@@ -7,70 +7,9 @@ use crate::reading::pair_of;
 use crate::report::report_of;
 use crate::row_text::row_of;
 use crate::script::{Copy, End, Statement};
-use crate::wrong::Wrong;
 use pgp_base::Oid;
 use pgp_monitor::Status;
 use std::time::Duration;
-
-/// What a line says, by its first word.
-#[derive(Clone, Copy)]
-pub(crate) enum Part {
-    Parameters,
-    Column,
-    Table,
-    Modifier,
-    Format,
-    Row,
-    Notice,
-    Tag,
-    Error,
-    Status,
-    Detail,
-    Hint,
-    Position,
-    Field,
-    Severity,
-    Notify,
-    Copy,
-    Data,
-    Wait,
-    Close,
-    Cut,
-}
-
-static PARTS: [(&str, Part); 21] = [
-    ("parameters", Part::Parameters),
-    ("column", Part::Column),
-    ("table", Part::Table),
-    ("modifier", Part::Modifier),
-    ("format", Part::Format),
-    ("row", Part::Row),
-    ("notice", Part::Notice),
-    ("tag", Part::Tag),
-    ("error", Part::Error),
-    ("status", Part::Status),
-    ("detail", Part::Detail),
-    ("hint", Part::Hint),
-    ("position", Part::Position),
-    ("field", Part::Field),
-    ("severity", Part::Severity),
-    ("notify", Part::Notify),
-    ("copy", Part::Copy),
-    ("data", Part::Data),
-    ("wait", Part::Wait),
-    ("close", Part::Close),
-    ("cut", Part::Cut),
-];
-
-/// What a line of this first word says.
-pub(crate) fn part_of(word: &str) -> Option<Part> {
-    for (name, part) in &PARTS {
-        if *name == word {
-            return Some(*part);
-        }
-    }
-    None
-}
 
 /// The status of this name.
 fn status_of(word: &str) -> Option<Status> {
@@ -84,10 +23,10 @@ fn status_of(word: &str) -> Option<Status> {
 
 /// The types of these names.
 fn types_of(words: &str, reader: &mut Reader) -> Vec<Oid> {
-    let mut types = Vec::new(reader.alloc);
+    let mut types = Vec::new(reader.out.alloc);
     for word in words.split_ascii_whitespace() {
         let kind = known_type(word, reader);
-        reader.add(&mut types, kind.oid);
+        reader.out.add(&mut types, kind.oid);
     }
     types
 }
@@ -113,14 +52,11 @@ pub(crate) fn format_of(word: &str) -> Option<i16> {
 }
 
 /// Whether a copy goes to the server.
-fn is_in(way: &str, reader: &mut Reader) -> bool {
+fn is_in(way: &str) -> Option<bool> {
     match way {
-        "in" => true,
-        "out" => false,
-        _ => {
-            reader.wrong(Wrong::Copy);
-            false
-        }
+        "in" => Some(true),
+        "out" => Some(false),
+        _ => None,
     }
 }
 
@@ -128,11 +64,12 @@ fn is_in(way: &str, reader: &mut Reader) -> bool {
 fn copy_of(line: &str, reader: &mut Reader) -> Copy {
     let (way, rest) = line.split_once(' ').unwrap_or((line, ""));
     let (format, columns) = rest.split_once(' ').unwrap_or((rest, "1"));
+    let wanted = "in or out, text or binary, and the number of columns stand here";
     Copy {
-        is_in: is_in(way, reader),
-        is_binary: reader.found(format_of(format), Wrong::Copy, 0) == 1,
-        columns: reader.found(columns.parse().ok(), Wrong::Copy, 0),
-        chunks: Vec::new(reader.alloc),
+        is_in: reader.found(is_in(way), wanted, false),
+        is_binary: reader.found(format_of(format), wanted, 0) == 1,
+        columns: reader.found(columns.parse().ok(), wanted, 0),
+        chunks: Vec::new(reader.out.alloc),
     }
 }
 
@@ -148,65 +85,59 @@ impl Statement {
     /// Says how the answer ends, once.
     fn set_end(&mut self, end: End, reader: &mut Reader) {
         if !matches!(self.end, End::Open) {
-            reader.wrong(Wrong::SecondEnd);
+            reader.wrong("the statement has a tag or an error");
         }
         self.end = end;
     }
 
-    /// Adds what a line says of the rows.
-    fn add_to_rows(&mut self, part: Part, rest: &str, reader: &mut Reader) {
-        match part {
-            Part::Parameters => self.parameters = types_of(rest, reader),
-            Part::Column => self.add_column(rest, reader),
-            Part::Table | Part::Modifier | Part::Format => self.add_to_column(part, rest, reader),
-            _ => {
+    /// Adds what a line of this first word says.
+    pub(crate) fn add(&mut self, word: &str, rest: &str, reader: &mut Reader) {
+        match word {
+            "parameters" => self.parameters = types_of(rest, reader),
+            "column" => self.add_column(rest, reader),
+            "table" | "modifier" | "format" => self.add_to_column(word, rest, reader),
+            "row" => {
                 let row = row_of(&self.columns, &self.parameters, rest, reader);
-                reader.add(&mut self.rows, row);
+                reader.out.add(&mut self.rows, row);
             }
-        }
-    }
-
-    /// Adds what a line says of a copy.
-    fn add_to_copy(&mut self, part: Part, rest: &str, reader: &mut Reader) {
-        match part {
-            Part::Copy => self.copy = Some(copy_of(rest, reader)),
-            _ => {
-                let chunk = reader.raw(rest);
-                reader.add_to(self.chunks(), chunk, Wrong::NoCopy);
-            }
-        }
-    }
-
-    /// Adds what a line says.
-    pub(crate) fn add(&mut self, part: Part, rest: &str, reader: &mut Reader) {
-        match part {
-            Part::Parameters
-            | Part::Column
-            | Part::Table
-            | Part::Modifier
-            | Part::Format
-            | Part::Row => self.add_to_rows(part, rest, reader),
-            Part::Copy | Part::Data => self.add_to_copy(part, rest, reader),
-            Part::Notice => {
+            "notice" => {
                 let report = report_of("NOTICE", rest, reader);
-                reader.add(&mut self.notices, report);
+                reader.out.add(&mut self.notices, report);
             }
-            Part::Tag => self.set_end(End::Tag(reader.text(rest)), reader),
-            Part::Error => self.set_end(End::Error(report_of("ERROR", rest, reader)), reader),
-            Part::Status => {
-                self.status = Some(reader.found(status_of(rest), Wrong::Status, Status::Idle));
+            "tag" => self.set_end(End::Tag(reader.text(rest)), reader),
+            "error" => self.set_end(End::Error(report_of("ERROR", rest, reader)), reader),
+            "copy" => self.copy = Some(copy_of(rest, reader)),
+            "data" => {
+                let chunk = reader.raw(rest);
+                reader.add_to(self.chunks(), chunk, "this line stands below `copy out`");
             }
-            Part::Notify => {
+            _ => self.add_further(word, rest, reader),
+        }
+    }
+
+    fn add_further(&mut self, word: &str, rest: &str, reader: &mut Reader) {
+        match word {
+            "status" => {
+                let wanted = "a status is idle, transaction or failed";
+                self.status = Some(reader.found(status_of(rest), wanted, Status::Idle));
+            }
+            "notify" => {
                 let notification = pair_of(rest, reader);
-                reader.add(&mut self.notifications, notification);
+                reader.out.add(&mut self.notifications, notification);
             }
-            Part::Wait => {
+            "wait" => {
                 let pause = pause_of(rest, reader);
-                reader.add(&mut self.pauses, pause);
+                reader.out.add(&mut self.pauses, pause);
             }
-            Part::Close => self.cut = Some(usize::MAX),
-            Part::Cut => self.cut = Some(reader.count(rest, 0) as usize),
-            _ => self.add_to_report(part, rest, reader),
+            "close" => self.cut = Some(usize::MAX),
+            "cut" => self.cut = Some(reader.count(rest, 0) as usize),
+            "detail" | "hint" | "position" => self.add_detail(word, rest, reader),
+            "field" => {
+                let (name, text) = rest.split_once(' ').unwrap_or((rest, ""));
+                self.add_detail(name, text, reader);
+            }
+            "severity" => self.set_severity(rest, reader),
+            _ => reader.wrong_first("no line begins with this word"),
         }
     }
 }

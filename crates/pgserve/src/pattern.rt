@@ -1,28 +1,33 @@
 //! Patterns of statements: regular expressions, by the crate `regex`.
 
+use crate::outbox::Outbox;
 use regex::{Error, Regex};
-use std::alloc::{AllocError, Global};
 
 /// Whether the pattern matches somewhere in the text; `None` where it is no regular expression.
-pub(crate) fn matches(
-    alloc: Global,
-    pattern: &str,
-    text: &str,
-) -> Result<Option<bool>, AllocError> {
-    let regex = match Regex::new(alloc, pattern) {
-        Ok(regex) => regex,
-        Err(Error::OutOfMemory) => return Err(AllocError),
+pub(crate) fn matches(pattern: &str, text: &str, out: &mut Outbox) -> Option<bool> {
+    match Regex::new(out.alloc, pattern) {
+        Ok(regex) => {
+            let found = is_found(&regex, text, out);
+            drop(regex);
+            Some(found)
+        }
+        Err(Error::OutOfMemory) => {
+            out.lack();
+            Some(false)
+        }
         Err(why) => {
             drop(why);
-            return Ok(None);
+            None
         }
-    };
-    let found = is_found(alloc, &regex, text);
-    drop(regex);
-    Ok(Some(found?))
+    }
 }
 
-fn is_found(alloc: Global, regex: &Regex, text: &str) -> Result<bool, AllocError> {
-    let mut matcher = regex.matcher(alloc)?;
-    Ok(matcher.is_match(text))
+fn is_found(regex: &Regex, text: &str, out: &mut Outbox) -> bool {
+    match regex.matcher(out.alloc) {
+        Ok(mut matcher) => matcher.is_match(text),
+        Err(_) => {
+            out.lack();
+            false
+        }
+    }
 }

@@ -1,8 +1,6 @@
 //! A script, read from its text.
 
 use crate::fault::Fault;
-use crate::outbox::Outbox;
-use crate::part::part_of;
 use crate::pattern::matches;
 use crate::reader::Reader;
 use crate::report::report_of;
@@ -10,13 +8,15 @@ use crate::script::{By, Pair, Role, Script, Statement};
 use crate::text::trimmed;
 use crate::user::{Auth, User};
 use crate::wording::words_of;
-use crate::wrong::{Stop, Wrong, place_of};
 use std::alloc::Global;
 
 /// The setting of this line: its name, and after a space its value, which may be empty.
 fn setting_of(line: &str, reader: &mut Reader) -> Pair {
     if !line.contains(' ') {
-        reader.wrong_at(Wrong::Setting, line.len());
+        reader.wrong_at(
+            "a setting has a name and, after a space, a value",
+            line.len(),
+        );
     }
     pair_of(line, reader)
 }
@@ -25,7 +25,7 @@ fn setting_of(line: &str, reader: &mut Reader) -> Pair {
 pub(crate) fn pair_of(line: &str, reader: &mut Reader) -> Pair {
     let (name, value) = line.split_once(' ').unwrap_or((line, ""));
     if name.is_empty() {
-        reader.wrong(Wrong::Name);
+        reader.wrong("a name and, after a space, a text stand here");
     }
     Pair {
         name: reader.text(name),
@@ -35,70 +35,61 @@ pub(crate) fn pair_of(line: &str, reader: &mut Reader) -> Pair {
 
 /// A pattern of statements.
 fn pattern_of(pattern: &str, reader: &mut Reader) -> Vec<u8> {
-    match matches(reader.alloc, pattern, "") {
-        Ok(Some(_)) => {}
-        Ok(None) => reader.wrong_at(Wrong::Pattern, 2),
-        Err(_) => reader.lack(),
+    if matches(pattern, "", &mut reader.out).is_none() {
+        reader.wrong_at("a regular expression stands here", 2);
     }
-    reader.bytes(pattern.as_bytes())
+    reader.out.copy(pattern.as_bytes())
 }
 
-/// The words of a text.
-fn split(text: &[u8], reader: &mut Reader) -> String {
-    let mut out = Outbox::new(reader.alloc);
-    let words = words_of(text, &mut out);
-    if out.end().is_err() {
-        reader.lack();
-    }
-    words
-}
-
-/// A statement that begins at this line, which `~` makes a pattern.
-fn statement_of(number: usize, rest: &str, by_words: bool, reader: &mut Reader) -> Statement {
-    let alloc = reader.alloc;
+/// A statement that begins here, which `~` makes a pattern.
+fn statement_of(rest: &str, by_words: bool, reader: &mut Reader) -> Statement {
     if let Some(pattern) = rest.strip_prefix("~ ") {
         let pattern = pattern_of(pattern, reader);
-        return Statement::new(alloc, number, By::Pattern, pattern, String::new(alloc));
+        let no_words = reader.string("");
+        return Statement::new(By::Pattern, pattern, no_words, reader);
     }
     let text = reader.text(rest);
-    let words = split(trimmed(&text), reader);
+    let words = words_of(trimmed(&text), &mut reader.out);
     if by_words {
-        let text = reader.bytes(words.as_bytes());
-        return Statement::new(alloc, number, By::Words, text, words);
+        let text = reader.out.copy(words.as_bytes());
+        return Statement::new(By::Words, text, words, reader);
     }
-    let text = reader.bytes(trimmed(&text));
-    Statement::new(alloc, number, By::Text, text, words)
+    let text = reader.out.copy(trimmed(&text));
+    Statement::new(By::Text, text, words, reader)
 }
 
 /// Begins a statement.
-fn begin(script: &mut Script, number: usize, rest: &str, reader: &mut Reader) {
-    let mut statement = statement_of(number, rest, script.by_words, reader);
+fn begin(script: &mut Script, rest: &str, reader: &mut Reader) {
+    let mut statement = statement_of(rest, script.by_words, reader);
     if script.written(statement.by, &statement.text).is_some() {
-        reader.wrong(Wrong::Duplicate);
+        reader.wrong("the statement stands above");
     }
     statement.place = script.statements.len();
     statement.first = statement.place;
-    reader.add(&mut script.statements, statement);
+    reader.out.add(&mut script.statements, statement);
 }
 
+/// What is said of a line that belongs to a statement.
+const NO_STATEMENT: &str = "this line stands below a `statement`";
+
 /// Begins a further answer to the last statement.
-fn begin_further(script: &mut Script, number: usize, role: Role, reader: &mut Reader) {
+fn begin_further(script: &mut Script, role: Role, reader: &mut Reader) {
     match script.statements.last() {
         Some(last) => {
-            let further = last.further(number, role, reader);
-            reader.add(&mut script.statements, further);
+            let further = last.further(role, reader);
+            reader.out.add(&mut script.statements, further);
         }
-        None => reader.fail(Stop::First(Wrong::NoStatement)),
+        None => reader.wrong_first(NO_STATEMENT),
     }
 }
 
 /// Takes note of a verifier that is none of the method's, which stands so many bytes after the first word and its blank.
 fn test_verifier(auth: Auth, verifier: &str, at: usize, reader: &mut Reader) {
-    match auth.test(reader.alloc, verifier) {
+    match auth.test(reader.out.alloc, verifier) {
         Ok(()) => {}
-        Err(Fault::Memory) => reader.lack(),
-        Err(Fault::NoVerifier) => reader.wrong_at(Wrong::NoVerifier, at),
-        Err(_) => reader.wrong_at(Wrong::Verifier, at),
+        Err(Fault::Memory) => reader.out.lack(),
+        Err(Fault::NoVerifier) => reader.wrong_at("nothing stands after trust", at),
+        Err(_) => reader.wrong_at("a verifier of the method stands here", at),
     }
 }
 
@@ -107,7 +98,7 @@ fn method_of(name: &str, at: usize, reader: &mut Reader) -> Auth {
     match Auth::of(name) {
         Some(auth) => auth,
         None => {
-            reader.wrong_at(Wrong::Method, at);
+            reader.wrong_at("a method is trust, password, md5, scram or scram-plus", at);
             Auth::Trust
         }
     }
@@ -115,7 +106,11 @@ fn method_of(name: &str, at: usize, reader: &mut Reader) -> Auth {
 
 /// The user of this line: the name, the method, and the method's verifier.
 fn user_of(line: &str, reader: &mut Reader) -> User {
-    let (name, rest) = reader.found(line.split_once(' '), Wrong::User, ("", ""));
+    let parts = line.split_once(' ');
+    if parts.is_none() {
+        reader.wrong("a user has a name and, after a space, a method");
+    }
+    let (name, rest) = parts.unwrap_or(("", ""));
     let (method, verifier) = rest.split_once(' ').unwrap_or((rest, ""));
     let at = name.len().saturating_add(1);
     let auth = method_of(method, at, reader);
@@ -132,19 +127,16 @@ fn user_of(line: &str, reader: &mut Reader) -> User {
 fn add_user(script: &mut Script, line: &str, reader: &mut Reader) {
     let user = user_of(line, reader);
     if script.has_user(&user.name) {
-        reader.wrong(Wrong::DuplicateUser);
+        reader.wrong("the user stands above");
     }
-    reader.add(&mut script.users, user);
+    reader.out.add(&mut script.users, user);
 }
 
 /// Adds what a line says of the last statement.
 fn add_part(script: &mut Script, word: &str, rest: &str, reader: &mut Reader) {
-    let Some(statement) = script.statements.last_mut() else {
-        return reader.fail(Stop::First(Wrong::NoStatement));
-    };
-    match part_of(word) {
-        Some(part) => statement.add(part, rest, reader),
-        None => reader.fail(Stop::First(Wrong::Word)),
+    match script.statements.last_mut() {
+        Some(statement) => statement.add(word, rest, reader),
+        None => reader.wrong_first(NO_STATEMENT),
     }
 }
 
@@ -158,46 +150,49 @@ fn by_words(word: &str) -> Option<bool> {
 }
 
 /// Reads a line.
-fn read_line(script: &mut Script, number: usize, line: &str, reader: &mut Reader) {
+fn read_line(script: &mut Script, line: &str, reader: &mut Reader) {
     if line.is_empty() || line.starts_with('#') {
         return;
     }
     let (word, rest) = line.split_once(' ').unwrap_or((line, ""));
+    reader.pass(word);
     match word {
-        "statement" => begin(script, number, rest, reader),
+        "statement" => begin(script, rest, reader),
         "setting" => {
             let setting = setting_of(rest, reader);
-            reader.add(&mut script.settings, setting);
+            reader.out.add(&mut script.settings, setting);
         }
         "user" => add_user(script, rest, reader),
         "login" => script.login = Some(report_of("FATAL", rest, reader)),
-        "match" => script.by_words = reader.found(by_words(rest), Wrong::Match, false),
-        "then" => begin_further(script, number, Role::Then, reader),
-        "and" => begin_further(script, number, Role::And, reader),
+        "match" => {
+            let wanted = "statements are matched by text or words";
+            script.by_words = reader.found(by_words(rest), wanted, false);
+        }
+        "then" => begin_further(script, Role::Then, reader),
+        "and" => begin_further(script, Role::And, reader),
         _ => add_part(script, word, rest, reader),
     }
 }
 
-/// The fault of a line.
-fn fault_of(number: usize, line: &str, stop: Stop) -> Fault {
-    match place_of(number, line, stop) {
-        Some(place) => Fault::Script(place),
-        None => Fault::Memory,
+/// Reads the lines, up to the first fault.
+fn read_lines(script: &mut Script, text: &str, reader: &mut Reader) -> Result<(), Fault> {
+    for line in text.lines() {
+        reader.begin_line();
+        read_line(script, line, reader);
+        end_of(reader)?;
     }
+    if let Some(line) = script.open_line() {
+        let column = "statement ".len().saturating_add(1);
+        reader.fail("the statement has neither a tag nor an error", line, column);
+    }
+    end_of(reader)
 }
 
-/// Reads the lines.
-fn read_lines(script: &mut Script, text: &str, reader: &mut Reader) -> Result<(), Fault> {
-    let mut number = 0usize;
-    for line in text.lines() {
-        number = number.saturating_add(1);
-        read_line(script, number, line, reader);
-        if let Some(stop) = reader.stop {
-            return Err(fault_of(number, line, stop));
-        }
-    }
-    match script.open_line() {
-        Some(line) => Err(fault_of(line, "statement", Stop::In(Wrong::NoEnd, 0))),
+/// The fault of what was read, if there was one.
+fn end_of(reader: &Reader) -> Result<(), Fault> {
+    reader.out.end()?;
+    match reader.fault {
+        Some(place) => Err(Fault::Script(place)),
         None => Ok(()),
     }
 }

@@ -1,9 +1,7 @@
 //! What the lines below an `error` or a `notice` say of it.
 
-use crate::part::Part;
 use crate::reader::Reader;
 use crate::script::{Detail, Report, Statement};
-use crate::wrong::Wrong;
 
 /// The further fields of a report (PostgreSQL manual, "Error and Notice Message Fields"), by the names that pgtrace has.
 static FIELDS: [(&str, u8); 14] = [
@@ -62,15 +60,20 @@ fn is_code(code: &str) -> bool {
 pub(crate) fn report_of(severity: &'static str, line: &str, reader: &mut Reader) -> Report {
     let (code, message) = line.split_once(' ').unwrap_or(("", ""));
     if !is_code(code) {
-        reader.wrong(Wrong::Report);
+        reader.wrong(
+            "an SQLSTATE of five capital letters or digits, a space and a message stand here",
+        );
     }
     Report {
         severity,
-        code: reader.bytes(code.as_bytes()),
+        code: reader.out.copy(code.as_bytes()),
         message: reader.text(message),
-        details: Vec::new(reader.alloc),
+        details: Vec::new(reader.out.alloc),
     }
 }
+
+/// What is said of a line that belongs to a report.
+const NO_REPORT: &str = "this line stands below an `error` or a `notice`";
 
 impl Statement {
     /// The further fields of the last error or notice.
@@ -82,35 +85,24 @@ impl Statement {
     }
 
     /// Adds a field to the last error or notice.
-    fn add_detail(&mut self, code: u8, line: &str, reader: &mut Reader) {
-        let value = reader.text(line);
-        reader.add_to(self.details(), Detail { code, value }, Wrong::NoReport);
+    pub(crate) fn add_detail(&mut self, name: &str, text: &str, reader: &mut Reader) {
+        let wanted =
+            "a field is one that an error has, as constraint, table, column, schema, data_type, where or routine";
+        if name == "position" {
+            reader.count(text, 0);
+        }
+        let code = reader.found(field_of(name), wanted, 0);
+        let value = reader.text(text);
+        reader.add_to(self.details(), Detail { code, value }, NO_REPORT);
     }
 
     /// Sets the severity of the last error or notice.
-    fn set_severity(&mut self, word: &str, reader: &mut Reader) {
-        let severity = reader.found(severity_of(word), Wrong::Severity, "");
+    pub(crate) fn set_severity(&mut self, word: &str, reader: &mut Reader) {
+        let wanted = "a severity is ERROR, FATAL, PANIC, WARNING, NOTICE, DEBUG, INFO or LOG";
+        let severity = reader.found(severity_of(word), wanted, "");
         match self.last_report() {
             Some(report) => report.severity = severity,
-            None => reader.wrong(Wrong::NoReport),
-        }
-    }
-
-    /// Adds what a line says of an error or a notice.
-    pub(crate) fn add_to_report(&mut self, part: Part, rest: &str, reader: &mut Reader) {
-        match part {
-            Part::Detail => self.add_detail(b'D', rest, reader),
-            Part::Hint => self.add_detail(b'H', rest, reader),
-            Part::Field => {
-                let (name, text) = rest.split_once(' ').unwrap_or((rest, ""));
-                let letter = reader.found(field_of(name), Wrong::Field, 0);
-                self.add_detail(letter, text, reader);
-            }
-            Part::Position => {
-                reader.count(rest, 0);
-                self.add_detail(b'P', rest, reader);
-            }
-            _ => self.set_severity(rest, reader),
+            None => reader.wrong(NO_REPORT),
         }
     }
 }

@@ -3,16 +3,15 @@
 use crate::binary::{Unwritten, value_in};
 use crate::reader::Reader;
 use crate::script::{Column, Condition, Row};
-use crate::wrong::Wrong;
 use pgp_base::Oid;
 
 /// Takes note of a value that is none of the type.
-fn test_value(oid: Oid, value: &[u8], wrong: Wrong, reader: &mut Reader) {
-    match value_in(reader.alloc, 1, oid, value) {
+fn test_value(oid: Oid, value: &[u8], wanted: &'static str, reader: &mut Reader) {
+    match value_in(reader.out.alloc, 1, oid, value) {
         Ok(bytes) => drop(bytes),
         Err(Unwritten::NoFormat) => {}
-        Err(Unwritten::NotOfType) => reader.wrong(wrong),
-        Err(Unwritten::Memory) => reader.lack(),
+        Err(Unwritten::NotOfType) => reader.wrong(wanted),
+        Err(Unwritten::Memory) => reader.out.lack(),
     }
 }
 
@@ -23,11 +22,15 @@ fn value_of(column: &Column, text: &str, reader: &mut Reader) -> Option<Vec<u8>>
         _ if column.only.is_some() => Some(reader.raw(text)),
         _ => {
             let value = reader.text(text);
-            test_value(column.kind.oid, &value, Wrong::Value, reader);
+            let wanted = "the value is none of its column's type";
+            test_value(column.kind.oid, &value, wanted, reader);
             Some(value)
         }
     }
 }
+
+/// What is said of a row with other values than there are columns.
+const WIDTH: &str = "a row has a value for each column, with a tab between two";
 
 /// Adds the values of this line, between which tabs stand, one for each column.
 fn add_values(
@@ -38,10 +41,10 @@ fn add_values(
 ) {
     for text in line.split('\t') {
         let Some(column) = columns.get(values.len()) else {
-            return reader.wrong(Wrong::Width);
+            return reader.wrong(WIDTH);
         };
         let value = value_of(column, text, reader);
-        reader.add(values, value);
+        reader.out.add(values, value);
         reader.base = reader.base.saturating_add(text.len()).saturating_add(1);
     }
 }
@@ -53,23 +56,27 @@ fn values_of(
     base: usize,
     reader: &mut Reader,
 ) -> Vec<Option<Vec<u8>>> {
-    let mut values = Vec::new(reader.alloc);
+    let mut values = Vec::new(reader.out.alloc);
     reader.base = base;
     add_values(columns, line, reader, &mut values);
     reader.base = base;
     if values.len() != columns.len() {
-        reader.wrong(Wrong::Width);
+        reader.wrong(WIDTH);
     }
     reader.base = 0;
     values
 }
+
+/// What is said of another condition.
+const CONDITION: &str =
+    "after `when` stand $ and a parameter's number, =, a text in single quotes, and a space";
 
 /// The place of the parameter of this number.
 fn place_of(number: &str, reader: &mut Reader) -> usize {
     match number.parse::<u16>() {
         Ok(number) if number != 0 => usize::from(number).saturating_sub(1),
         _ => {
-            reader.wrong_at(Wrong::Condition, 6);
+            reader.wrong_at(CONDITION, 6);
             0
         }
     }
@@ -92,7 +99,7 @@ fn row_with_condition(
 ) -> Row {
     let parts = split_condition(rest);
     if parts.is_none() {
-        reader.wrong_at(Wrong::Condition, 5);
+        reader.wrong_at(CONDITION, 5);
     }
     let (number, text, values) = parts.unwrap_or(("", "", ""));
     let condition = Condition {
@@ -102,10 +109,14 @@ fn row_with_condition(
     match parameters.get(condition.place) {
         Some(oid) => {
             reader.base = number.len().saturating_add(10);
-            test_value(*oid, &condition.value, Wrong::ConditionValue, reader);
+            let wanted = "the value is none of its parameter's type";
+            test_value(*oid, &condition.value, wanted, reader);
             reader.base = 0;
         }
-        None => reader.wrong_at(Wrong::NoParameter, 5),
+        None => reader.wrong_at(
+            "the parameter's type stands in a line `parameters` above",
+            5,
+        ),
     }
     Row {
         condition: Some(condition),

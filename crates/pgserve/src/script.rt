@@ -1,14 +1,16 @@
 //! A script: statements, and what the server answers to each. docs/PGSERVE.md says how it is written.
 
+use crate::outbox::Outbox;
 use crate::pattern::matches;
 use crate::pause::Pause;
+use crate::reader::Reader;
 use crate::text::trimmed;
 use crate::types::Type;
 use crate::user::User;
 use crate::wording::Wording;
 use pgp_base::Oid;
 use pgp_monitor::Status;
-use std::alloc::{AllocError, Global};
+use std::alloc::Global;
 
 /// A column of the rows.
 #[derive(Drop)]
@@ -144,15 +146,11 @@ pub(crate) struct Script {
 }
 
 impl Statement {
-    pub(crate) fn new(
-        alloc: Global,
-        line: usize,
-        by: By,
-        text: Vec<u8>,
-        words: String,
-    ) -> Statement {
+    /// A statement that begins at this line.
+    pub(crate) fn new(by: By, text: Vec<u8>, words: String, reader: &Reader) -> Statement {
+        let alloc = reader.out.alloc;
         Statement {
-            line,
+            line: reader.line,
             place: 0,
             first: 0,
             role: Role::First,
@@ -182,9 +180,9 @@ impl Statement {
     }
 
     /// Whether the pattern matches the text.
-    fn matches(&self, alloc: Global, text: &str) -> Result<bool, AllocError> {
+    fn matches(&self, text: &str, out: &mut Outbox) -> bool {
         let pattern = str::from_utf8(&self.text).unwrap_or("");
-        Ok(matches(alloc, pattern, text)? == Some(true))
+        matches(pattern, text, out) == Some(true)
     }
 
     /// Whether a row is sent for some values of a parameter alone.
@@ -251,36 +249,32 @@ impl Script {
     }
 
     /// The first answer to a statement: that of its text, of the text without comments, of its words, or of the first pattern that matches.
-    pub(crate) fn find(
-        &self,
-        alloc: Global,
-        asked: &Wording,
-    ) -> Result<Option<&Statement>, AllocError> {
+    pub(crate) fn find(&self, asked: &Wording, out: &mut Outbox) -> Option<&Statement> {
         let found = self
             .written(By::Text, trimmed(&asked.text))
             .or(self.written(By::Text, &asked.bare))
             .or(self.written(By::Words, asked.words.as_bytes()));
         if found.is_some() {
-            return Ok(found);
+            return found;
         }
-        match self.matching(alloc, trimmed(&asked.text)) {
-            Ok(None) => self.matching(alloc, &asked.bare),
-            matching => matching,
+        match self.matching(trimmed(&asked.text), out) {
+            None => self.matching(&asked.bare, out),
+            found => found,
         }
     }
 
     /// The first pattern that matches the text.
-    fn matching(&self, alloc: Global, text: &[u8]) -> Result<Option<&Statement>, AllocError> {
+    fn matching(&self, text: &[u8], out: &mut Outbox) -> Option<&Statement> {
         let text = str::from_utf8(text).unwrap_or("");
         for statement in &self.statements {
             if statement.role == Role::First
                 && statement.by == By::Pattern
-                && statement.matches(alloc, text)?
+                && statement.matches(text, out)
             {
-                return Ok(Some(statement));
+                return Some(statement);
             }
         }
-        Ok(None)
+        None
     }
 
     /// The further result of the same time, behind this place.

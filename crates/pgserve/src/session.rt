@@ -7,12 +7,12 @@ ghost use Rattle.std.specs.Prelude.{◌≡◌, false};
 ghost use Rattle.pgp_monitor.specs.Transaction.{ends_portals};
 
 use crate::answer::Went;
-use crate::asked::{Refusal, put_error, refuse};
+use crate::asked::{Refusal, malformed, not_supported, put_error, refuse};
+use crate::channels::{Channels, put_notification};
 use crate::command::{Command, command_of};
 use crate::copy::CopyIn;
 use crate::extended::Binding;
 use crate::outbox::Outbox;
-use crate::parts::{bound_of, formats_of, prepared_of, results_of, types_of, values_of};
 use crate::pause::Pause;
 use crate::portals::{Names, Plan, Portal};
 use crate::script::{Pair, Script, Statement};
@@ -21,6 +21,8 @@ use crate::transaction::Transaction;
 use crate::wording::Wording;
 use pgp_frontend_read::ClientMessage;
 use pgp_message_write as reply;
+use pgp_monitor::Status;
+use std::mem;
 
 /// What a statement asks for.
 #[derive(Clone, Copy)]
@@ -41,6 +43,7 @@ pub(crate) struct Session<'h> {
     pub(crate) portals: Names<Portal>,
     pub(crate) transaction: Transaction,
     pub(crate) settings: Settings,
+    pub(crate) channels: Channels,
     /// After an error all requests are passed over up to a Sync.
     pub(crate) is_skipping: bool,
     /// What is sent before the server is ready.
@@ -67,6 +70,7 @@ impl<'h> Session<'h> {
             portals: Names::new(alloc),
             transaction: Transaction::new(alloc),
             settings,
+            channels: Channels::new(alloc),
             is_skipping: false,
             notifications: Vec::new(alloc),
             copying: None,
@@ -100,13 +104,14 @@ impl<'h> Session<'h> {
         self.ready(out);
     }
 
-    /// Appends which settings changed, the notifications, and that the server is ready.
+    /// Appends the notifications, which settings changed, and that the server is ready. Outside of a transaction what was asked for takes effect.
     fn ready(&mut self, out: &mut Outbox)
         ensures { self.new.portals ≡ self.old.portals }
     {
-        self.settings.report(out);
+        self.channels.settle(self.transaction.status, out);
         put_notifications(&self.notifications, out);
         self.notifications.clear();
+        self.settings.report(out);
         let put = reply::ready_for_query(self.transaction.status.letter(), &mut out.bytes);
         out.put(put);
     }
@@ -116,16 +121,10 @@ impl<'h> Session<'h> {
         if statement.is_blank() {
             return Asks::Nothing;
         }
-        match self.scripted(statement, out.alloc) {
-            Ok(Some(scripted)) => Asks::Scripted(scripted),
-            Ok(None) => match statement.command() {
-                Some(command) => Asks::Command(command),
-                None => Asks::Unknown,
-            },
-            Err(_) => {
-                out.lack();
-                Asks::Nothing
-            }
+        match (self.scripted(statement, out), statement.command()) {
+            (Some(scripted), _) => Asks::Scripted(scripted),
+            (None, Some(command)) => Asks::Command(command),
+            (None, None) => Asks::Unknown,
         }
     }
 
@@ -138,9 +137,17 @@ impl<'h> Session<'h> {
         self.transaction.status.rejects(ends_failure)
     }
 
+    /// An error: a transaction that was begun has failed. What was asked for outside of one is undone.
+    pub(crate) fn fail_transaction(&mut self) {
+        if self.transaction.status == Status::Idle {
+            self.channels.roll_back(0);
+        }
+        self.transaction.fail();
+    }
+
     /// Appends the error of a request that stands alone.
     pub(crate) fn stop(&mut self, refusal: Refusal<'_>, out: &mut Outbox) {
-        self.transaction.fail();
+        self.fail_transaction();
         refuse(refusal, out);
     }
 
@@ -194,13 +201,15 @@ impl<'h> Session<'h> {
         }
     }
 
-    /// What the statement does to the transaction by itself, and the cursor that it declares.
+    /// What the statement does to the session by itself, and the cursor that it declares. Of a `NOTIFY` its lines `notify` say what is sent.
     fn follow(&mut self, statement: &Statement, went: Went, out: &mut Outbox) {
         if went == Went::Wrong {
-            return self.transaction.fail();
+            return self.fail_transaction();
         }
         if let Some(command) = command_of(&statement.words) {
-            self.carry(command, out);
+            if !matches!(command, Command::Notify { .. }) {
+                self.carry(command, out);
+            }
             if let Command::Declare { name, is_held } = command {
                 self.open_cursor(name, is_held, &statement.text, out);
             }
@@ -236,13 +245,13 @@ impl<'h> Session<'h> {
         match tag {
             b'S' => {
                 self.is_skipping = false;
-                self.stop_alone(Refusal::Malformed, out);
+                self.stop_alone(malformed(), out);
             }
             _ if self.is_skipping => {}
-            b'Q' | b'F' => self.stop_alone(Refusal::Malformed, out),
+            b'Q' | b'F' => self.stop_alone(malformed(), out),
             // What belongs to a copy is passed over.
             b'd' | b'c' | b'f' => {}
-            _ => self.fail(Refusal::Malformed, out),
+            _ => self.fail(malformed(), out),
         }
     }
 
@@ -252,7 +261,7 @@ impl<'h> Session<'h> {
             ClientMessage::Sync => self.sync(out),
             _ if self.is_skipping => {}
             ClientMessage::Query(text) => self.query(text, out),
-            ClientMessage::FunctionCall { .. } => self.stop_alone(Refusal::NotSupported, out),
+            ClientMessage::FunctionCall { .. } => self.stop_alone(not_supported(), out),
             message => self.extended(message, out),
         }
     }
@@ -269,41 +278,41 @@ impl<'h> Session<'h> {
         if self.is_skipping {
             return self.answer_in_place(message, out);
         }
-        match message {
-            ClientMessage::Bind { .. } => self.answer_bind(message, out),
-            ClientMessage::Parse { .. } => self.answer_parse(message, out),
-            _ => self.answer_in_place(message, out),
-        }
-    }
-
-    fn answer_bind(&mut self, message: &mut ClientMessage<'_>, out: &mut Outbox) {
-        let formats = formats_of(message, out);
-        let values = values_of(message, out);
-        let results = results_of(message, out);
-        if let Some((portal, statement)) = bound_of(message) {
-            let binding = Binding {
+        match mem::replace(message, ClientMessage::Sync) {
+            ClientMessage::Bind {
                 portal,
                 statement,
-                formats: &formats,
-                values: &values,
-                results: &results,
-            };
-            self.bind(&binding, out);
-        }
-    }
-
-    fn answer_parse(&mut self, message: &mut ClientMessage<'_>, out: &mut Outbox) {
-        let types = types_of(message, out);
-        if let Some((name, query)) = prepared_of(message) {
-            self.parse(name, query, &types, out);
+                mut formats,
+                mut values,
+                mut result_formats,
+            } => {
+                let formats = out.listed(&mut formats);
+                let values = out.listed(&mut values);
+                let results = out.listed(&mut result_formats);
+                let binding = Binding {
+                    portal,
+                    statement,
+                    formats: &formats,
+                    values: &values,
+                    results: &results,
+                };
+                self.bind(&binding, out);
+            }
+            ClientMessage::Parse {
+                name,
+                query,
+                mut param_types,
+            } => {
+                let types = out.listed(&mut param_types);
+                self.parse(name, query, &types, out);
+            }
+            other => self.answer_in_place(&other, out),
         }
     }
 }
 
-/// Appends the notifications.
 fn put_notifications(notifications: &[&Pair], out: &mut Outbox) {
     for pair in notifications {
-        let put = reply::notification_response(1, &pair.name, &pair.value, &mut out.bytes);
-        out.put(put);
+        put_notification(pair, out);
     }
 }

@@ -3,7 +3,7 @@
 //! PostgreSQL manual, "Message Flow", "Simple Query", and there "Multiple Statements in a Simple Query".
 
 use crate::answer::{Went, describe, execute};
-use crate::asked::Refusal;
+use crate::asked::{Refusal, aborted, not_scripted, not_utf8};
 use crate::bound::Bound;
 use crate::input::is_text;
 use crate::outbox::Outbox;
@@ -22,7 +22,7 @@ impl<'h> Session<'h> {
 
     fn simple_statement(&mut self, statement: &Wording, out: &mut Outbox) -> Went {
         if self.is_aborted(statement) {
-            self.stop(Refusal::Aborted, out);
+            self.stop(aborted(), out);
             return Went::Wrong;
         }
         self.portals.remove(b"");
@@ -31,7 +31,7 @@ impl<'h> Session<'h> {
             Asks::Command(command) => self.simple_command(command, statement, out),
             Asks::Nothing => Went::Well,
             Asks::Unknown => {
-                self.stop(Refusal::NotScripted(statement.text.trim_ascii()), out);
+                self.stop(not_scripted(statement.text.trim_ascii()), out);
                 Went::Wrong
             }
         }
@@ -55,7 +55,7 @@ impl<'h> Session<'h> {
 
     fn simple_result(&mut self, statement: &'h Statement, out: &mut Outbox) -> Went {
         if !statement.parameters.is_empty() {
-            self.stop(Refusal::NoParameter, out);
+            self.stop(Refusal::new("42P02", "there is no parameter $1"), out);
             return Went::Wrong;
         }
         if let Some(copy) = statement.copy_in() {
@@ -95,23 +95,19 @@ impl<'h> Session<'h> {
     /// Answers a query that the script has as a whole, or its statements; returns whether there was one.
     fn whole_or_parts(&mut self, query: &[u8], out: &mut Outbox) -> bool {
         let whole = Wording::new(query, out);
-        match self.script.find(out.alloc, &whole) {
-            Ok(Some(_)) => {
+        match self.script.find(&whole, out) {
+            Some(_) => {
                 self.simple_statement(&whole, out);
                 true
             }
-            Ok(None) => self.statements(query, out),
-            Err(_) => {
-                out.lack();
-                false
-            }
+            None => self.statements(query, out),
         }
     }
 
     /// Answers a simple query.
     pub(crate) fn query(&mut self, query: &[u8], out: &mut Outbox) {
         if !is_text(query) {
-            return self.stop_alone(Refusal::NotUtf8, out);
+            return self.stop_alone(not_utf8(), out);
         }
         self.prepared.remove(b"");
         if !self.whole_or_parts(query, out) {

@@ -5,6 +5,7 @@ use crate::fault::Fault;
 use crate::host::Host;
 use crate::outbox::Outbox;
 use crate::pause::Pause;
+use crate::record::Recording;
 use pgp_frontend_read::ClientParser;
 use std::alloc::Global;
 use std::io::{ErrorKind, Read, Write};
@@ -32,7 +33,7 @@ fn front(piece: &[u8], n: usize) -> &[u8] {
 }
 
 /// Writes the bytes, and has them passed on.
-fn put<W: Write>(bytes: &[u8], output: &mut W) -> Result<(), Fault> {
+pub(crate) fn put<W: Write>(bytes: &[u8], output: &mut W) -> Result<(), Fault> {
     if bytes.is_empty() {
         return Ok(());
     }
@@ -82,15 +83,6 @@ pub(crate) fn run<R: Read, W: Write>(
     pass(rt, &mut parser, &mut connection, &mut out, input, output)
 }
 
-/// Prints what is reported of the requests.
-fn report(rt: &HostRuntime, connection: &mut Connection<'_>) -> Result<(), Fault> {
-    if !connection.log.is_empty() && eprint!(rt; "{}", connection.log).is_err() {
-        return Err(Fault::Write);
-    }
-    connection.log.clear();
-    Ok(())
-}
-
 /// The same with what the connection keeps: its parser, and memory for answers.
 fn pass<R: Read, W: Write>(
     rt: &HostRuntime,
@@ -101,14 +93,16 @@ fn pass<R: Read, W: Write>(
     output: &mut W,
 ) -> Result<(), Fault> {
     out.end()?;
+    let recording = Recording::begin(rt, connection.host.is_recorded)?;
     let mut piece = [0u8; PIECE];
     for _ in 0..u64::MAX {
         let n = read(input, &mut piece)?;
+        recording.add(rt, b'>', front(&piece, n))?;
         let taken = take_piece(parser, connection, front(&piece, n), out);
         put_with_pauses(rt, connection.monitor.to_send(), &connection.pauses, output)?;
+        recording.add(rt, b'<', connection.monitor.to_send())?;
         connection.monitor.sent();
         connection.pauses.clear();
-        report(rt, connection)?;
         taken?;
         if n == 0 || connection.is_over() {
             return Ok(());

@@ -16,12 +16,7 @@ fn escape_of(letter: u8) -> Option<u8> {
 
 /// The value of a hexadecimal digit.
 fn digit_of(letter: u8) -> Option<u8> {
-    match letter {
-        b'0'..=b'9' => Some(letter.saturating_sub(b'0')),
-        b'a'..=b'f' => Some(letter.saturating_sub(b'a').saturating_add(10)),
-        b'A'..=b'F' => Some(letter.saturating_sub(b'A').saturating_add(10)),
-        _ => None,
-    }
+    u8::try_from(char::from(letter).to_digit(16)?).ok()
 }
 
 /// How much of an escape was read.

@@ -3,35 +3,15 @@
 ghost use Rattle.std.specs.Prelude.{◌≡◌};
 ghost use Rattle.pgp_monitor.specs.Transaction.{after_error};
 
-use crate::asked::Refusal;
+use crate::asked::{Refusal, no_transaction};
 use crate::command::Command;
 use crate::outbox::Outbox;
 use pgp_monitor::Status;
 use std::alloc::Global;
 
-/// A warning of a command that changes nothing.
-#[derive(Clone, Copy)]
-pub(crate) enum Warning {
-    /// `25001`: a transaction is there.
-    InTransaction,
-    /// `25P01`: none is there.
-    NoTransaction,
-}
-
-impl Warning {
-    pub(crate) fn code(self) -> &'static [u8] {
-        match self {
-            Warning::InTransaction => b"25001",
-            Warning::NoTransaction => b"25P01",
-        }
-    }
-
-    pub(crate) fn message(self) -> &'static [u8] {
-        match self {
-            Warning::InTransaction => b"there is already a transaction in progress",
-            Warning::NoTransaction => b"there is no transaction in progress",
-        }
-    }
+/// The warning of a command that changes nothing outside of a transaction.
+fn outside<'c>() -> Refusal<'c> {
+    Refusal::new("25P01", "there is no transaction in progress")
 }
 
 /// What a command on a transaction comes to.
@@ -39,7 +19,7 @@ impl Warning {
 pub(crate) enum Taken<'c> {
     /// It was carried out, and this is its tag.
     Done(&'static str),
-    Warned(&'static str, Warning),
+    Warned(&'static str, Refusal<'c>),
     Refused(Refusal<'c>),
     /// It is another command.
     Other,
@@ -82,94 +62,74 @@ impl Transaction {
 
     fn begin<'c>(&mut self, tag: &'static str) -> Taken<'c> {
         if self.status != Status::Idle {
-            return Taken::Warned(tag, Warning::InTransaction);
+            let message = "there is already a transaction in progress";
+            return Taken::Warned(tag, Refusal::new("25001", message));
         }
         self.status = Status::Open;
         Taken::Done(tag)
     }
 
-    /// The end of a transaction; where it chains, the next begins.
-    fn end(&mut self, chains: bool) {
-        self.savepoints.clear();
-        self.status = if chains { Status::Open } else { Status::Idle };
-    }
-
-    fn commit<'c>(&mut self, chains: bool) -> Taken<'c> {
+    /// The end of a transaction by the command of this tag; where it chains, the next begins.
+    fn end<'c>(&mut self, tag: &'static str, chains: bool) -> Taken<'c> {
         match self.status {
-            Status::Idle if chains => Taken::Refused(Refusal::NoTransaction(b"COMMIT AND CHAIN")),
-            Status::Idle => Taken::Warned("COMMIT", Warning::NoTransaction),
+            Status::Idle if chains => Taken::Refused(no_transaction(tag, " AND CHAIN")),
+            Status::Idle => Taken::Warned(tag, outside()),
             status => {
-                self.end(chains);
-                Taken::Done(if status.commits() {
-                    "COMMIT"
-                } else {
-                    "ROLLBACK"
-                })
+                self.savepoints.clear();
+                self.status = if chains { Status::Open } else { Status::Idle };
+                Taken::Done(if status.commits() { tag } else { "ROLLBACK" })
             }
         }
-    }
-
-    fn rollback<'c>(&mut self, chains: bool) -> Taken<'c> {
-        match self.status {
-            Status::Idle if chains => Taken::Refused(Refusal::NoTransaction(b"ROLLBACK AND CHAIN")),
-            Status::Idle => Taken::Warned("ROLLBACK", Warning::NoTransaction),
-            _ => {
-                self.end(chains);
-                Taken::Done("ROLLBACK")
-            }
-        }
-    }
-
-    /// The place of the newest savepoint of this name.
-    fn place(&self, name: &str) -> Option<usize> {
-        let mut found = None;
-        for (place, savepoint) in self.savepoints.iter().enumerate() {
-            if savepoint.as_slice() == name.as_bytes() {
-                found = Some(place);
-            }
-        }
-        found
     }
 
     fn savepoint<'c>(&mut self, name: &str, out: &mut Outbox) -> Taken<'c> {
         if self.status == Status::Idle {
-            return Taken::Refused(Refusal::NoTransaction(b"SAVEPOINT"));
+            return Taken::Refused(no_transaction("SAVEPOINT", ""));
         }
         let name = out.copy(name.as_bytes());
         out.add(&mut self.savepoints, name);
         Taken::Done("SAVEPOINT")
     }
 
-    fn release<'c>(&mut self, name: &'c str) -> Taken<'c> {
+    /// The place of the newest savepoint of this name, which a command needs.
+    fn place<'c>(&self, command: &'static str, name: &'c str) -> Result<usize, Refusal<'c>> {
         if self.status == Status::Idle {
-            return Taken::Refused(Refusal::NoTransaction(b"RELEASE SAVEPOINT"));
+            return Err(no_transaction(command, " SAVEPOINT"));
         }
-        match self.place(name) {
-            Some(place) => {
+        let name = name.as_bytes();
+        let mut found = None;
+        for (place, savepoint) in self.savepoints.iter().enumerate() {
+            if savepoint.as_slice() == name {
+                found = Some(place);
+            }
+        }
+        found.ok_or(Refusal::of("3B001", "savepoint \"", name, "\" does not exist"))
+    }
+
+    fn release<'c>(&mut self, name: &'c str) -> Taken<'c> {
+        match self.place("RELEASE", name) {
+            Ok(place) => {
                 self.savepoints.truncate(place);
                 Taken::Done("RELEASE")
             }
-            None => Taken::Refused(Refusal::NoSavepoint(name.as_bytes())),
+            Err(refusal) => Taken::Refused(refusal),
         }
     }
 
     fn rollback_to<'c>(&mut self, name: &'c str) -> Taken<'c> {
-        if self.status == Status::Idle {
-            return Taken::Refused(Refusal::NoTransaction(b"ROLLBACK TO SAVEPOINT"));
-        }
-        match self.place(name) {
-            Some(place) => {
+        match self.place("ROLLBACK TO", name) {
+            Ok(place) => {
                 self.savepoints.truncate(place.saturating_add(1));
                 self.status = Status::Open;
                 Taken::Done("ROLLBACK")
             }
-            None => Taken::Refused(Refusal::NoSavepoint(name.as_bytes())),
+            Err(refusal) => Taken::Refused(refusal),
         }
     }
 
     fn set_here<'c>(&self, is_here: bool) -> Taken<'c> {
         if is_here && self.status == Status::Idle {
-            return Taken::Warned("SET", Warning::NoTransaction);
+            return Taken::Warned("SET", outside());
         }
         Taken::Done("SET")
     }
@@ -178,8 +138,8 @@ impl Transaction {
     pub(crate) fn take<'c>(&mut self, command: Command<'c>, out: &mut Outbox) -> Taken<'c> {
         match command {
             Command::Begin(tag, _) => self.begin(tag),
-            Command::Commit { chains } => self.commit(chains),
-            Command::Rollback { chains } => self.rollback(chains),
+            Command::Commit { chains } => self.end("COMMIT", chains),
+            Command::Rollback { chains } => self.end("ROLLBACK", chains),
             Command::Savepoint(name) => self.savepoint(name, out),
             Command::Release(name) => self.release(name),
             Command::RollbackTo(name) => self.rollback_to(name),

@@ -4,21 +4,13 @@ use crate::outbox::Outbox;
 use crate::script::Statement;
 use crate::session::{Asks, Session};
 use crate::wording::Wording;
-use std::alloc::{AllocError, Global};
 
 impl<'h> Session<'h> {
     /// The script's answer to this statement: that to which it was bound, or the first to such a statement.
-    pub(crate) fn scripted(
-        &self,
-        statement: &Wording,
-        alloc: Global,
-    ) -> Result<Option<&'h Statement>, AllocError> {
+    pub(crate) fn scripted(&self, statement: &Wording, out: &mut Outbox) -> Option<&'h Statement> {
         match statement.place {
-            Some(place) => Ok(self.script.statements.get(place)),
-            None => match self.script.find(alloc, statement) {
-                Ok(Some(first)) => Ok(Some(self.now(first))),
-                other => other,
-            },
+            Some(place) => self.script.statements.get(place),
+            None => Some(self.now(self.script.find(statement, out)?)),
         }
     }
 

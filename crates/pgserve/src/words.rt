@@ -1,6 +1,5 @@
 //! The program's words.
 
-use crate::log::Form;
 use clap::{Arg, ArgAction, ArgMatches, Command};
 use std::alloc::{AllocError, Global};
 
@@ -17,76 +16,39 @@ pub(crate) struct Words<'a> {
     pub(crate) auth: &'a str,
     /// The hash of the certificate, in hexadecimal digits.
     pub(crate) certificate: &'a str,
-    /// How each request is reported on standard error, if it is.
-    pub(crate) log: Option<Form>,
+    /// Whether the connection is recorded on standard error.
+    pub(crate) is_recorded: bool,
     /// The script's path.
     pub(crate) script: &'a str,
 }
 
-/// What stands after a word `--NAME`.
-#[derive(Clone, Copy)]
-enum Kind {
-    Text,
-    /// A text; the word has to be there.
-    NeededText,
-    Nothing,
-}
-
-/// The words `--NAME` with what they say.
-static OPTIONS: [(&str, Kind, &str); 7] = [
-    ("user", Kind::NeededText, "The one user that there is"),
+/// The words `--NAME TEXT`, with what they say.
+static TEXTS: [(&str, &str); 5] = [
+    ("user", "The one user that there is"),
     (
         "auth",
-        Kind::Text,
         "What a client has to show: trust, password, md5, scram, which is the default, or scram-plus",
     ),
     (
         "verifier",
-        Kind::Text,
         "What a server stores of the password: SCRAM-SHA-256$.., for md5 md5..",
     ),
-    (
-        "nonce",
-        Kind::Text,
-        "The server's part of the nonce of scram",
-    ),
+    ("nonce", "The server's part of the nonce of scram"),
     (
         "certificate",
-        Kind::Text,
         "The hash of the server's certificate for scram-plus, in hexadecimal digits",
-    ),
-    (
-        "log",
-        Kind::Nothing,
-        "Reports each request and its answer on standard error",
-    ),
-    (
-        "log-json",
-        Kind::Nothing,
-        "The same as an object of JSON a line",
     ),
 ];
 
-fn option(alloc: Global, name: &'static str, kind: Kind, help: &'static str) -> Arg<'static> {
-    let option = Arg::new(alloc, name).long(name).help(help);
-    match kind {
-        Kind::Text => option.action(ArgAction::Set),
-        Kind::NeededText => option.action(ArgAction::Set).required(true),
-        Kind::Nothing => option.action(ArgAction::SetTrue),
-    }
+fn text_of(alloc: Global, name: &'static str, help: &'static str) -> Arg<'static> {
+    let text = Arg::new(alloc, name).long(name).help(help);
+    text.action(ArgAction::Set).required(name == "user")
 }
 
-fn script(alloc: Global) -> Arg<'static> {
-    Arg::new(alloc, "script")
-        .required(true)
-        .action(ArgAction::Set)
-        .help("The script's path")
-}
-
-fn with_options<'a>(alloc: Global, bare: Command<'a>) -> Result<Command<'a>, AllocError> {
+fn with_texts<'a>(alloc: Global, bare: Command<'a>) -> Result<Command<'a>, AllocError> {
     let mut command = bare;
-    for (name, kind, help) in &OPTIONS {
-        command = command.arg(option(alloc, name, *kind, help))?;
+    for (name, help) in &TEXTS {
+        command = command.arg(text_of(alloc, name, help))?;
     }
     Ok(command)
 }
@@ -96,18 +58,13 @@ pub(crate) fn command<'a>(alloc: Global) -> Result<Command<'a>, AllocError> {
     let bare = Command::new(alloc, "pgserve").version("0.1.0").about(
         "Logs one client in, and answers the statements of a script. Standard input and output are the connection.",
     );
-    match with_options(alloc, bare) {
-        Ok(command) => command.arg(script(alloc)),
-        Err(why) => Err(why),
-    }
-}
-
-/// How requests are reported, by the two flags.
-fn form_of(is_plain: bool, is_json: bool) -> Option<Form> {
-    if is_json {
-        return Some(Form::Json);
-    }
-    if is_plain { Some(Form::Plain) } else { None }
+    let record = Arg::new(alloc, "record").long("record").help(
+        "Records the connection on standard error, for pgtrace session",
+    );
+    let script = Arg::new(alloc, "script").help("The script's path");
+    with_texts(alloc, bare)?
+        .arg(record.action(ArgAction::SetTrue))?
+        .arg(script.required(true).action(ArgAction::Set))
 }
 
 /// A word, empty where it isn't there.
@@ -123,7 +80,7 @@ pub(crate) fn words_of<'a>(matches: &ArgMatches<'a>) -> Words<'a> {
         nonce: word_of(matches, "nonce"),
         auth: matches.get_str("auth").unwrap_or("scram"),
         certificate: word_of(matches, "certificate"),
-        log: form_of(matches.get_flag("log"), matches.get_flag("log-json")),
+        is_recorded: matches.get_flag("record"),
         script: word_of(matches, "script"),
     }
 }
