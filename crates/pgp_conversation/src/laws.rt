@@ -33,6 +33,7 @@ ghost use Rattle.pgp_conversation.specs.Types.{Types};
 use pgp_value_text::laws::one_text;
 
 /// A recording has one listing, and one end.
+#[tactic(auto, using(crate::proofs::OneSession::one_listing))]
 pub fn one_listing()
     ensures { (view : View) (marking : Marking) (bytes output other : List ℕ) (end ending : End) → IsListing view marking bytes end output → IsListing view marking bytes ending other → (end ≡ ending) × (output ≡ other) }
 {
@@ -41,6 +42,7 @@ pub fn one_listing()
 
 /// Of each side the frames that were listed are, one after another, what that side sent in all its chunks, up to a rest in which none is whole: none is
 /// listed twice, left out, or under the other side.
+#[tactic(auto, using(crate::proofs::EachSide::each_side))]
 pub fn each_side_is_listed()
     ensures { (view : View) (marking : Marking) (chunks : List Chunk) (lines : List ℕ) (talk : Talk) → ListsChunks view (begins marking) chunks lines talk → (who : Sender) → IsSplit who chunks talk }
 {}
@@ -48,6 +50,7 @@ pub fn each_side_is_listed()
 /// Where requests are numbered, and no message was found without a place, and no error ended the session: a server may send what was heard to the requests
 /// under their numbers, in the order in which all of it was listed, and each message belongs to the request whose number its mark tells, and to no other. So it
 /// is of the first chunks of a recording too, whatever comes after them: their listing and its turns stand at the front of the whole's.
+#[tactic(auto, using(crate::proofs::Turns::turns_are_true))]
 pub fn numbers_say_where_messages_belong()
     ensures { (view : View) (marking : Marking) (chunks : List Chunk) (lines : List ℕ) (talk : Talk) (numbers : Numbers) (dialogue : Dialogue) (listed : ListsChunks view (begins marking) chunks lines talk)
         → talk.known.numbers ≡ Some numbers → numbers.dialogue ≡ Some dialogue → dialogue.stage ≢ Over → AreTrue (turns_in view (begins marking) chunks lines talk listed) }
@@ -55,6 +58,7 @@ pub fn numbers_say_where_messages_belong()
 
 /// A mark has characters alone that a terminal prints, whatever it says of requests, and so has a line with its mark, as text or as an object, with values
 /// as texts or without, before its newline.
+#[tactic(auto, using(crate::proofs::PrintedObjects::marked_printable, crate::proofs::PrintedObjects::typed_printable, crate::proofs::PrintedMarks::mark_printable, crate::proofs::PrintedMarks::last_printable))]
 pub fn marked_lines_are_printable()
     ensures lines { (style : Style) (place : ℕ) (from to : Side) (frame line : List ℕ) (form : Form) (who : Sender) (start micros : ℕ) (told : Told) → LineOf style place from frame line to →
         (text : List ℕ) × (marked form (mark form who (since start micros) ++ word form told) line ≡ text ++ 10 ∷ []) × IsPrinted text }
@@ -65,12 +69,14 @@ pub fn marked_lines_are_printable()
 {}
 
 /// Where a summary is asked for, nothing but its table is written.
+#[tactic(auto, using(crate::proofs::Summaries::table_alone))]
 pub fn summaries_are_tables()
     ensures { (view : View) (marking : Marking) (bytes output : List ℕ) (end : End) → marking.numbered ≡ true → marking.summed ≡ true → (listing : IsListing (summarized true view) marking bytes end output)
         → (summary : State) × (summary_in listing.talk.known.numbers ≡ Some summary) × (output ≡ table view.style summary.tallies) }
 {}
 
 /// A line of a table has characters alone that a terminal prints, before its newline.
+#[tactic(auto, using(crate::proofs::PrintedTables::rows_printed, crate::proofs::PrintedTables::heading_printed))]
 pub fn table_lines_are_printable()
     ensures rows { (style : Style) (tally : Tally) → (text : List ℕ) × (row_of style tally ≡ text ++ 10 ∷ []) × IsPrinted text }
     ensures heading { (text : List ℕ) × (heading Columns ≡ text ++ 10 ∷ []) × IsPrinted text }
@@ -78,6 +84,7 @@ pub fn table_lines_are_printable()
 
 /// A frame that differs from another one of its side in its secrets alone has the same text in a listing, and the same is known after it, unless secrets are
 /// asked for.
+#[tactic(auto, using(crate::proofs::Secrets::frames_hidden))]
 pub fn secrets_are_hidden()
     ensures { (view : View) (mark : List ℕ) (who : Sender) (place : ℕ) (here to : Known) (frame other text : List ℕ) → AlikeIn (side_in who here) frame other
         → ListsFrame (quietly view) mark who place here frame text to → ListsFrame (quietly view) mark who place here other text to }

@@ -90,15 +90,6 @@ received_wrong terminal word has all words at chosen less r none =
     let some : map word (drop at words) ≢ [] = λ e. absurd (omega (arith, less, length-drop at words, length-map (drop at words) word, ap length e)) in
     λ ds each e. breaks_off has r.choices ds (map word (drop at words)) each some none (sym r.whole ∙ e)
 
--- ---- the option that stands first
-
--- one whose word the listing has
-pub one_of : (has words : List (List ℕ)) (word : List ℕ) (c : Choice) (more : List (List ℕ)) → words ≡ spelled c ++ more → get_or words 0 [] ≡ word → true ≡ has_word has word → IsOneOf has c
-one_of has words word c more is stands h = ap (has_word has) (sym (ap (λ l. get_or l 0 []) is) ∙ stands) ∙ sym h
-
-pub none_of : (has words : List (List ℕ)) → BeginsWithNone words → BeginsWithNoneOf has words
-none_of has words none c more one e = none c more e
-
 -- ---- places in the words
 
 -- one more stands at a place

@@ -21,11 +21,13 @@ ghost use Rattle.pgp_trace.specs.Sides.{Client, Server, Side, answered};
 ghost use Rattle.pgp_trace.specs.declared.side.Phase.TheVariants.{Beginning, Encrypted, Messages};
 
 /// A stream has one listing.
+#[tactic(auto, using(crate::proofs::OneListing::one_listing))]
 pub fn one_listing()
     ensures { (view : View) (from : Side) (bytes output other : List ℕ) → IsListing view from bytes output → IsListing view from bytes other → output ≡ other }
 {}
 
 /// A line has characters alone that a terminal prints, and then its newline.
+#[tactic(auto, using(crate::proofs::Printable::line_printable))]
 pub fn lines_are_printable()
     ensures { (style : Style) (place : ℕ) (from to : Side) (frame line : List ℕ) → LineOf style place from frame line to →
         (text : List ℕ) × (line ≡ text ++ 10 ∷ []) × IsPrinted text }
@@ -37,18 +39,21 @@ pub fn all_lines_are_listed()
 {}
 
 /// A line in a colour is the line between two escape sequences, the second before its newline. Objects have no colour.
+#[tactic(auto, using(crate::proofs::Painted::painted_line, crate::proofs::Painted::no_object))]
 pub fn colors_stand_around_lines()
     ensures around { (color text : List ℕ) → painted (Some color) (text ++ 10 ∷ []) ≡ color ++ text ++ uncolored ++ 10 ∷ [] }
     ensures objects { (view : View) (name : List ℕ) → view.style.form ≡ Json → color_of view name ≡ None }
 {}
 
 /// A server's messages that differ in their secrets alone have the same lines, unless secrets are asked for.
+#[tactic(auto, using(crate::proofs::Hiding::hidden))]
 pub fn secrets_are_hidden()
     ensures { (style : Style) (m n : Message) (old new : List ℕ) → Alike m n → Shows (quiet style) m old new → Shows (quiet style) n old new }
 {}
 
 /// A server's streams that differ in their secrets alone have the same lines, unless secrets are asked for: from the first byte of a connection on, and
 /// from any message on.
+#[tactic(auto, using(crate::proofs::Streams::beginnings_hidden, crate::proofs::Streams::streams_hidden))]
 pub fn streams_hide_their_secrets()
     ensures beginning { (view : View) (start : ℕ) (a b lines : List ℕ) (to : Side) → AlikeBeginnings a b →
         Lines (quietly view) start (Server Beginning) a lines to → Lines (quietly view) start (Server Beginning) b lines to }
@@ -58,6 +63,7 @@ pub fn streams_hide_their_secrets()
 
 /// A listing of what a server sent is that of the stream as it is read elsewhere: with these results of its frames, this rest, and this end. From the
 /// first byte of a connection on, answers of one byte come before; and where the last of them agreed to encrypt, no frame comes after.
+#[tactic(auto, using(crate::proofs::Runs::run_behind, crate::proofs::Runs::run_of))]
 pub fn listings_are_runs()
     ensures beginning { (view : View) (bytes output : List ℕ) (l : IsListing view (Server Beginning) bytes output) →
         (l.to ≡ Server Encrypted) ⊎ IsRunBehindAnswers bytes l.stopped l.rest }
@@ -66,6 +72,7 @@ pub fn listings_are_runs()
 {}
 
 /// A server's stream at whose front no answer of one byte stands is listed as messages alone.
+#[tactic(auto, using(crate::proofs::Beginnings::whole, crate::proofs::Beginnings::other))]
 pub fn no_answers()
     ensures whole { (view : View) (bytes output : List ℕ) → answered bytes ≡ None →
         IsListing view (Server Beginning) bytes output → IsListing view (Server Messages) bytes output }
@@ -74,6 +81,7 @@ pub fn no_answers()
 {}
 
 /// A server's stream of messages in which no CopyBothResponse stands is listed as messages alone: each has the line of what it says itself.
+#[tactic(auto, using(crate::proofs::Plain::plain, crate::proofs::Plain::other))]
 pub fn no_replication()
     ensures plain { (view : View) (start : ℕ) (bytes lines : List ℕ) (to : Side) → HasNoCopyBoth bytes →
         Lines view start (Server Messages) bytes lines to → PlainLines view start bytes lines × (to ≡ Server Messages) }
@@ -82,12 +90,14 @@ pub fn no_replication()
 {}
 
 /// A CopyData has one message of replication inside, or none.
+#[tactic(auto, using(crate::proofs::Inners::one_inner))]
 pub fn one_inner_message()
     ensures { (standby : Bool) (bytes : List ℕ) (m n : Inner) → IsInner standby bytes m → IsInner standby bytes n → m ≡ n }
 {}
 
 /// A client's messages that differ in their secrets alone have the same lines, unless secrets are asked for. Where it isn't reported which message of tag
 /// `p` one is, it has the same line whatever is asked for.
+#[tactic(auto, using(crate::proofs::ClientHiding::password, crate::proofs::ClientHiding::initial, crate::proofs::ClientHiding::response, crate::proofs::ClientHiding::key, crate::proofs::ClientHiding::unreported))]
 pub fn client_secrets_are_hidden()
     ensures password { (style : Style) (reported : Bool) (a b old : List ℕ) → length a ≡ length b →
         client_line (quiet style) reported (Ok (PasswordMessage a)) old ≡ client_line (quiet style) reported (Ok (PasswordMessage b)) old }
@@ -102,6 +112,7 @@ pub fn client_secrets_are_hidden()
 {}
 
 /// A client's streams that differ in their secrets alone have the same lines, unless secrets are asked for.
+#[tactic(auto, using(crate::proofs::ClientStreams::client_streams_hidden))]
 pub fn client_streams_hide_their_secrets()
     ensures { (view : View) (start : ℕ) (opened : Bool) (kinds : List PasswordKind) (replicating : Bool) (a b lines : List ℕ) (to behind : Side) → AlikeClientStreams (Client opened kinds replicating) a b behind →
         Lines (quietly view) start (Client opened kinds replicating) a lines to → Lines (quietly view) start (Client opened kinds replicating) b lines to }
