@@ -1,7 +1,8 @@
 -- The lines of a chunk.
-use Rattle.pgp_conversation.proofs.Common.{◌≡◌, ℕ, ◌+◌, ◌≤◌, Bool, true, false, List, [], ◌++◌, length, take, drop, min, Option, Some, Result, Ok, Err, refl, sym, ap, subst, ◌∙◌, arith, length-append, OnOk, append-nil, length-take, greatest, place_behind, Ends, View, stays_ended, Sender, Client, Server, Half, Known, Talk, ListsFrame, ListsFrames, NoFrames, OneFrame, first_time, now_at, side_in, with_numbers, mark, since, Numbers, at_time, Chunk, ListsBytes, ListsChunkTo, HeldHalf, HeldTalk, Holds, Keeps, ListsAllFrames}
+use Rattle.pgp_conversation.proofs.Common.{◌≡◌, ℕ, ◌+◌, ◌≤◌, Bool, true, false, List, [], ◌++◌, length, take, drop, min, Option, Some, Result, Ok, Err, refl, sym, ap, subst, ◌∙◌, arith, length-append, OnOk, append-nil, length-take, greatest, place_behind, Ends, View, stays_ended, Sender, Client, Server, Half, Known, Talk, ListsFrame, ListsFrames, NoLines, OneLine, first_time, now_at, side_in, with_numbers, mark, since, Numbers, at_time, Chunk, ListsBytes, ListsChunkTo, HeldHalf, HeldTalk, Holds, Keeps, ListsAllFrames}
 use Rattle.std.proofs.Math.Nat.{min-eq_left}
 use Rattle.pgp_trace.proofs.Parts.{saturates}
+use Rattle.pgp_trace.proofs.Rows.{counted_on}
 use Rattle.pgp_conversation.proofs.FrameLists.{other_ends}
 
 not_both : (b : Bool) → b ≡ true → b ≡ false → ⊥
@@ -19,7 +20,7 @@ counted view mark who known held count before piece lines stands counts holds =
       lines = [];
       half = record { passed = before.passed; rest = before.rest ++ piece; stopped = before.stopped };
       whole = refl;
-      each = NoFrames;
+      each = NoLines;
       holds = record {
         ending = subst (λ s. Ends (side_in who known) s (before.rest ++ piece)) (sym halted) (stays_ended (side_in who known) before.rest piece (subst (λ s. Ends (side_in who known) s before.rest) halted holds.ending));
         stopped = holds.stopped;
@@ -30,12 +31,6 @@ counted view mark who known held count before piece lines stands counts holds =
       passed = omega arith;
       text = sym (append-nil lines);
     }
-
--- places are counted as far as a number of the machine reports them
-counted_on : (view : View) (mark : List ℕ) (who : Sender) (start : ℕ) (from : Known) (bytes lines : List ℕ) (to : Known) → ListsFrames view mark who (place_behind start) from bytes lines to → ListsFrames view mark who start from bytes lines to
-counted_on view mark who start from [] [] _ NoFrames = NoFrames
-counted_on view mark who start from _ _ to (OneFrame {bytes = bytes} {lines = lines} {here = here} frame text before one) =
-    OneFrame frame text (counted_on view mark who start from bytes lines here before) (subst (λ p. ListsFrame view mark who p here frame text to) (saturates start (length bytes) greatest) one)
 
 -- the frames that are whole with it were listed
 pub listed : (view : View) (mark : List ℕ) (who : Sender) (from to : Known) (held : HeldHalf) (n moved count : ℕ) (before : Half) (piece items left old new : List ℕ) (stopped : Bool)
@@ -50,7 +45,7 @@ listed view mark who from to held n moved count before piece items left old new 
       lines = all.lines;
       half = record { passed = before.passed + length (take n items); rest = left; stopped = stopped };
       whole = same ∙ all.whole ∙ ap (λ l. take n items ++ l) (sym cut);
-      each = counted_on view mark who before.passed from (take n items) all.lines to (subst (λ p. ListsFrames view mark who p from (take n items) all.lines to) holds.place all.each);
+      each = counted_on (ListsFrame view mark who) before.passed from to (take n items) all.lines (subst (λ p. ListsFrames view mark who p from (take n items) all.lines to) holds.place all.each);
       holds = record {
         ending = subst (Ends (side_in who to) stopped) (sym cut) all.ending;
         stopped = refl;

@@ -55,7 +55,7 @@ pub use Rattle.pgp_trace.specs.View.{View, color_of, is_listed, painted, shown}
 pub use Rattle.pgp_trace.specs.declared.frame.Next.TheVariants.{Line, Waits, Stops}
 pub use Rattle.pgp_trace.specs.declared.marking.Marking.{Marking}
 pub use Rattle.pgp_trace.specs.declared.side.Phase.TheVariants.{Beginning, Messages, Replicating, Encrypted}
-pub use Rattle.pgp_conversation.specs.Conversation.{asks, noted_by, requests, Half, Known, Talk, ListsFrame, ListsFrames, NoFrames, OneFrame, first_time, now_at, side_in, with_numbers, ListsChunk, ListsChunks, NoChunkListed, OneChunkListed, at_first, begins, half_in, other, as_standby, note, noted_in, replicates_in, text_of, told_by, with_kind, with_side, with_types, last_lines, is_replicating, first_start, last_of, left, answer_to, called, counts, either, relined}
+pub use Rattle.pgp_conversation.specs.Conversation.{asks, noted_by, requests, Half, Known, Talk, ListsFrame, ListsFrames, NoLines, OneLine, first_time, now_at, side_in, with_numbers, ListsChunk, ListsChunks, NoChunkListed, OneChunkListed, at_first, begins, half_in, other, as_standby, note, noted_in, replicates_in, text_of, told_by, with_kind, with_side, with_types, last_lines, is_replicating, first_start, last_of, left, answer_to, called, counts, either, relined}
 pub use Rattle.pgp_conversation.specs.Marks.{mark, since, word, marked, between, last_mark, later, member, members, says}
 unfoldable pub use Rattle.pgp_conversation.specs.Marks.{millis, number}
 pub use Rattle.pgp_conversation.specs.Pieces.{ListsAllChunks, ListsPiece, ListsSome, Stays, Tracks, TracksTo, held_first, held_last}

@@ -9,6 +9,7 @@ use Rattle.pgp_frontend_read.specs.declared.message.PasswordKind.TheVariants.{Pa
 use Rattle.pgp_line.specs.Line.{Length, Tag, Name, closing, followed, opening}
 use Rattle.pgp_line.specs.declared.style.Style.{Style}
 use Rattle.pgp_trace.specs.Listing.{LineOf, name_in, place_behind, last_line}
+pub use Rattle.pgp_trace.specs.Rows.{Rows, NoLines, OneLine}
 use Rattle.pgp_trace.specs.Sides as side
 use Rattle.pgp_trace.specs.Sides.{Side, Ends}
 use Rattle.pgp_trace.specs.declared.side.Phase.{Phase}
@@ -188,10 +189,8 @@ pub record ListsFrame (view : View) (mark : List ℕ) (sender : Sender) (place :
       (with_types types (with_numbers (summed told (asking_in view.style place (side_in sender here) frame line after reported) (name_in view.style place (side_in sender here) frame line after reported) numbers) (with_side sender here after)))
 
 -- These bytes, after so many others, are complete frames of this side, and each has its line, in order.
-pub data ListsFrames (view : View) (mark : List ℕ) (sender : Sender) (start : ℕ) (from : Known) : List ℕ → List ℕ → Known → Type 0 where
-  NoFrames : ListsFrames view mark sender start from [] [] from
-  OneFrame : {bytes lines : List ℕ} {here to : Known} (frame text : List ℕ) → ListsFrames view mark sender start from bytes lines here
-      → ListsFrame view mark sender (place_behind (start + length bytes)) here frame text to → ListsFrames view mark sender start from (bytes ++ frame) (lines ++ text) to
+abbrev pub ListsFrames : View → (mark : List ℕ) → Sender → (start : ℕ) → Known → (bytes lines : List ℕ) → Known → Type 0
+ListsFrames view mark sender start from = Rows (ListsFrame view mark sender) start from
 
 -- ---- chunk by chunk
 

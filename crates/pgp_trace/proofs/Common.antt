@@ -40,12 +40,12 @@ pub use Rattle.pgp_message.specs.Views.{view}
 pub use Rattle.pgp_program.specs.Taken.{AppendsFront}
 pub use Rattle.pgp_program.specs.Words.{greatest}
 pub use Rattle.pgp_trace.specs.Client.{client_line, grouped, ClientSays, client_copied, client_data, client_name, client_called, client_groups, refusal_parts, client_value, first_text, signed_part, pair_parts}
-pub use Rattle.pgp_trace.specs.Listing.{IsAnswerLine, IsListing, LineOf, Listed, Lines, NoLines, OneLine, answer_line, answer_name, last_line, name_in, place_behind, EndsSo, client_frame_name, client_front, IsNextLine, client_tag, front, unread_name, GoesOn, IsLineOf, IsServerLine, server_name, IsRunBehindAnswers, IsReady, WasListed, WritesListing, IsCutShort}
+pub use Rattle.pgp_trace.specs.Listing.{IsAnswerLine, IsListing, LineOf, Listed, Lines, Rows, NoLines, OneLine, answer_line, answer_name, last_line, name_in, place_behind, EndsSo, client_frame_name, client_front, IsNextLine, client_tag, front, unread_name, GoesOn, IsLineOf, IsServerLine, server_name, IsRunBehindAnswers, IsReady, WasListed, WritesListing, IsCutShort}
 pub use Rattle.pgp_trace.specs.Names.{name_of, state_of}
 pub use Rattle.pgp_trace.specs.Options.{AreOptions, AreNoOptions, BeginsWithNone, BeginsWithNoneOf, Chosen, IsOneOf, argument_of, chooses, chosen_by, has_word, nothing_chosen, word_of, chosen_of}
 pub use Rattle.pgp_trace.specs.PlainBody.{numbers_of, IsCallResult, IsCopyBoth}
 pub use Rattle.pgp_trace.specs.Replication.{Inner, IsInner, IsInt32, IsInt64, XLogData, Keepalive, StatusUpdate, Feedback, spelled, ShowsInner, inner_parts, data_parts, clock_parts}
-pub use Rattle.pgp_trace.specs.Secrets.{quiet, quietly, Alike, AlikeBeginnings, AlikeResults, AlikeFrames, AlikeStreams, NoFrames, OneAlike}
+pub use Rattle.pgp_trace.specs.Secrets.{quiet, quietly, Alike, AlikeBeginnings, AlikeResults, AlikeFrames, AlikeReceived, AlikeStreams, NoFrames, OneAlike}
 pub use Rattle.pgp_trace.specs.Shown.{Says, called, inner_data, Shows, closed, ending, refused, list_of, number_part, ShowsCounted, ShowsMarked, ShowsTexts, bare, column_parts, field_parts, name_or, text_part, type_part, value_part, says_nothing}
 pub use Rattle.pgp_trace.specs.Sides.{Side, Server, AreAnswers, Ends, answered, phase_behind, replicates_behind, server_at, Client, expected, is_reported, kinds_behind, is_password, IsRefusedPacket, replicates}
 pub use Rattle.pgp_trace.specs.Steps.{HasLine, ListsNext, phase_of, IsFrameOf, IsNamedLine, ReportsFault, ListsAll, ListsSome, Held, Holds, ListsPiece, side_of, view_of}

@@ -81,9 +81,6 @@ taken_frame old new r t = record {
   body = t.body;
 }
 
-pub no_longer : (old new : List ℕ) (r : Result Message Error) → TakesFrame old r new → length new ≤ length old
-no_longer old new r t = omega (arith, ap length t.whole, length-append (frame_bytes t.first) new)
-
 -- and what has its line there has it here
 pub line_here : (style : Style) (place : ℕ) (replicating now : Bool) (old new bytes line name : List ℕ) (r : Result Message Error) → TakesFrame old r new → bytes ≡ take (length old - length new) old → now ≡ replicates_behind replicating bytes
     → IsNamedLine style place replicating bytes line name → HasLine style place (server_at replicating) old new line (server_at now) name

@@ -9,6 +9,7 @@ pub mod Sides
 pub mod Client
 pub mod Hints
 pub mod View
+pub mod Rows
 pub mod Listing
 pub mod Plain
 pub mod ClientSecrets

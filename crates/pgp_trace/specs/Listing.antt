@@ -25,7 +25,7 @@ use Rattle.pgp_trace.specs.Hints.{hint_of}
 use Rattle.pgp_trace.specs.View.{View, shown}
 use Rattle.pgp_program.specs.Run.{Streams}
 use Rattle.pgp_program.specs.Taken.{AppendsFront}
-use Rattle.pgp_program.specs.Words.{greatest}
+pub use Rattle.pgp_trace.specs.Rows.{Rows, NoLines, OneLine, place_behind}
 
 -- what each line begins with: the place of the frame, how long it is, and its tag
 abbrev pub front : Style → ℕ → Frame → List ℕ
@@ -143,16 +143,9 @@ pub record Listed (view : View) (place : ℕ) (from : Side) (frame text : List �
   pub reported : LineOf view.style place from frame line to
   pub is : text ≡ shown view (name_in view.style place from frame line to reported) line
 
--- how many bytes stand before, as far as a number of the machine reports it
-abbrev pub place_behind : ℕ → ℕ
-place_behind n = min n greatest
-
--- These bytes, after so many others, are complete frames, and these lines stand in the listing: each frame has one, in
--- order, of which those stand there that are asked for.
-pub data Lines (view : View) (start : ℕ) (from : Side) : List ℕ → List ℕ → Side → Type 0 where
-  NoLines : Lines view start from [] [] from
-  OneLine : {bytes lines : List ℕ} {here to : Side} (frame text : List ℕ) → Lines view start from bytes lines here
-      → Listed view (place_behind (start + length bytes)) here frame text to → Lines view start from (bytes ++ frame) (lines ++ text) to
+-- These bytes, after so many others, are complete frames, each of which has its line; of the lines those stand in the listing that are asked for.
+abbrev pub Lines : View → (start : ℕ) → Side → (bytes lines : List ℕ) → Side → Type 0
+Lines view start from = Rows (Listed view) start from
 
 -- the last line, where so many bytes are left, as far as a number of the machine reports it
 abbrev pub last_by : Form → Bool → ℕ → List ℕ

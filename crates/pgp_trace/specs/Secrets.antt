@@ -37,6 +37,16 @@ pub record AlikeFrames (f g : Frame) : Type 0 where
   pub plain : (f.tag ≡ 86) ⊎ (f.tag ≡ 87) → f.payload ≡ g.payload
   pub bodies : (r : Result Message Error) → Body f.tag f.payload r → (s : Result Message Error) × Body g.tag g.payload s × AlikeResults r s
 
+-- bytes that are such frames
+pub record AlikeReceived (frame other : List ℕ) : Type 0 where
+  pub first : Frame
+  pub second : Frame
+  pub one : frame ≡ frame_bytes first
+  pub two : other ≡ frame_bytes second
+  pub fits : IsFrame first
+  pub holds : IsFrame second
+  pub alike : AlikeFrames first second
+
 -- bytes that are frames, each like that of the other bytes in its place
 pub data AlikeStreams : List ℕ → List ℕ → Type 0 where
   NoFrames : AlikeStreams [] []
