@@ -1,3 +1,4 @@
+pub mod Common
 pub mod Recording
 pub mod Marks
 pub mod Requests

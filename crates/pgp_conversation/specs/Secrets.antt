@@ -1,10 +1,9 @@
 -- Frames of a side that differ in their secrets alone.
 use Rattle.std.specs.Prelude.{◌≡◌, ℕ, Bool, List, get_or, Err}
-use Rattle.pgp_frontend_read.specs.declared.error.ClientError.{ClientError}
-use Rattle.pgp_frontend_read.specs.declared.message.PasswordKind.{PasswordKind}
+use Rattle.pgp_conversation.specs.Common.{ClientError, PasswordKind, Side}
 use Rattle.pgp_trace.specs.ClientSecrets.{AlikeClientFrames, ReadsAs}
 pub use Rattle.pgp_trace.specs.Secrets.{AlikeReceived}
-use Rattle.pgp_trace.specs.Sides.{Side, Server, Client}
+use Rattle.pgp_trace.specs.Sides.{Server, Client}
 
 -- a client's: of one that is rejected the tag and the first byte of its payload are the same, by which it may be a request
 pub record AlikeSent (opened : Bool) (kinds : List PasswordKind) (frame other : List ℕ) : Type 0 where

@@ -2,13 +2,7 @@
 use Rattle.std.specs.Prelude.{◌≡◌, ◌+◌, ℕ, List, [], ◌∷◌, ◌++◌, length, Option, Some, None}
 use Rattle.pgp_client.specs.Flow.{Belong}
 use Rattle.pgp_client.specs.InTurns.{BelongInTurns}
-use Rattle.pgp_client.specs.Telling.{Turn, Asks, Hears, asked_in, observed_in, reported_in}
-use Rattle.pgp_client.specs.declared.event.Event.{Event}
-use Rattle.pgp_client.specs.declared.kind.Kind.{Kind}
-use Rattle.pgp_trace.specs.Listing.{place_behind}
-use Rattle.pgp_trace.specs.View.{View}
-use Rattle.pgp_conversation.specs.declared.chunk.Sender.{Sender}
-use Rattle.pgp_conversation.specs.declared.role.Role.{Role}
+use Rattle.pgp_conversation.specs.Common.{Turn, Asks, Hears, asked_in, observed_in, reported_in, Event, Kind, place_behind, View, Sender, Role}
 use Rattle.pgp_conversation.specs.declared.role.Role.TheVariants as role
 use Rattle.pgp_conversation.specs.Conversation.{Known, ListsChunks, ListsFrames, NoChunkListed, NoLines, OneChunkListed, OneLine, Talk, first_time, half_in, now_at, side_in}
 use Rattle.pgp_conversation.specs.Marks.{mark, since}

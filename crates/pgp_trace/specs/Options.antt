@@ -1,8 +1,7 @@
 -- The options of a listing, as words spell them.
 use Rattle.std.specs.Prelude.{◌≡◌, ◌≢◌, ℕ, Bool, true, false, List, [], ◌∷◌, ◌++◌, ◌==◌, codes, map}
 use Rattle.std.specs.Borrow.{Bor}
-use Rattle.std.specs.List.{flat_map, list_any, slice_split, AllByRecursion}
-use Rattle.std.specs.Str.{bytes_eq}
+use Rattle.pgp_trace.specs.Common.{flat_map, list_any, slice_split, AllByRecursion, bytes_eq}
 use Rattle.pgp_frontend_read.specs.declared.message.PasswordKind.{PasswordKind}
 use Rattle.pgp_frontend_read.specs.declared.message.PasswordKind.TheVariants.{Password, Initial, Response}
 use Rattle.pgp_trace.specs.declared.marking.Marking.{Marking}

@@ -1,9 +1,6 @@
 -- Messages and streams that differ in their secrets alone.
 use Rattle.std.specs.Prelude.{◌≡◌, ◌⊎◌, ℕ, false, List, [], ◌++◌, length, None, Result, Ok, Err}
-use Rattle.pgp_message.specs.BackendMessage.{AuthenticationMd5Password, AuthenticationGssContinue, AuthenticationSaslContinue, AuthenticationSaslFinal, Message, BackendKeyData, Authentication, Body}
-use Rattle.pgp_base.specs.declared.error.Error.{Error}
-use Rattle.pgp_message.specs.Stream.{Frame, frame_bytes, IsFrame}
-use Rattle.pgp_line.specs.declared.style.Style.{Style}
+use Rattle.pgp_trace.specs.Common.{AuthenticationMd5Password, AuthenticationGssContinue, AuthenticationSaslContinue, AuthenticationSaslFinal, Message, BackendKeyData, Authentication, Body, Error, Frame, frame_bytes, IsFrame, Style}
 use Rattle.pgp_trace.specs.Sides.{AreAnswers, answered}
 use Rattle.pgp_trace.specs.View.{View}
 

@@ -1,15 +1,10 @@
 //! Laws of lines.
 
 ghost use Rattle.std.specs.Prelude.{◌≡◌, ◌⊎◌, ◌∷◌, ◌++◌, [], ℕ, List, true, false, Bool, ℤ, Ok, Result, None, Some, length};
-ghost use Rattle.pgp_base.specs.declared.error.Error.{Error};
-ghost use Rattle.pgp_message.specs.BackendMessage.{Message};
-ghost use Rattle.pgp_frontend.specs.ClientMessage.{CancelRequest, PasswordMessage, SaslInitialResponse, SaslResponse};
-ghost use Rattle.pgp_message.specs.Stream.{BackendRun};
+ghost use Rattle.pgp_trace.specs.Common.{Error, Message, CancelRequest, PasswordMessage, SaslInitialResponse, SaslResponse, BackendRun, Json, Style, Beginning, Encrypted, Messages};
 ghost use Rattle.pgp_frontend_read.specs.declared.message.PasswordKind.{PasswordKind};
 ghost use Rattle.pgp_trace.specs.Client.{client_line};
 ghost use Rattle.pgp_trace.specs.ClientSecrets.{AlikeClientStreams};
-ghost use Rattle.pgp_line.specs.declared.style.Form.TheVariants.{Json};
-ghost use Rattle.pgp_line.specs.declared.style.Style.{Style};
 ghost use Rattle.pgp_trace.specs.View.{View, color_of, painted, plain, shown, uncolored};
 ghost use Rattle.pgp_trace.specs.Listing.{IsListing, IsRunBehindAnswers, LineOf, Lines};
 ghost use Rattle.pgp_line.specs.Quoting.{IsPrinted};
@@ -18,7 +13,6 @@ ghost use Rattle.pgp_trace.specs.Replication.{Inner, IsInner};
 ghost use Rattle.pgp_trace.specs.Secrets.{Alike, AlikeBeginnings, AlikeStreams, quiet, quietly};
 ghost use Rattle.pgp_trace.specs.Shown.{Shows};
 ghost use Rattle.pgp_trace.specs.Sides.{Client, Server, Side, answered};
-ghost use Rattle.pgp_trace.specs.declared.side.Phase.TheVariants.{Beginning, Encrypted, Messages};
 
 /// A stream has one listing.
 #[tactic(auto, using(crate::proofs::OneListing::one_listing))]
