@@ -147,18 +147,6 @@ BeginsWithNone words = (choice : Choice) (more : List (List ℕ)) → words ≢ 
 abbrev pub BeginsWithNoneOf : List (List ℕ) → List (List ℕ) → Type 0
 BeginsWithNoneOf has words = (choice : Choice) (more : List (List ℕ)) → IsOneOf has choice → words ≢ spelled choice ++ more
 
--- the word doesn't say when
-abbrev pub SaysNoWhen : List ℕ → Type 0
-SaysNoWhen word = (when : When) → word ≢ when_word when
-
--- the word names no kind
-abbrev pub NamesNoKind : List ℕ → Type 0
-NamesNoKind word = (kind : PasswordKind) → word ≢ kind_word kind
-
--- the word says nothing of times
-abbrev pub SaysNoClock : List ℕ → Type 0
-SaysNoClock word = (clock : Clock) → word ≢ clock_word clock
-
 -- how a listing looks for which this is chosen
 abbrev pub view_by : Chosen → View
 view_by o = record { style = style_of o.json o.full o.secrets; only = o.only; colored = o.colored }
