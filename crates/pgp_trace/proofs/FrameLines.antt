@@ -81,6 +81,16 @@ taken_frame old new r t = record {
   body = t.body;
 }
 
+-- the frame that was taken, where what stands after it is known by another name
+pub record Taken (old rest frame : List ℕ) (r : Result Message Error) : Type 0 where
+  pub takes : TakesFrame old r rest
+  pub framed : IsFrameOf frame r
+
+pub taken_here : (from old new rest frame : List ℕ) (r : Result Message Error) → from ≡ old → TakesFrame from r new → rest ≡ new → frame ≡ take (length old - length rest) old → Taken old rest frame r
+taken_here from old new rest frame r e t f g =
+    let here = subst (λ l. TakesFrame old r l) (sym f) (subst (λ l. TakesFrame l r new) e t) in
+    record { takes = here; framed = subst (λ l. IsFrameOf l r) (sym g) (taken_frame old rest r here) }
+
 -- and what has its line there has it here
 pub line_here : (style : Style) (place : ℕ) (replicating now : Bool) (old new bytes line name : List ℕ) (r : Result Message Error) → TakesFrame old r new → bytes ≡ take (length old - length new) old → now ≡ replicates_behind replicating bytes
     → IsNamedLine style place replicating bytes line name → HasLine style place (server_at replicating) old new line (server_at now) name
