@@ -15,7 +15,6 @@ ghost use Rattle.pgp_trace.specs.Shown.{Shows};
 ghost use Rattle.pgp_trace.specs.Sides.{Client, Server, Side, answered};
 
 /// A stream has one listing.
-#[tactic(auto, using(crate::proofs::OneListing::one_listing))]
 pub fn one_listing()
     ensures { (view : View) (from : Side) (bytes output other : List ℕ) → IsListing view from bytes output → IsListing view from bytes other → output ≡ other }
 {}
@@ -47,7 +46,6 @@ pub fn secrets_are_hidden()
 
 /// A server's streams that differ in their secrets alone have the same lines, unless secrets are asked for: from the first byte of a connection on, and
 /// from any message on.
-#[tactic(auto, using(crate::proofs::Streams::beginnings_hidden, crate::proofs::Streams::streams_hidden))]
 pub fn streams_hide_their_secrets()
     ensures beginning { (view : View) (start : ℕ) (a b lines : List ℕ) (to : Side) → AlikeBeginnings a b →
         Lines (quietly view) start (Server Beginning) a lines to → Lines (quietly view) start (Server Beginning) b lines to }
@@ -57,7 +55,6 @@ pub fn streams_hide_their_secrets()
 
 /// A listing of what a server sent is that of the stream as it is read elsewhere: with these results of its frames, this rest, and this end. From the
 /// first byte of a connection on, answers of one byte come before; and where the last of them agreed to encrypt, no frame comes after.
-#[tactic(auto, using(crate::proofs::Runs::run_behind, crate::proofs::Runs::run_of))]
 pub fn listings_are_runs()
     ensures beginning { (view : View) (bytes output : List ℕ) (l : IsListing view (Server Beginning) bytes output) →
         (l.to ≡ Server Encrypted) ⊎ IsRunBehindAnswers bytes l.stopped l.rest }
@@ -84,7 +81,6 @@ pub fn no_replication()
 {}
 
 /// A CopyData has one message of replication inside, or none.
-#[tactic(auto, using(crate::proofs::Inners::one_inner))]
 pub fn one_inner_message()
     ensures { (standby : Bool) (bytes : List ℕ) (m n : Inner) → IsInner standby bytes m → IsInner standby bytes n → m ≡ n }
 {}
