@@ -21,7 +21,6 @@ ghost use Rattle.pgp_conversation.specs.Types.{Types};
 use pgp_value_text::laws::one_text;
 
 /// A recording has one listing, and one end.
-#[tactic(auto, using(crate::proofs::OneSession::one_listing))]
 pub fn one_listing()
     ensures { (view : View) (marking : Marking) (bytes output other : List ℕ) (end ending : End) → IsListing view marking bytes end output → IsListing view marking bytes ending other → (end ≡ ending) × (output ≡ other) }
 {
@@ -38,7 +37,6 @@ pub fn each_side_is_listed()
 /// Where requests are numbered, and no message was found without a place, and no error ended the session: a server may send what was heard to the requests
 /// under their numbers, in the order in which all of it was listed, and each message belongs to the request whose number its mark tells, and to no other. So it
 /// is of the first chunks of a recording too, whatever comes after them: their listing and its turns stand at the front of the whole's.
-#[tactic(auto, using(crate::proofs::Turns::turns_are_true))]
 pub fn numbers_say_where_messages_belong()
     ensures { (view : View) (marking : Marking) (chunks : List Chunk) (lines : List ℕ) (talk : Talk) (numbers : Numbers) (dialogue : Dialogue) (listed : ListsChunks view (begins marking) chunks lines talk)
         → talk.known.numbers ≡ Some numbers → numbers.dialogue ≡ Some dialogue → dialogue.stage ≢ Over → AreTrue (turns_in view (begins marking) chunks lines talk listed) }
@@ -46,7 +44,6 @@ pub fn numbers_say_where_messages_belong()
 
 /// A mark has characters alone that a terminal prints, whatever it says of requests, and so has a line with its mark, as text or as an object, with values
 /// as texts or without, before its newline.
-#[tactic(auto, using(crate::proofs::PrintedObjects::marked_printable, crate::proofs::PrintedObjects::typed_printable, crate::proofs::PrintedMarks::mark_printable, crate::proofs::PrintedMarks::last_printable))]
 pub fn marked_lines_are_printable()
     ensures lines { (style : Style) (place : ℕ) (from to : Side) (frame line : List ℕ) (form : Form) (who : Sender) (start micros : ℕ) (told : Told) → LineOf style place from frame line to →
         (text : List ℕ) × (marked form (mark form who (since start micros) ++ word form told) line ≡ text ++ 10 ∷ []) × IsPrinted text }
