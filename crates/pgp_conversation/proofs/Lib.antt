@@ -14,6 +14,7 @@ pub mod PrintedObjects
 pub mod PrintedTables
 pub mod Summaries
 pub mod Secrets
+pub mod AlikeRecordings
 pub mod Endings
 pub mod RowLemmas
 pub mod Readings

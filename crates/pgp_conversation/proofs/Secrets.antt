@@ -88,7 +88,7 @@ hidden style place (Server Replicating) frame other line to a is = replicating_h
 hidden style place (Server Encrypted) frame other line to a is = absurd is
 hidden style place (Client opened kinds replicating) frame other line to a is = client_hidden style place opened kinds replicating frame other line to a is
 
-long_alike : (from : Side) (frame other : List ℕ) → AlikeIn from frame other → length frame ≡ length other
+pub long_alike : (from : Side) (frame other : List ℕ) → AlikeIn from frame other → length frame ≡ length other
 long_alike (Server phase) frame other a = ap length a.one ∙ a.alike.long ∙ sym (ap length a.two)
 long_alike (Client opened kinds replicating) frame other a = a.alike.long
 

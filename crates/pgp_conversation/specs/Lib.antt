@@ -13,6 +13,7 @@ pub mod Conversation
 pub mod Steps
 pub mod Session
 pub mod Secrets
+pub mod AlikeRecordings
 pub mod Order
 pub mod Turns
 pub mod Pieces

@@ -1,14 +1,15 @@
 //! Laws of listings.
 
-ghost use Rattle.std.specs.Prelude.{◌≡◌, ◌≢◌, ◌∷◌, ◌++◌, [], ℕ, List, Option, Some, true};
+ghost use Rattle.std.specs.Prelude.{◌≡◌, ◌≢◌, ◌∷◌, ◌++◌, [], ℕ, Bool, List, Option, Some, true};
 ghost use Rattle.pgp_client.specs.Talk.{Talk as Dialogue};
 ghost use Rattle.pgp_client.specs.declared.stage.Stage.TheVariants.{Over};
 ghost use Rattle.pgp_conversation.specs.Common.{IsPrinted, Form, Columns, Style, Tally, State, LineOf, Side, View, Sender, End, Marking, Told};
 ghost use Rattle.pgp_trace.specs.Secrets.{quietly};
+ghost use Rattle.pgp_conversation.specs.AlikeRecordings.{AlikeRecordings};
 ghost use Rattle.pgp_conversation.specs.Conversation.{Known, ListsChunks, ListsFrame, Talk, begins, side_in};
 ghost use Rattle.pgp_conversation.specs.Marks.{last_mark, mark, marked, since, word};
 ghost use Rattle.pgp_conversation.specs.Order.{IsSplit};
-ghost use Rattle.pgp_conversation.specs.Recording.{Chunk};
+ghost use Rattle.pgp_conversation.specs.Recording.{Chunk, EndsBy};
 ghost use Rattle.pgp_conversation.specs.Requests.{Numbers, summary_in};
 ghost use Rattle.pgp_conversation.specs.Secrets.{AlikeIn};
 ghost use Rattle.pgp_conversation.specs.Session.{IsListing};
@@ -73,4 +74,11 @@ pub fn table_lines_are_printable()
 pub fn secrets_are_hidden()
     ensures { (view : View) (mark : List ℕ) (who : Sender) (place : ℕ) (here to : Known) (frame other text : List ℕ) → AlikeIn (side_in who here) frame other
         → ListsFrame (quietly view) mark who place here frame text to → ListsFrame (quietly view) mark who place here other text to }
+{}
+
+/// Recordings that differ in their secrets alone have the same listing, unless secrets are asked for: cut into frames alike, each of which is like that of
+/// the other recording in its place.
+pub fn recordings_hide_their_secrets()
+    ensures { (view : View) (marking : Marking) (begun : Bool) (rest bytes another : List ℕ) (end : End) → EndsBy begun rest end → AlikeRecordings (quietly view) marking begun rest bytes another →
+        (output : List ℕ) × IsListing (quietly view) marking bytes end output × IsListing (quietly view) marking another end output }
 {}
