@@ -1,5 +1,5 @@
 -- The lines of a side, a frame at a time.
-use Rattle.pgp_conversation.proofs.Common.{◌≡◌, ℕ, ◌+◌, ◌-◌, ◌<◌, ◌≤◌, Bool, true, false, List, [], ◌++◌, length, take, min, Option, refl, sym, ap, subst, ◌∙◌, arith, length-append, append_assoc, append-nil, take-append_seam, PasswordKind, greatest, place_behind, name_in, Side, Ends, HasLine, View, Sender, Client, Server, Noted, Asks, Requests, Answers, Nothing, Told, Known, ListsFrame, ListsFrames, NoLines, OneLine, as_standby, note, noted_by, noted_in, other, replicates_in, side_in, text_of, told_by, with_kind, with_numbers, with_side, with_types, asking_from, asking_in, summed, word, Numbers, role_by, told_in, Learns, said_in, Reads, Types, ListsOneFrame}
+use Rattle.pgp_conversation.proofs.Common.{◌≡◌, ℕ, ◌+◌, ◌-◌, ◌<◌, ◌≤◌, Bool, true, false, List, [], ◌++◌, length, take, min, Option, refl, sym, ap, subst, ◌∙◌, arith, length-append, append_assoc, append-nil, take-append_seam, PasswordKind, greatest, place_behind, name_in, Side, Ends, HasLine, View, Sender, Client, Server, Noted, Asks, Requests, Answers, Nothing, Told, Known, ListsFrame, ListsFrames, NoLines, OneLine, as_standby, note, noted_by, noted_in, other, replicates_in, side_in, text_of, told_by, with_kind, with_numbers, with_side, with_types, asking_from, asking_in, summed, word, Numbers, role_by, told_in, Learns, said_in, Reads, Types, ListsOneFrame, now_at}
 use Rattle.pgp_trace.specs.Sides.{Server as ServerSide, Client as ClientSide}
 use Rattle.pgp_trace.proofs.Rows.{RowsTo, one_listed}
 use Rattle.pgp_trace.proofs.Shorter.{frame_has}
@@ -96,3 +96,8 @@ other_ends view mark who start from [] [] _ stopped rest NoLines e = e
 other_ends view mark who start from _ _ to stopped rest (OneLine {bytes = bytes} {lines = lines} {here = here} frame text before one) e =
     subst (λ k. Ends (side_in (other who) k) stopped rest) (sym one.behind)
     (other_note who here one.after (summed one.told (asking_in view.style (place_behind (start + length bytes)) (side_in who here) frame one.line one.after one.reported) (name_in view.style (place_behind (start + length bytes)) (side_in who here) frame one.line one.after one.reported) one.numbers) one.types (noted_in view.style (place_behind (start + length bytes)) (side_in who here) frame one.line one.after one.reported) stopped rest (other_ends view mark who start from bytes lines here stopped rest before e))
+
+-- a time changes no side
+pub timed_side : (who : Sender) (micros : ℕ) (known : Known) → side_in who (now_at micros known) ≡ side_in who known
+timed_side Client micros known = refl
+timed_side Server micros known = refl
