@@ -1,9 +1,7 @@
 -- A client's streams that differ in their secrets alone have the same lines.
-use Rattle.pgp_trace.proofs.Common.{◌≡◌, ℕ, ◌+◌, ◌<◌, Bool, true, false, List, [], ◌∷◌, ◌++◌, length, drop, get_or, Option, Some, None, Result, Ok, Err, inl, inr, refl, sym, ap, subst, ◌∙◌, append_assoc, arith, ◌==◌, if◌then◌else◌, concat, append-nil, uint32, ClientMessage, CancelRequest, PasswordMessage, SaslInitialResponse, SaslResponse, framed, payload, tag_of, step_of, Unread, Step, ClientError, step_one, Style, ClientSays, client_copied, client_data, client_line, client_name, Length, Tag, followed, opening, EndsSo, IsNextLine, Listed, Lines, Rows, client_frame_name, client_front, client_tag, place_behind, View, shown, quiet, quietly, Side, Server, Client, expected, is_password, is_reported, kinds_behind}
-use Rattle.std.proofs.lemmas.List.{length-append}
+use Rattle.pgp_trace.proofs.Common.{◌≡◌, ℕ, ◌<◌, Bool, true, false, List, [], ◌∷◌, ◌++◌, length, drop, Option, Some, None, Result, Ok, Err, refl, sym, ap, subst, ◌∙◌, arith, ◌==◌, if◌then◌else◌, ClientMessage, SaslResponse, step_of, Unread, Step, ClientError, step_one, Style, ClientSays, client_copied, client_data, client_line, client_name, Length, Tag, followed, opening, EndsSo, IsNextLine, Listed, Lines, Rows, client_frame_name, client_front, client_tag, View, shown, quiet, quietly, Side, Client, expected, is_password, is_reported, kinds_behind}
 use Rattle.pgp_frontend_read.specs.declared.message.PasswordKind as code
 use Rattle.pgp_frontend_read.proofs.Pieces.{took}
-use Rattle.pgp_frontend_read.proofs.Fronts.{behind_length}
 use Rattle.pgp_frontend_read.proofs.Handing.{refused_behind}
 use Rattle.pgp_trace.specs.ClientSecrets.{AlikeMessages, AlikeAnswers, AlikeClientFrames, AlikeClientStreams, NoClientFrames, OneClientAlike, ReadsAs}
 use Rattle.pgp_trace.proofs.ClientLines.{step_long}

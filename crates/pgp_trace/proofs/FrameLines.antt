@@ -1,5 +1,5 @@
 -- The line of one frame.
-use Rattle.pgp_trace.proofs.Common.{◌≡◌, ℕ, Bool, true, false, ◌-◌, ◌≤◌, List, [], ◌∷◌, ◌++◌, length, take, drop, Result, Ok, Err, refl, sym, ap, subst, ◌∙◌, arith, length-append, slice_index, append-nil, uint32, Error, Message, payload_of, Frame, frame_bytes, TakesFrame, Style, Length, Tag, closing, followed, opening, Says, called, inner_data, ShowsUnread, front, unread_name, name_of, replicates_behind, server_at, IsFrameOf, IsNamedLine, HasLine, ReportsFault}
+use Rattle.pgp_trace.proofs.Common.{◌≡◌, ℕ, Bool, true, false, ◌-◌, ◌≤◌, List, [], ◌∷◌, ◌++◌, length, take, drop, Result, Ok, Err, refl, sym, ap, subst, ◌∙◌, arith, slice_index, append-nil, uint32, Error, Message, payload_of, Frame, frame_bytes, TakesFrame, Style, Length, Tag, closing, followed, opening, Says, called, inner_data, ShowsUnread, front, unread_name, name_of, replicates_behind, server_at, IsFrameOf, IsNamedLine, HasLine, ReportsFault}
 use Rattle.pgp_trace.proofs.Parts.{front_taken}
 
 -- what a line begins with, by the bytes of the frame

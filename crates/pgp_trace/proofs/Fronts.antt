@@ -1,5 +1,5 @@
 -- What a writer took of some bytes.
-use Rattle.pgp_trace.proofs.Common.{ℕ, List, [], ◌++◌, length, take, Option, Some, None, refl, sym, ap, subst, ◌∙◌, arith, length-append, Appends, Keeps, Appends-nil, Appends-trans, append-nil, take_all, take-append-add, AppendsFront}
+use Rattle.pgp_trace.proofs.Common.{ℕ, List, [], ◌++◌, length, take, Option, Some, None, refl, sym, ap, ◌∙◌, arith, length-append, Appends, Keeps, Appends-nil, Appends-trans, append-nil, take_all, take-append-add, AppendsFront}
 
 -- nothing
 pub none_taken : (old : Option (List ℕ)) (bytes : List ℕ) → AppendsFront old old bytes

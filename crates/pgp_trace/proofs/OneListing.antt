@@ -1,5 +1,5 @@
 -- A stream has one listing.
-use Rattle.pgp_trace.proofs.Common.{◌≡◌, ℕ, ◌+◌, Bool, true, false, List, [], ◌∷◌, ◌++◌, length, get_or, drop, ◌<◌, Option, Some, None, Result, Ok, Err, refl, sym, ap, subst, ◌∙◌, inl, inr, arith, append_assoc, length-append, append-nil, codes, IsUtf8, Error, text_at, Body, AuthenticationOk, AuthenticationKerberosV5, AuthenticationCleartextPassword, AuthenticationMd5Password, AuthenticationScmCredential, AuthenticationGss, AuthenticationGssContinue, AuthenticationSspi, AuthenticationSasl, AuthenticationSaslContinue, AuthenticationSaslFinal, Message, ParseComplete, BindComplete, CloseComplete, NotificationResponse, CommandComplete, DataRow, ErrorResponse, CopyInResponse, CopyOutResponse, EmptyQueryResponse, BackendKeyData, NegotiateProtocolVersion, NoticeResponse, Authentication, ParameterStatus, RowDescription, ReadyForQuery, CopyDone, CopyData, NoData, PortalSuspended, ParameterDescription, payload_of, TextSpelled, TextRefused, FormatSpelled, FormatRefused, TypeSpelled, TypeRefused, RangeSpelled, RangeRefused, FieldSpelled, FieldRefused, ErrorFieldSpelled, ErrorFieldRefused, Frame, frame_bytes, IsFrame, IsEnding, front_is_one, no_ending, runs_one, frames_none, ClientMessage, step_of, Unread, IsPartial, Refuses, Step, ClientError, InvalidLength, step_one, partial_waits, step_fault, Style, Part, Count, Key, ListEnds, Name, Number, ObjectEnds, Text, closing, followed, Phase, Beginning, Messages, Replicating, Encrypted, ClientSays, client_data, ShowsInner, inner_parts, Says, Shows, ShowsCounted, ShowsMarked, ShowsTexts, called, closed, inner_data, list_of, ShowsCopyBoth, ShowsResult, ShowsUnread, CallResult, CopyBoth, Rejected, copy_parts, result_parts, Side, Server, Client, Ends, IsRefusedPacket, answered, expected, is_reported, kinds_behind, phase_behind, replicates_behind, server_at, EndsSo, GoesOn, IsAnswerLine, IsListing, IsLineOf, IsNextLine, IsServerLine, LineOf, Listed, Lines, NoLines, OneLine, answer_line, answer_name, client_frame_name, client_front, front, last_line, name_in, place_behind, server_name, View, shown}
+use Rattle.pgp_trace.proofs.Common.{◌≡◌, ℕ, Bool, true, false, List, [], ◌∷◌, ◌++◌, length, get_or, drop, ◌<◌, Option, Some, None, Result, Ok, Err, refl, sym, ap, subst, ◌∙◌, inl, inr, arith, length-append, codes, IsUtf8, Error, text_at, Body, AuthenticationSasl, Message, NotificationResponse, CommandComplete, DataRow, ErrorResponse, CopyInResponse, CopyOutResponse, NegotiateProtocolVersion, NoticeResponse, Authentication, ParameterStatus, RowDescription, ParameterDescription, payload_of, TextSpelled, TextRefused, FormatSpelled, FormatRefused, TypeSpelled, TypeRefused, RangeSpelled, RangeRefused, FieldSpelled, FieldRefused, ErrorFieldSpelled, ErrorFieldRefused, Frame, frame_bytes, IsFrame, IsEnding, front_is_one, no_ending, runs_one, frames_none, ClientMessage, step_of, Unread, IsPartial, Refuses, Step, ClientError, InvalidLength, step_one, partial_waits, step_fault, Style, Part, Count, Key, ListEnds, Name, Number, ObjectEnds, Text, closing, followed, Phase, Beginning, Messages, Replicating, Encrypted, ClientSays, client_data, ShowsInner, inner_parts, Says, Shows, ShowsCounted, ShowsMarked, ShowsTexts, called, closed, inner_data, list_of, ShowsCopyBoth, ShowsResult, ShowsUnread, CallResult, CopyBoth, Rejected, copy_parts, result_parts, Side, Server, Client, Ends, IsRefusedPacket, answered, expected, is_reported, kinds_behind, phase_behind, replicates_behind, server_at, EndsSo, GoesOn, IsAnswerLine, IsListing, IsLineOf, IsNextLine, IsServerLine, LineOf, Listed, answer_line, answer_name, client_frame_name, client_front, front, last_line, name_in, place_behind, server_name, View, shown}
 use Rattle.pgp_base.specs.OneList.{HasOneCountedList, HasOneMarkedList}
 use Rattle.pgp_base.proofs.OneLists.{one_counted_list, one_marked_list}
 use Rattle.pgp_message.specs.ItemReading.{format_at, type_at, range_at, field_at, error_field_at}

@@ -1,9 +1,9 @@
 -- Options, one after another.
-use Rattle.pgp_trace.proofs.Common.{◌≡◌, ◌≢◌, ℕ, suc, ◌+◌, ◌-◌, ◌<◌, ◌≤◌, Bool, true, List, [], ◌∷◌, ◌++◌, length, length-append, get_or, drop, map, refl, sym, ap, subst, ◌∙◌, append_assoc, arith, codes, if◌then◌else◌, flat_map, AllByRecursion, append-nil, drop-drop, length-drop, length-map, drop-append_seam, flat_map-cons, AreOptions, AreNoOptions, BeginsWithNone, BeginsWithNoneOf, Chosen, IsOneOf, argument_of, chooses, chosen_by, has_word, nothing_chosen, word_of}
+use Rattle.pgp_trace.proofs.Common.{◌≡◌, ◌≢◌, ℕ, suc, ◌+◌, ◌-◌, ◌<◌, ◌≤◌, Bool, List, [], ◌∷◌, ◌++◌, length, length-append, get_or, drop, map, refl, sym, ap, subst, ◌∙◌, append_assoc, arith, codes, if◌then◌else◌, flat_map, AllByRecursion, append-nil, drop-drop, length-drop, length-map, drop-append_seam, flat_map-cons, AreOptions, AreNoOptions, BeginsWithNoneOf, Chosen, IsOneOf, argument_of, chooses, chosen_by, has_word, nothing_chosen, word_of}
 use Rattle.std.proofs.lemmas.Grind.{flat_map-append}
 use Rattle.pgp_trace.specs.Options.{spelled}
 use Rattle.pgp_trace.specs.declared.options.Choice.{Choice}
-use Rattle.pgp_trace.specs.declared.options.Choice.TheVariants.{AsJson, Full, Secrets, Resume, Replication, Only, Color, Kind, Time, Requests, Summary, Raw}
+use Rattle.pgp_trace.specs.declared.options.Choice.TheVariants.{Only}
 
 -- Some options came, and these words stand after them.
 pub record Received (terminal : Bool) (has all rest : List (List ℕ)) (chosen : Chosen) : Type 0 where

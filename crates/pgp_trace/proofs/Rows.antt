@@ -1,5 +1,5 @@
 -- Frames with their texts: the first at first, and in how many ways.
-use Rattle.pgp_trace.proofs.Common.{◌≡◌, ℕ, ◌+◌, ◌-◌, ◌<◌, Bool, List, [], ◌∷◌, ◌++◌, length, refl, sym, ap, subst, ◌∙◌, arith, append_assoc, length-append, append-nil, min, greatest, Rows, NoLines, OneLine, place_behind}
+use Rattle.pgp_trace.proofs.Common.{◌≡◌, ℕ, ◌+◌, ◌-◌, ◌<◌, Bool, List, [], ◌++◌, length, refl, sym, ap, subst, ◌∙◌, arith, append_assoc, length-append, append-nil, min, greatest, Rows, NoLines, OneLine, place_behind}
 use Rattle.pgp_trace.proofs.Parts.{saturates}
 
 -- the first at first

@@ -1,5 +1,5 @@
 -- Streams that differ in their secrets alone have the same lines.
-use Rattle.pgp_trace.proofs.Common.{◌≡◌, ◌⊎◌, inl, inr, Bool, false, ℕ, ◌+◌, ◌<◌, List, [], ◌∷◌, ◌++◌, length, None, Result, Ok, Err, refl, sym, ap, subst, ◌∙◌, append_assoc, arith, codes, flat_map, AllByRecursion, append-nil, flat_map-cons, uint32, Error, Message, Frame, frame_bytes, IsFrame, front_is_one, each_push, pushed, Style, Length, Name, Part, Tag, followed, opening, ShowsCopyBoth, ShowsResult, ShowsUnread, CallResult, CopyBoth, Rejected, Side, Server, AreAnswers, answered, phase_behind, replicates, replicates_behind, server_at, Beginning, Messages, GoesOn, IsLineOf, Listed, Lines, Rows, front, place_behind, server_name, unread_name, View, shown, AlikeBeginnings, AlikeResults, AlikeFrames, AlikeReceived, AlikeStreams, NoFrames, OneAlike, quiet, quietly, Says, called, inner_data}
+use Rattle.pgp_trace.proofs.Common.{◌≡◌, ◌⊎◌, inl, inr, Bool, false, ℕ, ◌+◌, ◌<◌, List, [], ◌∷◌, ◌++◌, length, None, Result, Ok, Err, refl, sym, ap, subst, ◌∙◌, arith, codes, Error, Message, Frame, frame_bytes, front_is_one, Style, Length, Name, Part, Tag, followed, opening, ShowsCopyBoth, ShowsResult, ShowsUnread, CallResult, CopyBoth, Rejected, Side, Server, AreAnswers, answered, phase_behind, replicates, replicates_behind, server_at, Beginning, Messages, GoesOn, IsLineOf, Listed, Lines, Rows, front, server_name, unread_name, View, shown, AlikeBeginnings, AlikeResults, AlikeFrames, AlikeReceived, AlikeStreams, NoFrames, OneAlike, quiet, quietly, Says, called, inner_data}
 use Rattle.std.proofs.lemmas.List.{length-append, nil_from_length}
 use Rattle.pgp_trace.proofs.Beginnings.{HasCome, StillAnswers, NowEncrypted, NowMessages, has_come, none_some, one_front, rejoin}
 use Rattle.pgp_trace.proofs.FrameLines.{frame_long}
