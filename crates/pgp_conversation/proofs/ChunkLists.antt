@@ -1,8 +1,9 @@
 -- The lines of a chunk.
-use Rattle.pgp_conversation.proofs.Common.{◌≡◌, ℕ, ◌+◌, ◌≤◌, Bool, true, false, List, [], ◌++◌, length, take, drop, min, Option, Some, Result, Ok, Err, refl, sym, ap, subst, ◌∙◌, arith, length-append, OnOk, append-nil, length-take, greatest, place_behind, Ends, View, stays_ended, Sender, Client, Server, Half, Known, Talk, ListsFrame, ListsFrames, NoFrames, OneFrame, first_time, now_at, side_in, with_numbers, mark, since, Numbers, at_time, Chunk, ListsBytes, ListsChunkTo, HeldHalf, HeldTalk, Holds, Keeps, ListsAllFrames}
+use Rattle.pgp_conversation.proofs.Common.{◌≡◌, ℕ, ◌+◌, ◌≤◌, Bool, true, false, List, [], ◌++◌, length, take, drop, min, Option, Some, Result, Ok, Err, refl, sym, ap, subst, ◌∙◌, arith, length-append, OnOk, append-nil, length-take, greatest, place_behind, Ends, View, stays_ended, Sender, Client, Server, Half, Known, Talk, ListsFrame, ListsFrames, NoLines, OneLine, first_time, now_at, side_in, with_numbers, mark, since, Numbers, at_time, Chunk, ListsBytes, ListsChunkTo, HeldHalf, HeldTalk, Holds, Keeps, ListsAllFrames, half_in, other, ListsChunk}
 use Rattle.std.proofs.Math.Nat.{min-eq_left}
 use Rattle.pgp_trace.proofs.Parts.{saturates}
-use Rattle.pgp_conversation.proofs.FrameLists.{other_ends}
+use Rattle.pgp_trace.proofs.Rows.{counted_on}
+use Rattle.pgp_conversation.proofs.FrameLists.{other_ends, timed_side}
 
 not_both : (b : Bool) → b ≡ true → b ≡ false → ⊥
 not_both true e f = absurd cc
@@ -19,7 +20,7 @@ counted view mark who known held count before piece lines stands counts holds =
       lines = [];
       half = record { passed = before.passed; rest = before.rest ++ piece; stopped = before.stopped };
       whole = refl;
-      each = NoFrames;
+      each = NoLines;
       holds = record {
         ending = subst (λ s. Ends (side_in who known) s (before.rest ++ piece)) (sym halted) (stays_ended (side_in who known) before.rest piece (subst (λ s. Ends (side_in who known) s before.rest) halted holds.ending));
         stopped = holds.stopped;
@@ -30,12 +31,6 @@ counted view mark who known held count before piece lines stands counts holds =
       passed = omega arith;
       text = sym (append-nil lines);
     }
-
--- places are counted as far as a number of the machine reports them
-counted_on : (view : View) (mark : List ℕ) (who : Sender) (start : ℕ) (from : Known) (bytes lines : List ℕ) (to : Known) → ListsFrames view mark who (place_behind start) from bytes lines to → ListsFrames view mark who start from bytes lines to
-counted_on view mark who start from [] [] _ NoFrames = NoFrames
-counted_on view mark who start from _ _ to (OneFrame {bytes = bytes} {lines = lines} {here = here} frame text before one) =
-    OneFrame frame text (counted_on view mark who start from bytes lines here before) (subst (λ p. ListsFrame view mark who p here frame text to) (saturates start (length bytes) greatest) one)
 
 -- the frames that are whole with it were listed
 pub listed : (view : View) (mark : List ℕ) (who : Sender) (from to : Known) (held : HeldHalf) (n moved count : ℕ) (before : Half) (piece items left old new : List ℕ) (stopped : Bool)
@@ -50,7 +45,7 @@ listed view mark who from to held n moved count before piece items left old new 
       lines = all.lines;
       half = record { passed = before.passed + length (take n items); rest = left; stopped = stopped };
       whole = same ∙ all.whole ∙ ap (λ l. take n items ++ l) (sym cut);
-      each = counted_on view mark who before.passed from (take n items) all.lines to (subst (λ p. ListsFrames view mark who p from (take n items) all.lines to) holds.place all.each);
+      each = counted_on (ListsFrame view mark who) before.passed from to (take n items) all.lines (subst (λ p. ListsFrames view mark who p from (take n items) all.lines to) holds.place all.each);
       holds = record {
         ending = subst (Ends (side_in who to) stopped) (sym cut) all.ending;
         stopped = refl;
@@ -62,91 +57,74 @@ listed view mark who from to held n moved count before piece items left old new 
       text = all.text;
     }
 
--- the lines of a chunk that the client sent
-pub of_client : (view : View) (before : Talk) (held : HeldTalk) (micros : ℕ) (bytes : List ℕ) (to : Known) (half : HeldHalf) (old new : List ℕ) → Keeps held before
-    → ListsBytes view (mark view.style.form Client (since (first_time held.start micros) micros)) Client (now_at micros held.known) (before.client.rest ++ bytes) before.client.passed to half old new
-    → ListsChunkTo view before (record { sender = Client; micros = micros; bytes = bytes }) (record { known = to; client = half; server = held.server; start = Some (first_time held.start micros) }) old new
-of_client view before held micros bytes to half old new keeps lists =
-    let marks = λ (start : Option ℕ). mark view.style.form Client (since (first_time start micros) micros) in
-    let each : ListsFrames view (marks before.start) Client before.client.passed (now_at micros before.known) lists.front lists.lines to =
-    subst (λ k. ListsFrames view (marks before.start) Client before.client.passed (now_at micros k) lists.front lists.lines to) keeps.known (subst (λ s. ListsFrames view (marks s) Client before.client.passed (now_at micros held.known) lists.front lists.lines to) keeps.start lists.each) in
-    let start = ap (λ s. Some (first_time s micros)) keeps.start in
+-- ---- a chunk of a side
+
+abbrev held_in : Sender → HeldTalk → HeldHalf
+held_in Client held = held.client
+held_in Server held = held.server
+
+abbrev held_with : Sender → HeldTalk → Known → HeldHalf → ℕ → HeldTalk
+held_with Client held known half start = record { known = known; client = half; server = held.server; start = Some start }
+held_with Server held known half start = record { known = known; client = held.client; server = half; start = Some start }
+
+abbrev talk_with : Sender → Talk → Known → Half → ℕ → Talk
+talk_with Client talk known half start = record { known = known; client = half; server = talk.server; start = Some start }
+talk_with Server talk known half start = record { known = known; client = talk.client; server = half; start = Some start }
+
+keeps_in : (who : Sender) (held : HeldTalk) (talk : Talk) → Keeps held talk → Holds (side_in who talk.known) (held_in who held) (half_in who talk)
+keeps_in Client held talk k = k.client
+keeps_in Server held talk k = k.server
+
+keeps_with : (who : Sender) (held : HeldTalk) (talk : Talk) (known : Known) (half : HeldHalf) (left : Half) (start : ℕ) → Holds (side_in who known) half left → Holds (side_in (other who) known) (held_in (other who) held) (half_in (other who) talk)
+    → Keeps (held_with who held known half start) (talk_with who talk known left start)
+keeps_with Client held talk known half left start mine others = record { known = refl; client = mine; server = others; start = refl }
+keeps_with Server held talk known half left start mine others = record { known = refl; client = others; server = mine; start = refl }
+
+lists_with : (view : View) (who : Sender) (before : Talk) (micros : ℕ) (bytes text front : List ℕ) (to : Known) (left : Half) → (half_in who before).rest ++ bytes ≡ front ++ left.rest
+    → ListsFrames view (mark view.style.form who (since (first_time before.start micros) micros)) who (half_in who before).passed (now_at micros before.known) front text to → Ends (side_in who to) left.stopped left.rest → left.passed ≡ (half_in who before).passed + length front
+    → ListsChunk view before (record { sender = who; micros = micros; bytes = bytes }) text (talk_with who before to left (first_time before.start micros))
+lists_with view Client before micros bytes text front to left whole each ends passed = record { front = front; whole = whole; each = each; ending = ends; passed = passed; same = refl; start = refl }
+lists_with view Server before micros bytes text front to left whole each ends passed = record { front = front; whole = whole; each = each; ending = ends; passed = passed; same = refl; start = refl }
+
+of_side : (view : View) (who : Sender) (before : Talk) (held : HeldTalk) (micros : ℕ) (bytes : List ℕ) (to : Known) (half : HeldHalf) (old new : List ℕ) → Keeps held before
+    → ListsBytes view (mark view.style.form who (since (first_time held.start micros) micros)) who (now_at micros held.known) ((half_in who before).rest ++ bytes) (half_in who before).passed to half old new
+    → ListsChunkTo view before (record { sender = who; micros = micros; bytes = bytes }) (held_with who held to half (first_time held.start micros)) old new
+of_side view who before held micros bytes to half old new keeps lists =
+    let marks = λ (start : Option ℕ). mark view.style.form who (since (first_time start micros) micros) in
+    let passed = (half_in who before).passed in
+    let each : ListsFrames view (marks before.start) who passed (now_at micros before.known) lists.front lists.lines to =
+    subst (λ k. ListsFrames view (marks before.start) who passed (now_at micros k) lists.front lists.lines to) keeps.known (subst (λ s. ListsFrames view (marks s) who passed (now_at micros held.known) lists.front lists.lines to) keeps.start lists.each) in
+    let others = keeps_in (other who) held before keeps in
+    let left = half_in (other who) before in
     record {
-      after = record { known = to; client = lists.half; server = before.server; start = Some (first_time before.start micros) };
+      after = talk_with who before to lists.half (first_time before.start micros);
       text = lists.lines;
-      lists = record { front = lists.front; whole = lists.whole; each = each; ending = lists.holds.ending; passed = lists.passed; same = refl; start = refl };
-      keeps = record {
-        known = refl;
-        client = lists.holds;
-        server = record {
-          ending = other_ends view (marks before.start) Client before.client.passed (now_at micros before.known) lists.front lists.lines to before.server.stopped before.server.rest each keeps.server.ending;
-          stopped = keeps.server.stopped;
-          count = keeps.server.count;
-          place = keeps.server.place;
-          bytes = keeps.server.bytes;
-        };
-        start = start;
-      };
+      lists = lists_with view who before micros bytes lists.lines lists.front to lists.half lists.whole each lists.holds.ending lists.passed;
+      keeps = subst (λ s. Keeps (held_with who held to half (first_time s micros)) (talk_with who before to lists.half (first_time before.start micros))) (sym keeps.start) (keeps_with who held before to half lists.half (first_time before.start micros) lists.holds
+          (record {
+            ending = other_ends view (marks before.start) who passed (now_at micros before.known) lists.front lists.lines to left.stopped left.rest each
+                (subst (λ s. Ends s left.stopped left.rest) (sym (timed_side (other who) micros before.known)) others.ending);
+            stopped = others.stopped;
+            count = others.count;
+            place = others.place;
+            bytes = others.bytes;
+          }));
       grown = lists.text;
     }
 
--- and of one that the server sent
-pub of_server : (view : View) (before : Talk) (held : HeldTalk) (micros : ℕ) (bytes : List ℕ) (to : Known) (half : HeldHalf) (old new : List ℕ) → Keeps held before
-    → ListsBytes view (mark view.style.form Server (since (first_time held.start micros) micros)) Server (now_at micros held.known) (before.server.rest ++ bytes) before.server.passed to half old new
-    → ListsChunkTo view before (record { sender = Server; micros = micros; bytes = bytes }) (record { known = to; client = held.client; server = half; start = Some (first_time held.start micros) }) old new
-of_server view before held micros bytes to half old new keeps lists =
-    let marks = λ (start : Option ℕ). mark view.style.form Server (since (first_time start micros) micros) in
-    let each : ListsFrames view (marks before.start) Server before.server.passed (now_at micros before.known) lists.front lists.lines to =
-    subst (λ k. ListsFrames view (marks before.start) Server before.server.passed (now_at micros k) lists.front lists.lines to) keeps.known (subst (λ s. ListsFrames view (marks s) Server before.server.passed (now_at micros held.known) lists.front lists.lines to) keeps.start lists.each) in
-    let start = ap (λ s. Some (first_time s micros)) keeps.start in
-    record {
-      after = record { known = to; client = before.client; server = lists.half; start = Some (first_time before.start micros) };
-      text = lists.lines;
-      lists = record { front = lists.front; whole = lists.whole; each = each; ending = lists.holds.ending; passed = lists.passed; same = refl; start = refl };
-      keeps = record {
-        known = refl;
-        client = record {
-          ending = other_ends view (marks before.start) Server before.server.passed (now_at micros before.known) lists.front lists.lines to before.client.stopped before.client.rest each keeps.client.ending;
-          stopped = keeps.client.stopped;
-          count = keeps.client.count;
-          place = keeps.client.place;
-          bytes = keeps.client.bytes;
-        };
-        server = lists.holds;
-        start = start;
-      };
-      grown = lists.text;
-    }
-
--- ---- what a call returns of these
-
-module _ {T E : Type 0} where
-  pub ok_client : (r : Result T E) (view : View) (held : HeldTalk) (chunk : Chunk) (numbers : Option Numbers) (start : ℕ) (marks : List ℕ) (to : Known) (half : HeldHalf) (old new : List ℕ) → chunk.sender ≡ Client → numbers ≡ at_time chunk.micros held.known.numbers → start ≡ first_time held.start chunk.micros
-      → marks ≡ mark view.style.form chunk.sender (since start chunk.micros)
-      → OnOk r ((before : Half) → Holds (side_in Client held.known) held.client before → ListsBytes view marks Client (with_numbers numbers held.known) (before.rest ++ chunk.bytes) before.passed to half old new)
-      → OnOk r ((before : Talk) → Keeps held before → ListsChunkTo view before chunk (record { known = to; client = half; server = held.server; start = Some start }) old new)
-  ok_client (Err e) view held chunk numbers start marks to half old new is timed first marked all = tt
-  ok_client (Ok x) view held chunk numbers start marks to half old new is timed first marked all = λ before keeps.
-      let holds = subst (λ (k : Known). Holds (side_in Client k) held.client before.client) (sym keeps.known) keeps.client in
-      let mark_is : marks ≡ mark view.style.form Client (since (first_time held.start chunk.micros) chunk.micros) =
-      marked ∙ ap (λ s. mark view.style.form s (since start chunk.micros)) is ∙ ap (λ n. mark view.style.form Client (since n chunk.micros)) first in
-      let lists = subst (λ n. ListsBytes view (mark view.style.form Client (since (first_time held.start chunk.micros) chunk.micros)) Client (with_numbers n held.known) (before.client.rest ++ chunk.bytes) before.client.passed to half old new) timed
-      (subst (λ m. ListsBytes view m Client (with_numbers numbers held.known) (before.client.rest ++ chunk.bytes) before.client.passed to half old new) mark_is (all before.client holds)) in
-      subst (λ s. ListsChunkTo view before (record { sender = s; micros = chunk.micros; bytes = chunk.bytes }) (record { known = to; client = half; server = held.server; start = Some start }) old new) (sym is)
-      (subst (λ n. ListsChunkTo view before (record { sender = Client; micros = chunk.micros; bytes = chunk.bytes }) (record { known = to; client = half; server = held.server; start = Some n }) old new) (sym first)
-      (of_client view before held chunk.micros chunk.bytes to half old new keeps lists))
-
-  pub ok_server : (r : Result T E) (view : View) (held : HeldTalk) (chunk : Chunk) (numbers : Option Numbers) (start : ℕ) (marks : List ℕ) (to : Known) (half : HeldHalf) (old new : List ℕ) → chunk.sender ≡ Server → numbers ≡ at_time chunk.micros held.known.numbers → start ≡ first_time held.start chunk.micros
-      → marks ≡ mark view.style.form chunk.sender (since start chunk.micros)
-      → OnOk r ((before : Half) → Holds (side_in Server held.known) held.server before → ListsBytes view marks Server (with_numbers numbers held.known) (before.rest ++ chunk.bytes) before.passed to half old new)
-      → OnOk r ((before : Talk) → Keeps held before → ListsChunkTo view before chunk (record { known = to; client = held.client; server = half; start = Some start }) old new)
-  ok_server (Err e) view held chunk numbers start marks to half old new is timed first marked all = tt
-  ok_server (Ok x) view held chunk numbers start marks to half old new is timed first marked all = λ before keeps.
-      let holds = subst (λ (k : Known). Holds (side_in Server k) held.server before.server) (sym keeps.known) keeps.server in
-      let mark_is : marks ≡ mark view.style.form Server (since (first_time held.start chunk.micros) chunk.micros) =
-      marked ∙ ap (λ s. mark view.style.form s (since start chunk.micros)) is ∙ ap (λ n. mark view.style.form Server (since n chunk.micros)) first in
-      let lists = subst (λ n. ListsBytes view (mark view.style.form Server (since (first_time held.start chunk.micros) chunk.micros)) Server (with_numbers n held.known) (before.server.rest ++ chunk.bytes) before.server.passed to half old new) timed
-      (subst (λ m. ListsBytes view m Server (with_numbers numbers held.known) (before.server.rest ++ chunk.bytes) before.server.passed to half old new) mark_is (all before.server holds)) in
-      subst (λ s. ListsChunkTo view before (record { sender = s; micros = chunk.micros; bytes = chunk.bytes }) (record { known = to; client = held.client; server = half; start = Some start }) old new) (sym is)
-      (subst (λ n. ListsChunkTo view before (record { sender = Server; micros = chunk.micros; bytes = chunk.bytes }) (record { known = to; client = held.client; server = half; start = Some n }) old new) (sym first)
-      (of_server view before held chunk.micros chunk.bytes to half old new keeps lists))
+-- what a call returns of these
+pub ok_side : {T E : Type 0} (r : Result T E) (view : View) (who : Sender) (held : HeldTalk) (chunk : Chunk) (numbers : Option Numbers) (start : ℕ) (marks : List ℕ) (to : Known) (half : HeldHalf) (old new : List ℕ) → chunk.sender ≡ who → numbers ≡ at_time chunk.micros held.known.numbers → start ≡ first_time held.start chunk.micros
+    → marks ≡ mark view.style.form chunk.sender (since start chunk.micros)
+    → OnOk r ((before : Half) → Holds (side_in who held.known) (held_in who held) before → ListsBytes view marks who (with_numbers numbers held.known) (before.rest ++ chunk.bytes) before.passed to half old new)
+    → OnOk r ((before : Talk) → Keeps held before → ListsChunkTo view before chunk (held_with who held to half start) old new)
+ok_side (Err e) view who held chunk numbers start marks to half old new is timed first marked all = tt
+ok_side (Ok x) view who held chunk numbers start marks to half old new is timed first marked all = λ before keeps.
+    let mine = half_in who before in
+    let holds = subst (λ (k : Known). Holds (side_in who k) (held_in who held) mine) (sym keeps.known) (keeps_in who held before keeps) in
+    let now = mark view.style.form who (since (first_time held.start chunk.micros) chunk.micros) in
+    let mark_is : marks ≡ now = marked ∙ ap (λ s. mark view.style.form s (since start chunk.micros)) is ∙ ap (λ n. mark view.style.form who (since n chunk.micros)) first in
+    let lists = subst (λ n. ListsBytes view now who (with_numbers n held.known) (mine.rest ++ chunk.bytes) mine.passed to half old new) timed
+    (subst (λ m. ListsBytes view m who (with_numbers numbers held.known) (mine.rest ++ chunk.bytes) mine.passed to half old new) mark_is (all mine holds)) in
+    subst (λ s. ListsChunkTo view before (record { sender = s; micros = chunk.micros; bytes = chunk.bytes }) (held_with who held to half start) old new) (sym is)
+    (subst (λ n. ListsChunkTo view before (record { sender = who; micros = chunk.micros; bytes = chunk.bytes }) (held_with who held to half n) old new) (sym first)
+    (of_side view who before held chunk.micros chunk.bytes to half old new keeps lists))

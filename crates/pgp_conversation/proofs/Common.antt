@@ -7,55 +7,31 @@ pub use Rattle.std.proofs.lemmas.Grind.{flat_map-append}
 pub use Rattle.std.proofs.lemmas.List.{append-nil, length-take, take-append-drop, take-append-le, drop-drop}
 pub use Rattle.std.proofs.lemmas.List.Concat.{flat_map-cons}
 pub use Rattle.std.specs.Int.{w32, w64, from_be_bytes}
-pub use Rattle.std.specs.Io.KnownBytes.{Appends, Consumes, IsAtEnd}
-pub use Rattle.std.specs.List.{flat_map, AllByRecursion, list_all}
-pub use Rattle.std.specs.Option.{option_map}
+pub use Rattle.pgp_conversation.specs.Common.{Appends, Consumes, IsAtEnd, flat_map, AllByRecursion, list_all, option_map, Error, ClientMessage, CancelRequest, PasswordMessage, SaslInitialResponse, SaslResponse, Bind, Response, ClientError, PasswordKind, Part, ListEnds, Value, closing, followed, blanks, Count, Length, Name, Tag, Text, key, opening, IsPrinted, is_visible, is_printable, json_value, quoted, up_to, Form, Json, Columns, Style, Authentication, AuthenticationGssContinue, AuthenticationMd5Password, AuthenticationSaslContinue, AuthenticationSaslFinal, BackendKeyData, Message, DataRow, ParameterDescription, RowDescription, Body, AuthenticationOk, value_at, HasPlaces, IsPlaceIn, Streams, AppendsFront, greatest, Tally, line_of, State, place_behind, name_in, LineOf, IsServerLine, server_name, client_frame_name, ending, refused, Ends, Side, is_password, expected, answered, is_reported, replicates_behind, server_at, View, color_of, is_listed, painted, shown, Marking, Beginning, Messages, Replicating, Encrypted, Sender, Client, Server, Column, End, Noted, Told, Role}
 pub use Rattle.std.specs.Prelude.{OnOk, codes, OnErr, nat_lt, if◌then◌else◌, ◌==◌, map, ◌/◌, ◌%◌, decimal, IfOk, ◌||◌, is_some, not, bytes_eq, slice_get, string_bytes}
 pub use Rattle.std.specs.declared.ops.Range.{Range}
 pub use Rattle.pgp_base.proofs.PartLemmas.{IsBytes-drop, IsBytes-take, oid_number, uint64_number}
 pub use Rattle.pgp_base.proofs.Parts.{on_err}
 pub use Rattle.pgp_base.specs.Walk.{Walk, TakesItem, IsFinished, IsRefused}
 pub use Rattle.pgp_base.specs.Wire.{uint32, uint64, IsBytes}
-pub use Rattle.pgp_base.specs.declared.error.Error.{Error}
 pub use Rattle.pgp_client.specs.Kinds.{kind_of, kind_of_tag, request_of, request_of_tag}
-pub use Rattle.pgp_frontend.specs.ClientMessage.{ClientMessage, CancelRequest, PasswordMessage, SaslInitialResponse, SaslResponse, Bind, Response}
 pub use Rattle.pgp_frontend_read.proofs.OneStep.{step_one}
 pub use Rattle.pgp_frontend_read.specs.Pieces.{step_of}
 pub use Rattle.pgp_frontend_read.specs.Views.{kind_view, view}
-pub use Rattle.pgp_frontend_read.specs.declared.error.ClientError.{ClientError}
-pub use Rattle.pgp_frontend_read.specs.declared.message.PasswordKind.{PasswordKind}
-pub use Rattle.pgp_line.specs.Line.{Part, ListEnds, Value, closing, followed, blanks, Count, Length, Name, Tag, Text, key, opening}
-pub use Rattle.pgp_line.specs.Quoting.{IsPrinted, is_visible, is_printable, json_value, quoted, up_to}
-pub use Rattle.pgp_line.specs.declared.style.Form.{Form}
-pub use Rattle.pgp_line.specs.declared.style.Form.TheVariants.{Json, Columns}
-pub use Rattle.pgp_line.specs.declared.style.Style.{Style}
 pub use Rattle.pgp_message.proofs.Bodies.{one_body}
 pub use Rattle.pgp_message.proofs.Runs.{front_is_one, length-frame, no_ending}
-pub use Rattle.pgp_message.specs.BackendMessage.{Authentication, AuthenticationGssContinue, AuthenticationMd5Password, AuthenticationSaslContinue, AuthenticationSaslFinal, BackendKeyData, Message, DataRow, ParameterDescription, RowDescription, Body, AuthenticationOk}
 pub use Rattle.pgp_message.specs.Items.{FieldSpelled, FieldRefused, RangeSpelled, RangeRefused, TypeSpelled, TypeRefused, FieldPart}
 pub use Rattle.pgp_message.specs.Parts.{KeyData, CountedBytes}
 pub use Rattle.pgp_message.specs.Stream.{Frame, IsEnding, IsFrame, Step, TakesFrame, frame_bytes}
-pub use Rattle.pgp_message.specs.Table.{value_at, HasPlaces, IsPlaceIn}
-pub use Rattle.pgp_program.specs.Run.{Streams}
-pub use Rattle.pgp_program.specs.Taken.{AppendsFront}
-pub use Rattle.pgp_program.specs.Words.{greatest}
-pub use Rattle.pgp_summary.specs.Runs.{Tally, line_of}
-pub use Rattle.pgp_summary.specs.Summary.{State}
 pub use Rattle.pgp_trace.proofs.Ends.{stays_ended, nothing_ends}
 pub use Rattle.pgp_trace.proofs.Fronts.{more_taken, none_taken, all_taken}
 pub use Rattle.pgp_trace.proofs.Printable.{blank, plain, plain_join, plain_number, join, line_printable, cut, json_val, quote, closing_printable, opening_printable, parts_printable}
 pub use Rattle.pgp_trace.specs.Client.{counted, signed_part, client_name}
 pub use Rattle.pgp_trace.specs.ClientSecrets.{AlikeAnswers, AlikeMessages, ReadsAs}
-pub use Rattle.pgp_trace.specs.Listing.{place_behind, name_in, LineOf, IsServerLine, server_name, client_frame_name}
 pub use Rattle.pgp_trace.specs.Secrets.{Alike, AlikeResults, AlikeFrames, quiet, quietly}
-pub use Rattle.pgp_trace.specs.Shown.{ending, refused}
-pub use Rattle.pgp_trace.specs.Sides.{Ends, Side, is_password, expected, answered, is_reported, replicates_behind, server_at}
 pub use Rattle.pgp_trace.specs.Steps.{HasLine, ListsNext, IsFrameOf, view_of}
-pub use Rattle.pgp_trace.specs.View.{View, color_of, is_listed, painted, shown}
 pub use Rattle.pgp_trace.specs.declared.frame.Next.TheVariants.{Line, Waits, Stops}
-pub use Rattle.pgp_trace.specs.declared.marking.Marking.{Marking}
-pub use Rattle.pgp_trace.specs.declared.side.Phase.TheVariants.{Beginning, Messages, Replicating, Encrypted}
-pub use Rattle.pgp_conversation.specs.Conversation.{asks, noted_by, requests, Half, Known, Talk, ListsFrame, ListsFrames, NoFrames, OneFrame, first_time, now_at, side_in, with_numbers, ListsChunk, ListsChunks, NoChunkListed, OneChunkListed, at_first, begins, half_in, other, as_standby, note, noted_in, replicates_in, text_of, told_by, with_kind, with_side, with_types, last_lines, is_replicating, first_start, last_of, left, answer_to, called, counts, either, relined}
+pub use Rattle.pgp_conversation.specs.Conversation.{asks, noted_by, requests, Half, Known, Talk, ListsFrame, ListsFrames, NoLines, OneLine, first_time, now_at, side_in, with_numbers, ListsChunk, ListsChunks, NoChunkListed, OneChunkListed, at_first, begins, half_in, other, as_standby, note, noted_in, replicates_in, text_of, told_by, with_kind, with_side, with_types, last_lines, is_replicating, first_start, last_of, left, answer_to, called, counts, either, relined}
 pub use Rattle.pgp_conversation.specs.Marks.{mark, since, word, marked, between, last_mark, later, member, members, says}
 unfoldable pub use Rattle.pgp_conversation.specs.Marks.{millis, number}
 pub use Rattle.pgp_conversation.specs.Pieces.{ListsAllChunks, ListsPiece, ListsSome, Stays, Tracks, TracksTo, held_first, held_last}
@@ -70,11 +46,4 @@ pub use Rattle.pgp_conversation.specs.Typed.{Heard, Said, Sent, Unsaid, Learns, 
 pub use Rattle.pgp_conversation.specs.TypedLines.{Reads, Passes, ReadsSo, ShowsRequest, Tells, lost, AddsValue, AddsValues}
 pub use Rattle.pgp_conversation.specs.Types.{Types, Awaited, described, first, reached, rows_of, tells}
 pub use Rattle.pgp_conversation.specs.TypesKept.{queue_of, types_of, types_in}
-pub use Rattle.pgp_conversation.specs.declared.chunk.Sender.{Sender}
-pub use Rattle.pgp_conversation.specs.declared.chunk.Sender.TheVariants.{Client, Server}
-pub use Rattle.pgp_conversation.specs.declared.column.Column.{Column}
-pub use Rattle.pgp_conversation.specs.declared.ending.End.{End}
-pub use Rattle.pgp_conversation.specs.declared.expectation.Noted.{Noted}
 pub use Rattle.pgp_conversation.specs.declared.expectation.Noted.TheVariants.{Asks, Requests, Answers, Nothing}
-pub use Rattle.pgp_conversation.specs.declared.placement.Told.{Told}
-pub use Rattle.pgp_conversation.specs.declared.role.Role.{Role}

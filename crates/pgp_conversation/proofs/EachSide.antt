@@ -1,17 +1,12 @@
 -- What each side sent, and the lines of the server's stream alone.
 use Rattle.pgp_conversation.proofs.Common.{◌≡◌, ℕ, ◌+◌, List, [], ◌∷◌, ◌++◌, length, refl, sym, ap, subst, ◌∙◌, length-append, append_assoc, flat_map, append-nil, flat_map-cons, flat_map-append, Ends, View, nothing_ends, Sender, Client, Server, Marking, Half, Known, ListsChunk, ListsChunks, NoChunkListed, OneChunkListed, Talk, at_first, begins, first_time, half_in, now_at, other, side_in, mark, since, Chunk}
 use Rattle.pgp_conversation.specs.Order.{IsSplit, sent, sent_by}
-use Rattle.pgp_conversation.proofs.FrameLists.{other_ends}
+use Rattle.pgp_conversation.proofs.FrameLists.{other_ends, timed_side}
 
 sent_more : (who : Sender) (chunks : List Chunk) (chunk : Chunk) → sent who (chunks ++ chunk ∷ []) ≡ sent who chunks ++ sent_by who chunk.sender chunk.bytes
 sent_more who chunks chunk =
     let f : Chunk → List ℕ = λ c. sent_by who c.sender c.bytes in
     flat_map-append f chunks (chunk ∷ []) ∙ ap (λ l. flat_map f chunks ++ l) (flat_map-cons f chunk [] ∙ append-nil (f chunk))
-
--- a time changes no side
-timed_side : (who : Sender) (micros : ℕ) (known : Known) → side_in who (now_at micros known) ≡ side_in who known
-timed_side Client micros known = refl
-timed_side Server micros known = refl
 
 -- the side whose chunk it is
 own : (view : View) (here to : Talk) (chunks : List Chunk) (chunk : Chunk) (text : List ℕ) (who : Sender) → chunk.sender ≡ who → sent_by who chunk.sender chunk.bytes ≡ chunk.bytes → (s : IsSplit who chunks here) → (l : ListsChunk view here chunk text to) → IsSplit who (chunks ++ chunk ∷ []) to

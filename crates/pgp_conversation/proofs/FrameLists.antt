@@ -1,10 +1,8 @@
 -- The lines of a side, a frame at a time.
-use Rattle.pgp_conversation.proofs.Common.{◌≡◌, ℕ, ◌+◌, ◌-◌, ◌<◌, ◌≤◌, Bool, true, false, List, [], ◌++◌, length, take, min, Option, refl, sym, ap, subst, ◌∙◌, arith, length-append, append_assoc, append-nil, take-append_seam, PasswordKind, greatest, place_behind, name_in, Side, Ends, HasLine, View, Sender, Client, Server, Noted, Asks, Requests, Answers, Nothing, Told, Known, ListsFrame, ListsFrames, NoFrames, OneFrame, as_standby, note, noted_by, noted_in, other, replicates_in, side_in, text_of, told_by, with_kind, with_numbers, with_side, with_types, asking_from, asking_in, summed, word, Numbers, role_by, told_in, Learns, said_in, Reads, Types, ListsOneFrame}
+use Rattle.pgp_conversation.proofs.Common.{◌≡◌, ℕ, ◌+◌, ◌-◌, ◌<◌, ◌≤◌, Bool, true, false, List, [], ◌++◌, length, take, min, Option, refl, sym, ap, subst, ◌∙◌, arith, length-append, append_assoc, append-nil, take-append_seam, PasswordKind, greatest, place_behind, name_in, Side, Ends, HasLine, View, Sender, Client, Server, Noted, Asks, Requests, Answers, Nothing, Told, Known, ListsFrame, ListsFrames, NoLines, OneLine, as_standby, note, noted_by, noted_in, other, replicates_in, side_in, text_of, told_by, with_kind, with_numbers, with_side, with_types, asking_from, asking_in, summed, word, Numbers, role_by, told_in, Learns, said_in, Reads, Types, ListsOneFrame, now_at}
 use Rattle.pgp_trace.specs.Sides.{Server as ServerSide, Client as ClientSide}
+use Rattle.pgp_trace.proofs.Rows.{RowsTo, one_listed}
 use Rattle.pgp_trace.proofs.Shorter.{frame_has}
-
-passed_is : (bytes front rest : List ℕ) → bytes ≡ front ++ rest → length bytes - length rest ≡ length front
-passed_is bytes front rest e = omega (arith, ap length e, length-append front rest)
 
 -- what is no side's
 record IsKept (new old : Known) : Type 0 where
@@ -61,35 +59,13 @@ lists_one view mark who place old mid new told noted sums types bytes behind lin
 pub front_long : (bytes frame behind : List ℕ) → bytes ≡ frame ++ behind → length behind ≤ length bytes
 front_long bytes frame behind whole = omega (arith, ap length whole, length-append frame behind)
 
--- the frame that stands first
-pub front_is : (bytes frame behind : List ℕ) → bytes ≡ frame ++ behind → take (length bytes - length behind) bytes ≡ frame
-front_is bytes frame behind whole = ap (λ n. take n bytes) (passed_is bytes frame behind whole) ∙ ap (take (length frame)) whole ∙ take-append_seam frame behind
-
 -- ---- frame by frame
 
--- those so far have their lines
-pub record ListsFramesTo (view : View) (mark : List ℕ) (who : Sender) (start : ℕ) (from : Known) (bytes rest : List ℕ) (to : Known) (old new : List ℕ) : Type 0 where
-  pub front : List ℕ
-  pub lines : List ℕ
-  pub whole : bytes ≡ front ++ rest
-  pub each : ListsFrames view mark who start from front lines to
-  pub text : new ≡ old ++ lines
-
-pub nothing_yet : (view : View) (mark : List ℕ) (who : Sender) (start : ℕ) (from : Known) (bytes old : List ℕ) → ListsFramesTo view mark who start from bytes bytes from old old
-nothing_yet view mark who start from bytes old = record { front = []; lines = []; whole = refl; each = NoFrames; text = sym (append-nil old) }
-
 -- one more
-pub one_more : (view : View) (mark : List ℕ) (who : Sender) (start here : ℕ) (from mid to : Known) (bytes rest behind old now new : List ℕ) → ListsFramesTo view mark who start from bytes rest mid old now
-    → here ≡ min (start + (length bytes - length rest)) greatest → ListsOneFrame view mark who here mid rest behind now new to → ListsFramesTo view mark who start from bytes behind to old new
+pub one_more : (view : View) (mark : List ℕ) (who : Sender) (start here : ℕ) (from mid to : Known) (bytes rest behind old now new : List ℕ) → RowsTo (ListsFrame view mark who) start from bytes rest mid old now
+    → here ≡ min (start + (length bytes - length rest)) greatest → ListsOneFrame view mark who here mid rest behind now new to → RowsTo (ListsFrame view mark who) start from bytes behind to old new
 one_more view mark who start here from mid to bytes rest behind old now new so_far at one =
-    let place : here ≡ place_behind (start + length so_far.front) = at ∙ ap (λ n. place_behind (start + n)) (passed_is bytes so_far.front rest so_far.whole) in
-    record {
-      front = so_far.front ++ one.frame;
-      lines = so_far.lines ++ one.text;
-      whole = so_far.whole ∙ ap (λ l. so_far.front ++ l) one.whole ∙ sym (append_assoc so_far.front one.frame behind);
-      each = OneFrame one.frame one.text so_far.each (subst (λ p. ListsFrame view mark who p mid one.frame one.text to) place one.lists);
-      text = one.grown ∙ ap (λ l. l ++ one.text) so_far.text ∙ append_assoc old so_far.lines one.text;
-    }
+    one_listed (ListsFrame view mark who) start here from mid to bytes rest one.frame behind one.text old now new so_far at one.whole one.lists one.grown
 
 pub shorter : (view : View) (mark : List ℕ) (who : Sender) (place : ℕ) (here to : Known) (bytes behind old new : List ℕ) → ListsOneFrame view mark who place here bytes behind old new to → length behind < length bytes
 shorter view mark who place here to bytes behind old new one = omega (arith, ap length one.whole, length-append one.frame behind, one.some)
@@ -116,7 +92,12 @@ other_note Server here side numbers types n stopped rest e = other_standby (repl
 -- of the other side as much is awaited as before
 pub other_ends : (view : View) (mark : List ℕ) (who : Sender) (start : ℕ) (from : Known) (bytes lines : List ℕ) (to : Known) (stopped : Bool) (rest : List ℕ) → ListsFrames view mark who start from bytes lines to
     → Ends (side_in (other who) from) stopped rest → Ends (side_in (other who) to) stopped rest
-other_ends view mark who start from [] [] _ stopped rest NoFrames e = e
-other_ends view mark who start from _ _ to stopped rest (OneFrame {bytes = bytes} {lines = lines} {here = here} frame text before one) e =
+other_ends view mark who start from [] [] _ stopped rest NoLines e = e
+other_ends view mark who start from _ _ to stopped rest (OneLine {bytes = bytes} {lines = lines} {here = here} frame text before one) e =
     subst (λ k. Ends (side_in (other who) k) stopped rest) (sym one.behind)
     (other_note who here one.after (summed one.told (asking_in view.style (place_behind (start + length bytes)) (side_in who here) frame one.line one.after one.reported) (name_in view.style (place_behind (start + length bytes)) (side_in who here) frame one.line one.after one.reported) one.numbers) one.types (noted_in view.style (place_behind (start + length bytes)) (side_in who here) frame one.line one.after one.reported) stopped rest (other_ends view mark who start from bytes lines here stopped rest before e))
+
+-- a time changes no side
+pub timed_side : (who : Sender) (micros : ℕ) (known : Known) → side_in who (now_at micros known) ≡ side_in who known
+timed_side Client micros known = refl
+timed_side Server micros known = refl

@@ -1,6 +1,5 @@
 mod Common
 pub mod Chunks
-pub mod KindsLeft
 pub mod Marked
 pub mod Alike
 pub mod FrameLists
@@ -15,7 +14,7 @@ pub mod PrintedObjects
 pub mod PrintedTables
 pub mod Summaries
 pub mod Secrets
-pub mod CommandLemmas
+pub mod AlikeRecordings
 pub mod Endings
 pub mod RowLemmas
 pub mod Readings

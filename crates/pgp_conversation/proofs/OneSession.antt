@@ -1,20 +1,14 @@
 -- A recording has one listing.
-use Rattle.pgp_conversation.proofs.Common.{◌≡◌, ◌≢◌, ℕ, suc, ◌+◌, ◌<◌, ◌^◌, Bool, true, false, List, [], ◌∷◌, ◌++◌, length, take, drop, get_or, Option, refl, sym, ap, subst, ◌∙◌, arith, inl, inr, length-append, append_assoc, flat_map, AllByRecursion, append-nil, flat_map-cons, drop-append_seam, take-append_seam, w32, w64, from_be_bytes, uint32, uint64, oid_number, uint64_number, place_behind, name_in, Ends, View, Sender, Client, Server, End, Half, ListsChunks, NoChunkListed, OneChunkListed, ListsChunk, Known, Talk, ListsFrame, ListsFrames, NoFrames, OneFrame, begins, half_in, last_lines, note, noted_by, noted_in, now_at, other, side_in, text_of, told_by, with_numbers, with_side, with_types, Marking, Told, mark, since, word, Numbers, role_by, role_in, told_in, asking_from, asking_in, summed, first_time, Chunk, EndsBy, IsChunk, IsNoChunk, IsPartial, IsShort, Records, arrow, chunk_bytes, magic, HasLines, IsListing, Learns, ShowsTyped, said_in}
+use Rattle.pgp_conversation.proofs.Common.{◌≡◌, ◌≢◌, ℕ, suc, ◌+◌, ◌<◌, ◌^◌, Bool, true, false, List, [], ◌∷◌, ◌++◌, length, take, drop, get_or, Option, refl, sym, ap, subst, ◌∙◌, arith, inl, inr, length-append, append_assoc, flat_map, AllByRecursion, append-nil, flat_map-cons, drop-append_seam, take-append_seam, w32, w64, from_be_bytes, uint32, uint64, oid_number, uint64_number, place_behind, name_in, Ends, View, Sender, Client, Server, End, Half, ListsChunks, NoChunkListed, OneChunkListed, ListsChunk, Known, Talk, ListsFrame, ListsFrames, NoLines, OneLine, begins, half_in, last_lines, note, noted_by, noted_in, now_at, other, side_in, text_of, told_by, with_numbers, with_side, with_types, Marking, Told, mark, since, word, Numbers, role_by, role_in, told_in, asking_from, asking_in, summed, first_time, Chunk, EndsBy, IsChunk, IsNoChunk, IsPartial, IsShort, Records, arrow, chunk_bytes, magic, HasLines, IsListing, Learns, ShowsTyped, said_in}
 use Rattle.pgp_trace.proofs.OneListing.{ends_one, line_one, no_line}
+use Rattle.pgp_trace.proofs.Rows.{SameFirst, rows_one}
 use Rattle.pgp_conversation.specs.declared.ending.End.TheVariants.{Whole, Cut, NoChunk, NoRecording}
 use Rattle.pgp_conversation.proofs.OneTyped.{OneText, learns_one, shows_one}
 use Rattle.pgp_conversation.proofs.Sayings.{said_one}
 
 -- ---- a frame
 
--- the first frames of bytes, what stands in the listing of them, what stands after them, and what is then known
-record SameFrame (f g text else_text x y : List ℕ) (to too : Known) : Type 0 where
-  frames : f ≡ g
-  texts : text ≡ else_text
-  rests : x ≡ y
-  knowns : to ≡ too
-
-lists_one : (one_text : OneText) (view : View) (m : List ℕ) (who : Sender) (place : ℕ) (here to too : Known) (f g text another x y : List ℕ) → ListsFrame view m who place here f text to → ListsFrame view m who place here g another too → f ++ x ≡ g ++ y → SameFrame f g text another x y to too
+lists_one : (one_text : OneText) (view : View) (m : List ℕ) (who : Sender) (place : ℕ) (here to too : Known) (f g text another x y : List ℕ) → ListsFrame view m who place here f text to → ListsFrame view m who place here g another too → f ++ x ≡ g ++ y → SameFirst f g text another x y to too
 lists_one one_text view m who place here to too f g text another x y a b e =
     let from = side_in who here in
     let one = line_one view.style place from a.after b.after f g a.line b.line x y a.reported b.reported e in
@@ -38,67 +32,22 @@ lists_one one_text view m who place here to too f g text another x y a b e =
     let shows = subst (λ t. ShowsTyped view.style place (length f) t other a.types a.line a.typed) told (subst (λ s. ShowsTyped view.style place (length f) a.told s a.types a.line a.typed) said a.shows) in
     let shown = subst (λ t. ShowsTyped view.style place (length f) b.told other t a.line a.typed) types shows in
     let framed = subst (λ l. ShowsTyped view.style place (length l) b.told other b.types a.line a.typed) one.0.frames shown in
-    let typed : a.typed ≡ b.typed = shows_one one_text view.style place (length g) b.told other b.types b.line a.typed b.typed (subst (λ l. ShowsTyped view.style place (length g) b.told other b.types l a.typed) one.0.lines framed) b.shows in
+    let typed : a.typed ≡ b.typed = shows_one one_text view.style place (length g) b.told other b.types b.line a.typed b.typed (subst (λ l. ShowsTyped view.style place (length g) b.told other b.types l a.typed) one.0.texts framed) b.shows in
     let stamp = λ (t : Told). m ++ word view.style.form (told_by here.marked t) in
     record {
       frames = one.0.frames;
       texts = a.is ∙ ap (λ t. text_of view (stamp t) place here.requests (name_in view.style place from f a.line a.after a.reported) a.typed) told
           ∙ ap (λ n. text_of view (stamp b.told) place here.requests n a.typed) one.1 ∙ ap (λ l. text_of view (stamp b.told) place here.requests named l) typed ∙ sym b.is;
       rests = one.0.rests;
-      knowns = a.behind ∙ ap (λ n. note n (with_types a.types (with_numbers (summed a.told (asking_in view.style place from f a.line a.after a.reported) first_name a.numbers) (with_side who here a.after)))) noted
+      states = a.behind ∙ ap (λ n. note n (with_types a.types (with_numbers (summed a.told (asking_in view.style place from f a.line a.after a.reported) first_name a.numbers) (with_side who here a.after)))) noted
           ∙ ap (λ n. note notes (with_types a.types (with_numbers n (with_side who here a.after)))) sums
           ∙ ap (λ t. note notes (with_types t (with_numbers sum (with_side who here a.after)))) types
-          ∙ ap (λ s. note notes (with_types b.types (with_numbers sum (with_side who here s)))) one.0.sides ∙ sym b.behind;
+          ∙ ap (λ s. note notes (with_types b.types (with_numbers sum (with_side who here s)))) one.0.states ∙ sym b.behind;
     }
 
-data Rows (view : View) (m : List ℕ) (who : Sender) (to : Known) : ℕ → Known → List ℕ → List ℕ → Type 0 where
-  NoRows : {start : ℕ} → Rows view m who to start to [] []
-  OneRow : {start : ℕ} {from mid : Known} {bytes lines : List ℕ} (frame line : List ℕ) → ListsFrame view m who (place_behind start) from frame line mid → Rows view m who to (start + length frame) mid bytes lines → Rows view m who to start from (frame ++ bytes) (line ++ lines)
-
-row_more : (view : View) (m : List ℕ) (who : Sender) (here : Known) (start : ℕ) (from to : Known) (bytes lines frame line : List ℕ) → Rows view m who here start from bytes lines → ListsFrame view m who (place_behind (start + length bytes)) here frame line to
-    → Rows view m who to start from (bytes ++ frame) (lines ++ line)
-row_more view m who _ start from to [] [] frame line NoRows has =
-    let here : place_behind (start + 0) ≡ place_behind start = ap place_behind (omega arith) in
-    subst (λ l. Rows view m who to start from l line) (append-nil frame)
-    (subst (λ l. Rows view m who to start from (frame ++ []) l) (append-nil line)
-    (OneRow {start = start} frame line (subst (λ p. ListsFrame view m who p from frame line to) here has) NoRows))
-row_more view m who here start from to _ _ frame line (OneRow {mid = mid} {bytes = bytes} {lines = lines} f l is rest) has =
-    let place : place_behind (start + length (f ++ bytes)) ≡ place_behind ((start + length f) + length bytes) = ap place_behind (omega (arith, length-append f bytes)) in
-    let more = row_more view m who here (start + length f) mid to bytes lines frame line rest (subst (λ p. ListsFrame view m who p here frame line to) place has) in
-    subst (λ x. Rows view m who to start from x ((l ++ lines) ++ line)) (sym (append_assoc f bytes frame))
-    (subst (λ x. Rows view m who to start from (f ++ (bytes ++ frame)) x) (sym (append_assoc l lines line))
-    (OneRow f l is more))
-
-rows_of : (view : View) (m : List ℕ) (who : Sender) (start : ℕ) (from to : Known) (bytes lines : List ℕ) → ListsFrames view m who start from bytes lines to → Rows view m who to start from bytes lines
-rows_of view m who start from _ [] [] NoFrames = NoRows
-rows_of view m who start from to _ _ (OneFrame {bytes = bytes} {lines = lines} {here = here} frame line before has) = row_more view m who here start from to bytes lines frame line (rows_of view m who start from here bytes lines before) has
-
--- what stands at the end is one thing
-record SameEnd (a b lines others x y : List ℕ) (s t : Bool) (to too : Known) : Type 0 where
-  fronts : a ≡ b
-  texts : lines ≡ others
-  rests : x ≡ y
-  ends : s ≡ t
-  knowns : to ≡ too
-
-rows_one : (one_text : OneText) (view : View) (m : List ℕ) (who : Sender) (to too : Known) (start : ℕ) (from : Known) (a b lines others x y : List ℕ) (s t : Bool) → Rows view m who to start from a lines → Ends (side_in who to) s x → Rows view m who too start from b others → Ends (side_in who too) t y
-    → a ++ x ≡ b ++ y → SameEnd a b lines others x y s t to too
-rows_one one_text view m who _ _ start from [] [] [] [] x y s t NoRows ends NoRows others e = record { fronts = refl; texts = refl; rests = e; ends = ends_one (side_in who from) s t y (subst (Ends (side_in who from) s) e ends) others; knowns = refl }
-rows_one one_text view m who _ too start from [] _ [] _ x y s t NoRows ends (OneRow {mid = mid} {bytes = bytes} {lines = more} g k is rest) others e =
-    absurd (no_line view.style (place_behind start) (side_in who from) is.after s x g is.line (bytes ++ y) ends is.reported (e ∙ append_assoc g bytes y))
-rows_one one_text view m who to _ start from _ [] _ [] x y s t (OneRow {mid = mid} {bytes = bytes} {lines = more} f l is rest) ends NoRows others e =
-    absurd (no_line view.style (place_behind start) (side_in who from) is.after t y f is.line (bytes ++ x) others is.reported (sym e ∙ append_assoc f bytes x))
-rows_one one_text view m who to too start from _ _ _ _ x y s t (OneRow {mid = mid} {bytes = bytes} {lines = more} f l is rest) ends (OneRow {mid = last} {bytes = left} {lines = less} g k has tail) others e =
-    let one = lists_one one_text view m who (place_behind start) from mid last f g l k (bytes ++ x) (left ++ y) is has (sym (append_assoc f bytes x) ∙ e ∙ append_assoc g left y) in
-    let here : Rows view m who too (start + length f) mid left less = subst (λ h. Rows view m who too (start + length f) h left less) (sym one.knowns) (subst (λ h. Rows view m who too (start + length h) last left less) (sym one.frames) tail) in
-    let same = rows_one one_text view m who to too (start + length f) mid bytes left more less x y s t rest ends here others one.rests in
-    record {
-      fronts = ap (λ h. h ++ bytes) one.frames ∙ ap (λ h. g ++ h) same.fronts;
-      texts = ap (λ h. h ++ more) one.texts ∙ ap (λ h. k ++ h) same.texts;
-      rests = same.rests;
-      ends = same.ends;
-      knowns = same.knowns;
-    }
+-- and where none stands first, none is listed
+no_text : (view : View) (m : List ℕ) (who : Sender) (place : ℕ) (from to : Known) (stopped : Bool) (rest f text x : List ℕ) → Ends (side_in who from) stopped rest → ListsFrame view m who place from f text to → rest ≡ f ++ x → ⊥
+no_text view m who place from to stopped rest f text x ends has e = no_line view.style place (side_in who from) has.after stopped rest f has.line x ends has.reported e
 
 -- ---- a chunk
 
@@ -121,10 +70,10 @@ chunk_lists_one one_text view before after then chunk text another a b =
     let m = mark view.style.form who (since (first_time before.start chunk.micros) chunk.micros) in
     let start = (half_in who before).passed in
     let from = now_at chunk.micros before.known in
-    let one = rows_one one_text view m who after.known then.known start from a.front b.front text another (half_in who after).rest (half_in who then).rest (half_in who after).stopped (half_in who then).stopped
-    (rows_of view m who start from after.known a.front text a.each) a.ending (rows_of view m who start from then.known b.front another b.each) b.ending (sym a.whole ∙ b.whole) in
+    let one = rows_one (ListsFrame view m who) (λ k. Ends (side_in who k)) (lists_one one_text view m who) (λ k. ends_one (side_in who k)) (no_text view m who) after.known then.known start from a.front b.front text another
+    (half_in who after).rest (half_in who then).rest (half_in who after).stopped (half_in who then).stopped a.each a.ending b.each b.ending (sym a.whole ∙ b.whole) in
     let half = half_same (half_in who after) (half_in who then) (a.passed ∙ ap (λ l. start + length l) one.fronts ∙ sym b.passed) one.rests one.ends in
-    (one.texts, talk_same who after then one.knowns half (a.same ∙ sym b.same) (a.start ∙ sym b.start))
+    (one.texts, talk_same who after then one.states half (a.same ∙ sym b.same) (a.start ∙ sym b.start))
 
 data InOrder (view : View) (to : Talk) : Talk → List Chunk → List ℕ → Type 0 where
   NoMore : InOrder view to to [] []

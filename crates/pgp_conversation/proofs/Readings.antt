@@ -26,10 +26,6 @@ never_ends frame r stopped is ends = no_ending is.first [] stopped is.fits (subs
 long : (frame rest : List ℕ) (r : Result Message Error) → TakesFrame frame r rest → length frame ≡ 1 → ⊥
 long frame rest r t e = absurd (omega (arith, e, ap length t.whole, length-frame t.first rest))
 
-abbrev message_in : Message → Result Message Error → Message
-message_in d (Ok m) = m
-message_in d (Err e) = d
-
 abbrev IsRead : Result Message Error → Type 0
 IsRead (Ok m) = Unit {0}
 IsRead (Err e) = ⊥
@@ -77,9 +73,6 @@ module _ (kind : PasswordKind) (here new there : client.Unread) where
   pub none_sent : (r : Result ClientMessage ClientError) → client.Step kind here (Ok None) new → client.Step kind here (step_of r) there → ⊥
   none_sent (Ok k) a b = subst IsSent (sym (step_one kind here new there (Ok None) (step_of (Ok k)) a b).0) tt
   none_sent (Err e) a b = subst IsRefused (sym (step_one kind here new there (Ok None) (step_of (Err e)) a b).0) tt
-
-abbrev unread : List ℕ → Bool → client.Unread
-unread bytes opened = record { bytes = bytes; opened = opened }
 
 -- what holds of the reading that was met holds of each
 
@@ -173,24 +166,6 @@ unnoted_reads style place opened kind frame name None types line plain some (Hea
 }
 unnoted_reads style place opened kind frame name None types line plain some Unsaid is = absurd (some is)
 unnoted_reads style place opened kind frame name None types line plain some (Sent r) is = absurd is
-
--- ---- the line of a request
-
-pub shows_request : (style : Style) (place len n : ℕ) (said : Said) (types : Types) (old new : List ℕ) → ShowsRequest style place len said types old new → ShowsTyped style place len (told.Number n) said (Some types) old new
-shows_request style place len n (Sent (Ok m)) types old new s = s
-shows_request style place len n said types old new s = s
-
--- an answer to a request changes no line of a client's
-pub shows_answer : (style : Style) (place len n sent now : ℕ) (opened : Bool) (kind : PasswordKind) (frame : List ℕ) (types : Option Types) (line : List ℕ) → (said : Said) → ReadsSo Client opened kind frame said
-    → ShowsTyped style place len (told.Answer n sent now) said types line line
-shows_answer style place len n sent now opened kind frame types line (Sent r) is = refl
-shows_answer style place len n sent now opened kind frame types line (Heard r) is = absurd is
-shows_answer style place len n sent now opened kind frame types line Unsaid is = absurd is
-
--- and no request one of which no types are known
-pub shows_untyped : (style : Style) (place len n : ℕ) (said : Said) (line : List ℕ) → ShowsTyped style place len (told.Number n) said None line line
-shows_untyped style place len n (Sent (Ok m)) line = refl
-shows_untyped style place len n said line = refl
 
 -- ---- what a call returns
 

@@ -7,10 +7,6 @@ pub ok_then : {T E P Q : Type 0} (r : Result T E) → (P → Q) → OnOk r P →
 ok_then (Ok x) f p = f p
 ok_then (Err e) f p = tt
 
-pub ok_both : {T E P Q S : Type 0} (r : Result T E) → (P → Q → S) → OnOk r P → OnOk r Q → OnOk r S
-ok_both (Ok x) f p q = f p q
-ok_both (Err e) f p q = tt
-
 -- ---- values
 
 module _ (style : Style) (columns : List Column) (value : Option (Range ℕ) → Option (List ℕ)) (before after : Walk (Option (Range ℕ))) where

@@ -1,8 +1,8 @@
 -- Frames that differ in their secrets alone have the same text.
-use Rattle.pgp_conversation.proofs.Common.{◌≡◌, ℕ, Bool, true, false, List, [], ◌∷◌, ◌++◌, length, get_or, Result, refl, sym, ap, subst, ◌∙◌, inl, inr, arith, append-nil, Error, Body, Message, Frame, IsFrame, frame_bytes, one_body, length-frame, PasswordKind, Style, ReadsAs, IsServerLine, LineOf, name_in, server_name, AlikeFrames, AlikeResults, quiet, quietly, Side, answered, is_reported, replicates_behind, server_at, Beginning, Messages, Replicating, Encrypted, View, Sender, Known, ListsFrame, note, noted_in, side_in, text_of, told_by, with_numbers, with_side, with_types, asking, role_in, told_in, asking_in, summed, word, ShowsTyped, said_in}
+use Rattle.pgp_conversation.proofs.Common.{◌≡◌, ℕ, Bool, true, false, List, [], ◌∷◌, ◌++◌, length, get_or, Result, refl, sym, ap, subst, ◌∙◌, inl, inr, arith, append-nil, Error, Body, Message, Frame, IsFrame, frame_bytes, front_is_one, one_body, length-frame, PasswordKind, Style, ReadsAs, IsServerLine, LineOf, name_in, server_name, AlikeFrames, AlikeResults, quiet, quietly, Side, answered, is_reported, replicates_behind, server_at, Beginning, Messages, Replicating, Encrypted, View, Sender, Known, ListsFrame, note, noted_in, side_in, text_of, told_by, with_numbers, with_side, with_types, asking, role_in, told_in, asking_in, summed, word, ShowsTyped, said_in}
 use Rattle.pgp_trace.specs.Sides.{Server, Client}
 use Rattle.pgp_trace.proofs.ClientStreams as sent
-use Rattle.pgp_trace.proofs.Streams.{AreFrames, line_hidden, one_last}
+use Rattle.pgp_trace.proofs.Streams.{line_hidden}
 use Rattle.pgp_conversation.specs.Secrets.{AlikeIn, AlikeReceived, AlikeSent}
 use Rattle.pgp_conversation.proofs.Alike.{asks_alike, client_roles, notes_alike, server_roles}
 use Rattle.pgp_conversation.proofs.TypedAlike.{AlikeSaid, learns_alike, shows_alike}
@@ -17,12 +17,6 @@ record Hidden (style : Style) (place : ℕ) (from : Side) (frame other line : Li
 
 -- ---- a server's
 
-no_frames : AreFrames []
-no_frames = record { frames = []; whole = refl; each = tt }
-
-one_frame : (f g : Frame) → IsFrame f → IsFrame g → frame_bytes f ≡ frame_bytes g → f ≡ g
-one_frame f g ff gg e = (one_last [] [] f g no_frames no_frames ff gg e).1
-
 record ServerHidden (style : Style) (place : ℕ) (replicating : Bool) (frame other line : List ℕ) (is : IsServerLine (quiet style) place replicating frame line) : Type 0 where
   same : IsServerLine (quiet style) place replicating other line
   named : server_name is.first.tag is.reported.result ≡ server_name same.first.tag same.reported.result
@@ -36,7 +30,7 @@ result_alike f g r s fits alike a b = let same = alike.bodies r a in subst (Alik
 
 server_hidden : (style : Style) (place : ℕ) (replicating : Bool) (frame other line : List ℕ) → AlikeReceived frame other → (is : IsServerLine (quiet style) place replicating frame line) → ServerHidden style place replicating frame other line is
 server_hidden style place replicating frame other line a is =
-    let one : a.first ≡ is.first = one_frame a.first is.first a.fits is.fits (sym a.one ∙ is.whole) in
+    let one : a.first ≡ is.first = (front_is_one a.first is.first [] [] a.fits is.fits (ap (λ l. l ++ []) (sym a.one ∙ is.whole))).0 in
     let alike = rw one at a.alike in
     let hidden = line_hidden style place replicating is.first a.second line alike is.reported in
     record {
@@ -94,7 +88,7 @@ hidden style place (Server Replicating) frame other line to a is = replicating_h
 hidden style place (Server Encrypted) frame other line to a is = absurd is
 hidden style place (Client opened kinds replicating) frame other line to a is = client_hidden style place opened kinds replicating frame other line to a is
 
-long_alike : (from : Side) (frame other : List ℕ) → AlikeIn from frame other → length frame ≡ length other
+pub long_alike : (from : Side) (frame other : List ℕ) → AlikeIn from frame other → length frame ≡ length other
 long_alike (Server phase) frame other a = ap length a.one ∙ a.alike.long ∙ sym (ap length a.two)
 long_alike (Client opened kinds replicating) frame other a = a.alike.long
 

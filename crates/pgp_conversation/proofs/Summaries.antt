@@ -1,5 +1,5 @@
 -- Where a summary is asked for, the table is all that is written.
-use Rattle.pgp_conversation.proofs.Common.{◌≡◌, ℕ, ◌+◌, Bool, true, false, List, [], ◌∷◌, ◌++◌, length, Option, Some, None, Result, Ok, Err, refl, sym, ap, ◌∙◌, inl, inr, ◌==◌, ◌||◌, is_some, not, if◌then◌else◌, bytes_eq, codes, Error, Message, Authentication, AuthenticationOk, ClientMessage, SaslResponse, ClientError, Style, State, client_name, LineOf, client_frame_name, name_in, place_behind, server_name, Side, is_reported, View, color_of, is_listed, painted, shown, Beginning, Messages, Replicating, Encrypted, Sender, End, Marking, Role, Told, Known, ListsChunks, ListsFrame, ListsFrames, NoChunkListed, NoFrames, OneChunkListed, OneFrame, Talk, answer_to, begins, called, counts, either, first_time, half_in, last_lines, last_of, left, noted_in, now_at, relined, side_in, told_by, with_numbers, with_side, with_types, mark, marked, since, word, Chunk, Numbers, at_time, first_numbers, role_in, summary_in, told_in, unnumbered, IsListing, summarized, Asking, asking_in, summed, summed_so, ending_by, table}
+use Rattle.pgp_conversation.proofs.Common.{◌≡◌, ℕ, ◌+◌, Bool, true, false, List, [], ◌∷◌, ◌++◌, length, Option, Some, None, Result, Ok, Err, refl, sym, ap, ◌∙◌, inl, inr, ◌==◌, ◌||◌, is_some, not, if◌then◌else◌, bytes_eq, codes, Error, Message, Authentication, AuthenticationOk, ClientMessage, SaslResponse, ClientError, Style, State, client_name, LineOf, client_frame_name, name_in, place_behind, server_name, Side, is_reported, View, color_of, is_listed, painted, shown, Beginning, Messages, Replicating, Encrypted, Sender, End, Marking, Role, Told, Known, ListsChunks, ListsFrame, ListsFrames, NoChunkListed, NoLines, OneChunkListed, OneLine, Talk, answer_to, begins, called, counts, either, first_time, half_in, last_lines, last_of, left, noted_in, now_at, relined, side_in, told_by, with_numbers, with_side, with_types, mark, marked, since, word, Chunk, Numbers, at_time, first_numbers, role_in, summary_in, told_in, unnumbered, IsListing, summarized, Asking, asking_in, summed, summed_so, ending_by, table}
 use Rattle.pgp_trace.specs.Names.{name_of}
 use Rattle.pgp_trace.specs.Sides.{Server, Client}
 use Rattle.pgp_conversation.specs.declared.chunk.Sender.TheVariants as sides
@@ -71,8 +71,8 @@ frame_none view m who place here to frame text l =
     (called_some here.requests name (line_some view.style place (side_in who here) frame l.line l.after l.reported))
 
 frames_none : (view : View) (m : List ℕ) (who : Sender) (place : ℕ) (from : Known) (bytes lines : List ℕ) (to : Known) → ListsFrames (summarized true view) m who place from bytes lines to → lines ≡ []
-frames_none view m who place from [] [] _ NoFrames = refl
-frames_none view m who place from _ _ to (OneFrame {bytes = bytes} {lines = lines} {here = here} frame text before one) =
+frames_none view m who place from [] [] _ NoLines = refl
+frames_none view m who place from _ _ to (OneLine {bytes = bytes} {lines = lines} {here = here} frame text before one) =
     ap (λ l. l ++ text) (frames_none view m who place from bytes lines here before) ∙ frame_none view m who (place_behind (place + length bytes)) here to frame text one
 
 chunks_none : (view : View) (from : Talk) (chunks : List Chunk) (lines : List ℕ) (to : Talk) → ListsChunks (summarized true view) from chunks lines to → lines ≡ []
@@ -114,8 +114,8 @@ frame_kept view m who place here to frame text l =
     ∙ sum_kept l.told asking name l.numbers ∙ ap (λ (x : Told × Option Numbers). is_summed x.1) (sym l.numbered) ∙ told_kept (role_in view.style place from frame l.line l.after l.reported) here.numbers
 
 frames_kept : (view : View) (m : List ℕ) (who : Sender) (place : ℕ) (from : Known) (bytes lines : List ℕ) (to : Known) → ListsFrames view m who place from bytes lines to → is_summed to.numbers ≡ is_summed from.numbers
-frames_kept view m who place from [] [] _ NoFrames = refl
-frames_kept view m who place from _ _ to (OneFrame {bytes = bytes} {lines = lines} {here = here} frame text before one) =
+frames_kept view m who place from [] [] _ NoLines = refl
+frames_kept view m who place from _ _ to (OneLine {bytes = bytes} {lines = lines} {here = here} frame text before one) =
     frame_kept view m who (place_behind (place + length bytes)) here to frame text one ∙ frames_kept view m who place from bytes lines here before
 
 chunks_kept : (view : View) (from : Talk) (chunks : List Chunk) (lines : List ℕ) (to : Talk) → ListsChunks view from chunks lines to → is_summed to.known.numbers ≡ is_summed from.known.numbers

@@ -1,5 +1,5 @@
 -- What is asked and heard in turn in a listing.
-use Rattle.pgp_conversation.proofs.Common.{◌≡◌, ◌≢◌, ℕ, Bool, true, false, List, [], ◌∷◌, ◌++◌, ◌+◌, length, Option, Some, None, Result, Ok, Err, refl, sym, ap, subst, ◌∙◌, append_assoc, append-nil, place_behind, View, Sender, Marking, Noted, Role, Told, Known, ListsChunks, ListsFrames, NoChunkListed, NoFrames, OneChunkListed, OneFrame, begins, counts, first_time, half_in, note, noted_in, now_at, side_in, with_numbers, with_side, with_types, mark, since, Chunk, Numbers, at_time, first_numbers, placed, role_in, tell, told_in, Asking, asking_in, summed, name_in, State}
+use Rattle.pgp_conversation.proofs.Common.{◌≡◌, ◌≢◌, ℕ, Bool, true, false, List, [], ◌∷◌, ◌++◌, ◌+◌, length, Option, Some, None, Result, Ok, Err, refl, sym, ap, subst, ◌∙◌, append_assoc, append-nil, place_behind, View, Sender, Marking, Noted, Role, Told, Known, ListsChunks, ListsFrames, NoChunkListed, NoLines, OneChunkListed, OneLine, begins, counts, first_time, half_in, note, noted_in, now_at, side_in, with_numbers, with_side, with_types, mark, since, Chunk, Numbers, at_time, first_numbers, placed, role_in, tell, told_in, Asking, asking_in, summed, name_in, State}
 use Rattle.pgp_client.proofs.Exact.{turns_are_sent}
 use Rattle.pgp_client.proofs.Timely.{sent_in_turns, true_in_turns}
 use Rattle.pgp_client.specs.Taking.{asked, taken, taken_as, observed, observed_at, moved, event_of, is_aside, ready}
@@ -144,8 +144,8 @@ note_kept n known = refl
 
 frames_come : (view : View) (m : List ℕ) (who : Sender) (place : ℕ) (from : Known) (bytes lines : List ℕ) (to : Known) (l : ListsFrames view m who place from bytes lines to) (turns : List Turn)
     → Come from.numbers turns → Come to.numbers (turns ++ turns_of view m who place from bytes lines to l)
-frames_come view m who place from [] [] _ NoFrames turns c = subst (Come from.numbers) (sym (append-nil turns)) c
-frames_come view m who place from _ _ to (OneFrame {bytes = bytes} {lines = lines} {here = here} frame text before one) turns c =
+frames_come view m who place from [] [] _ NoLines turns c = subst (Come from.numbers) (sym (append-nil turns)) c
+frames_come view m who place from _ _ to (OneLine {bytes = bytes} {lines = lines} {here = here} frame text before one) turns c =
     let at = place_behind (place + length bytes) in
     let r = role_in view.style at (side_in who here) frame one.line one.after one.reported in
     let noting = noted_in view.style at (side_in who here) frame one.line one.after one.reported in

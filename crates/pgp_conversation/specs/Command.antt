@@ -1,24 +1,14 @@
 -- What the program does for its words.
 use Rattle.std.specs.Prelude.{◌≡◌, ⊤, ◌⊎◌, ℕ, Bool, List, [], ◌∷◌, ◌++◌, Option, IfSome, codes}
-use Rattle.std.specs.Io.KnownBytes.{Keeps, Appends, IsAtEnd}
+use Rattle.pgp_conversation.specs.Common.{Keeps, Appends, IsAtEnd, Streams, Caused, IsUnread, AppendsFront, AreWords, Fault, Memory, Read, Write, AreOptions, Chosen, chosen_of, options_in, view_by, first_phase, View, Marking, End}
 use Rattle.pgp_program.specs.Run as run
-use Rattle.pgp_program.specs.Run.{Streams, Caused, IsUnread}
-use Rattle.pgp_program.specs.Taken.{AppendsFront}
-use Rattle.pgp_program.specs.Words.{AreWords}
-use Rattle.pgp_program.specs.declared.fault.Fault.{Fault}
-use Rattle.pgp_program.specs.declared.fault.Fault.TheVariants.{Memory, Read, Write}
 use Rattle.pgp_trace.specs.Listing as stream
-use Rattle.pgp_trace.specs.Options.{AreOptions, Chosen, chosen_of, options_in, view_by}
 use Rattle.pgp_trace.specs.Sides as side
-use Rattle.pgp_trace.specs.Sides.{first_phase}
-use Rattle.pgp_trace.specs.View.{View}
-use Rattle.pgp_trace.specs.declared.marking.Marking.{Marking}
 use Rattle.pgp_trace.specs.declared.options.Listing.{Listing}
 use Rattle.pgp_trace.specs.declared.options.Listing.TheVariants.{Server, Client, Session}
 use Rattle.pgp_conversation.specs.Recording.{status_of}
 use Rattle.pgp_conversation.specs.Session as recording
 use Rattle.pgp_conversation.specs.Session.{summarized}
-use Rattle.pgp_conversation.specs.declared.ending.End.{End}
 use Rattle.pgp_conversation.specs.declared.run as code
 use Rattle.pgp_conversation.specs.declared.run.Command.TheVariants as variants
 

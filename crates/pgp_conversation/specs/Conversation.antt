@@ -1,29 +1,14 @@
 -- The listing of both sides of a connection, a chunk at a time.
 use Rattle.std.specs.Prelude.{◌≡◌, ℕ, ◌+◌, Bool, true, false, not, ◌==◌, ◌||◌, if◌then◌else◌, List, [], ◌∷◌, ◌++◌, drop, length, Result, Ok, Err, Option, None, Some, bytes_eq, codes}
-use Rattle.pgp_base.specs.declared.error.Error.{Error}
-use Rattle.pgp_message.specs.BackendMessage.{Message, Authentication, AuthenticationCleartextPassword, AuthenticationMd5Password, AuthenticationSasl, AuthenticationSaslContinue, AuthenticationGss, AuthenticationSspi, AuthenticationGssContinue}
-use Rattle.pgp_frontend.specs.ClientMessage.{ClientMessage, SslRequest, GssEncRequest}
-use Rattle.pgp_frontend_read.specs.declared.error.ClientError.{ClientError}
-use Rattle.pgp_frontend_read.specs.declared.message.PasswordKind.{PasswordKind}
+use Rattle.pgp_conversation.specs.Common.{Error, Message, Authentication, AuthenticationCleartextPassword, AuthenticationMd5Password, AuthenticationSasl, AuthenticationSaslContinue, AuthenticationGss, AuthenticationSspi, AuthenticationGssContinue, ClientMessage, SslRequest, GssEncRequest, ClientError, PasswordKind, Length, Tag, Name, closing, followed, opening, Style, LineOf, name_in, place_behind, last_line, Side, Ends, Beginning, Messages, Replicating, Encrypted, View, shown, Sender, Client, Server, Marking, Noted, Told, Uncounted}
 use Rattle.pgp_frontend_read.specs.declared.message.PasswordKind.TheVariants.{Password, Initial, Response}
-use Rattle.pgp_line.specs.Line.{Length, Tag, Name, closing, followed, opening}
-use Rattle.pgp_line.specs.declared.style.Style.{Style}
-use Rattle.pgp_trace.specs.Listing.{LineOf, name_in, place_behind, last_line}
+pub use Rattle.pgp_trace.specs.Rows.{Rows, NoLines, OneLine}
 use Rattle.pgp_trace.specs.Sides as side
-use Rattle.pgp_trace.specs.Sides.{Side, Ends}
 use Rattle.pgp_trace.specs.declared.side.Phase.{Phase}
-use Rattle.pgp_trace.specs.declared.side.Phase.TheVariants.{Beginning, Messages, Replicating, Encrypted}
-use Rattle.pgp_trace.specs.View.{View, shown}
-use Rattle.pgp_conversation.specs.declared.chunk.Sender.{Sender}
-use Rattle.pgp_conversation.specs.declared.chunk.Sender.TheVariants.{Client, Server}
-use Rattle.pgp_trace.specs.declared.marking.Marking.{Marking}
 use Rattle.pgp_conversation.specs.declared.expectation.Encryption.{Encryption}
 use Rattle.pgp_conversation.specs.declared.expectation.Encryption.TheVariants.{Tls, Gss}
-use Rattle.pgp_conversation.specs.declared.expectation.Noted.{Noted}
 use Rattle.pgp_conversation.specs.declared.expectation.Noted.TheVariants.{Asks, Requests, Answers, Nothing}
 use Rattle.pgp_conversation.specs.Recording.{Chunk}
-use Rattle.pgp_conversation.specs.declared.placement.Told.{Told}
-use Rattle.pgp_conversation.specs.declared.placement.Told.TheVariants.{Uncounted}
 use Rattle.pgp_conversation.specs.Marks.{last_mark, mark, marked, since, word}
 use Rattle.pgp_conversation.specs.Requests.{Numbers, at_time, first_numbers, role_in, summary_in, told_in, unnumbered}
 use Rattle.pgp_conversation.specs.Summing.{asking_in, summed}
@@ -188,10 +173,8 @@ pub record ListsFrame (view : View) (mark : List ℕ) (sender : Sender) (place :
       (with_types types (with_numbers (summed told (asking_in view.style place (side_in sender here) frame line after reported) (name_in view.style place (side_in sender here) frame line after reported) numbers) (with_side sender here after)))
 
 -- These bytes, after so many others, are complete frames of this side, and each has its line, in order.
-pub data ListsFrames (view : View) (mark : List ℕ) (sender : Sender) (start : ℕ) (from : Known) : List ℕ → List ℕ → Known → Type 0 where
-  NoFrames : ListsFrames view mark sender start from [] [] from
-  OneFrame : {bytes lines : List ℕ} {here to : Known} (frame text : List ℕ) → ListsFrames view mark sender start from bytes lines here
-      → ListsFrame view mark sender (place_behind (start + length bytes)) here frame text to → ListsFrames view mark sender start from (bytes ++ frame) (lines ++ text) to
+abbrev pub ListsFrames : View → (mark : List ℕ) → Sender → (start : ℕ) → Known → (bytes lines : List ℕ) → Known → Type 0
+ListsFrames view mark sender start from = Rows (ListsFrame view mark sender) start from
 
 -- ---- chunk by chunk
 

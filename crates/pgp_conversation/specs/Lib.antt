@@ -1,3 +1,4 @@
+pub mod Common
 pub mod Recording
 pub mod Marks
 pub mod Requests
@@ -12,6 +13,7 @@ pub mod Conversation
 pub mod Steps
 pub mod Session
 pub mod Secrets
+pub mod AlikeRecordings
 pub mod Order
 pub mod Turns
 pub mod Pieces

@@ -1,12 +1,6 @@
 -- The mark of a line: when its message was whole, who sent it, and which request it is or belongs to.
 use Rattle.std.specs.Prelude.{ℕ, ◌-◌, ◌/◌, ◌%◌, nat_lt, ◌==◌, if◌then◌else◌, List, [], ◌∷◌, ◌++◌, length, codes, decimal}
-use Rattle.pgp_line.specs.Line.{blanks}
-use Rattle.pgp_line.specs.declared.style.Form.{Form}
-use Rattle.pgp_line.specs.declared.style.Form.TheVariants.{Columns, Json}
-use Rattle.pgp_conversation.specs.declared.chunk.Sender.{Sender}
-use Rattle.pgp_conversation.specs.declared.chunk.Sender.TheVariants.{Client, Server}
-use Rattle.pgp_conversation.specs.declared.placement.Told.{Told}
-use Rattle.pgp_conversation.specs.declared.placement.Told.TheVariants.{Number, Answer, Lost, Nothing, Uncounted}
+use Rattle.pgp_conversation.specs.Common.{blanks, Form, Columns, Json, Sender, Client, Server, Told, Number, Answer, Lost, Nothing, Uncounted}
 use Rattle.pgp_conversation.specs.Recording.{arrow}
 
 -- so many microseconds as seconds, with six digits after the point

@@ -1,9 +1,6 @@
 -- What each side sent in a recording.
 use Rattle.std.specs.Prelude.{◌≡◌, List, [], ◌++◌, length, ℕ}
-use Rattle.std.specs.List.{flat_map}
-use Rattle.pgp_trace.specs.Sides.{Ends}
-use Rattle.pgp_conversation.specs.declared.chunk.Sender.{Sender}
-use Rattle.pgp_conversation.specs.declared.chunk.Sender.TheVariants.{Client, Server}
+use Rattle.pgp_conversation.specs.Common.{flat_map, Ends, Sender, Client, Server}
 use Rattle.pgp_conversation.specs.Conversation.{Talk, half_in, side_in}
 use Rattle.pgp_conversation.specs.Recording.{Chunk}
 

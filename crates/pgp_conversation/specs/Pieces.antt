@@ -1,10 +1,6 @@
 -- Private: what a piece of a recording adds to its listing.
 use Rattle.std.specs.Prelude.{◌≡◌, ◌≢◌, ℕ, Bool, true, false, List, [], ◌++◌, Option}
-use Rattle.std.specs.Io.KnownBytes.{Appends}
-use Rattle.pgp_program.specs.Taken.{AppendsFront}
-use Rattle.pgp_trace.specs.View.{View}
-use Rattle.pgp_conversation.specs.declared.chunk.Sender.TheVariants.{Client, Server}
-use Rattle.pgp_trace.specs.declared.marking.Marking.{Marking}
+use Rattle.pgp_conversation.specs.Common.{Appends, AppendsFront, View, Client, Server, Marking}
 use Rattle.pgp_conversation.specs.Requests.{summary_in, unnumbered}
 use Rattle.pgp_conversation.specs.Conversation.{Talk, at_first, first_start, last_of, told_by}
 use Rattle.pgp_conversation.specs.Recording.{IsNoChunk, IsPartial, magic}

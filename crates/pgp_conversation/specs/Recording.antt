@@ -1,11 +1,7 @@
 -- A recording of a connection: what it begins with, and then its chunks, in the order in which they came.
 use Rattle.std.specs.Prelude.{◌≡◌, ◌≢◌, ◌⊎◌, ⊤, ℕ, ◌<◌, ◌^◌, Bool, true, false, List, [], ◌∷◌, ◌++◌, length, codes}
-use Rattle.std.specs.List.{flat_map, AllByRecursion}
+use Rattle.pgp_conversation.specs.Common.{flat_map, AllByRecursion, Sender, Client, Server, End, Whole, Cut, NoChunk, NoRecording}
 use Rattle.pgp_base.specs.Wire.{uint32, uint64}
-use Rattle.pgp_conversation.specs.declared.chunk.Sender.{Sender}
-use Rattle.pgp_conversation.specs.declared.chunk.Sender.TheVariants.{Client, Server}
-use Rattle.pgp_conversation.specs.declared.ending.End.{End}
-use Rattle.pgp_conversation.specs.declared.ending.End.TheVariants.{Whole, Cut, NoChunk, NoRecording}
 
 -- bytes that came at once: who sent them, and when, in microseconds since 1970
 pub record Chunk : Type 0 where

@@ -1,26 +1,12 @@
 -- The client's requests, and to which of them each message of the server belongs.
 use Rattle.std.specs.Prelude.{ℕ, ◌+◌, ◌-◌, ◌==◌, Bool, false, not, if◌then◌else◌, List, [], ◌∷◌, ◌++◌, length, get_or, Option, None, Some, Result, Ok, Err}
-use Rattle.pgp_base.specs.declared.error.Error.{Error}
-use Rattle.pgp_message.specs.BackendMessage.{Message}
-use Rattle.pgp_frontend.specs.ClientMessage.{ClientMessage}
-use Rattle.pgp_frontend_read.specs.declared.error.ClientError.{ClientError}
+use Rattle.pgp_conversation.specs.Common.{Error, Message, ClientMessage, ClientError, Talk, start, Event, Kind, Asked, Style, LineOf, State, nothing, Side, Role, Told}
 use Rattle.pgp_client.specs.Kinds.{kind_of, kind_of_tag, request_of, request_of_tag}
 use Rattle.pgp_client.specs.Taking.{asked, taken}
-use Rattle.pgp_client.specs.Talk.{Talk}
-use Rattle.pgp_client.specs.Telling.{start}
-use Rattle.pgp_client.specs.declared.event.Event.{Event}
 use Rattle.pgp_client.specs.declared.event.Event.TheVariants.{Part, Last, Aside, Ended}
 use Rattle.pgp_client.specs.declared.event.Refusal.{Refusal}
-use Rattle.pgp_client.specs.declared.kind.Kind.{Kind}
-use Rattle.pgp_client.specs.declared.request.Asked.{Asked}
 use Rattle.pgp_client.specs.declared.request.Request.{Request}
-use Rattle.pgp_line.specs.declared.style.Style.{Style}
-use Rattle.pgp_trace.specs.Listing.{LineOf}
-use Rattle.pgp_summary.specs.Summary.{State, nothing}
-use Rattle.pgp_trace.specs.Sides.{Side}
-use Rattle.pgp_conversation.specs.declared.role.Role.{Role}
 use Rattle.pgp_conversation.specs.declared.role.Role.TheVariants as role
-use Rattle.pgp_conversation.specs.declared.placement.Told.{Told}
 use Rattle.pgp_conversation.specs.declared.placement.Told.TheVariants as told
 use Rattle.pgp_conversation.specs.Typed.{Heard, Said, Sent, Unsaid, said_in}
 

@@ -1,23 +1,11 @@
 -- Frames of a side that differ in their secrets alone.
 use Rattle.std.specs.Prelude.{◌≡◌, ℕ, Bool, List, get_or, Err}
-use Rattle.pgp_message.specs.Stream.{Frame, IsFrame, frame_bytes}
-use Rattle.pgp_frontend_read.specs.declared.error.ClientError.{ClientError}
-use Rattle.pgp_frontend_read.specs.declared.message.PasswordKind.{PasswordKind}
+use Rattle.pgp_conversation.specs.Common.{ClientError, PasswordKind, Side}
 use Rattle.pgp_trace.specs.ClientSecrets.{AlikeClientFrames, ReadsAs}
-use Rattle.pgp_trace.specs.Secrets.{AlikeFrames}
-use Rattle.pgp_trace.specs.Sides.{Side, Server, Client}
+pub use Rattle.pgp_trace.specs.Secrets.{AlikeReceived}
+use Rattle.pgp_trace.specs.Sides.{Server, Client}
 
--- a server's: of one tag and one length, with bodies that are alike
-pub record AlikeReceived (frame other : List ℕ) : Type 0 where
-  pub first : Frame
-  pub second : Frame
-  pub one : frame ≡ frame_bytes first
-  pub two : other ≡ frame_bytes second
-  pub fits : IsFrame first
-  pub holds : IsFrame second
-  pub alike : AlikeFrames first second
-
--- a client's likewise; of one that is rejected the tag and the first byte of its payload are the same, by which it may be a request
+-- a client's: of one that is rejected the tag and the first byte of its payload are the same, by which it may be a request
 pub record AlikeSent (opened : Bool) (kinds : List PasswordKind) (frame other : List ℕ) : Type 0 where
   pub alike : AlikeClientFrames opened kinds frame other
   pub rejected : (e : ClientError) (now : Bool) → ReadsAs opened kinds frame (Err e) now → (get_or frame 0 0 ≡ get_or other 0 0) × (get_or frame 5 0 ≡ get_or other 5 0)

@@ -1,15 +1,6 @@
 -- The listing of a recording, as it comes.
 use Rattle.std.specs.Prelude.{◌≡◌, ◌≢◌, ◌⊎◌, ⊤, ℕ, Bool, true, false, List, [], ◌∷◌, ◌++◌, Option}
-use Rattle.std.specs.Io.KnownBytes.{Appends, Consumes, IsAtEnd, Keeps}
-use Rattle.pgp_program.specs.Run.{Streams}
-use Rattle.pgp_program.specs.Taken.{AppendsFront}
-use Rattle.pgp_program.specs.declared.fault.Fault.{Fault}
-use Rattle.pgp_program.specs.declared.fault.Fault.TheVariants.{Read}
-use Rattle.pgp_trace.specs.Hints.{hint_of}
-use Rattle.pgp_trace.specs.View.{View}
-use Rattle.pgp_conversation.specs.declared.ending.End.{End}
-use Rattle.pgp_conversation.specs.declared.ending.End.TheVariants.{Whole, Cut, NoChunk, NoRecording}
-use Rattle.pgp_trace.specs.declared.marking.Marking.{Marking}
+use Rattle.pgp_conversation.specs.Common.{Appends, Consumes, IsAtEnd, Keeps, Streams, AppendsFront, Fault, Read, hint_of, View, End, Whole, Cut, NoChunk, NoRecording, Marking}
 use Rattle.pgp_conversation.specs.Conversation.{ListsChunks, Talk, begins, last_lines, left}
 use Rattle.pgp_conversation.specs.Recording.{Chunk, EndsBy, IsPartial, Records, complaint_of, magic}
 

@@ -1,7 +1,6 @@
 -- What is known under names: of a statement or a portal its columns, or of a statement its parameters.
 use Rattle.std.specs.Prelude.{ℕ, suc, ℤ, pos, negsuc, Bool, false, ◌==◌, List, [], ◌∷◌, get_or, Option, None, Some}
-use Rattle.pgp_names.specs.Names.{put, without}
-use Rattle.pgp_conversation.specs.declared.column.Column.{Column}
+use Rattle.pgp_conversation.specs.Common.{put, without, Column}
 
 -- columns that are kept under a name, in the place of others; or none
 abbrev pub kept : List ℕ → Option (List Column) → List (List ℕ × List Column) → List (List ℕ × List Column)

@@ -1,23 +1,14 @@
 -- Private: a part of a recording and a frame at a time.
 use Rattle.std.specs.Prelude.{◌≡◌, ◌≢◌, ◌⊎◌, ℕ, ◌<◌, ◌+◌, Bool, true, false, ◌==◌, if◌then◌else◌, List, [], ◌∷◌, ◌++◌, length, Option, None, Some}
 use Rattle.pgp_client.specs.Talk as dialogue
-use Rattle.pgp_client.specs.Talk.{Kept}
-use Rattle.pgp_client.specs.declared.request.Asked.{Asked}
-use Rattle.pgp_line.specs.declared.style.Style.{Style}
+use Rattle.pgp_conversation.specs.Common.{Kept, Asked, Style, place_behind, Side, Ends, View, Sender, Client, Server, End, Whole, Cut, NoChunk, NoRecording}
 use Rattle.pgp_trace.specs.declared.frame.Next.{Next}
 use Rattle.pgp_trace.specs.declared.frame.Next.TheVariants as next
-use Rattle.pgp_trace.specs.Listing.{place_behind}
 use Rattle.pgp_trace.specs.Sides as side
-use Rattle.pgp_trace.specs.Sides.{Side, Ends}
 use Rattle.pgp_trace.specs.Steps.{ListsNext}
-use Rattle.pgp_trace.specs.View.{View}
-use Rattle.pgp_conversation.specs.declared.chunk.Sender.{Sender}
-use Rattle.pgp_conversation.specs.declared.chunk.Sender.TheVariants.{Client, Server}
 use Rattle.pgp_conversation.specs.declared.chunk.Chunk as code
 use Rattle.pgp_conversation.specs.declared.chunk.Part.{Part}
 use Rattle.pgp_conversation.specs.declared.chunk.Part.TheVariants as part
-use Rattle.pgp_conversation.specs.declared.ending.End.{End}
-use Rattle.pgp_conversation.specs.declared.ending.End.TheVariants.{Whole, Cut, NoChunk, NoRecording}
 use Rattle.pgp_conversation.specs.declared.connection.Half as code_half
 use Rattle.pgp_conversation.specs.declared.connection.Talk as code_talk
 use Rattle.pgp_conversation.specs.declared.state.Known as code_known

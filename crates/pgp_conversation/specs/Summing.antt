@@ -1,17 +1,10 @@
 -- What requests ran, by the messages of both sides.
 use Rattle.std.specs.Prelude.{ℕ, ◌-◌, if◌then◌else◌, List, [], Option, Some, None, Result, Ok, Err, bytes_eq, codes}
-use Rattle.pgp_frontend.specs.ClientMessage.{ClientMessage, Bind, Execute, Parse, Query}
-use Rattle.pgp_frontend_read.specs.declared.error.ClientError.{ClientError}
-use Rattle.pgp_line.specs.declared.style.Style.{Style}
-use Rattle.pgp_summary.specs.Summary.{State, asked, ended, failed, row}
+use Rattle.pgp_conversation.specs.Common.{ClientMessage, Bind, Execute, Parse, Query, ClientError, Style, State, asked, ended, failed, row, LineOf, Side, Told, Number, Answer, Lost, Nothing, Uncounted}
 use Rattle.pgp_summary.specs.declared.work.Work.{Work}
 use Rattle.pgp_summary.specs.declared.work.Work.TheVariants as works
 use Rattle.pgp_summary.specs.declared.work.Reply.{Reply}
 use Rattle.pgp_summary.specs.declared.work.Reply.TheVariants.{ParseComplete, BindComplete, ExecuteEnd, ReadyForQuery}
-use Rattle.pgp_trace.specs.Listing.{LineOf}
-use Rattle.pgp_trace.specs.Sides.{Side}
-use Rattle.pgp_conversation.specs.declared.placement.Told.{Told}
-use Rattle.pgp_conversation.specs.declared.placement.Told.TheVariants.{Number, Answer, Lost, Nothing, Uncounted}
 use Rattle.pgp_conversation.specs.Requests.{Numbers}
 use Rattle.pgp_conversation.specs.Typed.{Said, Sent, said_in}
 

@@ -1,13 +1,6 @@
 -- The table of a summary.
 use Rattle.std.specs.Prelude.{ℕ, ◌-◌, List, [], ◌∷◌, ◌++◌, length, Option, Some, None, codes, decimal}
-use Rattle.std.specs.List.{flat_map}
-use Rattle.pgp_line.specs.Line.{blanks}
-use Rattle.pgp_line.specs.Quoting.{json_value, quoted, up_to}
-use Rattle.pgp_line.specs.declared.style.Form.{Form}
-use Rattle.pgp_line.specs.declared.style.Form.TheVariants.{Columns, Json}
-use Rattle.pgp_line.specs.declared.style.Style.{Style}
-use Rattle.pgp_summary.specs.Runs.{Tally, line_of}
-use Rattle.pgp_summary.specs.Summary.{State}
+use Rattle.pgp_conversation.specs.Common.{flat_map, blanks, json_value, quoted, up_to, Form, Columns, Json, Style, Tally, line_of, State}
 use Rattle.pgp_summary.specs.declared.entry.Line.{Line}
 use Rattle.pgp_conversation.specs.Marks.{millis, number}
 

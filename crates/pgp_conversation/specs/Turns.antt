@@ -2,15 +2,9 @@
 use Rattle.std.specs.Prelude.{◌≡◌, ◌+◌, ℕ, List, [], ◌∷◌, ◌++◌, length, Option, Some, None}
 use Rattle.pgp_client.specs.Flow.{Belong}
 use Rattle.pgp_client.specs.InTurns.{BelongInTurns}
-use Rattle.pgp_client.specs.Telling.{Turn, Asks, Hears, asked_in, observed_in, reported_in}
-use Rattle.pgp_client.specs.declared.event.Event.{Event}
-use Rattle.pgp_client.specs.declared.kind.Kind.{Kind}
-use Rattle.pgp_trace.specs.Listing.{place_behind}
-use Rattle.pgp_trace.specs.View.{View}
-use Rattle.pgp_conversation.specs.declared.chunk.Sender.{Sender}
-use Rattle.pgp_conversation.specs.declared.role.Role.{Role}
+use Rattle.pgp_conversation.specs.Common.{Turn, Asks, Hears, asked_in, observed_in, reported_in, Event, Kind, place_behind, View, Sender, Role}
 use Rattle.pgp_conversation.specs.declared.role.Role.TheVariants as role
-use Rattle.pgp_conversation.specs.Conversation.{Known, ListsChunks, ListsFrames, NoChunkListed, NoFrames, OneChunkListed, OneFrame, Talk, first_time, half_in, now_at, side_in}
+use Rattle.pgp_conversation.specs.Conversation.{Known, ListsChunks, ListsFrames, NoChunkListed, NoLines, OneChunkListed, OneLine, Talk, first_time, half_in, now_at, side_in}
 use Rattle.pgp_conversation.specs.Marks.{mark, since}
 use Rattle.pgp_conversation.specs.Recording.{Chunk}
 use Rattle.pgp_conversation.specs.Requests.{Numbers, next_number, place, role_in}
@@ -34,8 +28,8 @@ turns_at r (Some n) = turn_of r n
 -- those of frames, and of chunks, in order
 
 abbrev pub turns_of : (view : View) (m : List ℕ) (who : Sender) (start : ℕ) (from : Known) (bytes lines : List ℕ) (to : Known) → ListsFrames view m who start from bytes lines to → List Turn
-turns_of view m who start from [] [] _ NoFrames = []
-turns_of view m who start from _ _ to (OneFrame {bytes = bytes} {lines = lines} {here = here} frame text before one) =
+turns_of view m who start from [] [] _ NoLines = []
+turns_of view m who start from _ _ to (OneLine {bytes = bytes} {lines = lines} {here = here} frame text before one) =
     turns_of view m who start from bytes lines here before ++ turns_at (role_in view.style (place_behind (start + length bytes)) (side_in who here) frame one.line one.after one.reported) here.numbers
 
 abbrev pub turns_in : (view : View) (from : Talk) (chunks : List Chunk) (lines : List ℕ) (to : Talk) → ListsChunks view from chunks lines to → List Turn

@@ -3,29 +3,13 @@
 use Rattle.std.specs.Prelude.{◌≡◌, ◌⊎◌, ℕ, ℤ, Bool, true, false, ◌==◌, ◌&&◌, ◌||◌, if◌then◌else◌, List, [], ◌∷◌, ◌++◌, drop, length, map, Option, None, Some, Result, Ok, codes}
 use mathlib.Core.Logic.{inl, inr}
 use Rattle.std.specs.declared.ops.Range.{Range}
-use Rattle.pgp_base.specs.declared.error.Error.{Error}
+use Rattle.pgp_conversation.specs.Common.{Error, Message, BindComplete, CloseComplete, DataRow, NoData, ParameterDescription, ParseComplete, ReadyForQuery, RowDescription, HasPlaces, value_at, ClientMessage, Bind, Close, Describe, Execute, Parse, Query, Sync, ClientError, Part, Binary, Count, Length, ListEnds, Name, Tag, Text, Value, closing, followed, key, opening, Style, LineOf, ending, Side, Beginning, Messages, Replicating, Encrypted, format_in, IsTextOf, is_float, Object, Statement, Portal, Simple, Column, Told}
 use Rattle.pgp_base.specs.Items.{CountedItems}
-use Rattle.pgp_message.specs.BackendMessage.{Message, BindComplete, CloseComplete, DataRow, NoData, ParameterDescription, ParseComplete, ReadyForQuery, RowDescription}
 use Rattle.pgp_message.specs.Items.{FieldPart, FieldRefused, FieldSpelled, TypeRefused, TypeSpelled}
 use Rattle.pgp_message.specs.Parts.{CountedBytes}
-use Rattle.pgp_message.specs.Table.{HasPlaces, value_at}
-use Rattle.pgp_frontend.specs.ClientMessage.{ClientMessage, Bind, Close, Describe, Execute, Parse, Query, Sync}
-use Rattle.pgp_frontend_read.specs.declared.error.ClientError.{ClientError}
-use Rattle.pgp_line.specs.Line.{Part, Binary, Count, Length, ListEnds, Name, Tag, Text, Value, closing, followed, key, opening}
-use Rattle.pgp_line.specs.declared.style.Style.{Style}
 use Rattle.pgp_trace.specs.Client.{counted, signed_part}
-use Rattle.pgp_trace.specs.Listing.{LineOf}
-use Rattle.pgp_trace.specs.Shown.{ending}
 use Rattle.pgp_trace.specs.Sides as side
-use Rattle.pgp_trace.specs.Sides.{Side}
-use Rattle.pgp_trace.specs.declared.side.Phase.TheVariants.{Beginning, Messages, Replicating, Encrypted}
 use Rattle.pgp_values.specs.Formats.{formats as known_formats}
-use Rattle.pgp_values.specs.FormatTable.{format_in}
-use Rattle.pgp_value_text.specs.ValueText.{IsTextOf, is_float}
-use Rattle.pgp_conversation.specs.declared.awaited.Object.{Object}
-use Rattle.pgp_conversation.specs.declared.awaited.Object.TheVariants.{Statement, Portal, Simple}
-use Rattle.pgp_conversation.specs.declared.column.Column.{Column}
-use Rattle.pgp_conversation.specs.declared.placement.Told.{Told}
 use Rattle.pgp_conversation.specs.declared.placement.Told.TheVariants as told
 use Rattle.pgp_conversation.specs.Shelves.{formatted, is_binary}
 use Rattle.pgp_conversation.specs.Types.{Awaited, Types, binds, bound, closed, described, ended, first, no_types, parameters_of, parsed, parses, reached, rows_of, syncs, tells, waits}

@@ -1,20 +1,11 @@
 -- Private: lines of values, a part at a time, and what a frame is read as.
 use Rattle.std.specs.Prelude.{◌≡◌, ℕ, Bool, List, [], ◌∷◌, length, Option, None, Some, Ok, Err}
-use Rattle.pgp_base.specs.declared.error.Error.{Error}
+use Rattle.pgp_conversation.specs.Common.{Error, Part, ListEnds, followed, Style, ending, Sender, Client, Server, Column, Told, Noted, Role}
 use Rattle.pgp_frontend.specs.ClientMessage.{PasswordKind}
 use Rattle.pgp_frontend_read.specs.Pieces.{step_of}
 use Rattle.pgp_frontend_read.specs.Step as client
-use Rattle.pgp_line.specs.Line.{Part, ListEnds, followed}
-use Rattle.pgp_line.specs.declared.style.Style.{Style}
-use Rattle.pgp_trace.specs.Shown.{ending}
 use Rattle.pgp_trace.specs.Steps.{IsFrameOf}
-use Rattle.pgp_conversation.specs.declared.chunk.Sender.{Sender}
-use Rattle.pgp_conversation.specs.declared.chunk.Sender.TheVariants.{Client, Server}
-use Rattle.pgp_conversation.specs.declared.column.Column.{Column}
-use Rattle.pgp_conversation.specs.declared.placement.Told.{Told}
 use Rattle.pgp_conversation.specs.declared.placement.Told.TheVariants as told
-use Rattle.pgp_conversation.specs.declared.expectation.Noted.{Noted}
-use Rattle.pgp_conversation.specs.declared.role.Role.{Role}
 use Rattle.pgp_conversation.specs.Conversation.{noted_by}
 use Rattle.pgp_conversation.specs.Requests.{Numbers, role_by, told_in}
 use Rattle.pgp_conversation.specs.Summing.{asking_from, summed}

@@ -1,10 +1,6 @@
 -- What is known of the types of statements and portals. PostgreSQL manual, "Extended Query".
 use Rattle.std.specs.Prelude.{ℕ, Bool, ◌==◌, nat_lt, if◌then◌else◌, List, [], ◌∷◌, ◌++◌, Option, None, Some, bytes_eq}
-use Rattle.std.specs.Option.{option_map}
-use Rattle.pgp_names.specs.Names.{found}
-use Rattle.pgp_conversation.specs.declared.awaited.Object.{Object}
-use Rattle.pgp_conversation.specs.declared.awaited.Object.TheVariants.{Statement, Portal, Simple}
-use Rattle.pgp_conversation.specs.declared.column.Column.{Column}
+use Rattle.pgp_conversation.specs.Common.{option_map, found, Object, Statement, Portal, Simple, Column}
 use Rattle.pgp_conversation.specs.Shelves.{formatted, kept}
 
 -- A request about a statement or a portal, by its number. A Bind also names a statement, and the formats of its columns. The parameters of a Parse are those

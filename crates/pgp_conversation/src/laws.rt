@@ -1,26 +1,15 @@
 //! Laws of listings.
 
-ghost use Rattle.std.specs.Prelude.{◌≡◌, ◌≢◌, ◌∷◌, ◌++◌, [], ℕ, List, Option, Some, true};
+ghost use Rattle.std.specs.Prelude.{◌≡◌, ◌≢◌, ◌∷◌, ◌++◌, [], ℕ, Bool, List, Option, Some, true};
 ghost use Rattle.pgp_client.specs.Talk.{Talk as Dialogue};
 ghost use Rattle.pgp_client.specs.declared.stage.Stage.TheVariants.{Over};
-ghost use Rattle.pgp_line.specs.Quoting.{IsPrinted};
-ghost use Rattle.pgp_line.specs.declared.style.Form.{Form};
-ghost use Rattle.pgp_line.specs.declared.style.Form.TheVariants.{Columns};
-ghost use Rattle.pgp_line.specs.declared.style.Style.{Style};
-ghost use Rattle.pgp_summary.specs.Runs.{Tally};
-ghost use Rattle.pgp_summary.specs.Summary.{State};
-ghost use Rattle.pgp_trace.specs.Listing.{LineOf};
+ghost use Rattle.pgp_conversation.specs.Common.{IsPrinted, Form, Columns, Style, Tally, State, LineOf, Side, View, Sender, End, Marking, Told};
 ghost use Rattle.pgp_trace.specs.Secrets.{quietly};
-ghost use Rattle.pgp_trace.specs.Sides.{Side};
-ghost use Rattle.pgp_trace.specs.View.{View};
-ghost use Rattle.pgp_conversation.specs.declared.chunk.Sender.{Sender};
-ghost use Rattle.pgp_conversation.specs.declared.ending.End.{End};
-ghost use Rattle.pgp_trace.specs.declared.marking.Marking.{Marking};
-ghost use Rattle.pgp_conversation.specs.declared.placement.Told.{Told};
+ghost use Rattle.pgp_conversation.specs.AlikeRecordings.{AlikeRecordings};
 ghost use Rattle.pgp_conversation.specs.Conversation.{Known, ListsChunks, ListsFrame, Talk, begins, side_in};
 ghost use Rattle.pgp_conversation.specs.Marks.{last_mark, mark, marked, since, word};
 ghost use Rattle.pgp_conversation.specs.Order.{IsSplit};
-ghost use Rattle.pgp_conversation.specs.Recording.{Chunk};
+ghost use Rattle.pgp_conversation.specs.Recording.{Chunk, EndsBy};
 ghost use Rattle.pgp_conversation.specs.Requests.{Numbers, summary_in};
 ghost use Rattle.pgp_conversation.specs.Secrets.{AlikeIn};
 ghost use Rattle.pgp_conversation.specs.Session.{IsListing};
@@ -41,6 +30,7 @@ pub fn one_listing()
 
 /// Of each side the frames that were listed are, one after another, what that side sent in all its chunks, up to a rest in which none is whole: none is
 /// listed twice, left out, or under the other side.
+#[tactic(auto, using(crate::proofs::EachSide::each_side))]
 pub fn each_side_is_listed()
     ensures { (view : View) (marking : Marking) (chunks : List Chunk) (lines : List ℕ) (talk : Talk) → ListsChunks view (begins marking) chunks lines talk → (who : Sender) → IsSplit who chunks talk }
 {}
@@ -65,12 +55,14 @@ pub fn marked_lines_are_printable()
 {}
 
 /// Where a summary is asked for, nothing but its table is written.
+#[tactic(auto, using(crate::proofs::Summaries::table_alone))]
 pub fn summaries_are_tables()
     ensures { (view : View) (marking : Marking) (bytes output : List ℕ) (end : End) → marking.numbered ≡ true → marking.summed ≡ true → (listing : IsListing (summarized true view) marking bytes end output)
         → (summary : State) × (summary_in listing.talk.known.numbers ≡ Some summary) × (output ≡ table view.style summary.tallies) }
 {}
 
 /// A line of a table has characters alone that a terminal prints, before its newline.
+#[tactic(auto, using(crate::proofs::PrintedTables::rows_printed, crate::proofs::PrintedTables::heading_printed))]
 pub fn table_lines_are_printable()
     ensures rows { (style : Style) (tally : Tally) → (text : List ℕ) × (row_of style tally ≡ text ++ 10 ∷ []) × IsPrinted text }
     ensures heading { (text : List ℕ) × (heading Columns ≡ text ++ 10 ∷ []) × IsPrinted text }
@@ -78,7 +70,15 @@ pub fn table_lines_are_printable()
 
 /// A frame that differs from another one of its side in its secrets alone has the same text in a listing, and the same is known after it, unless secrets are
 /// asked for.
+#[tactic(auto, using(crate::proofs::Secrets::frames_hidden))]
 pub fn secrets_are_hidden()
     ensures { (view : View) (mark : List ℕ) (who : Sender) (place : ℕ) (here to : Known) (frame other text : List ℕ) → AlikeIn (side_in who here) frame other
         → ListsFrame (quietly view) mark who place here frame text to → ListsFrame (quietly view) mark who place here other text to }
+{}
+
+/// Recordings that differ in their secrets alone have the same listing, unless secrets are asked for: cut into frames alike, each of which is like that of
+/// the other recording in its place.
+pub fn recordings_hide_their_secrets()
+    ensures { (view : View) (marking : Marking) (begun : Bool) (rest bytes another : List ℕ) (end : End) → EndsBy begun rest end → AlikeRecordings (quietly view) marking begun rest bytes another →
+        (output : List ℕ) × IsListing (quietly view) marking bytes end output × IsListing (quietly view) marking another end output }
 {}

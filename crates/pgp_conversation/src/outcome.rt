@@ -1,10 +1,7 @@
 //! How a run ends.
 
 ghost use Rattle.std.specs.Prelude.{◌≡◌, ◌++◌, OnErr, OnOk};
-ghost use Rattle.std.specs.Io.KnownBytes.{Appends};
-ghost use Rattle.pgp_program.specs.Interruptions.{GivesUp};
-ghost use Rattle.pgp_program.specs.Run.{IsSaid};
-ghost use Rattle.pgp_program.specs.Taken.{AppendsFront};
+ghost use Rattle.pgp_conversation.specs.Common.{Appends, GivesUp, IsSaid, AppendsFront};
 ghost use Rattle.pgp_conversation.specs.Command.{complaint_of};
 
 use pgp_program::fault::Fault;

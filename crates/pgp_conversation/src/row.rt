@@ -1,9 +1,7 @@
 //! The line of a row whose columns are known.
 
 ghost use Rattle.std.specs.Prelude.{◌≡◌, ◌≤◌, length, drop, map, OnErr, OnOk, string_bytes};
-ghost use Rattle.std.specs.List.{AllByRecursion};
-ghost use Rattle.std.specs.Option.{option_map};
-ghost use Rattle.pgp_message.specs.Table.{IsPlaceIn, value_at};
+ghost use Rattle.pgp_conversation.specs.Common.{AllByRecursion, option_map, IsPlaceIn, value_at};
 ghost use Rattle.pgp_conversation.specs.Typed.{IsRowLine, ShowsRow, column_first, fits, has_binary};
 ghost use Rattle.pgp_conversation.specs.TypedLines.{AddsValue, AddsValues};
 

@@ -1,13 +1,8 @@
 //! The program's words.
 
 ghost use Rattle.std.specs.Prelude.{◌≡◌, ◌∷◌, ◌++◌, [], codes, map, IfSome, IfNone, IfOk, IfErr, OnErr, OnOk};
-ghost use Rattle.std.specs.Io.KnownBytes.{Appends, Keeps};
-ghost use Rattle.pgp_program.specs.Interruptions.{GivesUp};
-ghost use Rattle.pgp_program.specs.Run.{Caused};
-ghost use Rattle.pgp_program.specs.Taken.{AppendsFront};
-ghost use Rattle.pgp_program.specs.Words.{LacksWords};
+ghost use Rattle.pgp_conversation.specs.Common.{Appends, Keeps, GivesUp, Caused, AppendsFront, LacksWords, streams, chosen_of, options_in, view_by};
 ghost use Rattle.pgp_trace.specs.Listing as stream;
-ghost use Rattle.pgp_trace.specs.Options.{chosen_of, options_in, view_by};
 ghost use Rattle.pgp_trace.specs.Steps.{side_of, view_of};
 ghost use Rattle.pgp_conversation.specs.Command.{Asks, BreaksOff, Does, IsOther, Lists, ListsRecording, Obeys, ObeysOwn, Prints, PrintsFront, ReadsFor, ReadsForOwn, ReadsForWords, Runs, RunsOwn, Stops, asked, complaint_of, session_by, usage, word_of};
 ghost use Rattle.pgp_conversation.specs.Command as spec;
@@ -137,12 +132,8 @@ fn list_side<A: MapMemory, R: Input, W: Output>(
 ) -> Result<Ended, Fault>
     requires live { stream.ReadsWhenReady R.remaining W.contents W.Passed R.MayRead (view_of view) (side_of side) input.old output.old }
     ensures passed { OnOk result (W.Passed output.new) }
-    ensures done { IfOk result (λ ended. Lists (view_of view.entry) (side_of side.entry)
-        (record { input = R.remaining input.old; output = W.contents output.old })
-        (record { input = R.remaining input.new; output = W.contents output.new }) ended.status (ended.first.now ++ ended.second.now ++ ended.third.now)) }
-    ensures stops { IfErr result (λ fault. BreaksOff (W.Passed output.new) (view_of view.entry) (side_of side.entry) fault
-        (record { input = R.remaining input.old; output = W.contents output.old })
-        (record { input = R.remaining input.new; output = W.contents output.new })) }
+    ensures done { IfOk result (λ ended. Lists (view_of view.entry) (side_of side.entry) (streams (R.remaining input.old) (W.contents output.old)) (streams (R.remaining input.new) (W.contents output.new)) ended.status (ended.first.now ++ ended.second.now ++ ended.third.now)) }
+    ensures stops { IfErr result (λ fault. BreaksOff (W.Passed output.new) (view_of view.entry) (side_of side.entry) fault (streams (R.remaining input.old) (W.contents output.old)) (streams (R.remaining input.new) (W.contents output.new))) }
     ensures cause { IfErr result (Caused A.Lacks (GivesUp R.Fails R.Called) (GivesUp W.Fails W.Interrupted)) }
 {
     match list(alloc, view, side, input, output) {
@@ -161,12 +152,8 @@ fn list_recording<A: MapMemory, R: Input, W: Output>(
 ) -> Result<Ended, Fault>
     requires live { recording.ReadsWhenReady R.remaining W.contents W.Passed R.MayRead (view_of view) marking input.old output.old }
     ensures passed { OnOk result (W.Passed output.new) }
-    ensures done { IfOk result (λ ended. ListsRecording (view_of view.entry) marking
-        (record { input = R.remaining input.old; output = W.contents output.old })
-        (record { input = R.remaining input.new; output = W.contents output.new }) ended.status (ended.first.now ++ ended.second.now ++ ended.third.now)) }
-    ensures stops { IfErr result (λ fault. recording.BreaksOff (W.Passed output.new) (view_of view.entry) marking fault
-        (record { input = R.remaining input.old; output = W.contents output.old })
-        (record { input = R.remaining input.new; output = W.contents output.new })) }
+    ensures done { IfOk result (λ ended. ListsRecording (view_of view.entry) marking (streams (R.remaining input.old) (W.contents output.old)) (streams (R.remaining input.new) (W.contents output.new)) ended.status (ended.first.now ++ ended.second.now ++ ended.third.now)) }
+    ensures stops { IfErr result (λ fault. recording.BreaksOff (W.Passed output.new) (view_of view.entry) marking fault (streams (R.remaining input.old) (W.contents output.old)) (streams (R.remaining input.new) (W.contents output.new))) }
     ensures cause { IfErr result (Caused A.Lacks (GivesUp R.Fails R.Called) (GivesUp W.Fails W.Interrupted)) }
 {
     match list_session(alloc, view, marking, input, output) {
@@ -204,12 +191,8 @@ fn list_by<A: MapMemory, R: Input, W: Output>(
 ) -> Result<Ended, Fault>
     requires live { ReadsFor R.remaining W.contents W.Passed R.MayRead (spec.Show listing (chosen_of options.now)) input.old output.old }
     ensures passed { OnOk result (W.Passed output.new) }
-    ensures done { IfOk result (λ ended. Does (spec.Show listing (chosen_of options.now))
-        (record { input = R.remaining input.old; output = W.contents output.old })
-        (record { input = R.remaining input.new; output = W.contents output.new }) ended.status (ended.first.now ++ ended.second.now ++ ended.third.now)) }
-    ensures stops { IfErr result (λ fault. Stops (W.Passed output.new) (spec.Show listing (chosen_of options.now)) fault
-        (record { input = R.remaining input.old; output = W.contents output.old })
-        (record { input = R.remaining input.new; output = W.contents output.new })) }
+    ensures done { IfOk result (λ ended. Does (spec.Show listing (chosen_of options.now)) (streams (R.remaining input.old) (W.contents output.old)) (streams (R.remaining input.new) (W.contents output.new)) ended.status (ended.first.now ++ ended.second.now ++ ended.third.now)) }
+    ensures stops { IfErr result (λ fault. Stops (W.Passed output.new) (spec.Show listing (chosen_of options.now)) fault (streams (R.remaining input.old) (W.contents output.old)) (streams (R.remaining input.new) (W.contents output.new))) }
     ensures cause { IfErr result (Caused A.Lacks (GivesUp R.Fails R.Called) (GivesUp W.Fails W.Interrupted)) }
 {
     match listing {
@@ -244,12 +227,8 @@ fn perform<A: MapMemory, R: Input, W: Output>(
 ) -> Result<Ended, Fault>
     requires live { ReadsFor R.remaining W.contents W.Passed R.MayRead (asked command.now) input.old output.old }
     ensures passed { OnOk result (W.Passed output.new) }
-    ensures done { IfOk result (λ ended. Does (asked command.now)
-        (record { input = R.remaining input.old; output = W.contents output.old })
-        (record { input = R.remaining input.new; output = W.contents output.new }) ended.status (ended.first.now ++ ended.second.now ++ ended.third.now)) }
-    ensures stops { IfErr result (λ fault. Stops (W.Passed output.new) (asked command.now) fault
-        (record { input = R.remaining input.old; output = W.contents output.old })
-        (record { input = R.remaining input.new; output = W.contents output.new })) }
+    ensures done { IfOk result (λ ended. Does (asked command.now) (streams (R.remaining input.old) (W.contents output.old)) (streams (R.remaining input.new) (W.contents output.new)) ended.status (ended.first.now ++ ended.second.now ++ ended.third.now)) }
+    ensures stops { IfErr result (λ fault. Stops (W.Passed output.new) (asked command.now) fault (streams (R.remaining input.old) (W.contents output.old)) (streams (R.remaining input.new) (W.contents output.new))) }
     ensures cause { IfErr result (Caused A.Lacks (GivesUp R.Fails R.Called) (GivesUp W.Fails W.Interrupted)) }
 {
     match command {
@@ -268,10 +247,7 @@ pub fn obey<A: MapMemory, R: Input, W: Output>(
     output: &mut W,
 ) -> Ended
     requires live { ReadsForWords R.remaining W.contents W.Passed R.MayRead terminal (map (λ word. word.now) words.now) input.old output.old }
-    ensures { Obeys terminal A.Lacks (GivesUp R.Fails R.Called) (GivesUp W.Fails W.Interrupted) (W.Passed output.new) (map (λ word. word.now) words.now)
-        (record { input = R.remaining input.old; output = W.contents output.old })
-        (record { input = R.remaining input.new; output = W.contents output.new })
-        result.status (result.first.now ++ result.second.now ++ result.third.now) }
+    ensures { Obeys terminal A.Lacks (GivesUp R.Fails R.Called) (GivesUp W.Fails W.Interrupted) (W.Passed output.new) (map (λ word. word.now) words.now) (streams (R.remaining input.old) (W.contents output.old)) (streams (R.remaining input.new) (W.contents output.new)) result.status (result.first.now ++ result.second.now ++ result.third.now) }
 {
     let command = match command_of(alloc, terminal, words) {
         Ok(Some(command)) => command,
@@ -296,10 +272,7 @@ pub fn run<A: MapMemory, R: Input, W: Output, E: Output>(
     errors: &mut E,
 ) -> u8
     requires live { ReadsForWords R.remaining W.contents W.Passed R.MayRead terminal (map (λ word. word.now) words.now) input.old output.old }
-    ensures { Runs terminal A.Lacks (GivesUp R.Fails R.Called) (GivesUp W.Fails W.Interrupted) (W.Passed output.new) (GivesUp E.Fails E.Interrupted) (E.Passed errors.new) (map (λ word. word.now) words.now)
-        (record { input = R.remaining input.old; output = W.contents output.old })
-        (record { input = R.remaining input.new; output = W.contents output.new })
-        (E.contents errors.old) (E.contents errors.new) result }
+    ensures { Runs terminal A.Lacks (GivesUp R.Fails R.Called) (GivesUp W.Fails W.Interrupted) (W.Passed output.new) (GivesUp E.Fails E.Interrupted) (E.Passed errors.new) (map (λ word. word.now) words.now) (streams (R.remaining input.old) (W.contents output.old)) (streams (R.remaining input.new) (W.contents output.new)) (E.contents errors.old) (E.contents errors.new) result }
 {
     tell(obey(alloc, terminal, words, input, output), errors)
 }
@@ -314,10 +287,7 @@ fn try_own<A: MapMemory, V: Words, R: Input, W: Output>(
     output: &mut W,
 ) -> Result<Ended, Fault>
     requires live { ReadsForOwn R.remaining W.contents W.Passed R.MayRead terminal (V.Stands env.now) (V.Ends env.now) input.old output.old }
-    ensures obeyed { IfOk result (λ done. ObeysOwn terminal A.Lacks (GivesUp R.Fails R.Called) (GivesUp W.Fails W.Interrupted) (W.Passed output.new) (V.Stands env.now) (V.Ends env.now) (V.Longer env.now)
-        (record { input = R.remaining input.old; output = W.contents output.old })
-        (record { input = R.remaining input.new; output = W.contents output.new })
-        done.status (done.first.now ++ done.second.now ++ done.third.now)) }
+    ensures obeyed { IfOk result (λ done. ObeysOwn terminal A.Lacks (GivesUp R.Fails R.Called) (GivesUp W.Fails W.Interrupted) (W.Passed output.new) (V.Stands env.now) (V.Ends env.now) (V.Longer env.now) (streams (R.remaining input.old) (W.contents output.old)) (streams (R.remaining input.new) (W.contents output.new)) done.status (done.first.now ++ done.second.now ++ done.third.now)) }
     ensures fault { IfErr result (λ fault. (fault ≡ Fault.Memory) × LacksWords A.Lacks (V.Stands env.now) (V.Longer env.now)) }
     ensures input { IfErr result (λ _. Keeps (R.remaining input.old) (R.remaining input.new)) }
     ensures output { IfErr result (λ _. Keeps (W.contents output.old) (W.contents output.new)) }
@@ -338,10 +308,7 @@ fn obey_own<A: MapMemory, V: Words, R: Input, W: Output>(
     output: &mut W,
 ) -> Ended
     requires live { ReadsForOwn R.remaining W.contents W.Passed R.MayRead terminal (V.Stands env.now) (V.Ends env.now) input.old output.old }
-    ensures { ObeysOwn terminal A.Lacks (GivesUp R.Fails R.Called) (GivesUp W.Fails W.Interrupted) (W.Passed output.new) (V.Stands env.now) (V.Ends env.now) (V.Longer env.now)
-        (record { input = R.remaining input.old; output = W.contents output.old })
-        (record { input = R.remaining input.new; output = W.contents output.new })
-        result.status (result.first.now ++ result.second.now ++ result.third.now) }
+    ensures { ObeysOwn terminal A.Lacks (GivesUp R.Fails R.Called) (GivesUp W.Fails W.Interrupted) (W.Passed output.new) (V.Stands env.now) (V.Ends env.now) (V.Longer env.now) (streams (R.remaining input.old) (W.contents output.old)) (streams (R.remaining input.new) (W.contents output.new)) result.status (result.first.now ++ result.second.now ++ result.third.now) }
 {
     match try_own(alloc, terminal, env, input, output) {
         Ok(done) => done,
@@ -359,10 +326,7 @@ pub fn run_own<A: MapMemory, V: Words, R: Input, W: Output, E: Output>(
     errors: &mut E,
 ) -> u8
     requires live { ReadsForOwn R.remaining W.contents W.Passed R.MayRead terminal (V.Stands env.now) (V.Ends env.now) input.old output.old }
-    ensures { RunsOwn terminal A.Lacks (GivesUp R.Fails R.Called) (GivesUp W.Fails W.Interrupted) (W.Passed output.new) (V.Stands env.now) (V.Ends env.now) (V.Longer env.now) (GivesUp E.Fails E.Interrupted) (E.Passed errors.new)
-        (record { input = R.remaining input.old; output = W.contents output.old })
-        (record { input = R.remaining input.new; output = W.contents output.new })
-        (E.contents errors.old) (E.contents errors.new) result }
+    ensures { RunsOwn terminal A.Lacks (GivesUp R.Fails R.Called) (GivesUp W.Fails W.Interrupted) (W.Passed output.new) (V.Stands env.now) (V.Ends env.now) (V.Longer env.now) (GivesUp E.Fails E.Interrupted) (E.Passed errors.new) (streams (R.remaining input.old) (W.contents output.old)) (streams (R.remaining input.new) (W.contents output.new)) (E.contents errors.old) (E.contents errors.new) result }
 {
     tell(obey_own(alloc, terminal, env, input, output), errors)
 }

@@ -2,7 +2,7 @@
 
 ghost use Rattle.std.specs.Prelude.{◌≡◌, Bool, Ok, Some, IfOk, OnErr, OnOk, string_bytes};
 ghost use Rattle.pgp_frontend.specs.ClientMessage.{PasswordKind};
-ghost use Rattle.pgp_message.specs.BackendMessage.{ParameterDescription, RowDescription};
+ghost use Rattle.pgp_conversation.specs.Common.{ParameterDescription, RowDescription};
 ghost use Rattle.pgp_message.specs.Views.{view};
 ghost use Rattle.pgp_conversation.specs.Requests.{notes_nothing};
 ghost use Rattle.pgp_conversation.specs.Steps.{numbers_in};

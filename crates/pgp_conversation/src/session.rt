@@ -1,11 +1,7 @@
 //! The listing of a recording, as it comes.
 
 ghost use Rattle.std.specs.Prelude.{◌≡◌, ◌≤◌, ◌<◌, ◌++◌, ◌⊎◌, ℕ, Bool, List, [], false, true, drop, length, IfErr, IfOk, OnErr, OnOk, string_bytes};
-ghost use Rattle.std.specs.Io.KnownBytes.{Appends, Keeps};
-ghost use Rattle.pgp_program.specs.Interruptions.{GivesUp};
-ghost use Rattle.pgp_program.specs.Run.{Caused};
-ghost use Rattle.pgp_program.specs.Taken.{AppendsFront};
-ghost use Rattle.pgp_trace.specs.Hints.{hint_of};
+ghost use Rattle.pgp_conversation.specs.Common.{Appends, Keeps, GivesUp, Caused, AppendsFront, hint_of, streams};
 ghost use Rattle.pgp_trace.specs.Steps.{view_of};
 ghost use Rattle.pgp_trace.specs.declared.marking.Marking.{Marking as Marks};
 ghost use Rattle.pgp_conversation.specs.Conversation.{first_start};
@@ -70,17 +66,11 @@ pub fn list_session<A: MapMemory, R: Input, W: Output>(
     output: &mut W,
 ) -> Result<Said, Fault>
     requires live { ReadsWhenReady R.remaining W.contents W.Passed R.MayRead (view_of view) marking input.old output.old }
-    ensures listed { IfOk result (λ said. WritesListing (view_of view.entry) marking
-        (record { input = R.remaining input.old; output = W.contents output.old })
-        (record { input = R.remaining input.new; output = W.contents output.new }) said.end (said.client.now ++ said.server.now ++ complaint_of said.end)) }
-    ensures live { IfErr result (λ fault. fault ≡ Fault.Read → WasListed (view_of view.entry) marking
-        (record { input = R.remaining input.old; output = W.contents output.old })
-        (record { input = R.remaining input.new; output = W.contents output.new })) }
+    ensures listed { IfOk result (λ said. WritesListing (view_of view.entry) marking (streams (R.remaining input.old) (W.contents output.old)) (streams (R.remaining input.new) (W.contents output.new)) said.end (said.client.now ++ said.server.now ++ complaint_of said.end)) }
+    ensures live { IfErr result (λ fault. fault ≡ Fault.Read → WasListed (view_of view.entry) marking (streams (R.remaining input.old) (W.contents output.old)) (streams (R.remaining input.new) (W.contents output.new))) }
     ensures passed { IfErr result (λ fault. fault ≡ Fault.Read → Keeps (W.contents output.old) (W.contents output.new) ⊎ W.Passed output.new) }
     ensures done { OnOk result (W.Passed output.new) }
-    ensures cut { OnErr result (IsCutShort (view_of view.entry) marking
-        (record { input = R.remaining input.old; output = W.contents output.old })
-        (record { input = R.remaining input.new; output = W.contents output.new })) }
+    ensures cut { OnErr result (IsCutShort (view_of view.entry) marking (streams (R.remaining input.old) (W.contents output.old)) (streams (R.remaining input.new) (W.contents output.new))) }
     ensures cause { IfErr result (Caused A.Lacks (GivesUp R.Fails R.Called) (GivesUp W.Fails W.Interrupted)) }
 {
     let mut piece = A::list_filled(alloc, 0, PIECE)?;
@@ -153,17 +143,11 @@ fn list_pieces<A: MapMemory, R: Input, W: Output>(
     requires talk { kept_of held.old.talk ≡ held_first (record { absolute = false; numbered = marking.numbered; summed = marking.summed; raw = marking.raw }) }
     requires bytes { held.old.bytes.items ≡ [] }
     requires live { ReadsWhenReady R.remaining W.contents W.Passed R.MayRead (view_of view) marking input.old output.old }
-    ensures listed { IfOk result (λ said. WritesListing (view_of view.entry) marking
-        (record { input = R.remaining input.old; output = W.contents output.old })
-        (record { input = R.remaining input.new; output = W.contents output.new }) said.end (said.client.now ++ said.server.now ++ complaint_of said.end)) }
-    ensures live { IfErr result (λ fault. fault ≡ Fault.Read → WasListed (view_of view.entry) marking
-        (record { input = R.remaining input.old; output = W.contents output.old })
-        (record { input = R.remaining input.new; output = W.contents output.new })) }
+    ensures listed { IfOk result (λ said. WritesListing (view_of view.entry) marking (streams (R.remaining input.old) (W.contents output.old)) (streams (R.remaining input.new) (W.contents output.new)) said.end (said.client.now ++ said.server.now ++ complaint_of said.end)) }
+    ensures live { IfErr result (λ fault. fault ≡ Fault.Read → WasListed (view_of view.entry) marking (streams (R.remaining input.old) (W.contents output.old)) (streams (R.remaining input.new) (W.contents output.new))) }
     ensures passed { IfErr result (λ fault. fault ≡ Fault.Read → Keeps (W.contents output.old) (W.contents output.new) ⊎ W.Passed output.new) }
     ensures done { OnOk result (W.Passed output.new) }
-    ensures cut { OnErr result (IsCutShort (view_of view.entry) marking
-        (record { input = R.remaining input.old; output = W.contents output.old })
-        (record { input = R.remaining input.new; output = W.contents output.new })) }
+    ensures cut { OnErr result (IsCutShort (view_of view.entry) marking (streams (R.remaining input.old) (W.contents output.old)) (streams (R.remaining input.new) (W.contents output.new))) }
     ensures cause { IfErr result (Caused A.Lacks (GivesUp R.Fails R.Called) (GivesUp W.Fails W.Interrupted)) }
 {
     held.talk.start = first_start(marking.absolute);

@@ -1,9 +1,8 @@
 //! What is known of the types of statements and portals.
 
 ghost use Rattle.std.specs.Prelude.{◌≡◌, [], Some, IfOk, OnErr, OnOk};
-ghost use Rattle.std.specs.Option.{option_map};
+ghost use Rattle.pgp_conversation.specs.Common.{option_map, found, without};
 ghost use Rattle.pgp_conversation.specs.Shelves.{formatted, kept};
-ghost use Rattle.pgp_names.specs.Names.{found, without};
 ghost use Rattle.pgp_conversation.specs.Types.{bound, closed, described, ended, first, no_types, parameters_of, parsed, parses, passed_on, reached, rows_of, statement_of, syncs, tells, told_by, waits};
 ghost use Rattle.pgp_conversation.specs.TypesKept.{awaited_of, last_of, types_of};
 

@@ -3,8 +3,7 @@
 ghost use Rattle.std.specs.Prelude.{◌≡◌, false, true, OnErr, OnOk, string_bytes};
 ghost use Rattle.pgp_frontend_read.specs.Whole.{shown};
 ghost use Rattle.pgp_values.specs.Formats.{formats};
-ghost use Rattle.pgp_values.specs.FormatTable.{format_in};
-ghost use Rattle.pgp_value_text.specs.ValueText.{is_float};
+ghost use Rattle.pgp_conversation.specs.Common.{format_in, is_float};
 ghost use Rattle.pgp_conversation.specs.TypedLines.{AddsBytes, AddsValue};
 
 use crate::column::Column;

@@ -27,10 +27,6 @@ module _ (bytes frame rest : List ℕ) (whole : bytes ≡ frame ++ rest) where
 never_same : (a b : List ℕ) → b ≡ a → length b < length a → ⊥
 never_same a b e h = absurd (omega (arith, ap length e, h))
 
-no_phase : (b : Bool) → b ≡ true → b ≡ false → ⊥
-no_phase true e f = absurd cc
-no_phase false e f = absurd cc
-
 -- a step that passes a frame is that of the frame by itself
 pub alone : (kind : PasswordKind) (opened now : Bool) (bytes frame rest : List ℕ) (r : Result ClientMessage ClientError) → bytes ≡ frame ++ rest → length rest < length bytes
     → Step kind (record { bytes = bytes; opened = opened }) (step_of r) (record { bytes = rest; opened = now })
@@ -68,18 +64,6 @@ alone kind opened now bytes frame rest (Err e) whole less step = elim step.left 
 any_kind : (kind other : PasswordKind) (opened : Bool) (bytes : List ℕ) → opened ≡ false → NoneStands kind opened bytes → NoneStands other opened bytes
 any_kind kind other true bytes e none = absurd cc
 any_kind kind other false bytes e none = λ m more rest s. none m more rest (record { expected = s.expected; spelled = s.spelled; whole = s.whole })
-
--- an error that passes nothing
-pub stopped_at : (kind : PasswordKind) (opened now : Bool) (kinds : List code.PasswordKind) (replicating : Bool) (bytes rest : List ℕ) (e : ClientError) → length rest ≡ length bytes
-    → Refuses kind (record { bytes = bytes; opened = opened }) e (record { bytes = rest; opened = now }) → Ends (Client opened kinds replicating) true bytes
-unfolding uint32
-stopped_at kind opened now kinds replicating bytes rest e same r = elim r.left [
-  | inl at ↦ inl at.fault
-  | inr other ↦ elim other [
-    | inl skips ↦ absurd (omega (arith, same, ap length skips.whole, length-append (framed (Some skips.tag) skips.payload) rest))
-    | inr stops ↦ inr (record { phase = stops.phase; payload = stops.payload; rest = stops.rest; fits = stops.fits; whole = stops.whole; error = e; blames = stops.blames; none = λ other. any_kind kind other opened bytes stops.phase r.none })
-  ]
-]
 
 -- no step takes bytes back
 pub no_longer : (kind : PasswordKind) (opened now : Bool) (bytes rest : List ℕ) (r : Result ClientMessage ClientError)

@@ -6,50 +6,32 @@ pub use Rattle.std.proofs.Math.Seq.{take-append-add, drop-append_seam, take-appe
 pub use Rattle.std.proofs.lemmas.Bool.{le-ltb, cases_Bool, eqb-true, true≢false, cases_order, le-leb, leb-true, lt-ltb, and_from, and_parts}
 pub use Rattle.std.proofs.lemmas.List.{append-nil, take_all, drop-drop, length-drop, length-map, length-take, map_push, take_rest}
 pub use Rattle.std.proofs.lemmas.List.Concat.{flat_map-cons}
-pub use Rattle.std.specs.Int.{w32, w64, from_be_bytes, w16}
-pub use Rattle.std.specs.Io.KnownBytes.{Appends, Keeps, Consumes, IsAtEnd}
-pub use Rattle.std.specs.List.{concat, list_any, flat_map, AllByRecursion, list_all}
+pub use Rattle.pgp_trace.specs.Common.{w32, w64, from_be_bytes, w16, Appends, Keeps, Consumes, IsAtEnd, concat, list_any, flat_map, AllByRecursion, list_all, bytes_eq, IsUtf8, IsAscii, all_scalars, chars, encode_utf8_all, IsBytes, counted, nullable, oid, uint16, Error, CancelRequest, PasswordMessage, SaslInitialResponse, SaslResponse, ClientMessage, PasswordKind, step_of, Unread, NoneStands, StopsAtLength, SkipsFrame, StopsAt, Refuses, Step, IsPartial, ClientError, Part, Name, Key, Member, Number, Text, Hidden, followed, closing, Length, Tag, opening, Count, ListEnds, ObjectEnds, Refusal, ListBegins, ObjectBegins, Word, Lsn, Oid, Value, Binary, added, added_by, blanks, closing_by, is_opening, json, json_name, named, opening_by, right, separator, space, spelt, string, type_name, key, Json, Columns, Style, Message, payload_of, AuthenticationMd5Password, AuthenticationGssContinue, AuthenticationSaslContinue, AuthenticationSaslFinal, BackendKeyData, Authentication, Body, AuthenticationOk, AuthenticationKerberosV5, AuthenticationCleartextPassword, AuthenticationScmCredential, AuthenticationGss, AuthenticationSspi, AuthenticationSasl, ParseComplete, BindComplete, CloseComplete, NotificationResponse, CommandComplete, DataRow, ErrorResponse, CopyInResponse, CopyOutResponse, EmptyQueryResponse, NegotiateProtocolVersion, NoticeResponse, ParameterStatus, RowDescription, ReadyForQuery, CopyDone, CopyData, NoData, PortalSuspended, ParameterDescription, IsLengthFault, Frame, frame_bytes, TakesFrame, IsFrame, IsEnding, Frames, BackendRun, view, AppendsFront, Phase, Beginning, Messages, Replicating, Encrypted}
 pub use Rattle.std.specs.Prelude.{◌==◌, if◌then◌else◌, codes, slice_index, IfNone, ◌||◌, OnOk, ◌/◌, All, slice_get, ◌%◌, nat_le, nat_lt, decimal, IfOk, IfSome, OnErr, string_bytes}
-pub use Rattle.std.specs.Str.{bytes_eq, IsUtf8, IsAscii, all_scalars, chars, encode_utf8_all}
 pub use Rattle.pgp_base.proofs.PartLemmas.{number_takes, oid_number, uint64_number, uint16_number}
 pub use Rattle.pgp_base.proofs.Spellings.{number_begins, number_reads}
 pub use Rattle.pgp_base.specs.PartReading.{front_at, uint16_at, text_at, Gives, byte_at, oid_at}
 pub use Rattle.pgp_base.specs.Reading.{BeginsNoOther, ReadsSpelling}
 pub use Rattle.pgp_base.specs.Walk.{Walk, TakesItem, IsFinished, IsRefused}
-pub use Rattle.pgp_base.specs.Wire.{IsBytes, counted, nullable, oid, uint16}
 unfoldable pub use Rattle.pgp_base.specs.Wire.{uint32, uint64}
-pub use Rattle.pgp_base.specs.declared.error.Error.{Error}
 pub use Rattle.pgp_base.specs.declared.error.Error.TheVariants.{InvalidLength, TooLarge}
-pub use Rattle.pgp_frontend.specs.ClientMessage.{CancelRequest, PasswordMessage, SaslInitialResponse, SaslResponse, ClientMessage, PasswordKind}
 pub use Rattle.pgp_frontend.specs.Payload.{framed, payload, tag_of, bytes_of}
 pub use Rattle.pgp_frontend_read.proofs.OneStep.{step_one}
 pub use Rattle.pgp_frontend_read.proofs.Refusals.{more_behind, partial_waits}
 pub use Rattle.pgp_frontend_read.proofs.Steps.{payload_fits, step_fault}
-pub use Rattle.pgp_frontend_read.specs.Pieces.{step_of}
-pub use Rattle.pgp_frontend_read.specs.Step.{Unread, NoneStands, StopsAtLength, SkipsFrame, StopsAt, Refuses, Step, IsPartial}
-pub use Rattle.pgp_frontend_read.specs.declared.error.ClientError.{ClientError}
-pub use Rattle.pgp_line.specs.Line.{Part, Name, Key, Member, Number, Text, Hidden, followed, closing, Length, Tag, opening, Count, ListEnds, ObjectEnds, Refusal, ListBegins, ObjectBegins, Word, Lsn, Oid, Value, Binary, added, added_by, blanks, closing_by, is_opening, json, json_name, named, opening_by, right, separator, space, spelt, string, type_name, key}
 unfoldable pub use Rattle.pgp_line.specs.Line.{extended, comma, lsn}
-pub use Rattle.pgp_line.specs.declared.style.Form.TheVariants.{Json, Columns}
-pub use Rattle.pgp_line.specs.declared.style.Style.{Style}
 pub use Rattle.pgp_message.proofs.Runs.{front_is_one, no_ending, runs_one, frames_none, frames_next, each_push, pushed}
-pub use Rattle.pgp_message.specs.BackendMessage.{Message, payload_of, AuthenticationMd5Password, AuthenticationGssContinue, AuthenticationSaslContinue, AuthenticationSaslFinal, BackendKeyData, Authentication, Body, AuthenticationOk, AuthenticationKerberosV5, AuthenticationCleartextPassword, AuthenticationScmCredential, AuthenticationGss, AuthenticationSspi, AuthenticationSasl, ParseComplete, BindComplete, CloseComplete, NotificationResponse, CommandComplete, DataRow, ErrorResponse, CopyInResponse, CopyOutResponse, EmptyQueryResponse, NegotiateProtocolVersion, NoticeResponse, ParameterStatus, RowDescription, ReadyForQuery, CopyDone, CopyData, NoData, PortalSuspended, ParameterDescription}
 pub use Rattle.pgp_message.specs.Items.{TextSpelled, TextRefused, FormatSpelled, FormatRefused, TypeSpelled, TypeRefused, RangeSpelled, RangeRefused, FieldSpelled, FieldRefused, ErrorFieldSpelled, ErrorFieldRefused}
-pub use Rattle.pgp_message.specs.Stream.{IsLengthFault, Frame, frame_bytes, TakesFrame, IsFrame, IsEnding, Frames, BackendRun}
-pub use Rattle.pgp_message.specs.Views.{view}
-pub use Rattle.pgp_program.specs.Taken.{AppendsFront}
 pub use Rattle.pgp_program.specs.Words.{greatest}
 pub use Rattle.pgp_trace.specs.Client.{client_line, grouped, ClientSays, client_copied, client_data, client_name, client_called, client_groups, refusal_parts, client_value, first_text, signed_part, pair_parts}
-pub use Rattle.pgp_trace.specs.Listing.{IsAnswerLine, IsListing, LineOf, Listed, Lines, NoLines, OneLine, answer_line, answer_name, last_line, name_in, place_behind, EndsSo, client_frame_name, client_front, IsNextLine, client_tag, front, unread_name, GoesOn, IsLineOf, IsServerLine, server_name, IsRunBehindAnswers, IsReady, WasListed, WritesListing, IsCutShort}
+pub use Rattle.pgp_trace.specs.Listing.{IsAnswerLine, IsListing, LineOf, Listed, Lines, Rows, NoLines, OneLine, answer_line, answer_name, last_line, name_in, place_behind, EndsSo, client_frame_name, client_front, IsNextLine, client_tag, front, unread_name, GoesOn, IsLineOf, IsServerLine, server_name, IsRunBehindAnswers, IsReady, WasListed, WritesListing, IsCutShort}
 pub use Rattle.pgp_trace.specs.Names.{name_of, state_of}
 pub use Rattle.pgp_trace.specs.Options.{AreOptions, AreNoOptions, BeginsWithNone, BeginsWithNoneOf, Chosen, IsOneOf, argument_of, chooses, chosen_by, has_word, nothing_chosen, word_of, chosen_of}
 pub use Rattle.pgp_trace.specs.PlainBody.{numbers_of, IsCallResult, IsCopyBoth}
 pub use Rattle.pgp_trace.specs.Replication.{Inner, IsInner, IsInt32, IsInt64, XLogData, Keepalive, StatusUpdate, Feedback, spelled, ShowsInner, inner_parts, data_parts, clock_parts}
-pub use Rattle.pgp_trace.specs.Secrets.{quiet, quietly, Alike, AlikeBeginnings, AlikeResults, AlikeFrames, AlikeStreams, NoFrames, OneAlike}
+pub use Rattle.pgp_trace.specs.Secrets.{quiet, quietly, Alike, AlikeBeginnings, AlikeResults, AlikeFrames, AlikeReceived, AlikeStreams, NoFrames, OneAlike}
 pub use Rattle.pgp_trace.specs.Shown.{Says, called, inner_data, Shows, closed, ending, refused, list_of, number_part, ShowsCounted, ShowsMarked, ShowsTexts, bare, column_parts, field_parts, name_or, text_part, type_part, value_part, says_nothing}
 pub use Rattle.pgp_trace.specs.Sides.{Side, Server, AreAnswers, Ends, answered, phase_behind, replicates_behind, server_at, Client, expected, is_reported, kinds_behind, is_password, IsRefusedPacket, replicates}
 pub use Rattle.pgp_trace.specs.Steps.{HasLine, ListsNext, phase_of, IsFrameOf, IsNamedLine, ReportsFault, ListsAll, ListsSome, Held, Holds, ListsPiece, side_of, view_of}
 pub use Rattle.pgp_trace.specs.Unread.{ShowsUnread, ShowsCopyBoth, ShowsResult, CallResult, CopyBoth, Rejected, copy_parts, result_parts}
 pub use Rattle.pgp_trace.specs.View.{View, shown, is_listed, color_by, color_of, ends_in_newline, painted, uncolored}
-pub use Rattle.pgp_trace.specs.declared.side.Phase.{Phase}
-pub use Rattle.pgp_trace.specs.declared.side.Phase.TheVariants.{Beginning, Messages, Replicating, Encrypted}

@@ -1,5 +1,5 @@
 -- The line of one frame.
-use Rattle.pgp_trace.proofs.Common.{◌≡◌, ℕ, Bool, true, false, ◌-◌, ◌≤◌, List, [], ◌∷◌, ◌++◌, length, take, drop, Result, Ok, Err, refl, sym, ap, subst, ◌∙◌, arith, length-append, slice_index, append-nil, uint32, Error, Message, payload_of, Frame, frame_bytes, TakesFrame, Style, Length, Tag, closing, followed, opening, Says, called, inner_data, ShowsUnread, front, unread_name, name_of, replicates_behind, server_at, IsFrameOf, IsNamedLine, HasLine, ReportsFault}
+use Rattle.pgp_trace.proofs.Common.{◌≡◌, ℕ, Bool, true, false, ◌-◌, ◌≤◌, List, [], ◌∷◌, ◌++◌, length, take, drop, Result, Ok, Err, refl, sym, ap, subst, ◌∙◌, arith, slice_index, append-nil, uint32, Error, Message, payload_of, Frame, frame_bytes, TakesFrame, Style, Length, Tag, closing, followed, opening, Says, called, inner_data, ShowsUnread, front, unread_name, name_of, replicates_behind, server_at, IsFrameOf, IsNamedLine, HasLine, ReportsFault}
 use Rattle.pgp_trace.proofs.Parts.{front_taken}
 
 -- what a line begins with, by the bytes of the frame
@@ -81,8 +81,15 @@ taken_frame old new r t = record {
   body = t.body;
 }
 
-pub no_longer : (old new : List ℕ) (r : Result Message Error) → TakesFrame old r new → length new ≤ length old
-no_longer old new r t = omega (arith, ap length t.whole, length-append (frame_bytes t.first) new)
+-- the frame that was taken, where what stands after it is known by another name
+pub record Taken (old rest frame : List ℕ) (r : Result Message Error) : Type 0 where
+  pub takes : TakesFrame old r rest
+  pub framed : IsFrameOf frame r
+
+pub taken_here : (from old new rest frame : List ℕ) (r : Result Message Error) → from ≡ old → TakesFrame from r new → rest ≡ new → frame ≡ take (length old - length rest) old → Taken old rest frame r
+taken_here from old new rest frame r e t f g =
+    let here = subst (λ l. TakesFrame old r l) (sym f) (subst (λ l. TakesFrame l r new) e t) in
+    record { takes = here; framed = subst (λ l. IsFrameOf l r) (sym g) (taken_frame old rest r here) }
 
 -- and what has its line there has it here
 pub line_here : (style : Style) (place : ℕ) (replicating now : Bool) (old new bytes line name : List ℕ) (r : Result Message Error) → TakesFrame old r new → bytes ≡ take (length old - length new) old → now ≡ replicates_behind replicating bytes

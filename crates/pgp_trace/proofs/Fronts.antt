@@ -1,5 +1,5 @@
 -- What a writer took of some bytes.
-use Rattle.pgp_trace.proofs.Common.{ℕ, List, [], ◌++◌, length, take, Option, Some, None, refl, sym, ap, subst, ◌∙◌, arith, length-append, Appends, Keeps, Appends-nil, Appends-trans, append-nil, take_all, take-append-add, AppendsFront}
+use Rattle.pgp_trace.proofs.Common.{ℕ, List, [], ◌++◌, length, take, Option, Some, None, refl, sym, ap, ◌∙◌, arith, length-append, Appends, Keeps, Appends-nil, Appends-trans, append-nil, take_all, take-append-add, AppendsFront}
 
 -- nothing
 pub none_taken : (old : Option (List ℕ)) (bytes : List ℕ) → AppendsFront old old bytes
@@ -21,6 +21,3 @@ pub kept_nothing : (old new : Option (List ℕ)) → Keeps old new → Appends o
 kept_nothing None new k = tt
 kept_nothing (Some x) None k = absurd k
 kept_nothing (Some x) (Some y) k = k ∙ sym (append-nil x)
-
-pub kept_more : (old mid new : Option (List ℕ)) (bytes : List ℕ) → Appends old mid bytes → Keeps mid new → Appends old new bytes
-kept_more old mid new bytes w k = subst (Appends old new) (append-nil bytes) (Appends-trans old mid new bytes [] w (kept_nothing mid new k))

@@ -1,6 +1,7 @@
 mod Common
 pub mod AlikeCases
 pub mod Parts
+pub mod Rows
 pub mod Fronts
 pub mod Items
 pub mod PlainBodies

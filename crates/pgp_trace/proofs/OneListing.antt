@@ -1,5 +1,5 @@
 -- A stream has one listing.
-use Rattle.pgp_trace.proofs.Common.{◌≡◌, ℕ, ◌+◌, Bool, true, false, List, [], ◌∷◌, ◌++◌, length, get_or, drop, ◌<◌, Option, Some, None, Result, Ok, Err, refl, sym, ap, subst, ◌∙◌, inl, inr, arith, append_assoc, length-append, append-nil, codes, IsUtf8, Error, text_at, Body, AuthenticationOk, AuthenticationKerberosV5, AuthenticationCleartextPassword, AuthenticationMd5Password, AuthenticationScmCredential, AuthenticationGss, AuthenticationGssContinue, AuthenticationSspi, AuthenticationSasl, AuthenticationSaslContinue, AuthenticationSaslFinal, Message, ParseComplete, BindComplete, CloseComplete, NotificationResponse, CommandComplete, DataRow, ErrorResponse, CopyInResponse, CopyOutResponse, EmptyQueryResponse, BackendKeyData, NegotiateProtocolVersion, NoticeResponse, Authentication, ParameterStatus, RowDescription, ReadyForQuery, CopyDone, CopyData, NoData, PortalSuspended, ParameterDescription, payload_of, TextSpelled, TextRefused, FormatSpelled, FormatRefused, TypeSpelled, TypeRefused, RangeSpelled, RangeRefused, FieldSpelled, FieldRefused, ErrorFieldSpelled, ErrorFieldRefused, Frame, frame_bytes, IsFrame, IsEnding, front_is_one, no_ending, runs_one, frames_none, ClientMessage, step_of, Unread, IsPartial, Refuses, Step, ClientError, InvalidLength, step_one, partial_waits, step_fault, Style, Part, Count, Key, ListEnds, Name, Number, ObjectEnds, Text, closing, followed, Phase, Beginning, Messages, Replicating, Encrypted, ClientSays, client_data, ShowsInner, inner_parts, Says, Shows, ShowsCounted, ShowsMarked, ShowsTexts, called, closed, inner_data, list_of, ShowsCopyBoth, ShowsResult, ShowsUnread, CallResult, CopyBoth, Rejected, copy_parts, result_parts, Side, Server, Client, Ends, IsRefusedPacket, answered, expected, is_reported, kinds_behind, phase_behind, replicates_behind, server_at, EndsSo, GoesOn, IsAnswerLine, IsListing, IsLineOf, IsNextLine, IsServerLine, LineOf, Listed, Lines, NoLines, OneLine, answer_line, answer_name, client_frame_name, client_front, front, last_line, name_in, place_behind, server_name, View, shown}
+use Rattle.pgp_trace.proofs.Common.{◌≡◌, ℕ, Bool, true, false, List, [], ◌∷◌, ◌++◌, length, get_or, drop, ◌<◌, Option, Some, None, Result, Ok, Err, refl, sym, ap, subst, ◌∙◌, inl, inr, arith, length-append, codes, IsUtf8, Error, text_at, Body, AuthenticationSasl, Message, NotificationResponse, CommandComplete, DataRow, ErrorResponse, CopyInResponse, CopyOutResponse, NegotiateProtocolVersion, NoticeResponse, Authentication, ParameterStatus, RowDescription, ParameterDescription, payload_of, TextSpelled, TextRefused, FormatSpelled, FormatRefused, TypeSpelled, TypeRefused, RangeSpelled, RangeRefused, FieldSpelled, FieldRefused, ErrorFieldSpelled, ErrorFieldRefused, Frame, frame_bytes, IsFrame, IsEnding, front_is_one, no_ending, runs_one, frames_none, ClientMessage, step_of, Unread, IsPartial, Refuses, Step, ClientError, InvalidLength, step_one, partial_waits, step_fault, Style, Part, Count, Key, ListEnds, Name, Number, ObjectEnds, Text, closing, followed, Phase, Beginning, Messages, Replicating, Encrypted, ClientSays, client_data, ShowsInner, inner_parts, Says, Shows, ShowsCounted, ShowsMarked, ShowsTexts, called, closed, inner_data, list_of, ShowsCopyBoth, ShowsResult, ShowsUnread, CallResult, CopyBoth, Rejected, copy_parts, result_parts, Side, Server, Client, Ends, IsRefusedPacket, answered, expected, is_reported, kinds_behind, phase_behind, replicates_behind, server_at, EndsSo, GoesOn, IsAnswerLine, IsListing, IsLineOf, IsNextLine, IsServerLine, LineOf, Listed, answer_line, answer_name, client_frame_name, client_front, front, last_line, name_in, place_behind, server_name, View, shown}
 use Rattle.pgp_base.specs.OneList.{HasOneCountedList, HasOneMarkedList}
 use Rattle.pgp_base.proofs.OneLists.{one_counted_list, one_marked_list}
 use Rattle.pgp_message.specs.ItemReading.{format_at, type_at, range_at, field_at, error_field_at}
@@ -14,7 +14,8 @@ use Rattle.pgp_frontend_read.specs.declared.message.PasswordKind as code
 use Rattle.pgp_line.specs.Line.{key as named}
 use Rattle.pgp_trace.proofs.Inners.{one_inner}
 use Rattle.pgp_trace.proofs.PlainBodies.{one_copy, one_result}
-use Rattle.pgp_trace.proofs.ClientStreams.{behind, frame_some, one_first}
+use Rattle.pgp_trace.proofs.ClientStreams.{behind, one_first}
+use Rattle.pgp_trace.proofs.Rows.{SameFirst, rows_one}
 use Rattle.pgp_trace.proofs.Shorter.{frame_has}
 use Rattle.pgp_trace.proofs.Beginnings.{none_some}
 
@@ -123,13 +124,6 @@ line_of_one style place replicating f line other fits a b =
     let reported = subst (λ r. GoesOn style replicating f.tag f.payload r (front style place f) a.text) result a.reported in
     a.ended ∙ ap (λ t. t ++ closing style ++ 10 ∷ []) (goes_one style replicating f.tag f.payload b.result (front style place f) a.text b.text reported b.reported) ∙ sym b.ended
 
--- the first frames of bytes, their lines, what stands after them, and what is then known of the side
-pub record Same (f g line other x y : List ℕ) (to too : Side) : Type 0 where
-  pub frames : f ≡ g
-  pub lines : line ≡ other
-  pub rests : x ≡ y
-  pub sides : to ≡ too
-
 same_read : (f g : Frame) (r s : Result Message Error) → IsFrame f → f ≡ g → Body f.tag f.payload r → Body g.tag g.payload s → r ≡ s
 same_read f g r s fits e a b = sym (one_body f.tag f.payload r fits.payload a) ∙ one_body f.tag f.payload s fits.payload (subst (λ (h : Frame). Body h.tag h.payload s) (sym e) b)
 
@@ -181,7 +175,7 @@ ends_so_one style reported replicating r front line other a b =
     a.ended ∙ ap (λ t. t ++ closing style ++ 10 ∷ []) (client_says_one (client_data replicating r) style reported r front a.text b.text a.says b.says) ∙ sym b.ended
 
 client_one : (style : Style) (place : ℕ) (opened : Bool) (kinds : List code.PasswordKind) (replicating : Bool) (f g line other x y : List ℕ) (to too : Side) (a : IsNextLine style place opened kinds replicating f line to) (b : IsNextLine style place opened kinds replicating g other too) → f ++ x ≡ g ++ y
-    → Same f g line other x y to too × (client_frame_name (is_reported kinds) a.reported.result ≡ client_frame_name (is_reported kinds) b.reported.result)
+    → SameFirst f g line other x y to too × (client_frame_name (is_reported kinds) a.reported.result ≡ client_frame_name (is_reported kinds) b.reported.result)
 client_one style place opened kinds replicating f g line other x y to too a b e =
     let one = one_first opened a.now b.now kinds f g x y a.reported.result b.reported.result a.reported.step b.reported.step e in
     let step = subst (λ l. Step (expected kinds) (record { bytes = l; opened = opened }) (step_of a.reported.result) (record { bytes = []; opened = a.now })) one.0 a.reported.step in
@@ -189,33 +183,33 @@ client_one style place opened kinds replicating f g line other x y to too a b e 
     let result = same_result a.reported.result b.reported.result both.0 in (
       record {
         frames = one.0;
-        lines = ends_so_one style (is_reported kinds) replicating b.reported.result (client_front style place opened g) line other
+        texts = ends_so_one style (is_reported kinds) replicating b.reported.result (client_front style place opened g) line other
             (subst (λ l. EndsSo style (is_reported kinds) replicating b.reported.result (client_front style place opened l) line) one.0
             (subst (λ r. EndsSo style (is_reported kinds) replicating r (client_front style place opened f) line) result a.reported.reported)) b.reported.reported;
         rests = one.1;
-        sides = a.behind ∙ ap (λ n. Client n (kinds_behind opened f kinds) replicating) one.2 ∙ ap (λ l. Client b.now (kinds_behind opened l kinds) replicating) one.0 ∙ sym b.behind;
+        states = a.behind ∙ ap (λ n. Client n (kinds_behind opened f kinds) replicating) one.2 ∙ ap (λ l. Client b.now (kinds_behind opened l kinds) replicating) one.0 ∙ sym b.behind;
       },
       ap (client_frame_name (is_reported kinds)) result,
     )
 
 pub line_one : (style : Style) (place : ℕ) (from to too : Side) (f g line other x y : List ℕ) (a : LineOf style place from f line to) (b : LineOf style place from g other too) → f ++ x ≡ g ++ y
-    → Same f g line other x y to too × (name_in style place from f line to a ≡ name_in style place from g other too b)
+    → SameFirst f g line other x y to too × (name_in style place from f line to a ≡ name_in style place from g other too b)
 line_one style place (Server Beginning) to too f g line other x y (inl a) (inl b) e =
     let one = answers_one style place f g line other x y a.phase b.phase a.reported b.reported e in
-    (record { frames = one.0; lines = one.1; rests = one.2; sides = a.behind ∙ ap Server one.3 ∙ sym b.behind }, one.4)
+    (record { frames = one.0; texts = one.1; rests = one.2; states = a.behind ∙ ap Server one.3 ∙ sym b.behind }, one.4)
 line_one style place (Server Beginning) to too f g line other x y (inl a) (inr b) e =
     absurd (front_answer a.reported.byte g x y a.phase a.reported.answers (ap (λ l. l ++ x) (sym a.reported.whole) ∙ e) (frame_has style place (Server Beginning) too g other (inr b)) b.none)
 line_one style place (Server Beginning) to too f g line other x y (inr a) (inl b) e =
     absurd (front_answer b.reported.byte f y x b.phase b.reported.answers (ap (λ l. l ++ y) (sym b.reported.whole) ∙ sym e) (frame_has style place (Server Beginning) to f line (inr a)) a.none)
 line_one style place (Server Beginning) to too f g line other x y (inr a) (inr b) e =
     let one = server_one style place false f g line other x y a.reported b.reported e in
-    (record { frames = one.0; lines = one.1; rests = one.2; sides = a.behind ∙ ap (λ l. server_at (replicates_behind false l)) one.0 ∙ sym b.behind }, one.3)
+    (record { frames = one.0; texts = one.1; rests = one.2; states = a.behind ∙ ap (λ l. server_at (replicates_behind false l)) one.0 ∙ sym b.behind }, one.3)
 line_one style place (Server Messages) to too f g line other x y a b e =
     let one = server_one style place false f g line other x y a.0 b.0 e in
-    (record { frames = one.0; lines = one.1; rests = one.2; sides = a.1 ∙ ap (λ l. server_at (replicates_behind false l)) one.0 ∙ sym b.1 }, one.3)
+    (record { frames = one.0; texts = one.1; rests = one.2; states = a.1 ∙ ap (λ l. server_at (replicates_behind false l)) one.0 ∙ sym b.1 }, one.3)
 line_one style place (Server Replicating) to too f g line other x y a b e =
     let one = server_one style place true f g line other x y a.0 b.0 e in
-    (record { frames = one.0; lines = one.1; rests = one.2; sides = a.1 ∙ ap (λ l. server_at (replicates_behind true l)) one.0 ∙ sym b.1 }, one.3)
+    (record { frames = one.0; texts = one.1; rests = one.2; states = a.1 ∙ ap (λ l. server_at (replicates_behind true l)) one.0 ∙ sym b.1 }, one.3)
 line_one style place (Server Encrypted) to too f g line other x y a b e = absurd a
 line_one style place (Client opened kinds replicating) to too f g line other x y a b e = client_one style place opened kinds replicating f g line other x y to too a b e
 
@@ -254,7 +248,7 @@ no_line style place (Server Replicating) to stopped rest f line x ends a e = ser
 no_line style place (Server Encrypted) to stopped rest f line x ends a e = a
 no_line style place (Client opened kinds replicating) to stopped rest f line x ends a e =
     let takes = subst (λ l. Step (expected kinds) (record { bytes = l; opened = opened }) (step_of a.reported.result) (record { bytes = x; opened = a.now })) (sym e) (behind opened a.now kinds f x a.reported.result a.reported.step) in
-    client_end opened a.now stopped kinds replicating rest x f a.reported.result (frame_some opened a.now kinds f a.reported.result a.reported.step) e ends takes
+    client_end opened a.now stopped kinds replicating rest x f a.reported.result (frame_has style place (Client opened kinds replicating) to f line a) e ends takes
 
 server_ends : (s t : Bool) (rest : List ℕ) → IsEnding s rest → IsEnding t rest → s ≡ t
 server_ends s t rest a b =
@@ -286,58 +280,22 @@ ends_one (Client opened kinds replicating) true false rest a b = absurd (stops_t
 
 -- ---- lines, the first at first
 
-text_one : (view : View) (place : ℕ) (from to too : Side) (f g text other x y : List ℕ) → Listed view place from f text to → Listed view place from g other too → f ++ x ≡ g ++ y → Same f g text other x y to too
+text_one : (view : View) (place : ℕ) (from to too : Side) (f g text other x y : List ℕ) → Listed view place from f text to → Listed view place from g other too → f ++ x ≡ g ++ y → SameFirst f g text other x y to too
 text_one view place from to too f g text other x y a b e =
     let one = line_one view.style place from to too f g a.line b.line x y a.reported b.reported e in
     record {
       frames = one.0.frames;
-      lines = a.is ∙ ap (λ n. shown view n a.line) one.1 ∙ ap (shown view (name_in view.style place from g b.line too b.reported)) one.0.lines ∙ sym b.is;
+      texts = a.is ∙ ap (λ n. shown view n a.line) one.1 ∙ ap (shown view (name_in view.style place from g b.line too b.reported)) one.0.texts ∙ sym b.is;
       rests = one.0.rests;
-      sides = one.0.sides;
+      states = one.0.states;
     }
 
-data Rows (view : View) (to : Side) : ℕ → Side → List ℕ → List ℕ → Type 0 where
-  NoRows : {start : ℕ} → Rows view to start to [] []
-  OneRow : {start : ℕ} {from mid : Side} {bytes lines : List ℕ} (frame line : List ℕ) → Listed view (place_behind start) from frame line mid → Rows view to (start + length frame) mid bytes lines → Rows view to start from (frame ++ bytes) (line ++ lines)
-
--- one more, after the others
-row_more : (view : View) (here : Side) (start : ℕ) (from to : Side) (bytes lines frame line : List ℕ) → Rows view here start from bytes lines → Listed view (place_behind (start + length bytes)) here frame line to → Rows view to start from (bytes ++ frame) (lines ++ line)
-row_more view _ start from to [] [] frame line NoRows has =
-    let here : place_behind (start + 0) ≡ place_behind start = ap place_behind (omega arith) in
-    subst (λ l. Rows view to start from l line) (append-nil frame)
-    (subst (λ l. Rows view to start from (frame ++ []) l) (append-nil line)
-    (OneRow {start = start} frame line (subst (λ p. Listed view p from frame line to) here has) NoRows))
-row_more view here start from to _ _ frame line (OneRow {mid = mid} {bytes = bytes} {lines = lines} f l is rest) has =
-    let place : place_behind (start + length (f ++ bytes)) ≡ place_behind ((start + length f) + length bytes) = ap place_behind (omega (arith, length-append f bytes)) in
-    let more = row_more view here (start + length f) mid to bytes lines frame line rest (subst (λ p. Listed view p here frame line to) place has) in
-    subst (λ x. Rows view to start from x ((l ++ lines) ++ line)) (sym (append_assoc f bytes frame))
-    (subst (λ x. Rows view to start from (f ++ (bytes ++ frame)) x) (sym (append_assoc l lines line))
-    (OneRow f l is more))
-
-rows_of : (view : View) (start : ℕ) (from to : Side) (bytes lines : List ℕ) → Lines view start from bytes lines to → Rows view to start from bytes lines
-rows_of view start from _ [] [] NoLines = NoRows
-rows_of view start from to _ _ (OneLine {bytes = bytes} {lines = lines} {here = here} frame line before has) = row_more view here start from to bytes lines frame line (rows_of view start from here bytes lines before) has
-
--- what stands at the end is one thing
-record SameEnd (lines others x y : List ℕ) (s t : Bool) : Type 0 where
-  texts : lines ≡ others
-  rests : x ≡ y
-  ends : s ≡ t
-
-rows_one : (view : View) (to too : Side) (start : ℕ) (from : Side) (a b lines others x y : List ℕ) (s t : Bool) → Rows view to start from a lines → Ends to s x → Rows view too start from b others → Ends too t y → a ++ x ≡ b ++ y → SameEnd lines others x y s t
-rows_one view _ _ start from [] [] [] [] x y s t NoRows ends NoRows others e = record { texts = refl; rests = e; ends = ends_one from s t y (subst (Ends from s) e ends) others }
-rows_one view _ too start from [] _ [] _ x y s t NoRows ends (OneRow {mid = mid} {bytes = bytes} {lines = more} g k is rest) others e =
-    absurd (no_line view.style (place_behind start) from mid s x g is.line (bytes ++ y) ends is.reported (e ∙ append_assoc g bytes y))
-rows_one view to _ start from _ [] _ [] x y s t (OneRow {mid = mid} {bytes = bytes} {lines = more} f l is rest) ends NoRows others e =
-    absurd (no_line view.style (place_behind start) from mid t y f is.line (bytes ++ x) others is.reported (sym e ∙ append_assoc f bytes x))
-rows_one view to too start from _ _ _ _ x y s t (OneRow {mid = mid} {bytes = bytes} {lines = more} f l is rest) ends (OneRow {mid = other} {bytes = left} {lines = less} g k has tail) others e =
-    let one = text_one view (place_behind start) from mid other f g l k (bytes ++ x) (left ++ y) is has (sym (append_assoc f bytes x) ∙ e ∙ append_assoc g left y) in
-    let here : Rows view too (start + length f) mid left less = subst (λ (h : Side). Rows view too (start + length f) h left less) (sym one.sides) (subst (λ h. Rows view too (start + length h) other left less) (sym one.frames) tail) in
-    let same = rows_one view to too (start + length f) mid bytes left more less x y s t rest ends here others one.rests in
-    record { texts = ap (λ h. h ++ more) one.lines ∙ ap (λ h. k ++ h) same.texts; rests = same.rests; ends = same.ends }
+-- and where none stands first, none is listed
+no_text : (view : View) (place : ℕ) (from to : Side) (stopped : Bool) (rest f text x : List ℕ) → Ends from stopped rest → Listed view place from f text to → rest ≡ f ++ x → ⊥
+no_text view place from to stopped rest f text x ends has e = no_line view.style place from to stopped rest f has.line x ends has.reported e
 
 pub one_listing : (view : View) (from : Side) (bytes output other : List ℕ) → IsListing view from bytes output → IsListing view from bytes other → output ≡ other
 one_listing view from bytes output other a b =
-    let same = rows_one view a.to b.to 0 from a.front b.front a.lines b.lines a.rest b.rest a.stopped b.stopped (rows_of view 0 from a.to a.front a.lines a.listed) a.ending (rows_of view 0 from b.to b.front b.lines b.listed) b.ending (sym a.whole ∙ b.whole) in
+    let same = rows_one (Listed view) Ends (text_one view) ends_one (no_text view) a.to b.to 0 from a.front b.front a.lines b.lines a.rest b.rest a.stopped b.stopped a.listed a.ending b.listed b.ending (sym a.whole ∙ b.whole) in
     a.text ∙ ap (λ l. l ++ last_line view a.stopped (place_behind (length a.rest))) same.texts ∙ ap (λ s. b.lines ++ last_line view s (place_behind (length a.rest))) same.ends
     ∙ ap (λ l. b.lines ++ last_line view b.stopped (place_behind (length l))) same.rests ∙ sym b.text

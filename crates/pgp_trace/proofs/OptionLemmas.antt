@@ -1,9 +1,9 @@
 -- Options, one after another.
-use Rattle.pgp_trace.proofs.Common.{◌≡◌, ◌≢◌, ℕ, suc, ◌+◌, ◌-◌, ◌<◌, ◌≤◌, Bool, true, List, [], ◌∷◌, ◌++◌, length, length-append, get_or, drop, map, refl, sym, ap, subst, ◌∙◌, append_assoc, arith, codes, if◌then◌else◌, flat_map, AllByRecursion, append-nil, drop-drop, length-drop, length-map, drop-append_seam, flat_map-cons, AreOptions, AreNoOptions, BeginsWithNone, BeginsWithNoneOf, Chosen, IsOneOf, argument_of, chooses, chosen_by, has_word, nothing_chosen, word_of}
+use Rattle.pgp_trace.proofs.Common.{◌≡◌, ◌≢◌, ℕ, suc, ◌+◌, ◌-◌, ◌<◌, ◌≤◌, Bool, List, [], ◌∷◌, ◌++◌, length, length-append, get_or, drop, map, refl, sym, ap, subst, ◌∙◌, append_assoc, arith, codes, if◌then◌else◌, flat_map, AllByRecursion, append-nil, drop-drop, length-drop, length-map, drop-append_seam, flat_map-cons, AreOptions, AreNoOptions, BeginsWithNoneOf, Chosen, IsOneOf, argument_of, chooses, chosen_by, has_word, nothing_chosen, word_of}
 use Rattle.std.proofs.lemmas.Grind.{flat_map-append}
 use Rattle.pgp_trace.specs.Options.{spelled}
 use Rattle.pgp_trace.specs.declared.options.Choice.{Choice}
-use Rattle.pgp_trace.specs.declared.options.Choice.TheVariants.{AsJson, Full, Secrets, Resume, Replication, Only, Color, Kind, Time, Requests, Summary, Raw}
+use Rattle.pgp_trace.specs.declared.options.Choice.TheVariants.{Only}
 
 -- Some options came, and these words stand after them.
 pub record Received (terminal : Bool) (has all rest : List (List ℕ)) (chosen : Chosen) : Type 0 where
@@ -89,15 +89,6 @@ pub received_wrong : {X : Type 0} (terminal : Bool) (word : X → List ℕ) (has
 received_wrong terminal word has all words at chosen less r none =
     let some : map word (drop at words) ≢ [] = λ e. absurd (omega (arith, less, length-drop at words, length-map (drop at words) word, ap length e)) in
     λ ds each e. breaks_off has r.choices ds (map word (drop at words)) each some none (sym r.whole ∙ e)
-
--- ---- the option that stands first
-
--- one whose word the listing has
-pub one_of : (has words : List (List ℕ)) (word : List ℕ) (c : Choice) (more : List (List ℕ)) → words ≡ spelled c ++ more → get_or words 0 [] ≡ word → true ≡ has_word has word → IsOneOf has c
-one_of has words word c more is stands h = ap (has_word has) (sym (ap (λ l. get_or l 0 []) is) ∙ stands) ∙ sym h
-
-pub none_of : (has words : List (List ℕ)) → BeginsWithNone words → BeginsWithNoneOf has words
-none_of has words none c more one e = none c more e
 
 -- ---- places in the words
 

@@ -124,10 +124,6 @@ doubled : (xs : List ℕ) → length (flat_map uint16 xs) ≡ 2 * length xs
 doubled [] = refl
 doubled (x ∷ xs) = ap length (flat_map-cons uint16 x xs) ∙ length-append (uint16 x) (flat_map uint16 xs) ∙ omega (arith, length-uint16 x, doubled xs)
 
-pub no_byte : (body : List ℕ) (format : ℕ) (formats : List ℕ) → byte_at body ≡ None → IsCopyBoth body format formats → ⊥
-no_byte [] format formats read is = absurd cc
-no_byte (b ∷ body) format formats read is = absurd cc
-
 copied : (body behind : List ℕ) (first format : ℕ) (formats : List ℕ) → byte_at body ≡ Some (first, behind) → IsCopyBoth body format formats → behind ≡ uint16 (length formats) ++ flat_map uint16 formats
 copied body behind first format formats read is = ap (λ p. p.1) (some_is (first, behind) (format, uint16 (length formats) ++ flat_map uint16 formats) (sym read ∙ ap byte_at is.whole))
 

@@ -1,5 +1,5 @@
 -- A line has printable characters alone, and a newline at its end.
-use Rattle.pgp_trace.proofs.Common.{◌≡◌, ℕ, zero, suc, ◌+◌, ◌-◌, ◌<◌, ◌≤◌, Bool, true, false, List, [], ◌∷◌, ◌++◌, length, take, drop, Option, Some, None, Result, Ok, Err, ℤ, pos, negsuc, refl, sym, ap, subst, ◌∙◌, arith, inl, inr, slice_get, ◌/◌, ◌%◌, ◌||◌, nat_le, nat_lt, ◌==◌, if◌then◌else◌, codes, decimal, flat_map, list_all, eqb-true, leb-true, le-leb, lt-ltb, and_from, and_parts, append-nil, flat_map-cons, Error, AuthenticationOk, AuthenticationKerberosV5, AuthenticationCleartextPassword, AuthenticationMd5Password, AuthenticationScmCredential, AuthenticationGss, AuthenticationGssContinue, AuthenticationSspi, AuthenticationSasl, AuthenticationSaslContinue, AuthenticationSaslFinal, Message, ParseComplete, BindComplete, CloseComplete, NotificationResponse, CommandComplete, DataRow, ErrorResponse, CopyInResponse, CopyOutResponse, EmptyQueryResponse, BackendKeyData, NegotiateProtocolVersion, NoticeResponse, Authentication, ParameterStatus, RowDescription, ReadyForQuery, CopyDone, CopyData, NoData, PortalSuspended, ParameterDescription, payload_of, Frame, frame_bytes, Columns, Json, Style, Part, Length, Tag, Name, Refusal, Key, Member, Count, ListBegins, ListEnds, ObjectBegins, ObjectEnds, Word, Number, Lsn, Oid, Text, Value, Binary, Hidden, added, added_by, blanks, closing, closing_by, comma, extended, followed, is_opening, json, json_name, lsn, named, opening, opening_by, right, separator, space, spelt, string, type_name, state_of, TextSpelled, TextRefused, FormatSpelled, FormatRefused, TypeSpelled, TypeRefused, RangeSpelled, RangeRefused, FieldSpelled, FieldRefused, ErrorFieldSpelled, ErrorFieldRefused, IsAscii, IsUtf8, all_scalars, chars, encode_utf8_all, ShowsInner, data_parts, inner_parts, Says, Shows, ShowsCounted, ShowsMarked, ShowsTexts, bare, called, closed, column_parts, field_parts, inner_data, list_of, name_or, number_part, refused, text_part, type_part, value_part, ShowsCopyBoth, ShowsResult, ShowsUnread, CallResult, CopyBoth, Rejected, copy_parts, result_parts, ClientMessage, ClientError, ClientSays, client_called, client_data, client_groups, client_line, grouped, refusal_parts, GoesOn, IsLineOf, LineOf, answer_name, front, client_front, client_tag, Side, Server, Client, is_reported, Beginning, Messages, Replicating, Encrypted}
+use Rattle.pgp_trace.proofs.Common.{◌≡◌, ℕ, zero, suc, ◌+◌, ◌-◌, ◌<◌, ◌≤◌, Bool, true, false, List, [], ◌∷◌, ◌++◌, length, take, drop, Option, Some, None, Result, Ok, Err, ℤ, pos, negsuc, refl, sym, ap, subst, ◌∙◌, arith, inl, inr, slice_get, ◌/◌, ◌%◌, ◌||◌, nat_le, nat_lt, ◌==◌, if◌then◌else◌, codes, decimal, flat_map, list_all, eqb-true, leb-true, le-leb, lt-ltb, and_from, and_parts, append-nil, flat_map-cons, Error, AuthenticationMd5Password, AuthenticationGssContinue, AuthenticationSasl, AuthenticationSaslContinue, AuthenticationSaslFinal, Message, NotificationResponse, CommandComplete, DataRow, ErrorResponse, CopyInResponse, CopyOutResponse, BackendKeyData, NegotiateProtocolVersion, NoticeResponse, Authentication, ParameterStatus, RowDescription, ReadyForQuery, CopyData, ParameterDescription, payload_of, Frame, frame_bytes, Columns, Json, Style, Part, Length, Tag, Name, Refusal, Key, Member, Count, ListBegins, ListEnds, ObjectBegins, ObjectEnds, Word, Number, Lsn, Oid, Text, Value, Binary, Hidden, added, added_by, blanks, closing, closing_by, comma, extended, followed, is_opening, json, json_name, lsn, named, opening, opening_by, right, separator, space, spelt, string, type_name, state_of, TextSpelled, TextRefused, FormatSpelled, FormatRefused, TypeSpelled, TypeRefused, RangeSpelled, RangeRefused, FieldSpelled, FieldRefused, ErrorFieldSpelled, ErrorFieldRefused, IsAscii, IsUtf8, all_scalars, chars, encode_utf8_all, ShowsInner, data_parts, inner_parts, Says, Shows, ShowsCounted, ShowsMarked, ShowsTexts, bare, called, closed, column_parts, field_parts, inner_data, list_of, name_or, number_part, refused, text_part, type_part, value_part, ShowsCopyBoth, ShowsResult, ShowsUnread, CallResult, CopyBoth, Rejected, copy_parts, result_parts, ClientMessage, ClientError, ClientSays, client_called, client_data, client_groups, client_line, grouped, refusal_parts, GoesOn, IsLineOf, LineOf, answer_name, front, client_front, client_tag, Side, Server, Client, is_reported, Beginning, Messages, Replicating, Encrypted}
 use Rattle.std.specs.Prelude.{◌^◌}
 use lib.Utf8.{scalar as is_scalar}
 use Rattle.std.specs.Char.{encode_utf8, IsScalar}

@@ -1,5 +1,5 @@
 -- A line takes bytes off.
-use Rattle.pgp_trace.proofs.Common.{ℕ, ◌<◌, List, [], length, ap, arith, inl, inr, length-append, Style, LineOf, Side, Server, Client, expected, Beginning, Messages, Replicating, Encrypted, HasLine}
+use Rattle.pgp_trace.proofs.Common.{ℕ, ◌<◌, List, [], length, ap, arith, inl, inr, length-append, Style, LineOf, Listed, View, Side, Server, Client, expected, Beginning, Messages, Replicating, Encrypted, HasLine}
 use Rattle.pgp_trace.proofs.ClientLines.{step_long}
 use Rattle.pgp_trace.proofs.FrameLines.{frame_long}
 
@@ -13,3 +13,6 @@ frame_has style place (Client opened kinds replicating) to frame line is = omega
 
 pub shorter : (style : Style) (place : ℕ) (from to : Side) (old new line name : List ℕ) → HasLine style place from old new line to name → length new < length old
 shorter style place from to old new line name has = omega (arith, ap length has.whole, length-append has.frame new, frame_has style place from to has.frame line has.reported)
+
+pub frame_some : (view : View) (place : ℕ) (from to : Side) (frame text : List ℕ) → Listed view place from frame text to → 0 < length frame
+frame_some view place from to frame text has = frame_has view.style place from to frame has.line has.reported

@@ -1,65 +1,12 @@
 -- Streams that differ in their secrets alone have the same lines.
-use Rattle.pgp_trace.proofs.Common.{◌≡◌, ◌⊎◌, inl, inr, Bool, false, ℕ, ◌+◌, ◌<◌, List, [], ◌∷◌, ◌++◌, length, None, Result, Ok, Err, refl, sym, ap, subst, ◌∙◌, append_assoc, arith, codes, flat_map, AllByRecursion, append-nil, flat_map-cons, uint32, Error, Message, Frame, frame_bytes, IsFrame, front_is_one, each_push, pushed, Style, Length, Name, Part, Tag, followed, opening, ShowsCopyBoth, ShowsResult, ShowsUnread, CallResult, CopyBoth, Rejected, Side, Server, AreAnswers, answered, phase_behind, replicates, replicates_behind, server_at, Beginning, Messages, GoesOn, IsLineOf, Lines, NoLines, OneLine, front, place_behind, server_name, unread_name, View, shown, AlikeBeginnings, AlikeResults, AlikeFrames, AlikeStreams, NoFrames, OneAlike, quiet, quietly, Says, called, inner_data}
-use Rattle.std.proofs.lemmas.List.{length-append}
+use Rattle.pgp_trace.proofs.Common.{◌≡◌, ◌⊎◌, inl, inr, Bool, false, ℕ, ◌+◌, ◌<◌, List, [], ◌∷◌, ◌++◌, length, None, Result, Ok, Err, refl, sym, ap, subst, ◌∙◌, arith, codes, Error, Message, Frame, frame_bytes, front_is_one, Style, Length, Name, Part, Tag, followed, opening, ShowsCopyBoth, ShowsResult, ShowsUnread, CallResult, CopyBoth, Rejected, Side, Server, AreAnswers, answered, phase_behind, replicates, replicates_behind, server_at, Beginning, Messages, GoesOn, IsLineOf, Listed, Lines, Rows, front, server_name, unread_name, View, shown, AlikeBeginnings, AlikeResults, AlikeFrames, AlikeReceived, AlikeStreams, NoFrames, OneAlike, quiet, quietly, Says, called, inner_data}
+use Rattle.std.proofs.lemmas.List.{length-append, nil_from_length}
 use Rattle.pgp_trace.proofs.Beginnings.{HasCome, StillAnswers, NowEncrypted, NowMessages, has_come, none_some, one_front, rejoin}
-use Rattle.pgp_trace.proofs.Sides.{listed as listed_so, server_line}
+use Rattle.pgp_trace.proofs.FrameLines.{frame_long}
+use Rattle.pgp_trace.proofs.Rows.{InOrder, NoMore, Replaced, in_order, replaced, row_more, rows_again}
+use Rattle.pgp_trace.proofs.Shorter.{frame_some}
+use Rattle.pgp_trace.proofs.Sides.{ServerAt, behind_it, listed as listed_so, told}
 use Rattle.pgp_trace.proofs.Hiding.{hidden_inside, same_call, same_data}
-
--- ---- frames at the end of bytes
-
-some_bytes : (f : Frame) → 0 < length (frame_bytes f)
-unfolding uint32
-some_bytes f = omega arith
-
--- bytes that are frames
-pub record AreFrames (bytes : List ℕ) : Type 0 where
-  pub frames : List Frame
-  pub whole : bytes ≡ flat_map frame_bytes frames
-  pub each : AllByRecursion IsFrame frames
-
-pub more_frames : (bytes : List ℕ) (f : Frame) → AreFrames bytes → IsFrame f → AreFrames (bytes ++ frame_bytes f)
-more_frames bytes f are fits = record {
-  frames = are.frames ++ f ∷ [];
-  whole = ap (λ l. l ++ frame_bytes f) are.whole ∙ sym (pushed are.frames f);
-  each = each_push are.frames f are.each fits;
-}
-
-left_frames : (a b : List ℕ) → AlikeStreams a b → AreFrames a
-left_frames [] [] NoFrames = record { frames = []; whole = refl; each = tt }
-left_frames _ _ (OneAlike {a = a} {b = b} f g before ff gg alike) = more_frames a f (left_frames a b before) ff
-
-pub listed_frames : (view : View) (start : ℕ) (replicating : Bool) (bytes lines : List ℕ) (to : Side) → Lines view start (server_at replicating) bytes lines to → AreFrames bytes
-listed_frames view start replicating [] [] _ NoLines = record { frames = []; whole = refl; each = tt }
-listed_frames view start replicating _ _ to (OneLine {bytes = bytes} {lines = lines} {here = here} frame line before has) =
-    let has_line = server_line view start (place_behind (start + length bytes)) replicating bytes lines frame line here to before has in
-    let is = has_line.told.reported in
-    subst (λ l. AreFrames (bytes ++ l)) (sym is.whole) (more_frames bytes is.first (listed_frames view start replicating bytes lines here before) is.fits)
-
-abbrev LastIsOne : List Frame → List Frame → Frame → Frame → Type 0
-LastIsOne fs gs f g = (flat_map frame_bytes fs ≡ flat_map frame_bytes gs) × (f ≡ g)
-
-spread : (h : Frame) (fs : List Frame) (r : List ℕ) → flat_map frame_bytes (h ∷ fs) ++ r ≡ frame_bytes h ++ (flat_map frame_bytes fs ++ r)
-spread h fs r = ap (λ l. l ++ r) (flat_map-cons frame_bytes h fs) ∙ append_assoc (frame_bytes h) (flat_map frame_bytes fs) r
-
-never_more : (f g h : Frame) (gs : List Frame) → IsFrame f → IsFrame h → frame_bytes f ≡ flat_map frame_bytes (h ∷ gs) ++ frame_bytes g → ⊥
-never_more f g h gs ff hh e =
-    let none : [] ≡ flat_map frame_bytes gs ++ frame_bytes g = (front_is_one f h [] (flat_map frame_bytes gs ++ frame_bytes g) ff hh (append-nil (frame_bytes f) ∙ e ∙ spread h gs (frame_bytes g))).1 in
-    absurd (omega (arith, ap length none, length-append (flat_map frame_bytes gs) (frame_bytes g), some_bytes g))
-
-last_is_one : (fs gs : List Frame) (f g : Frame) → AllByRecursion IsFrame fs → AllByRecursion IsFrame gs → IsFrame f → IsFrame g
-    → flat_map frame_bytes fs ++ frame_bytes f ≡ flat_map frame_bytes gs ++ frame_bytes g → LastIsOne fs gs f g
-last_is_one [] [] f g a b ff gg e = (refl, (front_is_one f g [] [] ff gg (ap (λ l. l ++ []) e)).0)
-last_is_one [] (h ∷ gs) f g a b ff gg e = absurd (never_more f g h gs ff b.0 e)
-last_is_one (h ∷ fs) [] f g a b ff gg e = absurd (never_more g f h fs gg a.0 (sym e))
-last_is_one (h ∷ fs) (k ∷ gs) f g a b ff gg e =
-    let first = front_is_one h k (flat_map frame_bytes fs ++ frame_bytes f) (flat_map frame_bytes gs ++ frame_bytes g) a.0 b.0 (sym (spread h fs (frame_bytes f)) ∙ e ∙ spread k gs (frame_bytes g)) in
-    let rest = last_is_one fs gs f g a.1 b.1 ff gg first.1 in
-    (flat_map-cons frame_bytes h fs ∙ ap (λ x. frame_bytes x ++ flat_map frame_bytes fs) first.0 ∙ ap (λ l. frame_bytes k ++ l) rest.0 ∙ sym (flat_map-cons frame_bytes k gs), rest.1)
-
-pub one_last : (a b : List ℕ) (f g : Frame) → AreFrames a → AreFrames b → IsFrame f → IsFrame g → a ++ frame_bytes f ≡ b ++ frame_bytes g → (a ≡ b) × (f ≡ g)
-one_last a b f g p q ff gg e =
-    let one = last_is_one p.frames q.frames f g p.each q.each ff gg (ap (λ l. l ++ frame_bytes f) (sym p.whole) ∙ e ∙ ap (λ l. l ++ frame_bytes g) q.whole) in
-    (p.whole ∙ one.0 ∙ sym q.whole, one.1)
 
 -- ---- lines
 
@@ -115,66 +62,53 @@ same_length [] [] NoFrames = refl
 same_length _ _ (OneAlike {a = a} {b = b} f g before ff gg alike) =
     omega (arith, same_length a b before, length-append a (frame_bytes f), length-append b (frame_bytes g), alike.long)
 
-pub no_last : (bytes : List ℕ) (f : Frame) → [] ≡ bytes ++ frame_bytes f → ⊥
-no_last bytes f e = absurd (omega (arith, ap length e, length-append bytes (frame_bytes f), some_bytes f))
-
--- the stream that is like one whose last frame is known
-record EndsAlike (bytes other : List ℕ) (f : Frame) : Type 0 where
-  before : List ℕ
-  last : Frame
-  whole : other ≡ before ++ frame_bytes last
-  alike : AlikeStreams bytes before
-  fits : IsFrame last
-  same : AlikeFrames f last
-
-ends_alike : (all other : List ℕ) → AlikeStreams all other → (bytes : List ℕ) (f : Frame) → AreFrames bytes → IsFrame f → all ≡ bytes ++ frame_bytes f → EndsAlike bytes other f
-ends_alike [] [] NoFrames bytes f are fits e = absurd (no_last bytes f e)
-ends_alike _ _ (OneAlike {a = a} {b = b} g h before gg hh alike) bytes f are fits e =
-    let one = one_last a bytes g f (left_frames a b before) are gg fits e in
-    record {
-      before = b;
-      last = h;
-      whole = refl;
-      alike = subst (λ l. AlikeStreams l b) one.0 before;
-      fits = hh;
-      same = subst (λ k. AlikeFrames k h) one.1 alike;
-    }
-
 nothing_alike : (all other : List ℕ) → AlikeStreams all other → all ≡ [] → other ≡ []
-nothing_alike [] [] NoFrames e = refl
-nothing_alike _ _ (OneAlike {a = a} {b = b} g h before gg hh alike) e = absurd (no_last a g (sym e))
+nothing_alike all other alike e = nil_from_length other (sym (same_length all other alike) ∙ ap length e)
 
--- the lines of a server's frames, with the frame as bytes
-server_step : (view : View) (start : ℕ) (from replicating : Bool) (bytes lines : List ℕ) (f : Frame) (line text : List ℕ) → Lines view start (server_at from) bytes lines (server_at replicating) → IsFrame f
-    → (has : IsLineOf view.style (place_behind (start + length bytes)) replicating f line) → text ≡ shown view (server_name f.tag has.result) line
-    → Lines view start (server_at from) (bytes ++ frame_bytes f) (lines ++ text) (server_at (replicates replicating f.tag))
-server_step view start from replicating bytes lines f line text before fits has e =
-    OneLine (frame_bytes f) text before (listed_so view (place_behind (start + length bytes)) replicating (frame_bytes f) text (record { line = line; reported = record { first = f; whole = refl; fits = fits; reported = has }; is = e }))
+-- a frame, and one that is like it
+abbrev Pair : ℕ → Unit {0} → List ℕ → List ℕ → Unit {0} → Type 0
+Pair place here f g to = AlikeReceived f g
 
--- frames of one tag
-behind_alike : (replicating : Bool) (f g : Frame) (frame : List ℕ) → frame ≡ frame_bytes f → f.tag ≡ g.tag → replicates_behind replicating frame ≡ replicates replicating g.tag
-behind_alike replicating f g frame e t = ap (replicates_behind replicating) e ∙ ap (replicates replicating) t
+pairs : (a b : List ℕ) → AlikeStreams a b → InOrder Pair tt 0 tt a b
+pairs [] [] NoFrames = NoMore
+pairs _ _ (OneAlike {a = a} {b = b} f g before ff gg alike) = row_more Pair tt 0 tt tt a b (frame_bytes f) (frame_bytes g) (pairs a b before) (record { first = f; second = g; one = refl; two = refl; fits = ff; holds = gg; alike = alike })
 
-hidden_lines : (view : View) (start : ℕ) (from : Bool) (a lines : List ℕ) (to : Side) → Lines (quietly view) start (server_at from) a lines to → (b : List ℕ) → AlikeStreams a b → Lines (quietly view) start (server_at from) b lines to
-hidden_lines view start from [] [] _ NoLines b alike = subst (λ l. Lines (quietly view) start (server_at from) l [] (server_at from)) (sym (nothing_alike [] b alike refl)) NoLines
-hidden_lines view start from _ _ to (OneLine {bytes = bytes} {lines = lines} {here = here} frame text before has) b alike =
-    let at = server_line (quietly view) start (place_behind (start + length bytes)) from bytes lines frame text here to before has in
-    let told = at.told in
-    let now = at.replicating in
-    let is = told.reported in
-    let same : AlikeStreams (bytes ++ frame_bytes is.first) b = subst (λ l. AlikeStreams (bytes ++ l) b) is.whole alike in
-    let end = ends_alike (bytes ++ frame_bytes is.first) b same bytes is.first (listed_frames (quietly view) start from bytes lines here before) is.fits refl in
-    let place : place_behind (start + length bytes) ≡ place_behind (start + length end.before) = ap (λ n. place_behind (start + n)) (same_length bytes end.before end.alike) in
-    let hid : LineHidden view.style (place_behind (start + length end.before)) now end.last told.line (server_name is.first.tag is.reported.result) =
-    subst (λ p. LineHidden view.style p now end.last told.line (server_name is.first.tag is.reported.result)) place (line_hidden view.style (place_behind (start + length bytes)) now is.first end.last told.line end.same is.reported) in
-    let rest = subst (Lines (quietly view) start (server_at from) end.before lines) at.at (hidden_lines view start from bytes lines here before end.before end.alike) in
-    let side : to ≡ server_at (replicates now end.last.tag) = at.behind ∙ ap server_at (behind_alike now is.first end.last frame is.whole end.same.tagged) in
-    subst (λ l. Lines (quietly view) start (server_at from) l (lines ++ text) to) (sym end.whole)
-    (subst (Lines (quietly view) start (server_at from) (end.before ++ frame_bytes end.last) (lines ++ text)) (sym side)
-    (server_step (quietly view) start from now end.before lines end.last told.line text rest end.fits hid.is (told.is ∙ ap (λ n. shown (quietly view) n told.line) hid.named)))
+some_pair : (place : ℕ) (here to : Unit {0}) (f g : List ℕ) → AlikeReceived f g → 0 < length f
+some_pair place here to f g p = omega (arith, frame_long p.first f p.one)
 
-pub streams_hidden : (view : View) (start : ℕ) (a b lines : List ℕ) (to : Side) → AlikeStreams a b → Lines (quietly view) start (Server Messages) a lines to → Lines (quietly view) start (Server Messages) b lines to
-streams_hidden view start a b lines to alike listed = hidden_lines view start false a lines to listed b alike
+abbrev Meet : Side → Unit {0} → Side → Type 0
+Meet s u w = ServerAt s × (w ≡ s)
+
+module _ (view : View) where
+  abbrev One : ℕ → Side → List ℕ → List ℕ → Side → Type 0
+  One place here frame text to = Listed (quietly view) place here frame text to
+
+  hides : (place q : ℕ) (s t : Side) (u v : Unit {0}) (w : Side) (f h g text x y : List ℕ) → Meet s u w → One place s f text t → AlikeReceived h g → f ++ x ≡ h ++ y → Replaced One (λ k n. Meet k v n) place w f h g text x y t
+  hides place q s t u v w f h g text x y at has pair e =
+      let r = at.0.replicating in
+      let there = subst (λ k. One place k f text t) at.0.is has in
+      let had = told (quietly view) place r f text t there in
+      let is = had.reported in
+      let one = front_is_one is.first pair.first x y is.fits pair.fits (ap (λ l. l ++ x) (sym is.whole) ∙ e ∙ ap (λ l. l ++ y) pair.one) in
+      let alike : AlikeFrames is.first pair.second = subst (λ k. AlikeFrames k pair.second) (sym one.0) pair.alike in
+      let hid = line_hidden view.style place r is.first pair.second had.line alike is.reported in
+      let to = server_at (replicates_behind r g) in
+      let behind : t ≡ to = behind_it (quietly view) place r f text t there ∙ ap (λ l. server_at (replicates_behind r l)) is.whole ∙ ap (λ n. server_at (replicates r n)) alike.tagged ∙ sym (ap (λ l. server_at (replicates_behind r l)) pair.two) in
+      record {
+        frames = is.whole ∙ ap frame_bytes one.0 ∙ sym pair.one;
+        rests = one.1;
+        long = ap length is.whole ∙ alike.long ∙ sym (ap length pair.two);
+        state = to;
+        is = subst (λ k. One place k g text to) (sym (at.1 ∙ at.0.is)) (listed_so (quietly view) place r g text
+            (record { line = had.line; reported = record { first = pair.second; whole = pair.two; fits = pair.holds; reported = hid.is }; is = had.is ∙ ap (λ n. shown (quietly view) n had.line) hid.named }));
+        at = (record { replicating = replicates_behind r g; is = behind }, sym behind);
+      }
+
+  pub streams_hidden : (start : ℕ) (a b lines : List ℕ) (to : Side) → AlikeStreams a b → Lines (quietly view) start (Server Messages) a lines to → Lines (quietly view) start (Server Messages) b lines to
+  streams_hidden start a b lines to alike listed =
+      let from = Server Messages in
+      let all = replaced One Pair One Meet hides (frame_some (quietly view)) some_pair to tt start 0 from tt from a lines a b (record { replicating = false; is = refl }, refl) (in_order One start from to a lines listed) (pairs a b alike) refl in
+      subst (Rows One start from b lines) all.at.1 (rows_again One all.state start from b lines all.rows)
 
 -- ---- from the first byte of a connection on
 

@@ -1,11 +1,12 @@
 -- The lines of a stream, a frame and a piece at a time.
-use Rattle.pgp_trace.proofs.Common.{◌≡◌, ◌⊎◌, ℕ, ◌+◌, ◌-◌, ◌≤◌, Bool, true, false, List, [], ◌++◌, length, take, drop, min, Option, Result, Ok, Err, refl, sym, ap, subst, ◌∙◌, arith, inl, inr, length-append, append_assoc, IfOk, IfSome, OnOk, OnErr, Appends, Consumes, Keeps, IsAtEnd, Appends-nil, Appends-trans, Consumes-nil, Consumes-trans, Consumes-kept, Consumes-whole, min-eq_left, min-le_right, append-nil, length-take, take-append_seam, drop-append_seam, View, shown, Listed, Lines, NoLines, OneLine, place_behind, last_line, IsReady, WasListed, WritesListing, IsCutShort, Side, Ends, HasLine, ListsAll, ListsSome, Held, Holds, ListsPiece, AppendsFront, greatest}
+use Rattle.pgp_trace.proofs.Common.{◌≡◌, ◌⊎◌, ℕ, ◌+◌, ◌-◌, ◌≤◌, Bool, true, false, List, [], ◌++◌, length, take, drop, min, Option, Result, Ok, Err, refl, sym, ap, subst, ◌∙◌, arith, inl, inr, length-append, append_assoc, IfOk, IfSome, OnOk, OnErr, Appends, Consumes, Keeps, IsAtEnd, Appends-nil, Appends-trans, Consumes-nil, Consumes-trans, Consumes-kept, Consumes-whole, min-eq_left, min-le_right, append-nil, length-take, View, shown, Listed, Lines, NoLines, place_behind, last_line, IsReady, WasListed, WritesListing, IsCutShort, Side, Ends, HasLine, ListsAll, ListsSome, Held, Holds, ListsPiece, AppendsFront, greatest}
 use Rattle.pgp_base.proofs.Parts.{on_err}
 use Rattle.pgp_trace.specs.Hints.{hint_of}
 use Rattle.pgp_program.specs.Run.{Streams}
 use Rattle.pgp_trace.proofs.Ends.{stays_ended, nothing_ends}
 use Rattle.pgp_trace.proofs.Fronts.{none_taken, all_taken, more_taken, kept_nothing}
 use Rattle.pgp_trace.proofs.Parts.{saturates}
+use Rattle.pgp_trace.proofs.Rows.{RowsTo, counted_on, one_listed, rows_join}
 
 -- ---- lines after lines
 
@@ -20,59 +21,18 @@ same_place a b =
     let sum : length a + length b ≡ 0 + length (a ++ b) = omega (arith, length-append a b) in
     saturates (length a) (length b) greatest ∙ ap place_behind sum
 
-pub lines_join : (view : View) (from mid : Side) (a lines : List ℕ) → Lines view 0 from a lines mid → (b more : List ℕ) (to : Side) → Lines view (place_behind (length a)) mid b more to → Lines view 0 from (a ++ b) (lines ++ more) to
-lines_join view from mid a lines first [] [] _ NoLines = subst (λ l. Lines view 0 from l (lines ++ []) mid) (sym (append-nil a)) (subst (λ l. Lines view 0 from a l mid) (sym (append-nil lines)) first)
-lines_join view from mid a lines first _ _ to (OneLine {bytes = b} {lines = more} {here = here} frame line before has) =
-    subst (λ l. Lines view 0 from l (lines ++ (more ++ line)) to) (append_assoc a b frame)
-    (subst (λ l. Lines view 0 from ((a ++ b) ++ frame) l to) (append_assoc lines more line)
-    (OneLine frame line (lines_join view from mid a lines first b more here before) (subst (λ p. Listed view p here frame line to) (same_place a b) has)))
+-- lines at the place behind others
+lines_join : (view : View) (from mid to : Side) (place : ℕ) (a lines b more : List ℕ) → Lines view 0 from a lines mid → place ≡ place_behind (length a) → Lines view place mid b more to → Lines view 0 from (a ++ b) (lines ++ more) to
+lines_join view from mid to place a lines b more first at then =
+    rows_join (Listed view) 0 from mid a lines first b more to (counted_on (Listed view) (0 + length a) mid to b more (subst (λ p. Lines view p mid b more to) (at ∙ ap place_behind (sym (plain_sum (length a)))) then))
 
 -- ---- a frame at a time
 
--- the frames before the rest have these lines
-pub record ListsTo (view : View) (start : ℕ) (from : Side) (bytes rest : List ℕ) (to : Side) (old new : List ℕ) : Type 0 where
-  pub front : List ℕ
-  pub lines : List ℕ
-  pub whole : bytes ≡ front ++ rest
-  pub listed : Lines view start from front lines to
-  pub text : new ≡ old ++ lines
-
-pub nothing_yet : (view : View) (start : ℕ) (from : Side) (bytes old : List ℕ) → ListsTo view start from bytes bytes from old old
-nothing_yet view start from bytes old = record { front = []; lines = []; whole = refl; listed = NoLines; text = sym (append-nil old) }
-
-passed_is : (bytes front rest : List ℕ) → bytes ≡ front ++ rest → length bytes - length rest ≡ length front
-passed_is bytes front rest e = omega (arith, ap length e, length-append front rest)
-
 -- one more has its line, which stands after those
-pub one_listed : (view : View) (start here : ℕ) (from mid to : Side) (bytes rest next line name old now new : List ℕ) → ListsTo view start from bytes rest mid old now
-    → here ≡ min (start + (length bytes - length rest)) greatest → HasLine view.style here mid rest next line to name → new ≡ now ++ shown view name line → ListsTo view start from bytes next to old new
-one_listed view start here from mid to bytes rest next line name old now new so_far at has grown =
-    let place : here ≡ place_behind (start + length so_far.front) = at ∙ ap (λ n. place_behind (start + n)) (passed_is bytes so_far.front rest so_far.whole) in
-    record {
-      front = so_far.front ++ has.frame;
-      lines = so_far.lines ++ shown view name line;
-      whole = so_far.whole ∙ ap (λ l. so_far.front ++ l) has.whole ∙ sym (append_assoc so_far.front has.frame next);
-      listed = OneLine has.frame (shown view name line) so_far.listed (subst (λ p. Listed view p mid has.frame (shown view name line) to) place (record { line = line; reported = has.reported; is = ap (λ n. shown view n line) has.named }));
-      text = grown ∙ ap (λ l. l ++ shown view name line) so_far.text ∙ append_assoc old so_far.lines (shown view name line);
-    }
-
--- and no more, since none is whole
-pub all_listed : (view : View) (start n : ℕ) (from to : Side) (bytes rest : List ℕ) (stopped : Bool) (old new : List ℕ) → ListsTo view start from bytes rest to old new
-    → n ≡ length bytes - length rest → Ends to stopped rest → ListsAll view start from bytes (take n bytes) (drop n bytes) stopped to old new
-all_listed view start n from to bytes rest stopped old new so_far passed ending =
-    let count : n ≡ length so_far.front = passed ∙ passed_is bytes so_far.front rest so_far.whole in
-    let is : take n bytes ≡ so_far.front = ap (λ k. take k bytes) count ∙ ap (take (length so_far.front)) so_far.whole ∙ take-append_seam so_far.front rest in
-    let left : drop n bytes ≡ rest = ap (λ k. drop k bytes) count ∙ ap (drop (length so_far.front)) so_far.whole ∙ drop-append_seam so_far.front rest in
-    record {
-      lines = so_far.lines;
-      whole = rw (is, left) so_far.whole;
-      listed = subst (λ l. Lines view start from l so_far.lines to) (sym is) so_far.listed;
-      ending = subst (Ends to stopped) (sym left) ending;
-      text = so_far.text;
-    }
-
-pub within : (n : ℕ) (bytes rest : List ℕ) → n ≡ length bytes - length rest → n ≤ length bytes
-within n bytes rest passed = omega (arith, passed)
+pub line_listed : (view : View) (start here : ℕ) (from mid to : Side) (bytes rest next line name old now new : List ℕ) → RowsTo (Listed view) start from bytes rest mid old now
+    → here ≡ min (start + (length bytes - length rest)) greatest → HasLine view.style here mid rest next line to name → new ≡ now ++ shown view name line → RowsTo (Listed view) start from bytes next to old new
+line_listed view start here from mid to bytes rest next line name old now new so_far at has grown =
+    one_listed (Listed view) start here from mid to bytes rest has.frame next (shown view name line) old now new so_far at has.whole (record { line = line; reported = has.reported; is = ap (λ n. shown view n line) has.named }) grown
 
 -- ---- a piece at a time
 
@@ -242,7 +202,7 @@ tracks_piece view from before after held new next output piece t received one = 
   rest = one.rest;
   lines = t.lines ++ one.lines;
   received = received_more view from before after held t next piece one.front one.rest received one.whole;
-  listed = lines_join view from held.side t.front t.lines t.listed one.front one.lines new.side (subst (λ p. Lines view p held.side one.front one.lines new.side) t.place one.listed);
+  listed = lines_join view from held.side new.side held.place t.front t.lines one.front one.lines t.listed t.place one.listed;
   holds = one.holds;
   place = one.moved ∙ ap (λ p. place_behind (p + length one.front)) t.place ∙ same_place t.front one.front ∙ ap place_behind (plain_sum (length (t.front ++ one.front)));
   written = Appends-trans before.output after.output output t.lines one.lines t.written one.written;
@@ -258,7 +218,7 @@ cut_piece view from before after held next output piece t received some = record
   lines = t.lines ++ some.lines;
   text = t.lines ++ some.lines;
   received = received_more view from before after held t next piece some.front some.rest received some.whole;
-  listed = lines_join view from held.side t.front t.lines t.listed some.front some.lines some.to (subst (λ p. Lines view p held.side some.front some.lines some.to) t.place some.listed);
+  listed = lines_join view from held.side some.to held.place t.front t.lines some.front some.lines t.listed t.place some.listed;
   due = inl refl;
   written = more_taken before.output after.output output t.lines some.lines t.written some.written;
 }

@@ -1,13 +1,10 @@
 -- What the line of a client's message says. PostgreSQL manual, "Message Formats".
 use Rattle.std.specs.Prelude.{◌≡◌, ℕ, pos, ℤ, ◌+◌, Bool, true, false, ◌==◌, if◌then◌else◌, List, [], ◌∷◌, length, Option, Some, None, Result, Ok, Err, codes}
-use Rattle.pgp_frontend.specs.ClientMessage.{ClientMessage, Bind, Close, CopyData, CopyDone, CopyFail, Describe, Execute, Flush, Parse, PasswordMessage, Query, SaslInitialResponse, SaslResponse, Sync, Terminate, Startup, CancelRequest, SslRequest, GssEncRequest, FunctionCall}
-use Rattle.pgp_frontend_read.specs.declared.error.ClientError.{ClientError}
+use Rattle.pgp_trace.specs.Common.{ClientMessage, Bind, Close, CopyFail, Describe, Execute, Flush, Parse, PasswordMessage, Query, SaslInitialResponse, SaslResponse, Sync, Terminate, Startup, CancelRequest, SslRequest, GssEncRequest, FunctionCall, ClientError, Style, Part, Name, Key, Member, Count, ListBegins, ObjectBegins, ObjectEnds, Number, Text, Value, followed, key, response_parts, secret}
+use Rattle.pgp_frontend.specs.ClientMessage.{CopyData, CopyDone}
 use Rattle.pgp_frontend_read.specs.declared.error.ClientError.TheVariants.{UnknownPacket, Reading}
-use Rattle.pgp_line.specs.declared.style.Style.{Style}
-use Rattle.pgp_line.specs.Line.{Part, Name, Key, Member, Count, ListBegins, ObjectBegins, ObjectEnds, Number, Text, Value, followed, key}
 use Rattle.pgp_trace.specs.Replication.{ShowsInner}
 use Rattle.pgp_trace.specs.Shown.{list_of, name_or, refused, type_part}
-use Rattle.pgp_line.specs.Secret.{response_parts, secret}
 
 -- a message of tag `p` of which nothing is known but its tag
 abbrev pub some_password : List ℕ

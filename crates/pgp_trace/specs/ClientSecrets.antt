@@ -1,9 +1,6 @@
 -- A client's messages and streams that differ in their secrets alone.
 use Rattle.std.specs.Prelude.{◌≡◌, ℕ, Bool, List, [], ◌++◌, length, Some, Result, Ok, Err}
-use Rattle.pgp_frontend.specs.ClientMessage.{ClientMessage, CancelRequest, PasswordMessage, SaslInitialResponse, SaslResponse}
-use Rattle.pgp_frontend_read.specs.Pieces.{step_of}
-use Rattle.pgp_frontend_read.specs.Step.{Step}
-use Rattle.pgp_frontend_read.specs.declared.error.ClientError.{ClientError}
+use Rattle.pgp_trace.specs.Common.{ClientMessage, CancelRequest, PasswordMessage, SaslInitialResponse, SaslResponse, step_of, Step, ClientError}
 use Rattle.pgp_frontend_read.specs.declared.message.PasswordKind.{PasswordKind}
 use Rattle.pgp_trace.specs.Listing.{client_tag}
 use Rattle.pgp_trace.specs.Sides.{Side, Client, expected, kinds_behind}

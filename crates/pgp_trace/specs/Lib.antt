@@ -1,3 +1,4 @@
+pub mod Common
 pub mod Names
 pub mod Shown
 pub mod PlainBody
@@ -9,6 +10,7 @@ pub mod Sides
 pub mod Client
 pub mod Hints
 pub mod View
+pub mod Rows
 pub mod Listing
 pub mod Plain
 pub mod ClientSecrets

@@ -1,31 +1,16 @@
 -- The listing of a server's or a client's stream.
-use Rattle.std.specs.Prelude.{◌≡◌, ◌⊎◌, ℕ, ◌+◌, min, Bool, true, false, List, [], ◌∷◌, ◌++◌, length, get_or, Result, Ok, Err, Option, None, Some, ◌==◌, if◌then◌else◌, codes, decimal}
+use Rattle.std.specs.Prelude.{◌≡◌, ◌⊎◌, ℕ, Bool, true, false, List, [], ◌∷◌, ◌++◌, length, get_or, Result, Ok, Err, Option, None, Some, ◌==◌, if◌then◌else◌, codes, decimal}
 use mathlib.Core.Logic.{inl, inr}
-use Rattle.std.specs.Io.KnownBytes.{Appends, Consumes, IsAtEnd, Keeps}
-use Rattle.pgp_base.specs.declared.error.Error.{Error}
-use Rattle.pgp_message.specs.BackendMessage.{Message, Body}
-use Rattle.pgp_message.specs.Stream.{BackendRun, Frame, frame_bytes, IsFrame}
-use Rattle.pgp_frontend.specs.ClientMessage.{ClientMessage}
-use Rattle.pgp_frontend_read.specs.Pieces.{step_of}
-use Rattle.pgp_frontend_read.specs.Step.{Step}
-use Rattle.pgp_frontend_read.specs.declared.error.ClientError.{ClientError}
+use Rattle.pgp_trace.specs.Common.{Appends, Consumes, IsAtEnd, Keeps, Error, Message, Body, BackendRun, Frame, frame_bytes, IsFrame, ClientMessage, step_of, Step, ClientError, Phase, Beginning, Messages, Replicating, Encrypted, Form, Columns, Json, Style, Length, Name, Tag, closing, followed, opening, Streams, AppendsFront}
 use Rattle.pgp_frontend_read.specs.declared.message.PasswordKind.{PasswordKind}
 use Rattle.pgp_trace.specs.Client.{ClientSays, client_data, client_name}
 use Rattle.pgp_trace.specs.Sides.{Side, Server, Client, AreAnswers, Ends, answered, expected, is_reported, kinds_behind, phase_behind, replicates_behind, server_at}
-use Rattle.pgp_trace.specs.declared.side.Phase.{Phase}
-use Rattle.pgp_trace.specs.declared.side.Phase.TheVariants.{Beginning, Messages, Replicating, Encrypted}
-use Rattle.pgp_line.specs.declared.style.Form.{Form}
-use Rattle.pgp_line.specs.declared.style.Form.TheVariants.{Columns, Json}
-use Rattle.pgp_line.specs.declared.style.Style.{Style}
-use Rattle.pgp_line.specs.Line.{Length, Name, Tag, closing, followed, opening}
 use Rattle.pgp_trace.specs.Names.{name_of}
 use Rattle.pgp_trace.specs.Shown.{Says, called, inner_data}
 use Rattle.pgp_trace.specs.Unread.{ShowsUnread}
 use Rattle.pgp_trace.specs.Hints.{hint_of}
 use Rattle.pgp_trace.specs.View.{View, shown}
-use Rattle.pgp_program.specs.Run.{Streams}
-use Rattle.pgp_program.specs.Taken.{AppendsFront}
-use Rattle.pgp_program.specs.Words.{greatest}
+pub use Rattle.pgp_trace.specs.Rows.{Rows, NoLines, OneLine, place_behind}
 
 -- what each line begins with: the place of the frame, how long it is, and its tag
 abbrev pub front : Style → ℕ → Frame → List ℕ
@@ -143,16 +128,9 @@ pub record Listed (view : View) (place : ℕ) (from : Side) (frame text : List �
   pub reported : LineOf view.style place from frame line to
   pub is : text ≡ shown view (name_in view.style place from frame line to reported) line
 
--- how many bytes stand before, as far as a number of the machine reports it
-abbrev pub place_behind : ℕ → ℕ
-place_behind n = min n greatest
-
--- These bytes, after so many others, are complete frames, and these lines stand in the listing: each frame has one, in
--- order, of which those stand there that are asked for.
-pub data Lines (view : View) (start : ℕ) (from : Side) : List ℕ → List ℕ → Side → Type 0 where
-  NoLines : Lines view start from [] [] from
-  OneLine : {bytes lines : List ℕ} {here to : Side} (frame text : List ℕ) → Lines view start from bytes lines here
-      → Listed view (place_behind (start + length bytes)) here frame text to → Lines view start from (bytes ++ frame) (lines ++ text) to
+-- These bytes, after so many others, are complete frames, each of which has its line; of the lines those stand in the listing that are asked for.
+abbrev pub Lines : View → (start : ℕ) → Side → (bytes lines : List ℕ) → Side → Type 0
+Lines view start from = Rows (Listed view) start from
 
 -- the last line, where so many bytes are left, as far as a number of the machine reports it
 abbrev pub last_by : Form → Bool → ℕ → List ℕ
@@ -163,6 +141,10 @@ last_by Json true n = codes "{\"rest\":" ++ decimal n ++ codes ",\"stopped\":tru
 
 abbrev pub last_line : View → Bool → ℕ → List ℕ
 last_line view stopped n = last_by view.style.form stopped n ++ 10 ∷ []
+
+-- what is left of an input, and what was written
+abbrev pub streams : (input output : Option (List ℕ)) → Streams
+streams input output = record { input = input; output = output }
 
 -- All lines of what came so far were written: the bytes are frames, each of which has its line, and then a rest in which none is whole.
 pub record IsListed (view : View) (from : Side) (stopped : Bool) (rest : List ℕ) (before after : Streams) : Type 0 where

@@ -1,9 +1,8 @@
 -- The names that a line has for messages, errors, the fields of errors and the states of transactions.
 -- PostgreSQL manual, "Message Formats" and "Error and Notice Message Fields".
 use Rattle.std.specs.Prelude.{ℕ, List, Option, Some, None, ◌==◌, if◌then◌else◌, codes}
-use Rattle.pgp_base.specs.declared.error.Error.{Error}
+use Rattle.pgp_trace.specs.Common.{Error, AuthenticationMd5Password, AuthenticationScmCredential, AuthenticationGss, AuthenticationGssContinue, AuthenticationSspi, AuthenticationSasl, AuthenticationSaslContinue, AuthenticationSaslFinal, Message, Authentication}
 use Rattle.pgp_base.specs.declared.error.Error.TheVariants.{OutOfMemory, EmbeddedNull, TooLarge, InvalidLength, UnknownTag, UnknownAuthentication, UnexpectedEof, NotDrained, NotUtf8, InvalidSize, InvalidCount, InvalidKeyLength, InvalidValueLength, InvalidDimension, TooManyElements, InvalidBitLength, InvalidNetmask, InvalidAddressLength, InvalidFamily, InvalidVersion}
-use Rattle.pgp_message.specs.BackendMessage.{AuthenticationMd5Password, AuthenticationScmCredential, AuthenticationGss, AuthenticationGssContinue, AuthenticationSspi, AuthenticationSasl, AuthenticationSaslContinue, AuthenticationSaslFinal, Message, Authentication}
 use Rattle.pgp_message.specs.Names as message
 
 -- a message: as the code's variants are called, but for those that the manual spells otherwise

@@ -1,8 +1,7 @@
 -- The options of a listing, as words spell them.
 use Rattle.std.specs.Prelude.{◌≡◌, ◌≢◌, ℕ, Bool, true, false, List, [], ◌∷◌, ◌++◌, ◌==◌, codes, map}
 use Rattle.std.specs.Borrow.{Bor}
-use Rattle.std.specs.List.{flat_map, list_any, slice_split, AllByRecursion}
-use Rattle.std.specs.Str.{bytes_eq}
+use Rattle.pgp_trace.specs.Common.{flat_map, list_any, slice_split, AllByRecursion, bytes_eq}
 use Rattle.pgp_frontend_read.specs.declared.message.PasswordKind.{PasswordKind}
 use Rattle.pgp_frontend_read.specs.declared.message.PasswordKind.TheVariants.{Password, Initial, Response}
 use Rattle.pgp_trace.specs.declared.marking.Marking.{Marking}
@@ -147,18 +146,6 @@ BeginsWithNone words = (choice : Choice) (more : List (List ℕ)) → words ≢ 
 -- none that the listing has
 abbrev pub BeginsWithNoneOf : List (List ℕ) → List (List ℕ) → Type 0
 BeginsWithNoneOf has words = (choice : Choice) (more : List (List ℕ)) → IsOneOf has choice → words ≢ spelled choice ++ more
-
--- the word doesn't say when
-abbrev pub SaysNoWhen : List ℕ → Type 0
-SaysNoWhen word = (when : When) → word ≢ when_word when
-
--- the word names no kind
-abbrev pub NamesNoKind : List ℕ → Type 0
-NamesNoKind word = (kind : PasswordKind) → word ≢ kind_word kind
-
--- the word says nothing of times
-abbrev pub SaysNoClock : List ℕ → Type 0
-SaysNoClock word = (clock : Clock) → word ≢ clock_word clock
 
 -- how a listing looks for which this is chosen
 abbrev pub view_by : Chosen → View

@@ -1,8 +1,7 @@
 -- The bodies of the two messages that `pgp_message` doesn't read. PostgreSQL manual, "Message Formats".
 use Rattle.std.specs.Prelude.{◌≡◌, ℕ, ◌<◌, ◌^◌, All, List, [], ◌∷◌, length, Option, None}
-use Rattle.std.specs.Int.{w16, from_be_bytes}
+use Rattle.pgp_trace.specs.Common.{w16, from_be_bytes, counted, nullable, uint16}
 use Rattle.pgp_base.specs.Cause.{count_cause, nullable_cause}
-use Rattle.pgp_base.specs.Wire.{counted, nullable, uint16}
 
 -- FunctionCallResponse: the result of a function, or a null
 pub record IsCallResult (body : List ℕ) (value : Option (List ℕ)) : Type 0 where

@@ -1,9 +1,6 @@
 -- The messages inside the CopyData of a replication stream, and the parts of a line that has one. PostgreSQL manual, "Streaming Replication Protocol".
 use Rattle.std.specs.Prelude.{◌≡◌, ◌⊎◌, ℕ, pos, ◌+◌, ◌<◌, ◌^◌, Bool, true, false, List, [], ◌∷◌, ◌++◌, length, Some, codes}
-use Rattle.std.specs.Int.{w64, cast_signed}
-use Rattle.pgp_base.specs.Wire.{uint32, uint64}
-use Rattle.pgp_line.specs.declared.style.Style.{Style}
-use Rattle.pgp_line.specs.Line.{Part, Member, Word, Number, Lsn, Value, followed, key}
+use Rattle.pgp_trace.specs.Common.{w64, cast_signed, uint32, uint64, Style, Part, Member, Word, Number, Lsn, Value, followed, key}
 use Rattle.pgp_trace.specs.declared.inner.Inner as code
 use Rattle.pgp_trace.specs.declared.inner.Inner.TheVariants as variants
 

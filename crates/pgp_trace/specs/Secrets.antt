@@ -1,9 +1,6 @@
 -- Messages and streams that differ in their secrets alone.
 use Rattle.std.specs.Prelude.{◌≡◌, ◌⊎◌, ℕ, false, List, [], ◌++◌, length, None, Result, Ok, Err}
-use Rattle.pgp_message.specs.BackendMessage.{AuthenticationMd5Password, AuthenticationGssContinue, AuthenticationSaslContinue, AuthenticationSaslFinal, Message, BackendKeyData, Authentication, Body}
-use Rattle.pgp_base.specs.declared.error.Error.{Error}
-use Rattle.pgp_message.specs.Stream.{Frame, frame_bytes, IsFrame}
-use Rattle.pgp_line.specs.declared.style.Style.{Style}
+use Rattle.pgp_trace.specs.Common.{AuthenticationMd5Password, AuthenticationGssContinue, AuthenticationSaslContinue, AuthenticationSaslFinal, Message, BackendKeyData, Authentication, Body, Error, Frame, frame_bytes, IsFrame, Style}
 use Rattle.pgp_trace.specs.Sides.{AreAnswers, answered}
 use Rattle.pgp_trace.specs.View.{View}
 
@@ -36,6 +33,16 @@ pub record AlikeFrames (f g : Frame) : Type 0 where
   pub long : length (frame_bytes f) ≡ length (frame_bytes g)
   pub plain : (f.tag ≡ 86) ⊎ (f.tag ≡ 87) → f.payload ≡ g.payload
   pub bodies : (r : Result Message Error) → Body f.tag f.payload r → (s : Result Message Error) × Body g.tag g.payload s × AlikeResults r s
+
+-- bytes that are such frames
+pub record AlikeReceived (frame other : List ℕ) : Type 0 where
+  pub first : Frame
+  pub second : Frame
+  pub one : frame ≡ frame_bytes first
+  pub two : other ≡ frame_bytes second
+  pub fits : IsFrame first
+  pub holds : IsFrame second
+  pub alike : AlikeFrames first second
 
 -- bytes that are frames, each like that of the other bytes in its place
 pub data AlikeStreams : List ℕ → List ℕ → Type 0 where

@@ -1,17 +1,11 @@
 -- What the line of each message says after its name. PostgreSQL manual, "Message Formats".
 use Rattle.std.specs.Prelude.{◌≡◌, ◌⊎◌, ℕ, pos, Bool, true, false, List, [], ◌∷◌, ◌++◌, Option, Some, None, codes}
-use Rattle.std.specs.Str.{IsUtf8}
+use Rattle.pgp_trace.specs.Common.{IsUtf8, Error, AuthenticationOk, AuthenticationKerberosV5, AuthenticationCleartextPassword, AuthenticationScmCredential, AuthenticationGss, AuthenticationSspi, ParseComplete, BindComplete, CloseComplete, EmptyQueryResponse, CopyDone, NoData, PortalSuspended, AuthenticationMd5Password, AuthenticationGssContinue, AuthenticationSasl, AuthenticationSaslContinue, AuthenticationSaslFinal, Message, NotificationResponse, CommandComplete, DataRow, ErrorResponse, CopyInResponse, CopyOutResponse, BackendKeyData, NegotiateProtocolVersion, NoticeResponse, Authentication, ParameterStatus, RowDescription, ReadyForQuery, CopyData, ParameterDescription, payload_of, value_at, Part, Name, Refusal, Key, Member, Count, ListBegins, ListEnds, ObjectBegins, ObjectEnds, Word, Number, Oid, Text, Value, followed, key, secret, Style}
 use Rattle.std.specs.declared.ops.Range.{Range}
 use Rattle.pgp_base.specs.Error.{number_of}
-use Rattle.pgp_base.specs.declared.error.Error.{Error}
 use Rattle.pgp_base.specs.Items.{CountedItems, MarkedItems}
-use Rattle.pgp_message.specs.BackendMessage.{AuthenticationOk, AuthenticationKerberosV5, AuthenticationCleartextPassword, AuthenticationScmCredential, AuthenticationGss, AuthenticationSspi, ParseComplete, BindComplete, CloseComplete, EmptyQueryResponse, CopyDone, NoData, PortalSuspended, AuthenticationMd5Password, AuthenticationGssContinue, AuthenticationSasl, AuthenticationSaslContinue, AuthenticationSaslFinal, Message, NotificationResponse, CommandComplete, DataRow, ErrorResponse, CopyInResponse, CopyOutResponse, BackendKeyData, NegotiateProtocolVersion, NoticeResponse, Authentication, ParameterStatus, RowDescription, ReadyForQuery, CopyData, ParameterDescription, payload_of}
 use Rattle.pgp_message.specs.Items.{TextSpelled, TextRefused, FormatSpelled, FormatRefused, TypeSpelled, TypeRefused, RangeSpelled, RangeRefused, FieldPart, FieldSpelled, FieldRefused, ErrorPart, ErrorFieldSpelled, ErrorFieldRefused}
 use Rattle.pgp_message.specs.Parts.{CopyFormats}
-use Rattle.pgp_message.specs.Table.{value_at}
-use Rattle.pgp_line.specs.Line.{Part, Name, Refusal, Key, Member, Count, ListBegins, ListEnds, ObjectBegins, ObjectEnds, Word, Number, Oid, Text, Value, followed, key}
-use Rattle.pgp_line.specs.Secret.{secret}
-use Rattle.pgp_line.specs.declared.style.Style.{Style}
 use Rattle.pgp_trace.specs.Replication.{ShowsInner}
 use Rattle.pgp_trace.specs.Names.{name_of, refusal_of, field_of, state_of}
 

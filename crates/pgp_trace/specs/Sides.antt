@@ -1,16 +1,10 @@
 -- Whose stream is listed, and where it is no longer cut into frames. PostgreSQL manual, "Message Formats".
 use Rattle.std.specs.Prelude.{◌≡◌, ◌⊎◌, ◌+◌, ◌<◌, ◌^◌, ℕ, Bool, true, false, List, [], ◌∷◌, ◌++◌, length, drop, Option, None, Some, ◌==◌, if◌then◌else◌}
-use Rattle.std.specs.List.{AllByRecursion}
-use Rattle.pgp_frontend.specs.ClientMessage.{PasswordKind}
+use Rattle.pgp_trace.specs.Common.{AllByRecursion, PasswordKind, IsEnding, kind_view, ClientError, Phase, Beginning, Messages, Replicating, Encrypted}
 use Rattle.pgp_frontend.specs.ClientMessage as grammar
 use Rattle.pgp_frontend.specs.Payload.{framed}
-use Rattle.pgp_message.specs.Stream.{IsEnding}
 use Rattle.pgp_frontend_read.specs.Step as client
-use Rattle.pgp_frontend_read.specs.Views.{kind_view}
-use Rattle.pgp_frontend_read.specs.declared.error.ClientError.{ClientError}
 use Rattle.pgp_frontend_read.specs.declared.message.PasswordKind as code
-use Rattle.pgp_trace.specs.declared.side.Phase.{Phase}
-use Rattle.pgp_trace.specs.declared.side.Phase.TheVariants.{Beginning, Messages, Replicating, Encrypted}
 
 -- A server's, which has come so far; or a client's, of which a startup packet was read or not, whose next messages of tag `p` are of these kinds, and whose
 -- CopyData hold a standby's messages or not.

@@ -1,23 +1,15 @@
 -- Private: a frame and its line, one at a time, and what a piece of a stream adds to its listing.
 use Rattle.std.specs.Prelude.{◌≡◌, ◌≤◌, ℕ, ◌+◌, Bool, true, false, List, [], ◌∷◌, ◌++◌, drop, length, map, slice_index, Option, Result}
-use Rattle.std.specs.Io.KnownBytes.{Appends}
-use Rattle.pgp_base.specs.declared.error.Error.{Error}
-use Rattle.pgp_message.specs.BackendMessage.{Message, Body}
-use Rattle.pgp_message.specs.Stream.{Frame, frame_bytes, IsFrame}
+use Rattle.pgp_trace.specs.Common.{Appends, Error, Message, Body, Frame, frame_bytes, IsFrame, Phase, Beginning, Style, Length, Tag, closing, followed, opening, AppendsFront}
 use Rattle.pgp_trace.specs.declared.frame.Next.{Next}
 use Rattle.pgp_trace.specs.declared.frame.Next.TheVariants.{Line, Waits, Stops}
-use Rattle.pgp_trace.specs.declared.side.Phase.{Phase}
-use Rattle.pgp_trace.specs.declared.side.Phase.TheVariants.{Beginning}
 use Rattle.pgp_trace.specs.declared.side.Side as code
 use Rattle.pgp_trace.specs.declared.view.View as seen
 use Rattle.pgp_trace.specs.declared.side.Side.TheVariants as variants
-use Rattle.pgp_line.specs.declared.style.Style.{Style}
-use Rattle.pgp_line.specs.Line.{Length, Tag, closing, followed, opening}
 use Rattle.pgp_trace.specs.Unread.{ShowsUnread}
 use Rattle.pgp_trace.specs.Listing.{IsServerLine, LineOf, Lines, name_in, place_behind, server_name}
 use Rattle.pgp_trace.specs.View.{View}
 use Rattle.pgp_trace.specs.Sides.{Side, Server, Client, Ends, phase_in}
-use Rattle.pgp_program.specs.Taken.{AppendsFront}
 use Rattle.pgp_program.specs.Words.{greatest}
 
 -- the code's sides

@@ -1,9 +1,7 @@
 -- What the line of a frame says that `pgp_message` doesn't read: of a FunctionCallResponse and a CopyBothResponse their parts, of another why it is rejected.
 -- PostgreSQL manual, "Message Formats".
 use Rattle.std.specs.Prelude.{◌≡◌, ◌≢◌, ◌⊎◌, ℕ, pos, false, List, [], ◌∷◌, length, Option, None, codes}
-use Rattle.pgp_base.specs.declared.error.Error.{Error}
-use Rattle.pgp_line.specs.declared.style.Style.{Style}
-use Rattle.pgp_line.specs.Line.{Part, Count, Key, Name, Number, Value, followed, key}
+use Rattle.pgp_trace.specs.Common.{Error, Style, Part, Count, Key, Name, Number, Value, followed, key}
 use Rattle.pgp_trace.specs.PlainBody.{IsCallResult, IsCopyBoth}
 use Rattle.pgp_trace.specs.Shown.{bare, list_of, number_part, refused}
 

@@ -1,10 +1,6 @@
 -- How a listing looks.
 use Rattle.std.specs.Prelude.{ℕ, ◌-◌, Bool, true, false, List, [], ◌∷◌, ◌++◌, length, take, get_or, Option, None, Some, ◌==◌, if◌then◌else◌, codes}
-use Rattle.std.specs.List.{list_any}
-use Rattle.std.specs.Str.{bytes_eq}
-use Rattle.pgp_line.specs.declared.style.Form.{Form}
-use Rattle.pgp_line.specs.declared.style.Form.TheVariants.{Columns, Json}
-use Rattle.pgp_line.specs.declared.style.Style.{Style}
+use Rattle.pgp_trace.specs.Common.{list_any, bytes_eq, Form, Columns, Json, Style}
 
 -- The style of its lines, the names of the messages that are listed: all of them where none is named, and whether lines have colours.
 pub record View : Type 0 where

@@ -1,8 +1,7 @@
 //! The front of a server's stream: one-byte answers to requests for encryption, and the first message.
 
 ghost use Rattle.std.specs.Prelude.{◌≡◌, ◌∷◌, ◌++◌, [], IfOk, OnErr, OnOk, true, string_bytes};
-ghost use Rattle.std.specs.Option.{option_map};
-ghost use Rattle.pgp_line.specs.Line.{Length, Name, Tag, closing, followed, opening};
+ghost use Rattle.pgp_trace.specs.Common.{option_map, Length, Name, Tag, closing, followed, opening};
 ghost use Rattle.pgp_trace.specs.Listing.{answer_line, answer_name};
 ghost use Rattle.pgp_trace.specs.Sides.{Server, phase_behind};
 ghost use Rattle.pgp_trace.specs.Steps.{ListsNext, phase_of};

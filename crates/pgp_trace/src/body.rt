@@ -2,10 +2,7 @@
 
 ghost use Rattle.std.specs.Prelude.{◌≡◌, ◌∷◌, [], pos, Some, OnErr, OnOk, codes, string_bytes};
 ghost use Rattle.pgp_base.specs.Walk.{hint_of};
-ghost use Rattle.pgp_message.specs.BackendMessage.{payload_of, Authentication, AuthenticationSasl, NotificationResponse, CommandComplete, DataRow, BackendKeyData, NegotiateProtocolVersion, ParameterStatus, RowDescription, ParameterDescription};
-ghost use Rattle.pgp_message.specs.Views.{view};
-ghost use Rattle.pgp_line.specs.Secret.{secret};
-ghost use Rattle.pgp_line.specs.Line.{Count, Key, Member, ObjectBegins, ObjectEnds, Number, Text, Value, Word, followed, key};
+ghost use Rattle.pgp_trace.specs.Common.{payload_of, Authentication, AuthenticationSasl, NotificationResponse, CommandComplete, DataRow, BackendKeyData, NegotiateProtocolVersion, ParameterStatus, RowDescription, ParameterDescription, view, secret, Count, Key, Member, ObjectBegins, ObjectEnds, Number, Text, Value, Word, followed, key};
 ghost use Rattle.pgp_trace.specs.Names.{state_of};
 ghost use Rattle.pgp_trace.specs.Shown.{Shows, bare, closed, field_parts, list_of, name_or, number_part};
 

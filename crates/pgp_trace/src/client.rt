@@ -1,10 +1,9 @@
 //! The line of a client's frame.
 
 ghost use Rattle.std.specs.Prelude.{◌≡◌, ◌≤◌, ◌<◌, ◌∷◌, ◌++◌, [], length, true, IfOk, OnErr, OnOk, Ok, Err, string_bytes};
-ghost use Rattle.std.specs.Option.{option_map};
-ghost use Rattle.pgp_frontend_read.specs.Views.{kind_view, view};
+ghost use Rattle.pgp_trace.specs.Common.{option_map, kind_view, closing, followed};
+ghost use Rattle.pgp_frontend_read.specs.Views.{view};
 ghost use Rattle.pgp_trace.specs.Client.{ClientSays, client_copied, client_data, refusal_parts};
-ghost use Rattle.pgp_line.specs.Line.{closing, followed};
 ghost use Rattle.pgp_trace.specs.Listing.{EndsSo, client_front, client_tag};
 ghost use Rattle.pgp_trace.specs.Sides.{Client, expected, is_reported, is_password, kinds_behind};
 ghost use Rattle.pgp_trace.specs.Steps.{ListsNext};

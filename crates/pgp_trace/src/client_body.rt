@@ -2,9 +2,8 @@
 
 ghost use Rattle.std.specs.Prelude.{◌≡◌, ◌∷◌, [], pos, OnErr, OnOk, codes, string_bytes};
 ghost use Rattle.pgp_frontend_read.specs.Views.{view};
-ghost use Rattle.pgp_frontend_read.specs.Whole.{shown};
+ghost use Rattle.pgp_trace.specs.Common.{shown, Key, Number, Text, followed, key};
 ghost use Rattle.pgp_trace.specs.Client.{client_groups, client_value, counted, grouped, first_text, named_object, signed_part, startup_parts};
-ghost use Rattle.pgp_line.specs.Line.{Key, Number, Text, followed, key};
 
 use crate::body::{put_copied, put_integer, put_process_key};
 use crate::client_lists::{put_formats, put_pairs, put_types, put_values};

@@ -2,9 +2,8 @@
 #![tactic(auto, using(crate::proofs::Items::item_more, crate::proofs::Items::items_end, crate::proofs::Items::items_fault))]
 
 ghost use Rattle.std.specs.Prelude.{◌≡◌, None, OnErr, OnOk, string_bytes};
-ghost use Rattle.pgp_frontend_read.specs.Whole.{shown};
+ghost use Rattle.pgp_trace.specs.Common.{shown, followed};
 ghost use Rattle.pgp_trace.specs.Client.{client_value, counted, pair_parts, signed_part};
-ghost use Rattle.pgp_line.specs.Line.{followed};
 ghost use Rattle.pgp_trace.specs.Shown.{list_of, type_part};
 
 use crate::lists::put_fault;

@@ -1,8 +1,7 @@
 //! The names that a line has for a client's messages.
 
 ghost use Rattle.std.specs.Prelude.{◌≡◌, ℕ, List};
-ghost use Rattle.pgp_frontend.specs.ClientMessage.{SaslResponse};
-ghost use Rattle.std.specs.Option.{option_map};
+ghost use Rattle.pgp_trace.specs.Common.{SaslResponse, option_map};
 ghost use Rattle.pgp_frontend_read.specs.Views.{view};
 ghost use Rattle.pgp_trace.specs.Client.{client_name, client_says_nothing, object_of};
 

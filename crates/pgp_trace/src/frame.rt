@@ -1,10 +1,7 @@
 //! The line of a server's frame.
 
 ghost use Rattle.std.specs.Prelude.{◌≡◌, ◌≤◌, ◌<◌, ◌-◌, ◌∷◌, ◌++◌, [], length, take, slice_index, IfOk, OnErr, OnOk, Ok, string_bytes};
-ghost use Rattle.std.specs.Option.{option_map};
-ghost use Rattle.pgp_message.specs.BackendMessage.{payload_of};
-ghost use Rattle.pgp_message.specs.Views.{view};
-ghost use Rattle.pgp_line.specs.Line.{Length, Tag, followed, opening};
+ghost use Rattle.pgp_trace.specs.Common.{option_map, payload_of, view, Length, Tag, followed, opening};
 ghost use Rattle.pgp_trace.specs.Listing.{unread_name};
 ghost use Rattle.pgp_trace.specs.Shown.{Says, copied, inner_data};
 ghost use Rattle.pgp_trace.specs.Sides.{server_at};

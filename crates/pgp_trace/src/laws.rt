@@ -1,15 +1,10 @@
 //! Laws of lines.
 
 ghost use Rattle.std.specs.Prelude.{◌≡◌, ◌⊎◌, ◌∷◌, ◌++◌, [], ℕ, List, true, false, Bool, ℤ, Ok, Result, None, Some, length};
-ghost use Rattle.pgp_base.specs.declared.error.Error.{Error};
-ghost use Rattle.pgp_message.specs.BackendMessage.{Message};
-ghost use Rattle.pgp_frontend.specs.ClientMessage.{CancelRequest, PasswordMessage, SaslInitialResponse, SaslResponse};
-ghost use Rattle.pgp_message.specs.Stream.{BackendRun};
+ghost use Rattle.pgp_trace.specs.Common.{Error, Message, CancelRequest, PasswordMessage, SaslInitialResponse, SaslResponse, BackendRun, Json, Style, Beginning, Encrypted, Messages};
 ghost use Rattle.pgp_frontend_read.specs.declared.message.PasswordKind.{PasswordKind};
 ghost use Rattle.pgp_trace.specs.Client.{client_line};
 ghost use Rattle.pgp_trace.specs.ClientSecrets.{AlikeClientStreams};
-ghost use Rattle.pgp_line.specs.declared.style.Form.TheVariants.{Json};
-ghost use Rattle.pgp_line.specs.declared.style.Style.{Style};
 ghost use Rattle.pgp_trace.specs.View.{View, color_of, painted, plain, shown, uncolored};
 ghost use Rattle.pgp_trace.specs.Listing.{IsListing, IsRunBehindAnswers, LineOf, Lines};
 ghost use Rattle.pgp_line.specs.Quoting.{IsPrinted};
@@ -18,7 +13,6 @@ ghost use Rattle.pgp_trace.specs.Replication.{Inner, IsInner};
 ghost use Rattle.pgp_trace.specs.Secrets.{Alike, AlikeBeginnings, AlikeStreams, quiet, quietly};
 ghost use Rattle.pgp_trace.specs.Shown.{Shows};
 ghost use Rattle.pgp_trace.specs.Sides.{Client, Server, Side, answered};
-ghost use Rattle.pgp_trace.specs.declared.side.Phase.TheVariants.{Beginning, Encrypted, Messages};
 
 /// A stream has one listing.
 pub fn one_listing()
@@ -26,6 +20,7 @@ pub fn one_listing()
 {}
 
 /// A line has characters alone that a terminal prints, and then its newline.
+#[tactic(auto, using(crate::proofs::Printable::line_printable))]
 pub fn lines_are_printable()
     ensures { (style : Style) (place : ℕ) (from to : Side) (frame line : List ℕ) → LineOf style place from frame line to →
         (text : List ℕ) × (line ≡ text ++ 10 ∷ []) × IsPrinted text }
@@ -37,12 +32,14 @@ pub fn all_lines_are_listed()
 {}
 
 /// A line in a colour is the line between two escape sequences, the second before its newline. Objects have no colour.
+#[tactic(auto, using(crate::proofs::Painted::painted_line, crate::proofs::Painted::no_object))]
 pub fn colors_stand_around_lines()
     ensures around { (color text : List ℕ) → painted (Some color) (text ++ 10 ∷ []) ≡ color ++ text ++ uncolored ++ 10 ∷ [] }
     ensures objects { (view : View) (name : List ℕ) → view.style.form ≡ Json → color_of view name ≡ None }
 {}
 
 /// A server's messages that differ in their secrets alone have the same lines, unless secrets are asked for.
+#[tactic(auto, using(crate::proofs::Hiding::hidden))]
 pub fn secrets_are_hidden()
     ensures { (style : Style) (m n : Message) (old new : List ℕ) → Alike m n → Shows (quiet style) m old new → Shows (quiet style) n old new }
 {}
@@ -66,6 +63,7 @@ pub fn listings_are_runs()
 {}
 
 /// A server's stream at whose front no answer of one byte stands is listed as messages alone.
+#[tactic(auto, using(crate::proofs::Beginnings::whole, crate::proofs::Beginnings::other))]
 pub fn no_answers()
     ensures whole { (view : View) (bytes output : List ℕ) → answered bytes ≡ None →
         IsListing view (Server Beginning) bytes output → IsListing view (Server Messages) bytes output }
@@ -74,6 +72,7 @@ pub fn no_answers()
 {}
 
 /// A server's stream of messages in which no CopyBothResponse stands is listed as messages alone: each has the line of what it says itself.
+#[tactic(auto, using(crate::proofs::Plain::plain, crate::proofs::Plain::other))]
 pub fn no_replication()
     ensures plain { (view : View) (start : ℕ) (bytes lines : List ℕ) (to : Side) → HasNoCopyBoth bytes →
         Lines view start (Server Messages) bytes lines to → PlainLines view start bytes lines × (to ≡ Server Messages) }
@@ -88,6 +87,7 @@ pub fn one_inner_message()
 
 /// A client's messages that differ in their secrets alone have the same lines, unless secrets are asked for. Where it isn't reported which message of tag
 /// `p` one is, it has the same line whatever is asked for.
+#[tactic(auto, using(crate::proofs::ClientHiding::password, crate::proofs::ClientHiding::initial, crate::proofs::ClientHiding::response, crate::proofs::ClientHiding::key, crate::proofs::ClientHiding::unreported))]
 pub fn client_secrets_are_hidden()
     ensures password { (style : Style) (reported : Bool) (a b old : List ℕ) → length a ≡ length b →
         client_line (quiet style) reported (Ok (PasswordMessage a)) old ≡ client_line (quiet style) reported (Ok (PasswordMessage b)) old }
@@ -102,6 +102,7 @@ pub fn client_secrets_are_hidden()
 {}
 
 /// A client's streams that differ in their secrets alone have the same lines, unless secrets are asked for.
+#[tactic(auto, using(crate::proofs::ClientStreams::client_streams_hidden))]
 pub fn client_streams_hide_their_secrets()
     ensures { (view : View) (start : ℕ) (opened : Bool) (kinds : List PasswordKind) (replicating : Bool) (a b lines : List ℕ) (to behind : Side) → AlikeClientStreams (Client opened kinds replicating) a b behind →
         Lines (quietly view) start (Client opened kinds replicating) a lines to → Lines (quietly view) start (Client opened kinds replicating) b lines to }

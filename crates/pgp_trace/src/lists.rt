@@ -2,10 +2,7 @@
 #![tactic(auto, using(crate::proofs::Items::item_more, crate::proofs::Items::items_end, crate::proofs::Items::items_fault))]
 
 ghost use Rattle.std.specs.Prelude.{◌≡◌, ◌≤◌, ◌∷◌, [], length, OnErr, OnOk, string_bytes};
-ghost use Rattle.std.specs.List.{AllByRecursion};
-ghost use Rattle.std.specs.Option.{option_map};
-ghost use Rattle.pgp_message.specs.Table.{IsPlaceIn};
-ghost use Rattle.pgp_line.specs.Line.{ListEnds, Member, ObjectBegins, ObjectEnds, Word, followed, key};
+ghost use Rattle.pgp_trace.specs.Common.{AllByRecursion, option_map, IsPlaceIn, ListEnds, Member, ObjectBegins, ObjectEnds, Word, followed, key};
 ghost use Rattle.pgp_trace.specs.Shown.{closed, column_parts, ending, field_parts, list_of, name_or, number_part, refused, text_part, type_part, value_part};
 
 use crate::names::{field_of, refusal_of};

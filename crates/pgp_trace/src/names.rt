@@ -1,8 +1,7 @@
 //! The names that a line has for messages, errors, the fields of errors and the states of transactions.
 
 ghost use Rattle.std.specs.Prelude.{◌≡◌};
-ghost use Rattle.std.specs.Option.{option_map};
-ghost use Rattle.pgp_message.specs.Views.{view};
+ghost use Rattle.pgp_trace.specs.Common.{option_map, view};
 ghost use Rattle.pgp_trace.specs.Names.{field_of, name_of, place_of, refusal_of, state_of};
 ghost use Rattle.pgp_trace.specs.Shown.{says_nothing};
 

@@ -1,7 +1,7 @@
 //! The options of a listing.
 
 ghost use Rattle.std.specs.Prelude.{◌≡◌, ◌++◌, ◌∷◌, true, codes, drop, length, map, IfNone, IfOk, IfSome, OnErr, OnOk};
-ghost use Rattle.pgp_trace.specs.Options.{AreNoOptions, AreOptions, BeginsWithNone, BeginsWithNoneOf, IsOneOf, NamesNoKind, SaysNoClock, SaysNoWhen, chooses, chosen_of, clock_word, has_word, is_absolute, is_colored, kind_word, marks, names_in, nothing_chosen, options_in, spelled, when_word};
+ghost use Rattle.pgp_trace.specs.Options.{AreNoOptions, AreOptions, BeginsWithNone, BeginsWithNoneOf, IsOneOf, chooses, chosen_of, has_word, is_colored, marks, names_in, nothing_chosen, options_in, spelled};
 
 use crate::marking::Marking;
 use pgp_base::Memory;
@@ -181,40 +181,19 @@ fn choose<'a, A: Memory>(
     ensures lacks { OnErr result A.Lacks }
 {
     match choice {
-        Choice::AsJson => {
-            options.json = true;
-            Ok(())
-        }
-        Choice::Full => {
-            options.full = true;
-            Ok(())
-        }
-        Choice::Secrets => {
-            options.secrets = true;
-            Ok(())
-        }
-        Choice::Resume => {
-            options.resume = true;
-            Ok(())
-        }
-        Choice::Replication => {
-            options.replicating = true;
-            Ok(())
-        }
-        Choice::Only(names) => add_names(names, &mut options.only),
-        Choice::Color(when) => {
-            options.colored = is_colored(terminal, when);
-            Ok(())
-        }
-        Choice::Kind(kind) => {
-            A::push(&mut options.kinds, kind)?;
-            Ok(())
-        }
+        Choice::AsJson => options.json = true,
+        Choice::Full => options.full = true,
+        Choice::Secrets => options.secrets = true,
+        Choice::Resume => options.resume = true,
+        Choice::Replication => options.replicating = true,
+        Choice::Only(names) => add_names(names, &mut options.only)?,
+        Choice::Color(when) => options.colored = is_colored(terminal, when),
+        Choice::Kind(kind) => A::push(&mut options.kinds, kind)?,
         Choice::Time(_) | Choice::Requests | Choice::Summary | Choice::Raw => {
-            mark(choice, &mut options.marking);
-            Ok(())
+            mark(choice, &mut options.marking)
         }
     }
+    Ok(())
 }
 
 /// Adds an option that says something of marks.
@@ -222,7 +201,7 @@ fn mark(choice: Choice<'_>, marking: &mut Marking)
     ensures { marking.new ≡ marks choice.entry marking.old }
 {
     match choice {
-        Choice::Time(clock) => marking.absolute = is_absolute(clock),
+        Choice::Time(clock) => marking.absolute = matches!(clock, Clock::Absolute),
         Choice::Requests => marking.numbered = true,
         Choice::Summary => {
             marking.numbered = true;
@@ -230,16 +209,6 @@ fn mark(choice: Choice<'_>, marking: &mut Marking)
         }
         Choice::Raw => marking.raw = true,
         _ => {}
-    }
-}
-
-/// Whether times are counted from 1970 on.
-fn is_absolute(clock: Clock) -> bool
-    ensures { result ≡ is_absolute clock }
-{
-    match clock {
-        Clock::Absolute => true,
-        Clock::Relative => false,
     }
 }
 
@@ -327,70 +296,43 @@ fn first_names<'a>(words: &[&'a str]) -> Option<Choice<'a>>
     Some(Choice::Only(*names))
 }
 
-/// The word that stands first, after the one of colours.
+/// When a listing has colours, by the word that stands first.
 fn first_when<'a>(words: &[&str]) -> Option<Choice<'a>>
     ensures some { IfSome result (λ choice. (length (spelled choice) ≡ 2) × (codes "--color" ∷ map (λ word. word.now) words.now ≡ spelled choice ++ map (λ word. word.now) (drop 1 words.now))) }
     ensures none { IfNone result (BeginsWithNone (codes "--color" ∷ map (λ word. word.now) words.now)) }
 {
     let (word, _) = words.split_first()?;
-    let when = when_of(word)?;
-    Some(Choice::Color(when))
-}
-
-/// When a listing has colours, by a word.
-fn when_of(word: &str) -> Option<When>
-    ensures some { IfSome result (λ when. word.now ≡ when_word when) }
-    ensures none { IfNone result (SaysNoWhen word.now) }
-{
-    match word {
-        "auto" => Some(When::Auto),
-        "always" => Some(When::Always),
-        "never" => Some(When::Never),
+    match *word {
+        "auto" => Some(Choice::Color(When::Auto)),
+        "always" => Some(Choice::Color(When::Always)),
+        "never" => Some(Choice::Color(When::Never)),
         _ => None,
     }
 }
 
-/// The kind that stands first, after the word that asks for it.
+/// The kind that the word names that stands first.
 fn first_kind<'a>(words: &[&str]) -> Option<Choice<'a>>
     ensures some { IfSome result (λ choice. (length (spelled choice) ≡ 2) × (codes "--password-kind" ∷ map (λ word. word.now) words.now ≡ spelled choice ++ map (λ word. word.now) (drop 1 words.now))) }
     ensures none { IfNone result (BeginsWithNone (codes "--password-kind" ∷ map (λ word. word.now) words.now)) }
 {
     let (word, _) = words.split_first()?;
-    let kind = kind_of(word)?;
-    Some(Choice::Kind(kind))
-}
-
-/// The kind that a word names.
-fn kind_of(word: &str) -> Option<PasswordKind>
-    ensures some { IfSome result (λ kind. word.now ≡ kind_word kind) }
-    ensures none { IfNone result (NamesNoKind word.now) }
-{
-    match word {
-        "password" => Some(PasswordKind::Password),
-        "initial" => Some(PasswordKind::Initial),
-        "response" => Some(PasswordKind::Response),
+    match *word {
+        "password" => Some(Choice::Kind(PasswordKind::Password)),
+        "initial" => Some(Choice::Kind(PasswordKind::Initial)),
+        "response" => Some(Choice::Kind(PasswordKind::Response)),
         _ => None,
     }
 }
 
-/// What times are counted from, by the word that stands first, after the one of times.
+/// What times are counted from, by the word that stands first.
 fn first_clock<'a>(words: &[&str]) -> Option<Choice<'a>>
     ensures some { IfSome result (λ choice. (length (spelled choice) ≡ 2) × (codes "--time" ∷ map (λ word. word.now) words.now ≡ spelled choice ++ map (λ word. word.now) (drop 1 words.now))) }
     ensures none { IfNone result (BeginsWithNone (codes "--time" ∷ map (λ word. word.now) words.now)) }
 {
     let (word, _) = words.split_first()?;
-    let clock = clock_of(word)?;
-    Some(Choice::Time(clock))
-}
-
-/// What times are counted from, by a word.
-fn clock_of(word: &str) -> Option<Clock>
-    ensures some { IfSome result (λ clock. word.now ≡ clock_word clock) }
-    ensures none { IfNone result (SaysNoClock word.now) }
-{
-    match word {
-        "absolute" => Some(Clock::Absolute),
-        "relative" => Some(Clock::Relative),
+    match *word {
+        "absolute" => Some(Choice::Time(Clock::Absolute)),
+        "relative" => Some(Choice::Time(Clock::Relative)),
         _ => None,
     }
 }

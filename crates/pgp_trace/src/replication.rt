@@ -1,8 +1,7 @@
 //! What the line of a CopyData says that may have a message of replication inside.
 
 ghost use Rattle.std.specs.Prelude.{◌≡◌, ◌∷◌, ◌++◌, [], pos, OnErr, OnOk, codes, string_bytes};
-ghost use Rattle.std.specs.Int.{w64, cast_signed};
-ghost use Rattle.pgp_line.specs.Line.{Lsn, Number, followed, key};
+ghost use Rattle.pgp_trace.specs.Common.{w64, cast_signed, Lsn, Number, followed, key};
 ghost use Rattle.pgp_trace.specs.Replication.{Feedback, Keepalive, ShowsInner, StatusUpdate, XLogData, clock_parts, inner_parts, inner_view, named};
 
 use crate::body::put_copied;

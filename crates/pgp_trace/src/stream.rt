@@ -1,13 +1,10 @@
 //! The listing of a stream, as it comes.
 
 ghost use Rattle.std.specs.Prelude.{◌≡◌, ◌⊎◌, ◌≤◌, ◌<◌, ◌++◌, ◌∷◌, [], ℕ, List, drop, length, take, IfErr, IfOk, IfSome, OnErr, OnOk, string_bytes};
-ghost use Rattle.std.specs.Io.KnownBytes.{Appends, IsAtEnd, Keeps};
+ghost use Rattle.pgp_trace.specs.Common.{Appends, IsAtEnd, Keeps, Caused, AppendsFront, Columns, Json};
 ghost use Rattle.pgp_program.specs.Interruptions.{GivesUp};
-ghost use Rattle.pgp_program.specs.Run.{Caused};
-ghost use Rattle.pgp_trace.specs.Listing.{IsCutShort, ReadsWhenReady, WasListed, WritesListing, last_by, last_line};
+ghost use Rattle.pgp_trace.specs.Listing.{IsCutShort, ReadsWhenReady, WasListed, WritesListing, last_by, last_line, streams};
 ghost use Rattle.pgp_trace.specs.Steps.{Holds, ListsAll, ListsPiece, ListsSome, side_of, view_of};
-ghost use Rattle.pgp_program.specs.Taken.{AppendsFront};
-ghost use Rattle.pgp_line.specs.declared.style.Form.TheVariants.{Columns, Json};
 
 use crate::frame::Next;
 use crate::hint::hint_of;
@@ -61,14 +58,10 @@ pub fn list<A: Memory, R: Input, W: Output>(
     requires live { ReadsWhenReady R.remaining W.contents W.Passed R.MayRead (view_of view) (side_of side) input.old output.old }
     ensures read { OnOk result (IsAtEnd (R.remaining input.new)) }
     ensures listed { IfOk result (λ said. IfSome (R.remaining input.old) (λ bytes. WritesListing (view_of view.entry) (side_of side.entry) bytes (W.contents output.old) (W.contents output.new) said.now)) }
-    ensures live { IfErr result (λ fault. fault ≡ Fault.Read → WasListed (view_of view.entry) (side_of side.entry)
-        (record { input = R.remaining input.old; output = W.contents output.old })
-        (record { input = R.remaining input.new; output = W.contents output.new })) }
+    ensures live { IfErr result (λ fault. fault ≡ Fault.Read → WasListed (view_of view.entry) (side_of side.entry) (streams (R.remaining input.old) (W.contents output.old)) (streams (R.remaining input.new) (W.contents output.new))) }
     ensures passed { IfErr result (λ fault. fault ≡ Fault.Read → Keeps (W.contents output.old) (W.contents output.new) ⊎ W.Passed output.new) }
     ensures done { OnOk result (W.Passed output.new) }
-    ensures cut { OnErr result (IsCutShort (view_of view.entry) (side_of side.entry)
-        (record { input = R.remaining input.old; output = W.contents output.old })
-        (record { input = R.remaining input.new; output = W.contents output.new })) }
+    ensures cut { OnErr result (IsCutShort (view_of view.entry) (side_of side.entry) (streams (R.remaining input.old) (W.contents output.old)) (streams (R.remaining input.new) (W.contents output.new))) }
     ensures cause { IfErr result (Caused A.Lacks (GivesUp R.Fails R.Called) (GivesUp W.Fails W.Interrupted)) }
 {
     let mut piece = A::list_filled(alloc, 0, PIECE)?;
@@ -88,14 +81,10 @@ fn list_stream<A: Memory, R: Input, W: Output>(
     requires live { ReadsWhenReady R.remaining W.contents W.Passed R.MayRead (view_of view) (side_of side) input.old output.old }
     ensures read { OnOk result (IsAtEnd (R.remaining input.new)) }
     ensures listed { IfOk result (λ said. IfSome (R.remaining input.old) (λ bytes. WritesListing (view_of view.entry) (side_of side.entry) bytes (W.contents output.old) (W.contents output.new) said.now)) }
-    ensures live { IfErr result (λ fault. fault ≡ Fault.Read → WasListed (view_of view.entry) (side_of side.entry)
-        (record { input = R.remaining input.old; output = W.contents output.old })
-        (record { input = R.remaining input.new; output = W.contents output.new })) }
+    ensures live { IfErr result (λ fault. fault ≡ Fault.Read → WasListed (view_of view.entry) (side_of side.entry) (streams (R.remaining input.old) (W.contents output.old)) (streams (R.remaining input.new) (W.contents output.new))) }
     ensures passed { IfErr result (λ fault. fault ≡ Fault.Read → Keeps (W.contents output.old) (W.contents output.new) ⊎ W.Passed output.new) }
     ensures done { OnOk result (W.Passed output.new) }
-    ensures cut { OnErr result (IsCutShort (view_of view.entry) (side_of side.entry)
-        (record { input = R.remaining input.old; output = W.contents output.old })
-        (record { input = R.remaining input.new; output = W.contents output.new })) }
+    ensures cut { OnErr result (IsCutShort (view_of view.entry) (side_of side.entry) (streams (R.remaining input.old) (W.contents output.old)) (streams (R.remaining input.new) (W.contents output.new))) }
     ensures cause { IfErr result (Caused A.Lacks (GivesUp R.Fails R.Called) (GivesUp W.Fails W.Interrupted)) }
 {
     let mut held = Held {

@@ -1,8 +1,7 @@
 //! What the line of a frame says that `pgp_message` doesn't read.
 
 ghost use Rattle.std.specs.Prelude.{◌≡◌, ◌∷◌, [], pos, false, length, None, OnErr, OnOk, codes, string_bytes};
-ghost use Rattle.std.specs.Option.{option_map};
-ghost use Rattle.pgp_line.specs.Line.{Count, Key, Name, Number, followed, key};
+ghost use Rattle.pgp_trace.specs.Common.{option_map, Count, Key, Name, Number, followed, key};
 ghost use Rattle.pgp_trace.specs.Listing.{unread_name};
 ghost use Rattle.pgp_trace.specs.PlainBody.{numbers_of};
 ghost use Rattle.pgp_trace.specs.Shown.{list_of, number_part};

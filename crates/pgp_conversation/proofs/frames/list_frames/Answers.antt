@@ -1,10 +1,11 @@
-use Rattle.pgp_conversation.proofs.Common.{refl, rules, subst, ◌∙◌, string_bytes, view_of, ListsOneFrame, known_of}
+use Rattle.pgp_conversation.proofs.Common.{refl, rules, subst, ◌∙◌, string_bytes, view_of, ListsFrame, ListsOneFrame, known_of}
 use Rattle.std.specs.Prelude.{List, ℕ}
-use Rattle.pgp_conversation.proofs.FrameLists.{nothing_yet, one_more, shorter}
+use Rattle.pgp_conversation.proofs.FrameLists.{one_more, shorter}
+use Rattle.pgp_trace.proofs.Rows.{nothing_yet}
 use Rattle.pgp_conversation.proofs.frames.list_frames.Goals as goal
 
 pub frames-init : goal.frames-init
-frames-init g c = (nothing_yet (view_of c.args.view) (string_bytes c.args.texts.now.mark) c.args.sender c.args.place (known_of c.args.known.now) c.args.bytes.now (string_bytes c.args.texts.now.lines), refl)
+frames-init g c = (nothing_yet (ListsFrame (view_of c.args.view) (string_bytes c.args.texts.now.mark) c.args.sender) c.args.place (known_of c.args.known.now) c.args.bytes.now (string_bytes c.args.texts.now.lines), refl)
 
 pub frames-preserved : goal.frames-preserved
 frames-preserved g c =

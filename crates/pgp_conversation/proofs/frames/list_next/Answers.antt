@@ -1,5 +1,6 @@
 use Rattle.pgp_conversation.proofs.Common.{◌≡◌, ◌++◌, ◌∙◌, List, ℕ, ap, rules, subst, string_bytes, kind_view, expected, view_of, Line, side_in, text_of, told_by, word, KnowsNext, known_of, numbers_in, Said, Reads, ReadsSo, types_in}
-use Rattle.pgp_conversation.proofs.FrameLists.{front_is, front_long, lists_one}
+use Rattle.pgp_conversation.proofs.FrameLists.{front_long, lists_one}
+use Rattle.pgp_trace.proofs.Parts.{front_taken}
 use Rattle.pgp_conversation.proofs.Sayings.{line_read}
 use Rattle.pgp_conversation.proofs.frames.list_next.Goals as goal
 
@@ -28,7 +29,7 @@ returns-in_ok-note-in-Line-clause-each g c =
     let after = string_bytes c.list_line.new.texts.lines in
     let knows : KnowsNext style c.args.sender c.args.place old c.args.bytes.now c.in_ok-next.behind.now line mid (Line c.in-Line.name) = search rules in
     let has = knows.listed in
-    let whole = c.front_of-frame.ensures ∙ front_is c.args.bytes.now has.frame c.in_ok-next.behind.now has.whole in
+    let whole = c.front_of-frame.ensures ∙ front_taken has.frame c.in_ok-next.behind.now c.args.bytes.now has.whole in
     let all = subst (λ (f : List ℕ). (said : Said) → ReadsSo c.args.sender c.args.known.now.opened kind f said → Reads style c.args.place f name said mid.numbers sums mid.types types line typed told noted) whole c.in_ok-told-in-Line.ensures.read in
     let reads = line_read (λ said. Reads style c.args.place has.frame name said mid.numbers sums mid.types types line typed told noted) style c.args.place c.args.known.now kind has.frame line (side_in c.args.sender mid)
     (c.expected-kind.ensures ∙ ap expected c.as_slice.ensures.value) c.args.sender has.reported all in

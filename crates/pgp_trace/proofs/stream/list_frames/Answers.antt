@@ -1,10 +1,11 @@
-use Rattle.pgp_trace.proofs.Common.{◌≡◌, ◌+◌, ◌-◌, ◌++◌, ◌∙◌, length, min, rules, ap, string_bytes, HasLine, side_of, view_of, shown, greatest}
+use Rattle.pgp_trace.proofs.Common.{◌≡◌, ◌+◌, ◌-◌, ◌++◌, ◌∙◌, length, min, rules, ap, string_bytes, HasLine, Listed, side_of, view_of, shown, greatest}
 use Rattle.pgp_trace.proofs.Shorter.{shorter}
-use Rattle.pgp_trace.proofs.Traces.{nothing_yet, one_listed}
+use Rattle.pgp_trace.proofs.Rows.{nothing_yet}
+use Rattle.pgp_trace.proofs.Traces.{line_listed}
 use Rattle.pgp_trace.proofs.stream.list_frames.Goals as goal
 
 pub frames-init : goal.frames-init
-frames-init g c = nothing_yet (view_of c.args.view) c.args.place (side_of c.args.side) c.args.bytes.now (string_bytes c.args.lines.now)
+frames-init g c = nothing_yet (Listed (view_of c.args.view)) c.args.place (side_of c.args.side) c.args.bytes.now (string_bytes c.args.lines.now)
 
 pub frames-preserved : goal.frames-preserved
 frames-preserved g c =
@@ -18,7 +19,7 @@ frames-preserved g c =
     let at : here ≡ min (c.args.place + (length bytes - length rest)) greatest = c.saturating_add.ensures in
     let name = c.in-Line.name.now in
     let has : HasLine c.args.view.style here mid rest next line to name = search rules in
-    one_listed (view_of c.args.view) c.args.place here (side_of c.args.side) mid to bytes rest next line name (string_bytes c.args.lines.now) (string_bytes c.frames.lines) (string_bytes c.add_shown.new.lines) c.frames.invariant at has
+    line_listed (view_of c.args.view) c.args.place here (side_of c.args.side) mid to bytes rest next line name (string_bytes c.args.lines.now) (string_bytes c.frames.lines) (string_bytes c.add_shown.new.lines) c.frames.invariant at has
     (c.in_ok-add_shown-in-Line.ensures.added ∙ ap (λ l. string_bytes c.frames.lines ++ shown (view_of c.args.view) name l) c.as_str.ensures.value)
 
 pub frames-smaller : goal.frames-smaller
