@@ -1,5 +1,5 @@
 -- Recordings that differ in their secrets alone have the same listing.
-use Rattle.pgp_conversation.proofs.Common.{◌≡◌, ◌+◌, ℕ, Bool, List, [], ◌∷◌, ◌++◌, length, Option, Some, refl, sym, ap, subst, ◌∙◌, arith, length-append, place_behind, quietly, Ends, View, Sender, Client, Server, End, EndsBy, Half, Known, ListsChunk, ListsChunks, ListsFrame, ListsFrames, NoLines, OneLine, NoChunkListed, OneChunkListed, Talk, begins, first_time, half_in, last_lines, last_of, left, now_at, other, side_in, told_by, unnumbered, summary_in, ending_by, Marking, mark, since, Chunk, Records, IsListing}
+use Rattle.pgp_conversation.proofs.Common.{◌≡◌, ◌+◌, ℕ, Bool, List, [], ◌++◌, length, Option, Some, refl, sym, ap, subst, ◌∙◌, arith, length-append, place_behind, quietly, Ends, View, Sender, Client, Server, End, EndsBy, Known, ListsChunk, ListsChunks, ListsFrame, ListsFrames, NoLines, OneLine, NoChunkListed, OneChunkListed, Talk, begins, first_time, half_in, last_lines, last_of, left, now_at, side_in, told_by, unnumbered, summary_in, ending_by, Marking, mark, since, Chunk, IsListing}
 use Rattle.pgp_conversation.specs.AlikeRecordings.{AlikeFrames, NoneAlike, OneAlike, AlikeTalks, AlikeChunk, AlikeChunks, NoChunkAlike, OneChunkAlike, AlikeRecordings}
 use Rattle.pgp_conversation.proofs.Secrets.{frames_hidden, long_alike}
 
@@ -57,7 +57,7 @@ hidden view from _ _ _ to too (OneChunkAlike {chunks = cs} {others = ds} {lines 
 same_last : (view : View) (talk another : Talk) → AlikeTalks talk another → last_lines view another ≡ last_lines view talk
 same_last view talk another s =
     let last = λ (k : Known) (a b : Bool) (m n : ℕ). ending_by view.style (summary_in k.numbers)
-        (last_of view (told_by k.marked (unnumbered k.numbers)) Client a m ++ last_of view (told_by k.marked (unnumbered k.numbers)) Server b n) in
+    (last_of view (told_by k.marked (unnumbered k.numbers)) Client a m ++ last_of view (told_by k.marked (unnumbered k.numbers)) Server b n) in
     let client = s.halves Client in
     let server = s.halves Server in
     ap (λ k. last k another.client.stopped another.server.stopped (left another.client) (left another.server)) s.known

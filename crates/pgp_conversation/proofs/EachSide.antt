@@ -1,5 +1,5 @@
 -- What each side sent, and the lines of the server's stream alone.
-use Rattle.pgp_conversation.proofs.Common.{◌≡◌, ℕ, ◌+◌, List, [], ◌∷◌, ◌++◌, length, refl, sym, ap, subst, ◌∙◌, length-append, append_assoc, flat_map, append-nil, flat_map-cons, flat_map-append, Ends, View, nothing_ends, Sender, Client, Server, Marking, Half, Known, ListsChunk, ListsChunks, NoChunkListed, OneChunkListed, Talk, at_first, begins, first_time, half_in, now_at, other, side_in, mark, since, Chunk}
+use Rattle.pgp_conversation.proofs.Common.{◌≡◌, ℕ, ◌+◌, List, [], ◌∷◌, ◌++◌, length, refl, sym, ap, subst, ◌∙◌, length-append, append_assoc, flat_map, append-nil, flat_map-cons, flat_map-append, Ends, View, nothing_ends, Sender, Client, Server, Marking, Half, ListsChunk, ListsChunks, NoChunkListed, OneChunkListed, Talk, at_first, begins, first_time, half_in, now_at, other, side_in, mark, since, Chunk}
 use Rattle.pgp_conversation.specs.Order.{IsSplit, sent, sent_by}
 use Rattle.pgp_conversation.proofs.FrameLists.{other_ends, timed_side}
 

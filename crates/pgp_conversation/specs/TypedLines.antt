@@ -1,5 +1,5 @@
 -- Private: lines of values, a part at a time, and what a frame is read as.
-use Rattle.std.specs.Prelude.{◌≡◌, ℕ, Bool, List, [], ◌∷◌, length, Option, None, Some, Ok, Err}
+use Rattle.std.specs.Prelude.{◌≡◌, ℕ, Bool, List, [], ◌∷◌, length, Option, None, Ok, Err}
 use Rattle.pgp_conversation.specs.Common.{Error, Part, ListEnds, followed, Style, ending, Sender, Client, Server, Column, Told, Noted, Role}
 use Rattle.pgp_frontend.specs.ClientMessage.{PasswordKind}
 use Rattle.pgp_frontend_read.specs.Pieces.{step_of}
