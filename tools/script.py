@@ -19,7 +19,6 @@ TYPES = {16: "bool", 17: "bytea", 19: "name", 20: "int8", 21: "int2", 23: "int4"
 TYPES |= {1043: "varchar", 1082: "date", 1083: "time", 1114: "timestamp", 1184: "timestamptz", 1186: "interval", 1700: "numeric", 2950: "uuid", 3802: "jsonb"}
 KNOWN = {"begin", "start", "commit", "end", "rollback", "abort", "savepoint", "release", "set", "reset", "deallocate", "discard", "declare", "close"}
 OWN = {"application_name", "session_authorization"}
-STATUS = {"idle": "idle", "in transaction": "transaction", "failed transaction": "failed"}
 # Texts that pgserve sends in binary format too; others are sent in text format alone.
 MOMENT = re.compile(r"-?infinity|\d{4}-\d\d-\d\d( \d\d:\d\d:\d\d(\.\d+)?(\+00)?)?|\d\d:\d\d:\d\d(\.\d+)?")
 SPAN = re.compile(r"((^| )-?\d+ (years?|mons?|days?))*((^| )-?\d+:\d\d:\d\d(\.\d+)?)?")
@@ -221,10 +220,26 @@ class Connection:
         self.is_open = True
         results = self.results.pop(key, [None])[:-1]
         if len(results) > 1 and status != self.before:
-            results[-1].further.append("status " + STATUS[status])
+            results[-1].further.append("status " + status.removeprefix("in "))
         if results and kind == "Query":
-            self.keep(text, results)
+            self.keep(*without_commands(text, results))
         self.before = status
+
+
+def word_of(text):
+    return re.match(rb"\s*(\w*)", text)[1].decode().lower()
+
+
+def without_commands(text, results):
+    """A query's statements but for the commands before and behind them that need no script, as a savepoint whose name is another each time; and their results."""
+    while len(results) > 1 and word_of(text) in KNOWN:
+        text, results = text.partition(b";")[2], results[1:]
+    front, _, last = text.rpartition(b";")
+    while front and word_of(last) in KNOWN:
+        results = results[:-1] if len(results) > 1 and results[-1].further[:1] == [f"tag {word_of(last).upper()}"] else results
+        text = front
+        front, _, last = text.rpartition(b";")
+    return text, results
 
 
 def listed(path, *words):
@@ -246,9 +261,8 @@ def read(path):
 
 def is_known(text, answers):
     """Whether pgserve answers the statement so by itself."""
-    word = re.match(rb"\s*(\w*)", text)[1].decode().lower()
     lines = [results[0].shown()[1] for results in answers if len(results) == 1]
-    return word in KNOWN and len(lines) == len(answers) and all(one[0].startswith("tag ") and "notify " not in [line[:7] for line in one] for one in lines)
+    return word_of(text) in KNOWN and len(lines) == len(answers) and all(one[0].startswith("tag ") and "notify " not in [line[:7] for line in one] for one in lines)
 
 
 def statement(text, parameters, answers):
