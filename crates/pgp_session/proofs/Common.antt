@@ -46,7 +46,7 @@ pub use Rattle.pgp_session.specs.ScramLogin.{Offers, ReceivedAmong, NoneWanted, 
 pub use Rattle.pgp_session.specs.ServerState.{newer, status, state_after}
 pub use Rattle.pgp_session.specs.Serving.{admission, Due, Outcome, StepsAll, IsAsked, Proves, HasShown, IsUnderWay, IsChallenged, IsAdmitted, ReceivedIn, due, starts, at_opening, at_password, at_first, at_final, at_open, phase_after, password_message, first_message, final_message, scram, NamesLast, NoneStands, OneStands, OtherStands, IsNewer, signature}
 pub use Rattle.pgp_session.specs.Session.{Admitted, ByNone, ByPassword, ByHash, BySignature, IsAllowed, Plays, Begins, Encrypts, Writes, Hears, asks_hash, asks_password, is_secret, secrets_of, Follows, History, IsOpenedAt, Known, and_fed, and_observed, and_sent, and_wrote, good, requests_in, requests_of, turns_of}
-pub use Rattle.pgp_session.specs.Settings.{HasRoom, Said, heard, most, setting_in, StandsAt, last_after, replaced, reported, said_after, settled, value_of, nothing_said, size}
+pub use Rattle.pgp_session.specs.Settings.{AreInOrder, HasRoom, Said, heard, cost, cost_at, is_before, most, put_in, setting_in, StandsAt, last_after, replaced, reported, said_after, settled, value_of, nothing_said, size, without}
 pub use Rattle.pgp_session.specs.declared.connection.ConnectionPhase.{ConnectionPhase}
 pub use Rattle.pgp_session.specs.declared.connection.ConnectionPhase.TheVariants.{Started, Encrypting}
 pub use Rattle.pgp_session.specs.declared.connection_error.ConnectionError.{ConnectionError}

@@ -1,38 +1,7 @@
--- Where the setting of a name stands, and what is known of its value.
-use Rattle.pgp_session.proofs.Common.{◌≡◌, ℕ, zero, suc, ◌+◌, Bool, true, false, List, [], ◌∷◌, ◌++◌, length, get_or, take, drop, Option, Some, None, refl, sym, ap, arith, ◌∙◌, inl, inr, ◌&&◌, if◌then◌else◌, list_all, bytes_eq, cases_Bool, Message, Setting, bytes_eq-Decides, newer, state_after, Said, StandsAt, heard, last_after, replaced, reported, said_after, setting_in, settled, value_of}
-use Rattle.std.proofs.Common.{◌<◌}
-use Rattle.std.specs.Prelude.{not}
+-- What is known of the value of a setting.
+use Rattle.pgp_session.proofs.Common.{◌≡◌, ℕ, Bool, true, false, List, [], ◌∷◌, ◌++◌, Option, Some, None, refl, sym, ap, ◌∙◌, inl, inr, if◌then◌else◌, bytes_eq, cases_Bool, Message, Setting, bytes_eq-Decides, newer, state_after, Said, heard, is_before, last_after, replaced, reported, said_after, setting_in, settled, value_of}
 use Rattle.pgp_session.specs.ServerState.{noted}
 use Rattle.pgp_session.specs.declared.server_state.ServerState.{ServerState}
-
--- of another name
-abbrev pub is_other : List ℕ → Setting → Bool
-is_other name s = not (bytes_eq s.name name)
-
-first_of : (a b : Bool) → (not a && b) ≡ true → a ≡ false
-first_of true b e = sym e
-first_of false b e = refl
-
-second_of : (a b : Bool) → (not a && b) ≡ true → b ≡ true
-second_of true b e = absurd (no e)
-  where
-    no : false ≡ true → ⊥
-    no e = cc
-second_of false b e = e
-
-pub stands : (name : List ℕ) (kept : List Setting) (i : ℕ) (d : Setting) → i < length kept → list_all (is_other name) (take i kept) ≡ true → bytes_eq (get_or kept i d).name name ≡ true → StandsAt name kept (Some i)
-stands name [] i d lt others same = absurd (omega (arith, lt))
-stands name (s ∷ kept) zero d lt others same = rw same (omega arith, refl, λ e. refl, λ v. refl)
-stands name (s ∷ kept) (suc i) d lt others same =
-    let next : suc (i + 1) ≡ suc i + 1 = omega arith in
-    let rest = stands name kept i d (omega (arith, lt)) (second_of (bytes_eq s.name name) (list_all (is_other name) (take i kept)) others) same in
-    rw (first_of (bytes_eq s.name name) (list_all (is_other name) (take i kept)) others) (omega (arith, rest.0), ap (λ l. s ∷ l) rest.1 ∙ ap (λ n. s ∷ (take i kept ++ drop n (s ∷ kept))) next, rest.2, λ v. ap (λ l. s ∷ l) (rest.3 v))
-
-pub none_stands : (name : List ℕ) (kept : List Setting) → list_all (is_other name) kept ≡ true → StandsAt name kept None
-none_stands name [] others = (refl, refl, λ v. refl)
-none_stands name (s ∷ kept) others =
-    let rest = none_stands name kept (second_of (bytes_eq s.name name) (list_all (is_other name) kept) others) in
-    rw (first_of (bytes_eq s.name name) (list_all (is_other name) kept) others) (ap (λ l. s ∷ l) rest.0, rest.1, λ v. ap (λ l. s ∷ l) (rest.2 v))
 
 -- ---- the value under a name is the last that was reported
 
@@ -60,7 +29,10 @@ value_replaced name s [] = refl
 value_replaced name s (x ∷ kept) =
     elim (cases_Bool (bytes_eq x.name s.name)) [
       | inl same ↦ rw same (hidden (bytes_eq s.name name) (bytes_eq x.name name) (Some s.value) (Some x.value) (value_of name kept) (ap (λ n. bytes_eq n name) (sym ((bytes_eq-Decides x.name s.name).0 same))))
-      | inr other ↦ rw other (apart_or_not (bytes_eq s.name name) (bytes_eq x.name name) (Some s.value) (Some x.value) (value_of name kept) (value_of name (replaced s kept)) (apart x.name s.name name other) (value_replaced name s kept))
+      | inr other ↦ elim (cases_Bool (is_before x.name s.name)) [
+          | inl before ↦ rw (other, before) (apart_or_not (bytes_eq s.name name) (bytes_eq x.name name) (Some s.value) (Some x.value) (value_of name kept) (value_of name (replaced s kept)) (apart x.name s.name name other) (value_replaced name s kept))
+          | inr behind ↦ rw (other, behind) refl
+        ]
     ]
 
 newer_if : (b : Bool) (value : List ℕ) (before : Option (List ℕ)) → (if b then Some value else before) ≡ newer before (if b then Some value else None)

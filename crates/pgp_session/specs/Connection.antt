@@ -393,10 +393,10 @@ Cancels lacks c old new (Err e) = ⊥
 
 -- *private*: what the messages of the server change, with all else as it is there
 abbrev pub in_state : {A : Type 0} → ConnectionState A → Shown → Shown
-in_state s c = record { phase = s.phase; login = seen s.login; out = s.out.items; incoming = c.incoming; talk = talk_of (λ q. q.items) s.dialogue; server = record { state = s.server; settings = s.settings.entries.items }; options = s.options.items; names = c.names; limit = c.limit }
+in_state s c = record { phase = s.phase; login = seen s.login; out = s.out.items; incoming = c.incoming; talk = talk_of (λ q. q.items) s.dialogue; server = record { state = s.server; settings = s.settings }; options = s.options.items; names = c.names; limit = c.limit }
 
 abbrev pub shown : {A : Type 0} → Kept A → Shown
-shown c = record { phase = c.state.phase; login = seen c.state.login; out = c.state.out.items; incoming = c.incoming.rest; talk = talk_of (λ q. q.items) c.state.dialogue; server = record { state = c.state.server; settings = c.state.settings.entries.items }; options = c.state.options.items; names = c.names; limit = c.limit }
+shown c = record { phase = c.state.phase; login = seen c.state.login; out = c.state.out.items; incoming = c.incoming.rest; talk = talk_of (λ q. q.items) c.state.dialogue; server = record { state = c.state.server; settings = c.state.settings }; options = c.state.options.items; names = c.names; limit = c.limit }
 
 -- the frame of the message that is read in place, or nothing
 abbrev pub current : {A : Type 0} → Kept A → List ℕ

@@ -1,7 +1,9 @@
 -- The settings that a server reported, each by its last report, and with them what it says of its session.
 -- PostgreSQL manual, "Asynchronous Operations"; "Message Formats": ParameterStatus.
-use Rattle.std.specs.Prelude.{◌≡◌, ◌⊎◌, ◌≤◌, ◌<◌, ℕ, ◌+◌, ◌-◌, List, [], ◌∷◌, ◌++◌, length, take, drop, get_or, slice_set, Option, Some, None, Result, Ok, Err, if◌then◌else◌}
-use Rattle.std.specs.List.{sum_by}
+use Rattle.std.specs.Prelude.{◌≡◌, ◌⊎◌, ◌≤◌, ◌<◌, ℕ, ◌+◌, ◌-◌, Bool, true, List, [], ◌∷◌, length, get_or, slice_set, Option, Some, None, Result, Ok, Err, if◌then◌else◌}
+use Rattle.std.specs.Cmp.Lexicographic.{slice_cmp}
+use Rattle.std.specs.List.{insert, list_all, sum_by}
+use Rattle.std.specs.Ordering.{is_lt, nat_cmp}
 use Rattle.std.specs.Str.{bytes_eq}
 use Rattle.pgp_base.specs.Cause.{WantsMemory}
 use Rattle.pgp_base.specs.declared.error.Error.{Error}
@@ -43,10 +45,14 @@ abbrev pub without : List ℕ → List Setting → List Setting
 without name [] = []
 without name (s ∷ kept) = if bytes_eq s.name name then kept else s ∷ without name kept
 
--- with one more: it stands in the place of the earlier one of its name, or after all others
+-- the order of names, byte by byte
+abbrev pub is_before : List ℕ → List ℕ → Bool
+is_before a b = is_lt (slice_cmp nat_cmp a b)
+
+-- with one more: it stands in the place of the earlier one of its name, or behind those of earlier names
 abbrev pub replaced : Setting → List Setting → List Setting
 replaced s [] = s ∷ []
-replaced s (x ∷ kept) = if bytes_eq x.name s.name then s ∷ kept else x ∷ replaced s kept
+replaced s (x ∷ kept) = if bytes_eq x.name s.name then s ∷ kept else if is_before x.name s.name then x ∷ replaced s kept else s ∷ x ∷ kept
 
 abbrev pub settled : Option Setting → List Setting → List Setting
 settled None kept = kept
@@ -95,17 +101,31 @@ abbrev pub said_after : Said → List Message → Said
 said_after s [] = s
 said_after s (m ∷ received) = said_after (heard m s) received
 
--- ---- *private*: where the setting of a name stands among those that are kept
+-- ---- *private*: where the setting of a name stands among those that are kept, or where it has its place
 
-abbrev pub StandsAt : List ℕ → List Setting → Option ℕ → Type 0
-StandsAt name kept None = (without name kept ≡ kept) × (value_of name kept ≡ None) × ((value : List ℕ) → replaced (record { name = name; value = value }) kept ≡ kept ++ record { name = name; value = value } ∷ [])
-StandsAt name kept (Some i) = (i < length kept) × (without name kept ≡ take i kept ++ drop (i + 1) kept) × ((d : Setting) → value_of name kept ≡ Some (get_or kept i d).value)
-    × ((value : List ℕ) → replaced (record { name = name; value = value }) kept ≡ slice_set kept i (record { name = name; value = value }))
+abbrev pub AreInOrder : List Setting → Type 0
+AreInOrder [] = Unit {0}
+AreInOrder (s ∷ kept) = (list_all (λ x. is_before s.name x.name) kept ≡ true) × AreInOrder kept
 
-abbrev pub IsPlace : Option ℕ → List Setting → Type 0
-IsPlace None kept = Unit {0}
-IsPlace (Some i) kept = i < length kept
+abbrev pub IsPlace : Result ℕ ℕ → List Setting → Type 0
+IsPlace (Ok i) kept = i < length kept
+IsPlace (Err i) kept = i ≤ length kept
 
-abbrev pub room_beside : Option ℕ → List Setting → ℕ → ℕ
-room_beside None kept limit = limit - size kept
-room_beside (Some i) kept limit = limit - size (take i kept ++ drop (i + 1) kept)
+abbrev pub put_in : Result ℕ ℕ → Setting → List Setting → List Setting
+put_in (Ok i) s kept = slice_set kept i s
+put_in (Err i) s kept = insert kept i s
+
+abbrev pub value_at : Result ℕ ℕ → List Setting → Setting → Option (List ℕ)
+value_at (Ok i) kept d = Some (get_or kept i d).value
+value_at (Err i) kept d = None
+
+abbrev pub cost_at : Result ℕ ℕ → List Setting → Setting → ℕ
+cost_at (Ok i) kept d = cost (get_or kept i d)
+cost_at (Err i) kept d = 0
+
+pub record StandsAt (name : List ℕ) (kept : List Setting) (place : Result ℕ ℕ) : Type 0 where
+  pub is_place : IsPlace place kept
+  pub value : (d : Setting) → value_of name kept ≡ value_at place kept d
+  pub put : (value : List ℕ) → replaced (record { name = name; value = value }) kept ≡ put_in place (record { name = name; value = value }) kept
+  pub rest : (d : Setting) → size kept ≡ cost_at place kept d + size (without name kept)
+  pub grown : (value : List ℕ) → size (replaced (record { name = name; value = value }) kept) ≡ cost (record { name = name; value = value }) + size (without name kept)

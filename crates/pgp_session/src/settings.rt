@@ -1,16 +1,18 @@
 //! The settings that a server reported of a session, each by its last report.
 
-ghost use Rattle.std.specs.Prelude.{◌≡◌, ◌+◌, ◌-◌, ◌≤◌, ◌∷◌, ◌++◌, [], length, option_map, Some, IfErr, IfOk, OnErr, OnOk};
-ghost use Rattle.std.specs.Bool.{Decides};
-ghost use Rattle.std.specs.Str.{bytes_eq};
+ghost use Rattle.std.specs.Prelude.{◌≡◌, ◌+◌, ◌-◌, ◌<◌, ◌≤◌, [], length, option_map, MatchOption, Some, IfErr, IfOk, OnErr, OnOk};
+ghost use Rattle.std.specs.Cmp.Lexicographic.{slice_cmp};
+ghost use Rattle.std.specs.Ordering.{nat_cmp};
 ghost use Rattle.pgp_base.specs.Cause.{WantsMemory};
+ghost use Rattle.pgp_message.specs.Parts.{Setting};
 ghost use Rattle.pgp_message.specs.Views.{view};
-ghost use Rattle.pgp_session.specs.Settings.{IsPlace, Keeps, StandsAt, cost, room_beside, setting_in, size, value_of};
+ghost use Rattle.pgp_session.specs.Settings.{AreInOrder, IsPlace, Keeps, StandsAt, cost, cost_at, put_in, setting_in, value_of};
 
 use crate::session_storage::SessionStorage;
 use pgp_base::{Error, Memory};
 use pgp_message::Message;
-use std::alloc::Allocator;
+use std::alloc::{AllocError, Allocator};
+use std::cmp::Ordering;
 use std::marker::Model;
 
 /// How many bytes a connection keeps at most of settings, each counted with `SETTING_COST`: a server reports some fifteen, of some hundred bytes.
@@ -49,11 +51,11 @@ impl<A: Memory> Entry<A> {
         Ok(Entry { name, value })
     }
 
-    /// Whether it has this name.
-    fn is_of(&self, name: &[u8]) -> bool
-        ensures { result ≡ bytes_eq self.now.name name.now }
+    /// How its name stands to this one, byte by byte.
+    fn compare(&self, name: &[u8]) -> Ordering
+        ensures { result ≡ slice_cmp nat_cmp self.now.name name.now }
     {
-        self.name.as_slice() == name
+        self.name.as_slice().cmp(name)
     }
 
     /// The value.
@@ -76,26 +78,43 @@ impl<A: Memory> Entry<A> {
 /// The settings that a server reported, each by its last report.
 #[derive(Drop)]
 pub(crate) struct Settings<A: Memory> {
+    /// In the order of their names.
     entries: Vec<Entry<A>, A>,
+    /// What they take together.
+    taken: usize,
+}
+
+impl<A: Memory> Model for Settings<A> {
+    ghost use Rattle.std.specs.Prelude.{◌≡◌, List};
+    ghost use Rattle.pgp_message.specs.Parts.{Setting};
+    ghost use Rattle.std.specs.List.{sum_by};
+    ghost use Rattle.pgp_session.specs.Settings.{AreInOrder, cost};
+
+    ghost Value = { List Setting };
+
+    ghost view = { λ s. s.entries.items };
+
+    ghost invariant = { λ s. AreInOrder s.entries.items × (s.taken ≡ sum_by cost s.entries.items) };
 }
 
 impl<A: Memory> Settings<A> {
     /// None so far.
     pub(crate) fn new(alloc: A) -> Settings<A>
-        ensures { result.entries.items ≡ [] }
+        ensures { result ≡ [] }
     {
         Settings {
             entries: Vec::new(alloc),
+            taken: 0,
         }
     }
 
     /// The value that was last reported under this name.
     pub(crate) fn get(&self, name: &[u8]) -> Option<&[u8]>
-        ensures { option_map (λ value. value.now) result ≡ value_of name.now self.now.entries.items }
+        ensures { option_map (λ value. value.now) result ≡ value_of name.now self.now }
     {
         match place(&self.entries, name) {
-            Some(place) => Some(self.entries[place].value()),
-            None => None,
+            Ok(place) => Some(self.entries[place].value()),
+            Err(_) => None,
         }
     }
 
@@ -111,7 +130,7 @@ impl<A: Memory> Settings<A> {
         limit: usize,
         message: &Message<S>,
     ) -> Result<(), Error>
-        ensures { Keeps A.Lacks limit (setting_in (view message.now)) self.old.entries.items self.new.entries.items result }
+        ensures { Keeps A.Lacks limit (setting_in (view message.now)) self.old self.new result }
     {
         match message {
             Message::ParameterStatus(body) => {
@@ -123,78 +142,73 @@ impl<A: Memory> Settings<A> {
 
     /// Keeps a setting.
     fn put(&mut self, alloc: A, limit: usize, name: &[u8], value: &[u8]) -> Result<(), Error>
-        ensures { Keeps A.Lacks limit (Some (record { name = name.now; value = value.now })) self.old.entries.items self.new.entries.items result }
+        ensures { Keeps A.Lacks limit (Some (record { name = name.now; value = value.now })) self.old self.new result }
     {
         let place = place(&self.entries, name);
-        if !fits(room(&self.entries, place, limit), name, value) {
+        let others = others(&self.entries, place, self.taken);
+        let Some(left) = left(limit.saturating_sub(others), name, value) else {
             return Err(Error::TooLarge);
-        }
+        };
         let entry = match Entry::new(alloc, name, value) {
             Ok(entry) => entry,
             Err(e) => return Err(e),
         };
-        match place {
-            Some(place) => {
-                self.entries[place] = entry;
-                Ok(())
-            }
-            None => self.push(entry),
-        }
-    }
-
-    /// Keeps a setting of a name that is new.
-    fn push(&mut self, entry: Entry<A>) -> Result<(), Error>
-        ensures ok { OnOk result (self.new.entries.items ≡ self.old.entries.items ++ entry ∷ []) }
-        ensures err { OnErr result (self.new.entries.items ≡ self.old.entries.items) }
-        ensures lacks { IfErr result (WantsMemory A.Lacks) }
-    {
-        match A::push(&mut self.entries, entry) {
-            Ok(()) => Ok(()),
-            Err(_) => Err(Error::OutOfMemory),
-        }
+        let Ok(()) = put_at(&mut self.entries, place, entry) else {
+            return Err(Error::OutOfMemory);
+        };
+        self.taken = limit - left;
+        Ok(())
     }
 }
 
-/// Where the setting of this name stands.
-fn place<A: Memory>(entries: &[Entry<A>], name: &[u8]) -> Option<usize>
+/// Where the setting of this name stands, or else where it has its place.
+fn place<A: Memory>(entries: &[Entry<A>], name: &[u8]) -> Result<usize, usize>
+    requires { AreInOrder entries.now }
     ensures { StandsAt name.now entries.now result }
 {
-    for (place, entry) in entries.iter().enumerate() {
-        if entry.is_of(name) {
-            return Some(place);
-        }
-    }
-    None
+    entries.binary_search_by(
+        |entry: &Entry<A>| -> Ordering
+            ensures { result ≡ slice_cmp nat_cmp entry.now.name name.entry.now }
+        { entry.compare(name) },
+    )
 }
 
-/// How many bytes the settings leave, without that at this place.
-fn room<A: Memory>(entries: &[Entry<A>], place: Option<usize>, limit: usize) -> usize
+/// What the settings take but for the one that stands there, of what all take.
+fn others<A: Memory>(entries: &[Entry<A>], place: Result<usize, usize>, taken: usize) -> usize
     requires { IsPlace place entries.now }
-    ensures { result ≡ room_beside place entries.now limit }
+    ensures { (d : Setting) → result ≡ taken - cost_at place entries.now d }
 {
     match place {
-        Some(place) => left(&entries[place + 1..], left(&entries[..place], limit)),
-        None => left(entries, limit),
+        Ok(place) => entries[place].left(taken),
+        Err(_) => taken,
     }
 }
 
-/// How many bytes these settings leave.
-fn left<A: Memory>(entries: &[Entry<A>], limit: usize) -> usize
-    ensures { result ≡ limit - size entries.now }
+/// Puts a setting in the place of the one that stands there, or between its neighbours.
+fn put_at<A: Memory>(entries: &mut Vec<Entry<A>, A>, place: Result<usize, usize>, entry: Entry<A>) -> Result<(), AllocError>
+    requires { IsPlace place entries.old.items }
+    ensures ok { OnOk result (entries.new.items ≡ put_in place entry entries.old.items) }
+    ensures err { OnErr result (entries.new.items ≡ entries.old.items) }
+    ensures lacks { OnErr result A.Lacks }
 {
-    let mut room = limit;
-    for entry in entries {
-        room = entry.left(room);
+    match place {
+        Ok(place) => {
+            entries[place] = entry;
+            Ok(())
+        }
+        Err(place) => {
+            A::reserve(entries, 1)?;
+            entries.insert(place, entry)?;
+            Ok(())
+        }
     }
-    room
 }
 
-/// Whether both fit.
-fn fits(room: usize, name: &[u8], value: &[u8]) -> bool
-    ensures { Decides result (cost (record { name = name.now; value = value.now }) ≤ room) }
+/// What a setting leaves of this room, where it has room.
+fn left(room: usize, name: &[u8], value: &[u8]) -> Option<usize>
+    ensures { MatchOption result (room < cost (record { name = name.now; value = value.now })) (λ left. left + cost (record { name = name.now; value = value.now }) ≡ room) }
 {
-    let Some(left) = room.checked_sub(SETTING_COST) else {
-        return false;
-    };
-    name.len() <= left && value.len() <= left - name.len()
+    room.checked_sub(SETTING_COST)?
+        .checked_sub(name.len())?
+        .checked_sub(value.len())
 }

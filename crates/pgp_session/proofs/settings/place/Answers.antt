@@ -1,13 +1,12 @@
-use Rattle.pgp_session.proofs.Common.{◌≡◌, ◌≤◌, true, List, length, rules, subst, list_all, bytes_eq, take_all, Setting}
-use Rattle.pgp_session.proofs.Reported.{is_other, none_stands, stands}
+use Rattle.pgp_session.proofs.Common.{List, ℕ, Setting}
+use Rattle.std.proofs.lemmas.Fn.{always_returns_same}
+use Rattle.std.specs.Cmp.Lexicographic.{slice_cmp}
+use Rattle.std.specs.Ordering.{nat_cmp}
+use Rattle.pgp_session.proofs.Placed.{searched}
 use Rattle.pgp_session.proofs.settings.place.Goals as goal
-
-pub returns-then-is_of : goal.returns-then-is_of
-returns-then-is_of g c =
-    let same : bytes_eq c.index-entries-place.result.name c.args.name.now ≡ true = search rules in
-    stands c.args.name.now c.args.entries.now c.loop-place.place c.index-entries-place.result (search rules) c.loop-place.invariant (subst (λ (s : Setting). bytes_eq s.name c.args.name.now ≡ true) c.index-entries-place.is same)
 
 pub returns : goal.returns
 returns g c =
-    let end : length c.args.entries.now ≤ c.loop-place.place = search rules in
-    none_stands c.args.name.now c.args.entries.now (subst (λ (l : List Setting). list_all (is_other c.args.name.now) l ≡ true) (take_all c.loop-place.place c.args.entries.now end) c.loop-place.invariant)
+    let facts = c.binary_search_by.ensures in
+    let ranked = facts.position (λ (s : Setting). slice_cmp nat_cmp s.name c.args.name.now) (always_returns_same _ _ _ (λ a r f k. (k.met.1, λ j. record { 0 = k.met.0 j }))) in
+    searched c.args.name.now c.args.entries.now c.binary_search_by.result c.requires facts.bound ranked

@@ -22,8 +22,8 @@ returns-in-Ok-hear g c = λ s.
       kept = c.in-Ok-keep.ensures.0;
       goes_on = sym c.is_end.ensures ∙ c.if-is_end.false;
       logged = logs_on _ g.A.Memory.Lacks (seen c.args.self.now.login) (seen c.hear.new.self) c.args.self.now.out.items c.hear.new.out.items (asking m) c.in-Ok-hear.ensures.observed;
-      is = took_so m (seen c.hear.new.self) c.hear.new.out.items (talk_of (λ q. q.items) c.take_message.new.self) (record { state = c.note.new.self; settings = c.keep.new.self.entries.items }) old
-          (heard_so m c.note.new.self c.keep.new.self.entries.items old.server c.note.ensures c.in-Ok-keep.ensures.1);
+      is = took_so m (seen c.hear.new.self) c.hear.new.out.items (talk_of (λ q. q.items) c.take_message.new.self) (record { state = c.note.new.self; settings = c.keep.new.self }) old
+          (heard_so m c.note.new.self c.keep.new.self old.server c.note.ensures c.in-Ok-keep.ensures.1);
     })
 
 pub returns-in-Err : goal.returns-in-Err
@@ -53,9 +53,9 @@ returns-in-Err-hear g c = λ s.
     let old = in_state c.args.self.now s in
     let talk = talk_of (λ q. q.items) c.take_message.new.self in
     let is = taken_ok (taken old.talk (kind_of m)) c.in-Ok.event talk c.in-Ok.ensures in
-    stopped_log_in g.A.Memory.Lacks m old talk (seen c.hear.new.self) c.hear.new.out.items (record { state = c.note.new.self; settings = c.keep.new.self.entries.items }) c.in-Ok.event c.in-Err-hear.e
+    stopped_log_in g.A.Memory.Lacks m old talk (seen c.hear.new.self) c.hear.new.out.items (record { state = c.note.new.self; settings = c.keep.new.self }) c.in-Ok.event c.in-Err-hear.e
     is c.in-Ok-keep.ensures.0 (sym c.is_end.ensures ∙ c.if-is_end.false) c.in-Err-hear.ensures.observed c.in-Err-hear.ensures.kept c.in-Err-hear.ensures.phase
-    (heard_so m c.note.new.self c.keep.new.self.entries.items old.server c.note.ensures c.in-Ok-keep.ensures.1)
+    (heard_so m c.note.new.self c.keep.new.self old.server c.note.ensures c.in-Ok-keep.ensures.1)
 
 pub returns-then-not-is_timely : goal.returns-then-not-is_timely
 returns-then-not-is_timely g c = λ s.
