@@ -197,8 +197,8 @@ fn put_at<A: Memory>(entries: &mut Vec<Entry<A>, A>, place: Result<usize, usize>
             Ok(())
         }
         Err(place) => {
-            A::reserve(entries, 1)?;
-            entries.insert(place, entry)?;
+            A::push(entries, entry)?;
+            entries[place..].rotate_right(1);
             Ok(())
         }
     }
