@@ -6,6 +6,7 @@ pub mod Mechanisms
 pub mod Naming
 pub mod Proxied
 pub mod Replies
+pub mod Placed
 pub mod Reported
 pub mod Served
 pub mod StartupNames

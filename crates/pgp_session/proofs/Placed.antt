@@ -80,9 +80,9 @@ all_replaced p s (x ∷ kept) own all =
     elim (cases_Bool (bytes_eq x.name s.name)) [
       | inl same ↦ rw same (both_hold (p s) (list_all p kept) own rest)
       | inr other ↦ elim (cases_Bool (is_before x.name s.name)) [
-          | inl before ↦ rw (other, before) (both_hold (p x) (list_all p (replaced s kept)) first (all_replaced p s kept own rest))
-          | inr later ↦ rw (other, later) (both_hold (p s) (p x && list_all p kept) own all)
-        ]
+        | inl before ↦ rw (other, before) (both_hold (p x) (list_all p (replaced s kept)) first (all_replaced p s kept own rest))
+        | inr later ↦ rw (other, later) (both_hold (p s) (p x && list_all p kept) own all)
+      ]
     ]
 
 -- a setting more keeps the order
@@ -92,11 +92,11 @@ stays_in_order s (x ∷ kept) order =
     elim (cases_Bool (bytes_eq x.name s.name)) [
       | inl same ↦ rw same (subst (λ (n : List ℕ). list_all (λ (y : Setting). is_before n y.name) kept ≡ true) ((bytes_eq-Decides x.name s.name).0 same) order.0, order.1)
       | inr other ↦ elim (cases_Bool (is_before x.name s.name)) [
-          | inl before ↦ rw (other, before) (all_replaced (λ y. is_before x.name y.name) s kept before order.0, stays_in_order s kept order.1)
-          | inr later ↦
+        | inl before ↦ rw (other, before) (all_replaced (λ y. is_before x.name y.name) s kept before order.0, stays_in_order s kept order.1)
+        | inr later ↦
             let first = behind x.name s.name other later in
             rw (other, later) (both_hold (is_before s.name x.name) (list_all (λ (y : Setting). is_before s.name y.name) kept) first (all_weaker (λ y. is_before x.name y.name) (λ y. is_before s.name y.name) (λ y e. chained s.name x.name y.name first e) kept order.0), order)
-        ]
+      ]
     ]
 
 -- ---- the place that a search finds

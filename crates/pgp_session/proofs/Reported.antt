@@ -30,9 +30,9 @@ value_replaced name s (x ∷ kept) =
     elim (cases_Bool (bytes_eq x.name s.name)) [
       | inl same ↦ rw same (hidden (bytes_eq s.name name) (bytes_eq x.name name) (Some s.value) (Some x.value) (value_of name kept) (ap (λ n. bytes_eq n name) (sym ((bytes_eq-Decides x.name s.name).0 same))))
       | inr other ↦ elim (cases_Bool (is_before x.name s.name)) [
-          | inl before ↦ rw (other, before) (apart_or_not (bytes_eq s.name name) (bytes_eq x.name name) (Some s.value) (Some x.value) (value_of name kept) (value_of name (replaced s kept)) (apart x.name s.name name other) (value_replaced name s kept))
-          | inr behind ↦ rw (other, behind) refl
-        ]
+        | inl before ↦ rw (other, before) (apart_or_not (bytes_eq s.name name) (bytes_eq x.name name) (Some s.value) (Some x.value) (value_of name kept) (value_of name (replaced s kept)) (apart x.name s.name name other) (value_replaced name s kept))
+        | inr behind ↦ rw (other, behind) refl
+      ]
     ]
 
 newer_if : (b : Bool) (value : List ℕ) (before : Option (List ℕ)) → (if b then Some value else before) ≡ newer before (if b then Some value else None)

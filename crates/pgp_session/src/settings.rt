@@ -185,7 +185,11 @@ fn others<A: Memory>(entries: &[Entry<A>], place: Result<usize, usize>, taken: u
 }
 
 /// Puts a setting in the place of the one that stands there, or between its neighbours.
-fn put_at<A: Memory>(entries: &mut Vec<Entry<A>, A>, place: Result<usize, usize>, entry: Entry<A>) -> Result<(), AllocError>
+fn put_at<A: Memory>(
+    entries: &mut Vec<Entry<A>, A>,
+    place: Result<usize, usize>,
+    entry: Entry<A>,
+) -> Result<(), AllocError>
     requires { IsPlace place entries.old.items }
     ensures ok { OnOk result (entries.new.items ≡ put_in place entry entries.old.items) }
     ensures err { OnErr result (entries.new.items ≡ entries.old.items) }

@@ -1,4 +1,4 @@
-use Rattle.pgp_session.proofs.Common.{List, ℕ, Setting}
+use Rattle.pgp_session.proofs.Common.{Setting}
 use Rattle.std.proofs.lemmas.Fn.{always_returns_same}
 use Rattle.std.specs.Cmp.Lexicographic.{slice_cmp}
 use Rattle.std.specs.Ordering.{nat_cmp}
