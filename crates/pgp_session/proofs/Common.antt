@@ -2,11 +2,11 @@
 pub use Rattle.std.proofs.Common.{◌≡◌, ℕ, true, false, List, [], ◌∷◌, ◌++◌, Option, Some, None, refl, sym, ap, subst, ◌∙◌, inl, inr, ◌⊎◌, ◌+◌, ◌≤◌, length, arith, ◌-◌, get_or, Result, Ok, Err, ap₂, Bool, not, take, drop, ◌||◌, zero, suc, map, Contains, append_assoc, ◌≢◌, rules, codes}
 pub use Rattle.std.proofs.lemmas.Bool.{cond-true, cond-false, cases_Bool}
 pub use Rattle.std.proofs.lemmas.Bool.Decides.{nat_tests, Decides-eqb}
-pub use Rattle.std.proofs.lemmas.List.{append-nil, length-append, take-append-drop, take_all}
+pub use Rattle.std.proofs.lemmas.List.{append-nil, length-append, take-append-drop}
 pub use Rattle.std.proofs.lemmas.List.Elements.{filter-append, Contains-append_left, Contains-append_right, Contains-append_cases}
 pub use Rattle.std.proofs.lemmas.Slice.Eq.{bytes_eq-Decides, slice_eq-Decides}
 pub use Rattle.std.specs.Borrow.{Bor}
-pub use Rattle.std.specs.List.{AllByRecursion, list_any, flat_map, list_all}
+pub use Rattle.std.specs.List.{AllByRecursion, list_any, flat_map}
 pub use Rattle.std.specs.Prelude.{option_to_list, nat_lt, OnOk, IfErr, ◌&&◌, option_map, ◌<◌, if◌then◌else◌, ◌==◌}
 pub use Rattle.std.specs.Str.{bytes_eq}
 pub use Rattle.pgp_auth.specs.Md5Text.{md5_answer}

@@ -1,5 +1,5 @@
 -- Where the setting of a name stands among names in order, or where it has its place.
-use Rattle.pgp_session.proofs.Common.{◌≡◌, ℕ, zero, suc, ◌+◌, ◌-◌, ◌≤◌, Bool, true, false, List, [], ◌∷◌, length, get_or, Result, Ok, Err, refl, sym, ap, subst, arith, ◌∙◌, inl, inr, ◌&&◌, list_all, bytes_eq, cases_Bool, Setting, bytes_eq-Decides, AreInOrder, StandsAt, cost, cost_at, is_before, put_in, replaced, size, without}
+use Rattle.pgp_session.proofs.Common.{◌≡◌, ℕ, zero, suc, ◌+◌, ◌-◌, ◌≤◌, true, false, List, [], ◌∷◌, length, get_or, Result, Ok, Err, refl, sym, ap, subst, arith, ◌∙◌, inl, inr, AllByRecursion, bytes_eq, cases_Bool, Setting, bytes_eq-Decides, AreInOrder, StandsAt, cost, cost_at, is_before, put_in, replaced, size, without}
 use Rattle.std.proofs.Common.{◌<◌}
 use Rattle.std.specs.Cmp.Lexicographic.{slice_cmp, nat_list_cmp_total, texts_ties}
 use Rattle.std.specs.List.Sorted.{IsSearchInRange, IsBinarySearchResult, IsNonDecreasingBy}
@@ -48,54 +48,38 @@ behind a b other later = ap is_lt (nat_list_cmp_total.antisymm b a) ∙ turned (
 
 -- ---- all of a list
 
-first_holds : (a b : Bool) → (a && b) ≡ true → a ≡ true
-first_holds true b e = refl
-first_holds false b e = e
+all_at : (P : Setting → Type 0) (kept : List Setting) (i : ℕ) (d : Setting) → AllByRecursion P kept → i < length kept → P (get_or kept i d)
+all_at P [] i d all lt = absurd (omega (arith, lt))
+all_at P (s ∷ kept) zero d all lt = all.0
+all_at P (s ∷ kept) (suc i) d all lt = all_at P kept i d all.1 (omega (arith, lt))
 
-second_holds : (a b : Bool) → (a && b) ≡ true → b ≡ true
-second_holds true b e = e
-second_holds false b e = absurd (no e)
-  where
-    no : false ≡ true → ⊥
-    no e = cc
+all_weaker : (P Q : Setting → Type 0) → ((s : Setting) → P s → Q s) → (kept : List Setting) → AllByRecursion P kept → AllByRecursion Q kept
+all_weaker P Q weaker [] all = tt
+all_weaker P Q weaker (s ∷ kept) all = (weaker s all.0, all_weaker P Q weaker kept all.1)
 
-both_hold : (a b : Bool) → a ≡ true → b ≡ true → (a && b) ≡ true
-both_hold a b e f = rw (e, f) refl
-
-all_at : (p : Setting → Bool) (kept : List Setting) (i : ℕ) (d : Setting) → list_all p kept ≡ true → i < length kept → p (get_or kept i d) ≡ true
-all_at p [] i d all lt = absurd (omega (arith, lt))
-all_at p (s ∷ kept) zero d all lt = first_holds (p s) (list_all p kept) all
-all_at p (s ∷ kept) (suc i) d all lt = all_at p kept i d (second_holds (p s) (list_all p kept) all) (omega (arith, lt))
-
-all_weaker : (p q : Setting → Bool) → ((s : Setting) → p s ≡ true → q s ≡ true) → (kept : List Setting) → list_all p kept ≡ true → list_all q kept ≡ true
-all_weaker p q weaker [] all = refl
-all_weaker p q weaker (s ∷ kept) all =
-    both_hold (q s) (list_all q kept) (weaker s (first_holds (p s) (list_all p kept) all)) (all_weaker p q weaker kept (second_holds (p s) (list_all p kept) all))
-
-all_replaced : (p : Setting → Bool) (s : Setting) (kept : List Setting) → p s ≡ true → list_all p kept ≡ true → list_all p (replaced s kept) ≡ true
-all_replaced p s [] own all = both_hold (p s) true own refl
-all_replaced p s (x ∷ kept) own all =
-    let first = first_holds (p x) (list_all p kept) all in
-    let rest = second_holds (p x) (list_all p kept) all in
+all_replaced : (P : Setting → Type 0) (s : Setting) (kept : List Setting) → P s → AllByRecursion P kept → AllByRecursion P (replaced s kept)
+all_replaced P s [] own all = (own, tt)
+all_replaced P s (x ∷ kept) own all =
     elim (cases_Bool (bytes_eq x.name s.name)) [
-      | inl same ↦ rw same (both_hold (p s) (list_all p kept) own rest)
+      | inl same ↦ rw same (own, all.1)
       | inr other ↦ elim (cases_Bool (is_before x.name s.name)) [
-        | inl before ↦ rw (other, before) (both_hold (p x) (list_all p (replaced s kept)) first (all_replaced p s kept own rest))
-        | inr later ↦ rw (other, later) (both_hold (p s) (p x && list_all p kept) own all)
+        | inl before ↦ rw (other, before) (all.0, all_replaced P s kept own all.1)
+        | inr later ↦ rw (other, later) (own, all)
       ]
     ]
 
 -- a setting more keeps the order
 pub stays_in_order : (s : Setting) (kept : List Setting) → AreInOrder kept → AreInOrder (replaced s kept)
-stays_in_order s [] order = (refl, tt)
+stays_in_order s [] order = (tt, tt)
 stays_in_order s (x ∷ kept) order =
     elim (cases_Bool (bytes_eq x.name s.name)) [
-      | inl same ↦ rw same (subst (λ (n : List ℕ). list_all (λ (y : Setting). is_before n y.name) kept ≡ true) ((bytes_eq-Decides x.name s.name).0 same) order.0, order.1)
+      | inl same ↦ rw same (subst (λ (n : List ℕ). AllByRecursion (λ (y : Setting). is_before n y.name ≡ true) kept) ((bytes_eq-Decides x.name s.name).0 same) order.0, order.1)
       | inr other ↦ elim (cases_Bool (is_before x.name s.name)) [
-        | inl before ↦ rw (other, before) (all_replaced (λ y. is_before x.name y.name) s kept before order.0, stays_in_order s kept order.1)
+        | inl before ↦ rw (other, before) (all_replaced (λ y. is_before x.name y.name ≡ true) s kept before order.0, stays_in_order s kept order.1)
         | inr later ↦
             let first = behind x.name s.name other later in
-            rw (other, later) (both_hold (is_before s.name x.name) (list_all (λ (y : Setting). is_before s.name y.name) kept) first (all_weaker (λ y. is_before x.name y.name) (λ y. is_before s.name y.name) (λ y e. chained s.name x.name y.name first e) kept order.0), order)
+            let all = all_weaker (λ y. is_before x.name y.name ≡ true) (λ y. is_before s.name y.name ≡ true) (λ y e. chained s.name x.name y.name first e) kept order.0 in
+            rw (other, later) ((first, all), order)
       ]
     ]
 
@@ -123,7 +107,7 @@ stands name (s ∷ kept) zero d order lt same =
     record { is_place = omega arith; value = λ d. rw here refl; put = λ v. rw here refl; rest = λ d. rw here (size_more s kept); grown = λ v. rw here (size_more (record { name = name; value = v }) kept) }
 stands name (s ∷ kept) (suc i) d order lt same =
     let in_rest : i < length kept = omega (arith, lt) in
-    let before : is_before s.name name ≡ true = subst (λ (n : List ℕ). is_before s.name n ≡ true) same (all_at (λ y. is_before s.name y.name) kept i d order.0 in_rest) in
+    let before : is_before s.name name ≡ true = subst (λ (n : List ℕ). is_before s.name n ≡ true) same (all_at (λ y. is_before s.name y.name ≡ true) kept i d order.0 in_rest) in
     let rest = stands name kept i d order.1 in_rest same in
     let other = before_is_other s.name name before in
     record {
@@ -167,7 +151,7 @@ has_place name (s ∷ kept) (suc i) le before after =
 -- the names rise, as a binary search asks
 neighbours : (kept : List Setting) (k : ℕ) (d : Setting) → AreInOrder kept → k + 1 < length kept → is_before (get_or kept k d).name (get_or kept (k + 1) d).name ≡ true
 neighbours [] k d order lt = absurd (omega (arith, lt))
-neighbours (s ∷ kept) zero d order lt = all_at (λ y. is_before s.name y.name) kept 0 d order.0 (omega (arith, lt))
+neighbours (s ∷ kept) zero d order lt = all_at (λ y. is_before s.name y.name ≡ true) kept 0 d order.0 (omega (arith, lt))
 neighbours (s ∷ kept) (suc k) d order lt =
     let next : suc (k + 1) ≡ suc k + 1 = omega arith in
     subst (λ (n : ℕ). is_before (get_or kept k d).name (get_or (s ∷ kept) n d).name ≡ true) next (neighbours kept k d order.1 (omega (arith, lt)))

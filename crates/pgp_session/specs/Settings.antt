@@ -2,7 +2,7 @@
 -- PostgreSQL manual, "Asynchronous Operations"; "Message Formats": ParameterStatus.
 use Rattle.std.specs.Prelude.{◌≡◌, ◌⊎◌, ◌≤◌, ◌<◌, ℕ, ◌+◌, ◌-◌, Bool, true, List, [], ◌∷◌, length, get_or, slice_set, Option, Some, None, Result, Ok, Err, if◌then◌else◌}
 use Rattle.std.specs.Cmp.Lexicographic.{slice_cmp}
-use Rattle.std.specs.List.{insert, list_all, sum_by}
+use Rattle.std.specs.List.{AllByRecursion, insert, sum_by}
 use Rattle.std.specs.Ordering.{is_lt, nat_cmp}
 use Rattle.std.specs.Str.{bytes_eq}
 use Rattle.pgp_base.specs.Cause.{WantsMemory}
@@ -105,7 +105,7 @@ said_after s (m ∷ received) = said_after (heard m s) received
 
 abbrev pub AreInOrder : List Setting → Type 0
 AreInOrder [] = Unit {0}
-AreInOrder (s ∷ kept) = (list_all (λ x. is_before s.name x.name) kept ≡ true) × AreInOrder kept
+AreInOrder (s ∷ kept) = AllByRecursion (λ x. is_before s.name x.name ≡ true) kept × AreInOrder kept
 
 abbrev pub IsPlace : Result ℕ ℕ → List Setting → Type 0
 IsPlace (Ok i) kept = i < length kept
