@@ -19,14 +19,12 @@ extern "C" {
 enum pgp_binding { PGP_BINDING_UNSUPPORTED = 0, PGP_BINDING_UNREQUESTED = 1, PGP_BINDING_TLS_SERVER_END_POINT = 2 };
 
 /*
- * SCRAM-SHA-256, the client's side, in three calls that keep nothing between them. The caller keeps the password, the nonce (24
- * characters from a generator fit for secrets, new for each exchange: pgp_nonce makes them of 18 random bytes) and the server's
- * first text.
+ * SCRAM-SHA-256, the client's side, in three calls. The caller keeps the password, the nonce (24 characters from a generator fit for
+ * secrets, new for each exchange: pgp_nonce makes them of 18 random bytes), and between the server's two texts a struct of 32 bytes.
  *   pgp_scram_first   what to send in pgp_sasl_initial_response
- *   pgp_scram_final   the answer to the server's first text, for pgp_sasl_response: a server with the password's verifier accepts it
- *   pgp_scram_verify  PGP_OK only if the server's final text shows the signature of that verifier
- * pgp_scram_final and pgp_scram_verify make the salted key anew (some milliseconds at 4096 rounds). Who has a place for 32 bytes makes it once:
- *   pgp_scram_update  as pgp_scram_final, and keeps in a struct of the caller's what the server has to show (as it was on any status but PGP_OK)
+ *   pgp_scram_update  the answer to the server's first text, for pgp_sasl_response: a server with the password's verifier accepts it; the
+ *                     struct keeps what the server has to show (as it was on any status but PGP_OK). It makes the salted key (some
+ *                     milliseconds at 4096 rounds)
  *   pgp_scram_finish  PGP_OK only if the server's final text shows that: no password, no key
  * The struct holds no secret of the password, and there is nothing to free; but who reads it before the server's final text can respond in
  * the server's place. The password is used as it is;
@@ -38,13 +36,6 @@ enum pgp_binding { PGP_BINDING_UNSUPPORTED = 0, PGP_BINDING_UNREQUESTED = 1, PGP
 #define PGP_SCRAM_FINAL_ROOM(certificate_len, server_first_len) (2 * (certificate_len) + (server_first_len) + 128)
 pgp_status pgp_scram_first(uint8_t kind, const void *certificate, size_t certificate_len, const void *nonce, size_t nonce_len,
                            uint8_t *out, size_t room, size_t *written);
-pgp_status pgp_scram_final(const void *password, size_t password_len,
-                           uint8_t kind, const void *certificate, size_t certificate_len, const void *nonce, size_t nonce_len,
-                           const void *server_first, size_t server_first_len, uint8_t *out, size_t room, size_t *written, size_t *at);
-pgp_status pgp_scram_verify(const void *password, size_t password_len,
-                            uint8_t kind, const void *certificate, size_t certificate_len, const void *nonce, size_t nonce_len,
-                            const void *server_first, size_t server_first_len,
-                            const void *server_final, size_t server_final_len, size_t *at);
 struct pgp_scram { uint8_t signature[32]; };
 pgp_status pgp_scram_update(const void *password, size_t password_len,
                             uint8_t kind, const void *certificate, size_t certificate_len, const void *nonce, size_t nonce_len,

@@ -1,11 +1,11 @@
--- An exchange of SCRAM-SHA-256 whose steps keep nothing.
+-- A client's exchange of SCRAM-SHA-256, whose steps are handed over what it is made of each time.
 use Rattle.std.specs.Prelude.{◌≡◌, ◌≢◌, ◌⊎◌, ℕ, ◌+◌, List, Some, None}
 use Rattle.std.specs.Str.{IsUtf8}
 use Rattle.pgp_auth.specs.Prepared.{prepared}
 use Rattle.pgp_auth.specs.ScramText.{IsNonce, client_first, Binding, Unsupported, Unrequested, TlsServerEndPoint}
 use Rattle.pgp_auth.specs.ScramRefusal.{Refusal, OutOfMemory, UnexpectedCharacter, Trailing}
 use Rattle.pgp_auth.specs.ScramErrorView.{number_of}
-use Rattle.pgp_auth.specs.ScramClient.{Client, fresh, awaited_of, message_of, Answers, UpdateRefused, Completes, FinishRefused, NotShown}
+use Rattle.pgp_auth.specs.ScramClient.{Client, fresh, awaited_of, message_of, Answers, UpdateRefused, NotShown}
 use Rattle.pgp_c_auth.specs.Delivering.{IsLonger}
 
 -- this is the channel binding of the number and the bytes that C hands over
@@ -96,23 +96,6 @@ pub record NoRoom (s : Start) (server_first old : List ℕ) (code place : ℕ) :
   pub longer : IsLonger (AnswersIn s server_first) old
   pub code_is : code ≡ 1
   pub place_is : place ≡ 0
-
--- The client that began so takes both of the server's texts: the second shows the signature of the password's verifier (`Completes`).
-pub record Verified (s : Start) (server_first server_final : List ℕ) : Type 0 where
-  pub start : Client
-  pub begins : Begins s start
-  pub client : Client
-  pub completes : Completes start server_first server_final client
-
--- `finish` rejects the server's final text, and this is the error's number and place
-pub record FinalRefused (lacks : Type 0) (s : Start) (server_first server_final : List ℕ) (code place : ℕ) : Type 0 where
-  pub between : Client
-  pub answered : HasAnswered s server_first between
-  pub after : Client
-  pub refusal : Refusal
-  pub refused : FinishRefused lacks between server_final refusal after
-  pub code_is : code ≡ code_of refusal
-  pub place_is : place ≡ place_of refusal
 
 -- the server's final text doesn't show the signature, or is rejected as a client rejects it that awaits it, and this is the error's number
 -- and place

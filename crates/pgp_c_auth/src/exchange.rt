@@ -1,11 +1,11 @@
-//! The client of SCRAM-SHA-256 that keeps what the server's final text has to show, so that the key is made once.
+//! The client of SCRAM-SHA-256, which keeps what the server's final text has to show, so that the key is made once.
 
-ghost use Rattle.std.specs.Prelude.{◌≡◌, ◌≢◌, ◌⊎◌};
+ghost use Rattle.std.specs.Prelude.{◌≡◌, ◌≢◌, ◌⊎◌, []};
 ghost use Rattle.pgp_auth.specs.ScramRefusal.{Verifies};
-ghost use Rattle.pgp_c_auth.specs.Delivering.{Delivers, NotDelivered};
-ghost use Rattle.pgp_c_auth.specs.Scram.{start, AnswersWith, NotAnswered, NoRoom, ShownRefused};
+ghost use Rattle.pgp_c_auth.specs.Delivering.{Delivers, IsLonger, NotDelivered};
+ghost use Rattle.pgp_c_auth.specs.Scram.{start, AnswersWith, BeginRefused, FirstText, NotAnswered, NoRoom, ShownRefused};
 
-use crate::client::{answered, hand_over, stopped};
+use crate::client::{answered, begun, hand_over, stopped};
 use pgp_auth::authentication::sasl::verify_signature;
 use pgp_base::Memory;
 use std::alloc::Global;
@@ -17,7 +17,44 @@ pub struct PgpScram {
     pub signature: [u8; 32],
 }
 
-/// The final text, as `pgp_scram_final` makes it, and the signature that is awaited.
+/// The first text of an exchange with this nonce.
+#[unsafe(no_mangle)]
+pub extern "C" fn pgp_scram_first(
+    alloc: Global,
+    kind: u8,
+    certificate: &[u8],
+    nonce: &[u8],
+    out: &mut [u8],
+    written: &mut usize,
+) -> u32
+    ensures sent { result ≡ 0 → Delivers (FirstText (start [] kind certificate.now nonce.now)) out.old out.new written.new }
+    ensures refused { result ≢ 0 → NotDelivered out.old out.new written.new }
+    ensures why { result ≢ 0 → BeginRefused (Unit {0}) (start [] kind certificate.now nonce.now) result ⊎ ((result ≡ 1) × IsLonger (FirstText (start [] kind certificate.now nonce.now)) out.old) }
+{
+    first(alloc, kind, certificate, nonce, out, written)
+}
+
+/// `pgp_scram_first` with any allocator.
+pub fn first<A: Memory>(
+    alloc: A,
+    kind: u8,
+    certificate: &[u8],
+    nonce: &[u8],
+    out: &mut [u8],
+    written: &mut usize,
+) -> u32
+    ensures sent { result ≡ 0 → Delivers (FirstText (start [] kind certificate.now nonce.now)) out.old out.new written.new }
+    ensures refused { result ≢ 0 → NotDelivered out.old out.new written.new }
+    ensures why { result ≢ 0 → BeginRefused A.Lacks (start [] kind certificate.now nonce.now) result ⊎ ((result ≡ 1) × IsLonger (FirstText (start [] kind certificate.now nonce.now)) out.old) }
+{
+    *written = 0;
+    match begun(alloc, &[], kind, certificate, nonce) {
+        Ok(client) => hand_over(&client, out, written),
+        Err(code) => code,
+    }
+}
+
+/// The final text: the answer to the server's first, and the signature that is awaited. `at` is the place in the server's text that an error says.
 #[unsafe(no_mangle)]
 pub extern "C" fn pgp_scram_update(
     alloc: Global,

@@ -8,9 +8,8 @@ ghost use Rattle.pgp_c_auth.specs.Login.{Asked, Came, Comes, Declined, IsAdmitte
 ghost use Rattle.pgp_c_auth.specs.Scram.{AnswersWith, BeginRefused, FirstText, NoRoom, NotAnswered, ShownRefused, start};
 ghost use Rattle.pgp_c_auth.specs.declared.login.PgpLogin.{PgpLogin as Kept};
 
-use crate::exchange::{PgpScram, finished, updated};
+use crate::exchange::{PgpScram, finished, first, updated};
 use crate::password::md5;
-use crate::scram::first;
 use pgp_auth::authentication::sasl::asks_fewer;
 use pgp_base::Memory;
 use std::alloc::Global;

@@ -1,4 +1,4 @@
-use Rattle.pgp_c_auth.proofs.Common.{◌≡◌, rules, inl, inr, sym, subst, List, ℕ, string_bytes, IsLiteral}
+use Rattle.pgp_c_auth.proofs.Common.{rules, inl, inr, subst, List, ℕ, IsLiteral}
 use Rattle.pgp_c_auth.proofs.Texts.{delivers, literal_is, longer}
 use Rattle.pgp_c_auth.proofs.escaping.literal.Goals as goal
 

@@ -1,4 +1,4 @@
-use Rattle.pgp_c_auth.proofs.Common.{◌≡◌, rules, inl, inr, refl, ap, ◌∙◌, sym, List, ℕ, Option, Some, unwrap_or, string_bytes}
+use Rattle.pgp_c_auth.proofs.Common.{◌≡◌, rules, inl, inr, refl, ap, ◌∙◌, List, ℕ, Option, Some, unwrap_or, string_bytes}
 use Rattle.pgp_saslprep.specs.SaslPrep.{prepared_bytes}
 use Rattle.pgp_c_auth.specs.Prep.{IsUsed}
 use Rattle.pgp_c_auth.proofs.Texts.{delivers, longer}

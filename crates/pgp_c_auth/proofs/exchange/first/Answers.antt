@@ -1,6 +1,6 @@
-use Rattle.pgp_c_auth.proofs.Common.{rules, inl, inr}
+use Rattle.pgp_c_auth.proofs.Common.{inr}
 use Rattle.pgp_c_auth.proofs.Texts.{first_text, delivers_another, no_room_first}
-use Rattle.pgp_c_auth.proofs.scram.first.Goals as goal
+use Rattle.pgp_c_auth.proofs.exchange.first.Goals as goal
 
 pub returns-in-Ok-clause-sent : goal.returns-in-Ok-clause-sent
 returns-in-Ok-clause-sent g c z = delivers_another _ _ _ (λ text says. first_text _ c.in-Ok.client text c.in-Ok.ensures.ok says) (c.hand_over.ensures.sent z)
