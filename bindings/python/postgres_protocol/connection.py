@@ -289,7 +289,7 @@ class Connection:
             return events.CommandCompleted(request, message.first.decode(errors='replace'))
         if kind == 'CopyData':
             return events.CopyBytes(request, message.first)
-        if kind in ('CopyInResponse', 'CopyOutResponse'):
+        if kind in ('CopyInResponse', 'CopyOutResponse', 'CopyBothResponse'):
             return events.CopyStarted(request, kind, formats(message))
         if kind == 'ParameterDescription':
             return events.Parameters(request, types(message))
