@@ -193,7 +193,7 @@ def check_files(same, home):
     def of(**given):
         kept = settings.Options(given)
         core = kept.core(kept.places[0], False)
-        return [(p.host, p.address, p.port) for p in kept.places], kept.user, kept.dbname, core._password
+        return [(p.host, p.address, p.port) for p in kept.places], kept.user, kept.dbname, core._log_in._password and core._log_in._password.decode()
     same('nothing', of(host='h'), ([('h', 'h', 5432)], 'me', 'me', None))
     same('a service', of(service='two'), ([('two.example', 'two.example', 5432)], 'service', 'service', 's:e\\cret'))
     same('the caller first', of(host='service=two user=text port=1', user='given'), ([('two.example', 'two.example', 1)], 'given', 'given', 'last'))
@@ -207,7 +207,7 @@ def check_files(same, home):
     (home / '.pgpass').chmod(0o644)
     same('a password file that others read', of()[3], None)
     for given in ({'service': 'none'}, {'sslmode': 'sure'}, {'port': '0'}, {'host': 'a,b', 'port': '1,2,3'}, {'target_session_attrs': 'primary'}, {'channel_binding': 'yes'},
-                  {'connect_timeout': 'x'}, {'require_auth': 'gss'}):
+                  {'connect_timeout': 'x'}, {'require_auth': 'gss'}, {'least_rounds': '-1'}, {'least_rounds': 2 ** 32}):
         same(str(given), type(_error(lambda: of(**given))), client.InterfaceError)
 
 

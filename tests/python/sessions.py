@@ -8,7 +8,7 @@ import threading
 import postgres_protocol as pg
 from postgres_protocol import aio, client, events
 from postgres_protocol.connection import Connection, DecodeError, LogInError
-from server import frame
+from server import Exchange, frame
 
 READY, AUTHENTICATED = frame(b'Z', b'I'), frame(b'R', b'\0\0\0\0')
 SASL = frame(b'R', b'\0\0\0\x0aSCRAM-SHA-256\0\0')
@@ -57,6 +57,71 @@ def check_log_in(same, raises):
         connection.data_to_send()
         same(what + ': no password is sent', connection.data_to_send(), b'')
     raises('a way that is none', ValueError, 'require_auth: one of ', lambda: Connection('alice', require_auth=['gss']))
+
+
+class LogIn:
+    """A server that plays a log-in by the names of its messages, and the client with the password `pencil` that it plays it to."""
+    FIXED = {'ok': AUTHENTICATED, 'ready': READY, 'sasl': SASL, 'clear': frame(b'R', b'\0\0\0\3'), 'md5': frame(b'R', b'\0\0\0\5abcd'),
+             'first': frame(b'R', b'\0\0\0\x0br=x,s=,i=4096'), 'final': frame(b'R', b'\0\0\0\x0cv=' + b'A' * 43 + b'='), 'other': frame(b'R', b'\0\0\0\x0a\xff\0\0')}
+
+    def __init__(self, **given):
+        self.client, self.exchange, self.sent = Connection('alice', 'pencil', **given), None, []
+        self.client.data_to_send()
+
+    def message(self, name):
+        """The message of this name: of an exchange that the client has begun, its texts."""
+        sent = next((sent for sent in reversed(self.sent) if sent), b'')
+        if name in ('first', 'few') and sent.startswith(b'p') and b'SCRAM-SHA-256\0' in sent:
+            self.exchange = Exchange(b'pencil', sent[5:].split(b'\0', 1)[1][4:], 4096 if name == 'first' else 4095)
+            return frame(b'R', b'\0\0\0\x0b' + self.exchange.first)
+        if name == 'signed':
+            self.right, final = self.exchange.final(sent[5:])
+            return frame(b'R', b'\0\0\0\x0c' + final)
+        return self.FIXED[name]
+
+    def play(self, name):
+        """Plays a message, and keeps what the client sends for it."""
+        self.client.receive_data(self.message(name))
+        try:
+            return self.client.next_event()
+        finally:
+            self.sent.append(self.client.data_to_send())
+
+
+def check_log_in_order(same, raises):
+    """What a server sends out of order, or asks for beside what is admitted: no log-in, and nothing is sent for it."""
+    unsigned, undue = 'the server did not show that it knows the password', 'the server sent %s, which has no place there'
+    for names, text, given in (
+            ('sasl ok', unsigned, {}), ('sasl first ok', unsigned, {}), ('sasl first final', unsigned, {}), ('sasl few', 'the server asks for fewer than 4096 rounds', {}),
+            ('sasl first', 'the server asks for fewer than 4097 rounds', {'least_rounds': 4097}),
+            ('first', undue % 'AuthenticationSaslContinue', {}), ('final', undue % 'AuthenticationSaslFinal', {}), ('sasl final', undue % 'AuthenticationSaslFinal', {}),
+            ('sasl sasl', undue % 'AuthenticationSasl', {}), ('sasl clear', undue % 'AuthenticationCleartextPassword', {}), ('sasl md5', undue % 'AuthenticationMd5Password', {}),
+            ('sasl first clear', undue % 'AuthenticationCleartextPassword', {}), ('sasl first signed clear', undue % 'AuthenticationCleartextPassword', {}),
+            ('sasl first signed signed', undue % 'AuthenticationSaslFinal', {}), ('sasl first signed first', undue % 'AuthenticationSaslContinue', {}),
+            ('sasl first first', undue % 'AuthenticationSaslContinue', {}), ('clear clear', undue % 'AuthenticationCleartextPassword', {}), ('clear sasl', undue % 'AuthenticationSasl', {}),
+            ('clear', 'the server asks for password, which', {'require_auth': ['none']}), ('md5', 'the server asks for md5, which', {'require_auth': ['none']}),
+            ('sasl', 'the server asks for scram-sha-256, which', {'require_auth': ['none']}), ('sasl', 'the server asks for scram-sha-256, which', {'require_auth': ['password', 'md5', 'none']}),
+            ('other', 'the server sent AuthenticationSasl, which is rejected: NotUtf8', {})):
+        played, last = LogIn(**given), names.split()[-1]
+        for name in names.split()[:-1]:
+            same(names + ': no event', played.play(name), None)
+        raises(names, LogInError, text, lambda: played.play(last))
+        same(names + ': nothing is sent', played.sent[-1], b'')
+        if names.startswith('sasl ') and 'signed' not in names:
+            if last != 'ok':
+                raises(names + ': nor is a welcome taken after it', LogInError, unsigned, lambda: played.play('ok'))
+            raises(names + ': for good', LogInError, 'the log-in is not done', lambda: played.play('ready'))
+    played = LogIn()
+    same('a whole log-in', ([played.play(name) for name in ('sasl', 'first', 'signed', 'ok', 'ready')], played.right), ([None] * 4 + [events.LoggedIn(1)], True))
+    for name, answer in (('clear', pg.password_message(b'pencil')), ('md5', pg.password_message(pg.md5_answer(b'alice', b'pencil', b'abcd')))):
+        played = LogIn()
+        same(name, ([played.play(step) for step in (name, 'ok', 'ready')], played.sent), ([None, None, events.LoggedIn(1)], [answer, b'', b'']))
+    raises('a password that no message holds', LogInError, 'the server sent AuthenticationCleartextPassword, which is rejected: EmbeddedNull', lambda: _asked(Connection('alice', 'a\0b')))
+
+
+def _asked(connection):
+    connection.receive_data(LogIn.FIXED['clear'])
+    return connection.next_event()
 
 
 def check_encryption(same, raises):
@@ -225,5 +290,5 @@ def check_asyncio(same, raises):
 
 def check_sessions(same, raises):
     """All of them."""
-    for check in (check_log_in, check_encryption, check_requests, check_runs, check_mutations, check_client, check_asyncio):
+    for check in (check_log_in, check_log_in_order, check_encryption, check_requests, check_runs, check_mutations, check_client, check_asyncio):
         check(same, raises)

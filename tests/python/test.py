@@ -92,7 +92,7 @@ def wrong_arguments():
             ('a format that wraps', OverflowError, 'result_formats: 65536 ', lambda: pg.bind(b'', b'', [], [], [65536])),
             ('a side', ValueError, 'lower, upper: a side of the kind', lambda: pg.put_range(('on', b''), ('in', b''))),
             ('one side of the empty range', ValueError, 'lower, upper: both are None', lambda: pg.put_range(None, ('in', b''))),
-            ('a row that is none', ValueError, 'message: DataRow is expected, not ReadyForQuery', lambda: pg.row(message)),
+            ('a row that is none', ValueError, 'message: DataRow or FunctionCallResponse is expected, not ReadyForQuery', lambda: pg.row(message)),
             ('an element that is a str', TypeError, 'elements: bytes are expected, not str', lambda: pg.put_array(25, ['a']))):
         raises(what, error, text, call)
 
@@ -131,7 +131,12 @@ def readers():
         whole = [m.kind for m in pg.messages(stream[:end])]
         same('front %d' % end, whole, ['DataRow', 'ReadyForQuery', 'ParameterStatus'][:(end >= 20) + (end >= 26) + (end >= 44)])
     refused('length fault', 'InvalidLength', lambda: list(pg.messages(b'Z\0\0\0\3')))
-    refused('unknown tag', 'UnknownTag', lambda: list(pg.messages(b'Z\0\0\0\5I' + b'W\0\0\0\4')), 6)
+    both, called = pg.messages(b'W\0\0\0\x0b\1\0\2\0\1\0\0' + b'V\0\0\0\x0b\0\0\0\3abc')
+    same('copy both', (both.kind, both.byte, pg.formats(both)), ('CopyBothResponse', 1, [1, 0]))
+    same('a result', (called.kind, pg.row(called)), ('FunctionCallResponse', [b'abc']))
+    same('a null', pg.row(next(pg.messages(b'V\0\0\0\x08\xff\xff\xff\xff'))), [None])
+    refused('a result cut short', 'UnexpectedEof', lambda: pg.row(next(pg.messages(b'V\0\0\0\x08\0\0\0\3'))), 5)
+    refused('unknown tag', 'UnknownTag', lambda: list(pg.messages(b'Z\0\0\0\5I' + b'Y\0\0\0\4')), 6)
     short = b'D\0\0\0\x0b\0\1\0\0\0\2a'
     refused('a short row', 'UnexpectedEof', lambda: pg.row(next(pg.messages(short))), 7)
     text, raw, four = DECODERS['text'], DECODERS['bytes'], DECODERS['int4']

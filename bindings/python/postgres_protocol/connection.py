@@ -11,9 +11,9 @@ from typing import Any, Callable, Dict, List, Mapping, Optional, Sequence, Tuple
 
 from . import _rows, events
 from ._library import NO_ROOM, OK, ProtocolError
-from .auth import Scram, md5_answer, saslprep
+from .auth import METHODS, LogIn, LogInError
 from .dialogue import Dialogue
-from .reading import Message, error_fields, fields, formats, mechanisms, types
+from .reading import Message, error_fields, fields, formats, types
 from .stream import Stream
 from .registry import DECODERS, Decoder
 
@@ -22,12 +22,6 @@ __all__ = ['Connection', 'DecodeError', 'LogInError', 'METHODS']
 #: The requests that a Sync has to follow.
 _SERIES = frozenset(('Parse', 'Bind', 'Execute', 'DescribeStatement', 'DescribePortal', 'Close'))
 _ASIDE = ('NoticeResponse', 'NotificationResponse', 'ParameterStatus')
-#: The ways of logging in, by the names of libpq's `require_auth`.
-METHODS = ('scram-sha-256', 'md5', 'password', 'none')
-
-
-class LogInError(Exception):
-    """The log-in asks for what isn't admitted, or the server doesn't show that it knows the password."""
 
 
 class DecodeError(ValueError):
@@ -42,15 +36,13 @@ def _words(message: Message) -> Dict[str, str]:
 class Connection:
     """A client's end of a connection. `require_auth` names the ways of logging in that are admitted (`METHODS`), so that a server can't ask for
     the password in clear text where SCRAM is expected. `certificate` is the hash of the server's certificate (RFC 5929), with which SCRAM is
-    bound to the TLS channel; with `must_bind` there is no log-in without that."""
+    bound to the TLS channel; with `must_bind` there is no log-in without that. An exchange of SCRAM with fewer than `least_rounds` (RFC 7677 wants
+    4096) is rejected."""
 
     def __init__(self, user: str, password: Optional[str] = None, database: Optional[str] = None, parameters: Optional[Mapping[str, str]] = None,
                  require_auth: Sequence[str] = METHODS, max_message: int = 2 ** 30, encrypt: bool = False,
-                 must_bind: bool = False) -> None:
-        for method in require_auth:
-            if method not in METHODS:
-                raise ValueError('require_auth: one of %s is expected, not %r' % (', '.join(METHODS), method))
-        self._user, self._password, self._require, self._must_bind = user, password, ('scram-sha-256',) if must_bind else tuple(require_auth), must_bind
+                 must_bind: bool = False, least_rounds: int = 4096) -> None:
+        self._log_in = LogIn(user, password, require_auth, must_bind, least_rounds)
         self._startup = [(b'user', user.encode()), (b'database', (database or user).encode())]
         self._startup += [(name.encode(), value.encode()) for name, value in {'client_encoding': 'UTF8', **(parameters or {})}.items()]
         self._stream, self._dialogue, self._max = Stream(), Dialogue(), max_message
@@ -61,10 +53,7 @@ class Connection:
         #: What was taken and isn't reported yet, the last of it first; and the status that ended it.
         self._taken: List[Tuple[Optional[int], bool, Any]] = []
         self._fault = OK
-        self._last, self._encrypting, self._tls = 0, encrypt, False
-        self._certificate: Optional[bytes] = None
-        self._scram: Optional[Scram] = None
-        self._proved: Optional[str] = None
+        self._last, self._encrypting = 0, encrypt
         self._is_open = self._is_over = False
         #: Whether a series of extended queries waits for its Sync; whether values of rows are passed over.
         self.needs_sync = self.skips_values = False
@@ -83,7 +72,7 @@ class Connection:
     def encrypted(self, certificate: Optional[bytes] = None) -> None:
         """The channel is encrypted now: the session is opened. `certificate` is the hash for the channel's binding, if the server's certificate
         has one."""
-        self._tls, self._certificate = True, certificate
+        self._log_in.certificate = certificate
         self._open()
 
     def not_encrypted(self) -> None:
@@ -269,7 +258,7 @@ class Connection:
             raise DecodeError('a value in the rows of request %s: %s' % (request, what)) from what
         message: Message = what
         if not self._is_open and message.kind.startswith('Authentication'):
-            self._authenticate(message)
+            self._log_in.take(message, self._stream)
             return None
         return self._aside(message) if message.kind in _ASIDE else self._answer(message, request, is_last)
 
@@ -300,7 +289,7 @@ class Connection:
             return events.CommandCompleted(request, message.first.decode(errors='replace'))
         if kind == 'CopyData':
             return events.CopyBytes(request, message.first)
-        if kind in ('CopyInResponse', 'CopyOutResponse'):
+        if kind in ('CopyInResponse', 'CopyOutResponse', 'CopyBothResponse'):
             return events.CopyStarted(request, kind, formats(message))
         if kind == 'ParameterDescription':
             return events.Parameters(request, types(message))
@@ -312,47 +301,8 @@ class Connection:
     def _ready(self, message: Message, request: Optional[int]) -> events.Event:
         self.status = chr(message.byte)
         if not self._is_open:
+            if not self._log_in.is_done:
+                raise LogInError('the log-in is not done')
             self._is_open = True
             return events.LoggedIn(request)
         return events.Ready(request, self.status)
-
-    def _admit(self, method: str) -> bytes:
-        """The password, where this way of logging in is admitted."""
-        if method not in self._require:
-            raise LogInError('the server asks for %s, which require_auth does not admit' % method)
-        if self._password is None:
-            raise LogInError('the server asks for a password, and none is given (password=, PGPASSWORD, or a password file)')
-        self._proved = method
-        return self._password.encode()
-
-    def _authenticate(self, message: Message) -> None:
-        """Answers the log-in's next word."""
-        kind = message.kind
-        if kind == 'AuthenticationCleartextPassword':
-            self._stream.password_message(self._admit('password'))
-        elif kind == 'AuthenticationMd5Password':
-            self._stream.password_message(md5_answer(self._user.encode(), self._admit('md5'), message.first))
-        elif kind == 'AuthenticationSasl':
-            self._begin_scram(mechanisms(message))
-        elif kind == 'AuthenticationSaslContinue' and self._scram is not None:
-            self._stream.sasl_response(self._scram.final(message.first))
-        elif kind == 'AuthenticationSaslFinal' and self._scram is not None:
-            self._scram.verify(message.first)
-            self._scram = None
-        elif kind != 'AuthenticationOk':
-            raise LogInError('the server asks for %s, which is not supported' % kind)
-        elif self._scram is not None:
-            raise LogInError('the server did not show that it knows the password')
-        elif self._proved is None and 'none' not in self._require:
-            raise LogInError('the server asks for no password, which require_auth does not admit')
-
-    def _begin_scram(self, offered: List[str]) -> None:
-        password = saslprep(self._admit('scram-sha-256'))
-        plus = 'SCRAM-SHA-256-PLUS' in offered and self._certificate is not None
-        if not plus and 'SCRAM-SHA-256' not in offered:
-            raise LogInError('the server offers %s, of which none is supported' % ', '.join(offered))
-        if self._must_bind and not plus:
-            raise LogInError('the server offers no channel binding')
-        could_bind = self._certificate is not None and not plus
-        self._scram = Scram(password, self._certificate if plus else None, tls=could_bind)
-        self._stream.sasl_initial_response(b'SCRAM-SHA-256-PLUS' if plus else b'SCRAM-SHA-256', self._scram.first())

@@ -8,7 +8,7 @@ from .reading import KINDS
 
 #: What may be asked, in the order of the library's numbers.
 REQUESTS = ('Startup', 'Query', 'Parse', 'Bind', 'Close', 'DescribeStatement', 'DescribePortal', 'Execute', 'FunctionCall', 'Sync', 'CopyDone', 'CopyFail')
-_KINDS = {kind: number for number, kind in enumerate((*KINDS, 'CopyBothResponse', 'FunctionCallResponse')) if kind}
+_KINDS = {kind: number for number, kind in enumerate(KINDS) if kind}
 _ASKED = {request: number for number, request in enumerate(REQUESTS)}
 
 

@@ -63,7 +63,7 @@ class CommandCompleted(Event):
 
 @dataclass(frozen=True)
 class CopyStarted(Event):
-    """A copy begins: `CopyInResponse` where data are to be sent, `CopyOutResponse` where they follow; the format of each column, 0 for text."""
+    """A copy begins: `CopyInResponse` where data are to be sent, `CopyOutResponse` where they follow, `CopyBothResponse` (replication) both ways; the format of each column, 0 for text."""
     kind: str
     formats: List[int]
 

@@ -10,7 +10,8 @@ KINDS = ('', *'''AuthenticationCleartextPassword AuthenticationGss Authenticatio
 AuthenticationMd5Password AuthenticationOk AuthenticationSasl AuthenticationSaslContinue AuthenticationSaslFinal
 AuthenticationScmCredential AuthenticationSspi BackendKeyData BindComplete CloseComplete CommandComplete CopyData CopyDone
 CopyInResponse CopyOutResponse DataRow EmptyQueryResponse ErrorResponse NoData NoticeResponse NotificationResponse
-ParameterDescription ParameterStatus ParseComplete PortalSuspended ReadyForQuery RowDescription NegotiateProtocolVersion'''.split())
+ParameterDescription ParameterStatus ParseComplete PortalSuspended ReadyForQuery RowDescription NegotiateProtocolVersion
+CopyBothResponse FunctionCallResponse'''.split())
 
 _front = declare('front', c_void_p, c_size_t, POINTER(CMessage))
 _row_next, _type_next, _format_next = step('row', Column), step('type', c_uint32), step('format', c_uint16)
@@ -61,9 +62,9 @@ def _cursor(message: Message, *kinds: str) -> Cursor:
 
 
 def row(message: Message) -> List[Optional[bytes]]:
-    """The values of a DataRow, of which None is a null."""
+    """The values of a DataRow, or the one of a FunctionCallResponse; None is a null."""
     column = Column()
-    return [column_of(message.frame, column) for _ in items(_row_next, message.frame, _cursor(message, 'DataRow'), column)]
+    return [column_of(message.frame, column) for _ in items(_row_next, message.frame, _cursor(message, 'DataRow', 'FunctionCallResponse'), column)]
 
 
 class Field(NamedTuple):
@@ -111,7 +112,7 @@ def types(message: Message) -> List[int]:
 
 
 def formats(message: Message) -> List[int]:
-    """The formats of a CopyInResponse or a CopyOutResponse: 0 for text, 1 for binary."""
+    """The formats of a CopyInResponse, a CopyOutResponse or a CopyBothResponse: 0 for text, 1 for binary."""
     number = c_uint16()
-    place = _cursor(message, 'CopyInResponse', 'CopyOutResponse')
+    place = _cursor(message, 'CopyInResponse', 'CopyOutResponse', 'CopyBothResponse')
     return [number.value for _ in items(_format_next, message.frame, place, number)]

@@ -45,7 +45,7 @@ class _Infinity:
 INFINITY, NEGATIVE_INFINITY = _Infinity(1), _Infinity(-1)
 _EPOCH, _EPOCH_UTC, _EPOCH_DATE = datetime(2000, 1, 1), datetime(2000, 1, 1, tzinfo=timezone.utc), date(2000, 1, 1)
 _MICROSECOND, _DAY = timedelta(microseconds=1), timedelta(days=1)
-_rows.setup(ProtocolError, timedelta, _EPOCH, _EPOCH_UTC, _EPOCH_DATE, NEGATIVE_INFINITY, INFINITY, (*KINDS, 'CopyBothResponse', 'FunctionCallResponse'), Message)
+_rows.setup(ProtocolError, timedelta, _EPOCH, _EPOCH_UTC, _EPOCH_DATE, NEGATIVE_INFINITY, INFINITY, KINDS, Message)
 
 
 #: What a server reads as Python shows it.

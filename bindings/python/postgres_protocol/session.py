@@ -76,7 +76,7 @@ class Session:
                 connection.sync()
             while not connection.is_idle:
                 event = yield None
-                if isinstance(event, events.CopyStarted) and event.kind == 'CopyInResponse':
+                if isinstance(event, events.CopyStarted) and event.kind != 'CopyOutResponse':
                     self._give_up('the call was broken off')
                 elif isinstance(event, events.Failed) and errors.is_end(event.fields, event.request):
                     raise errors.of_fields(event.fields)
@@ -103,7 +103,7 @@ class Session:
                 return found
             elif isinstance(event, events.CopyStarted):
                 failed = errors.ProgrammingError(_OTHER_CALL)
-                if event.kind == 'CopyInResponse':
+                if event.kind != 'CopyOutResponse':
                     self._give_up(_OTHER_CALL)
             elif failed is None:
                 found.append(event)

@@ -62,6 +62,10 @@ class Options:
         self.connect_timeout = _seconds(kept.pop('connect_timeout', None))
         methods = kept.pop('require_auth', None) or METHODS
         self.require_auth = tuple(methods.split(',')) if isinstance(methods, str) else tuple(methods)
+        rounds = str(kept.pop('least_rounds', 4096))
+        if not rounds.isdecimal() or int(rounds) >= 2 ** 32:
+            raise InterfaceError('least_rounds: a number is expected, not %r' % rounds)
+        self._least_rounds = int(rounds)
         binding = kept.pop('channel_binding', None) or 'prefer'
         if binding not in ('disable', 'prefer', 'require'):
             raise InterfaceError("channel_binding: 'disable', 'prefer' or 'require' is expected, not %r" % binding)
@@ -99,7 +103,8 @@ class Options:
         if password is None:
             password = _password_of(self._passfile, place, self.dbname, self.user)
         try:
-            return Core(self.user, password, self.dbname, self.parameters, self.require_auth, encrypt=encrypts, must_bind=self._must_bind)
+            return Core(self.user, password, self.dbname, self.parameters, self.require_auth, encrypt=encrypts, must_bind=self._must_bind,
+                        least_rounds=self._least_rounds)
         except ValueError as error:
             raise InterfaceError(str(error)) from error
 

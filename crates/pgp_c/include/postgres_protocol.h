@@ -262,7 +262,7 @@ enum pgp_kind {
     PGP_COPY_OUT_RESPONSE = 19, PGP_DATA_ROW = 20, PGP_EMPTY_QUERY_RESPONSE = 21, PGP_ERROR_RESPONSE = 22, PGP_NO_DATA = 23,
     PGP_NOTICE_RESPONSE = 24, PGP_NOTIFICATION_RESPONSE = 25, PGP_PARAMETER_DESCRIPTION = 26, PGP_PARAMETER_STATUS = 27,
     PGP_PARSE_COMPLETE = 28, PGP_PORTAL_SUSPENDED = 29, PGP_READY_FOR_QUERY = 30, PGP_ROW_DESCRIPTION = 31,
-    PGP_NEGOTIATE_PROTOCOL_VERSION = 32
+    PGP_NEGOTIATE_PROTOCOL_VERSION = 32, PGP_COPY_BOTH_RESPONSE = 33, PGP_FUNCTION_CALL_RESPONSE = 34
 };
 
 /* Some of the bytes that a call was handed: `len` of them, from bytes[at] on; at + len never passes their end. */
@@ -279,7 +279,8 @@ struct pgp_part { size_t at, len; };
      NOTIFICATION_RESPONSE                        first: the channel   second: the payload   number: the process
      DATA_ROW                                     first: the values    count: how many
      ROW_DESCRIPTION, PARAMETER_DESCRIPTION       first: the columns or types    count: how many
-     COPY_IN_RESPONSE, COPY_OUT_RESPONSE          first: the columns' formats    count: how many   byte: the whole copy's
+     COPY_IN_RESPONSE, _OUT_, COPY_BOTH_RESPONSE  first: the columns' formats    count: how many   byte: the whole copy's
+     FUNCTION_CALL_RESPONSE                       first: the result, as a row's one value, for pgp_row_next    count: 1
      BACKEND_KEY_DATA                             first: the secret key    number: the process
      NEGOTIATE_PROTOCOL_VERSION                   first: the options   count: how many   number: the version
      READY_FOR_QUERY                              byte: 'I', 'T' or 'E'                                                      */
@@ -322,8 +323,8 @@ pgp_status pgp_row_next(const void *bytes, size_t len, struct pgp_cursor *cursor
    more values follow, which the next call with the same cursor reads; 7 and 8 as pgp_row_next, after *count values. */
 pgp_status pgp_row_all(const void *bytes, size_t len, struct pgp_cursor *cursor, struct pgp_column *columns, size_t room, size_t *count);
 
-/* The next type of a PARAMETER_DESCRIPTION, and the next format of a COPY_IN_RESPONSE or COPY_OUT_RESPONSE: they return what
-   pgp_row_next does. */
+/* The next type of a PARAMETER_DESCRIPTION, and the next format of a COPY_IN_RESPONSE, COPY_OUT_RESPONSE or COPY_BOTH_RESPONSE: they
+   return what pgp_row_next does. */
 pgp_status pgp_type_next(const void *bytes, size_t len, struct pgp_cursor *cursor, uint32_t *type);
 pgp_status pgp_format_next(const void *bytes, size_t len, struct pgp_cursor *cursor, uint16_t *format);
 
@@ -468,8 +469,6 @@ enum pgp_request {
     PGP_REQUEST_DESCRIBE_STATEMENT = 5, PGP_REQUEST_DESCRIBE_PORTAL = 6, PGP_REQUEST_EXECUTE = 7, PGP_REQUEST_FUNCTION_CALL = 8,
     PGP_REQUEST_SYNC = 9, PGP_REQUEST_COPY_DONE = 10, PGP_REQUEST_COPY_FAIL = 11
 };
-/* Kinds of messages that pgp_front doesn't know, for pgp_dialogue_take: those of the tags 'W' and 'V'. */
-enum { PGP_COPY_BOTH_RESPONSE = 33, PGP_FUNCTION_CALL_RESPONSE = 34 };
 enum pgp_what {
     PGP_PART = 1,             /* part of the answer to the request `name`, and more follows         */
     PGP_LAST = 2,             /* the last message of the answer to the request `name`               */

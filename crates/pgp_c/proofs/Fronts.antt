@@ -1,14 +1,14 @@
 -- The parts of a message stand where they are reported to.
-use Rattle.pgp_c.proofs.Common.{◌≡◌, ℕ, ℤ, pos, ◌+◌, ◌-◌, ◌≤◌, List, [], ◌∷◌, ◌++◌, length, take, drop, Option, Some, None, Result, Ok, Err, refl, sym, ap, ◌∙◌, subst, arith, ◌≢◌, take-append_seam, drop-append_seam, append-nil, uint16, uint32, int32, text, HasNoZero, string_at, Error, int32_number, uint16_number, string_front, AuthenticationOk, AuthenticationKerberosV5, AuthenticationCleartextPassword, AuthenticationMd5Password, AuthenticationScmCredential, AuthenticationGss, AuthenticationGssContinue, AuthenticationSspi, AuthenticationSasl, AuthenticationSaslContinue, AuthenticationSaslFinal, Message, NegotiateProtocolVersion, NotificationResponse, CommandComplete, DataRow, ErrorResponse, CopyInResponse, CopyOutResponse, BackendKeyData, NoticeResponse, Authentication, ParameterStatus, RowDescription, ReadyForQuery, ParameterDescription, payload_of, IsMissing, missing_from, IsInside, no_parts, part, stands}
+use Rattle.pgp_c.proofs.Common.{◌≡◌, ℕ, ℤ, pos, ◌+◌, ◌-◌, ◌≤◌, List, [], ◌∷◌, ◌++◌, length, take, drop, Option, Some, None, Result, Ok, Err, refl, sym, ap, ◌∙◌, subst, arith, ◌≢◌, take-append_seam, drop-append_seam, append-nil, length-drop, length-take, uint16, uint32, int32, text, HasNoZero, string_at, Error, int32_number, uint16_number, string_front, AuthenticationOk, AuthenticationKerberosV5, AuthenticationCleartextPassword, AuthenticationMd5Password, AuthenticationScmCredential, AuthenticationGss, AuthenticationGssContinue, AuthenticationSspi, AuthenticationSasl, AuthenticationSaslContinue, AuthenticationSaslFinal, Message, NegotiateProtocolVersion, NotificationResponse, CommandComplete, DataRow, ErrorResponse, CopyInResponse, CopyOutResponse, BackendKeyData, NoticeResponse, Authentication, ParameterStatus, RowDescription, ReadyForQuery, ParameterDescription, payload_of, IsMissing, missing_from, IsInside, no_parts, part, stands}
 use Rattle.std.proofs.lemmas.List.{length-append, append_assoc}
 use Rattle.pgp_base.specs.declared.error.Error.TheVariants as errors
 use Rattle.pgp_message.specs.BackendMessage.{CopyData}
 use Rattle.pgp_message.specs.Stream.{Frame, frame_bytes, TakesFrame, Step}
 use Rattle.pgp_c.specs.declared.front.PgpMessage.{PgpMessage}
 use Rattle.pgp_c.specs.declared.front.PgpParts.{PgpParts}
-use Rattle.pgp_c.specs.Front.{Misses, Reported, code_of as code_reported, kind_reported, ShowsAll}
+use Rattle.pgp_c.specs.Front.{CallResult, CopyBoth, CutShort, Misses, Reported, Says, SaysUnread, Unknown}
 use Rattle.pgp_c.proofs.Announced.{of_server}
-use Rattle.pgp_c.specs.Parts.{Shows}
+use Rattle.pgp_c.specs.Parts.{Shows, kind_of}
 use Rattle.pgp_c.specs.Places.{place, first_of, second_of}
 
 module _ (bytes new : List ℕ) (f : Frame) (whole : bytes ≡ frame_bytes f ++ new) where
@@ -208,20 +208,34 @@ rest_is bytes new (Err errors.InvalidLength) s = none_left bytes new s.1
 rest_is bytes new (Err errors.OutOfMemory) s = absurd s.1
 rest_is bytes new (Err e) s = left bytes new e s
 
--- the parts that are reported
-abbrev pub parts_reported : List ℕ → ℕ → Result (Option Message) Error → PgpParts
-parts_reported bytes frame (Ok (Some m)) = place m bytes frame
-parts_reported bytes frame r = no_parts
+-- what is reported, by the places of the parts
+abbrev pub Placed : List ℕ → Result (Option Message) Error → PgpMessage → ℕ → Type 0
+Placed bytes (Ok None) p code = (p.parts ≡ no_parts) × (p.kind ≡ 0) × (code ≡ 100)
+Placed bytes (Ok (Some m)) p code = (p.parts ≡ place m bytes p.frame) × (p.kind ≡ kind_of m) × (code ≡ 0)
+Placed bytes (Err e) p code = SaysUnread bytes p.frame p.tag e p.parts p.kind code
 
-shows_all : (bytes new : List ℕ) (r : Result (Option Message) Error) (p : PgpMessage) → p.frame ≡ length bytes - length new → Step ⊥ bytes r new → p.parts ≡ parts_reported bytes p.frame r → ShowsAll bytes r p
-shows_all bytes new (Ok None) p is s at = at
-shows_all bytes new (Ok (Some m)) p is s at = subst (λ (q : _). Shows bytes m q) (sym at) (shows bytes new m p.frame is s)
-shows_all bytes new (Err e) p is s at = at
+says : (bytes new : List ℕ) (r : Result (Option Message) Error) (p : PgpMessage) (code : ℕ) → p.frame ≡ length bytes - length new → Step ⊥ bytes r new → Placed bytes r p code → Says bytes r p code
+says bytes new (Ok None) p code is s at = at
+says bytes new (Ok (Some m)) p code is s at = (subst (λ (q : _). Shows bytes m q) (sym at.0) (shows bytes new m p.frame is s), at.1, at.2)
+says bytes new (Err e) p code is s at = at
 
-inside_all : (bytes new : List ℕ) (r : Result (Option Message) Error) (p : PgpMessage) → p.frame ≡ length bytes - length new → Step ⊥ bytes r new → p.parts ≡ parts_reported bytes p.frame r → AreInside p.frame p.parts
-inside_all bytes new (Ok None) p is s at = subst (λ (q : _). AreInside p.frame q) (sym at) (omega arith, omega arith)
-inside_all bytes new (Ok (Some m)) p is s at = subst (λ (q : _). AreInside p.frame q) (sym at) (inside bytes new m p.frame is s)
-inside_all bytes new (Err e) p is s at = subst (λ (q : _). AreInside p.frame q) (sym at) (omega arith, omega arith)
+-- a frame that is rejected has a header
+headed : (bytes new : List ℕ) (e : Error) (frame : ℕ) → frame ≡ length bytes - length new → Step ⊥ bytes (Err e) new → frame ≢ 0 → 5 ≤ frame
+headed bytes new errors.InvalidLength frame is s some = absurd (some (omega (arith, is, ap length s.1)))
+headed bytes new errors.OutOfMemory frame is s some = absurd s.1
+headed bytes new e frame is s some = omega (arith, frame_length bytes new s.first s.whole frame is)
+
+inside_unread : (bytes : List ℕ) (frame tag : ℕ) (e : Error) (parts : PgpParts) (kind code : ℕ) → (frame ≢ 0 → 5 ≤ frame) → (frame ≡ 0 → tag ≡ 0) → SaysUnread bytes frame tag e parts kind code → AreInside frame parts
+inside_unread bytes frame tag e parts kind code head none (CopyBoth c t small payload) =
+    (omega (arith, ap length payload, length-drop 5 (take frame bytes), length-take frame bytes, length-append (uint16 c.count) c.storage, uint16_number.len c.count), omega arith)
+inside_unread bytes frame tag e parts kind code head none (CutShort t short) = (omega arith, omega arith)
+inside_unread bytes frame tag e parts kind code head none (CallResult t) = (omega (arith, head (λ z. absurd (omega (arith, t, none z)))), omega arith)
+inside_unread bytes frame tag e parts kind code head none (Unknown t u) = (omega arith, omega arith)
+
+inside_all : (bytes new : List ℕ) (r : Result (Option Message) Error) (p : PgpMessage) (code : ℕ) → p.frame ≡ length bytes - length new → Step ⊥ bytes r new → (p.frame ≡ 0 → p.tag ≡ 0) → Placed bytes r p code → AreInside p.frame p.parts
+inside_all bytes new (Ok None) p code is s none at = subst (λ (q : _). AreInside p.frame q) (sym at.0) (omega arith, omega arith)
+inside_all bytes new (Ok (Some m)) p code is s none at = subst (λ (q : _). AreInside p.frame q) (sym at.0) (inside bytes new m p.frame is s)
+inside_all bytes new (Err e) p code is s none at = inside_unread bytes p.frame p.tag e p.parts p.kind code (headed bytes new e p.frame is s) none at
 
 -- and how many bytes are missing
 abbrev pub missing_reported : List ℕ → Result (Option Message) Error → ℕ
@@ -233,20 +247,18 @@ misses bytes new (Ok None) missing s is = subst (λ n. IsMissing 1 bytes n) (sym
 misses bytes new (Ok (Some m)) missing s is = is
 misses bytes new (Err e) missing s is = is
 
-pub reported : (bytes new : List ℕ) (r : Result (Option Message) Error) (p : PgpMessage) (code : ℕ) → p.frame ≡ length bytes - length new → Step ⊥ bytes r new → code ≡ code_reported r → p.missing ≡ missing_reported bytes r → p.kind ≡ kind_reported r
-    → p.parts ≡ parts_reported bytes p.frame r → (p.frame ≢ 0 → p.frame ≤ length bytes → (rest : List ℕ) × (bytes ≡ p.tag ∷ rest)) → (p.frame ≡ 0 → p.tag ≡ 0) → Reported bytes p code
-reported bytes new r p code is s code_is missing_is kind_is at tag none =
+pub reported : (bytes new : List ℕ) (r : Result (Option Message) Error) (p : PgpMessage) (code : ℕ) → p.frame ≡ length bytes - length new → Step ⊥ bytes r new → p.missing ≡ missing_reported bytes r → Placed bytes r p code
+    → (p.frame ≢ 0 → p.frame ≤ length bytes → (rest : List ℕ) × (bytes ≡ p.tag ∷ rest)) → (p.frame ≡ 0 → p.tag ≡ 0) → Reported bytes p code
+reported bytes new r p code is s missing_is at tag none =
     let within : p.frame ≤ length bytes = omega (arith, is) in
     record {
       result = r;
       step = subst (λ l. Step ⊥ bytes r l) (sym (ap (λ i. drop i bytes) is ∙ rest_is bytes new r s)) s;
       within = within;
-      code_is = code_is;
+      says = says bytes new r p code is s at;
       missing = misses bytes new r p.missing s missing_is;
-      kind_is = kind_is;
-      shows = shows_all bytes new r p is s at;
-      first_inside = (inside_all bytes new r p is s at).0;
-      second_inside = (inside_all bytes new r p is s at).1;
+      first_inside = (inside_all bytes new r p code is s none at).0;
+      second_inside = (inside_all bytes new r p code is s none at).1;
       tag_is = λ some. tag some within;
       no_tag = none;
     }

@@ -102,6 +102,7 @@ fn next_in<L: Listed>(rest: &[u8], cursor: &mut PgpCursor, item: &mut L::Item) -
 }
 
 /// The items of such a list, up to its end, or as many as there is room for.
+// The cursor is a copy meanwhile, which stays in registers.
 pub fn all_counted<L: Listed>(
     bytes: &[u8],
     cursor: &mut PgpCursor,
@@ -117,15 +118,18 @@ pub fn all_counted<L: Listed>(
     ensures behind { drop count.new items.new ≡ drop count.new items.old }
     ensures same { length items.new ≡ length items.old }
 {
+    let mut here = *cursor;
     for at in 0..items.len() {
-        let code = next_counted::<L>(bytes, cursor, &mut items[at]);
+        let code = next_counted::<L>(bytes, &mut here, &mut items[at]);
         if code != 0 {
             *count = at;
+            *cursor = here;
             return if code == DONE { 0 } else { code };
         }
     }
     *count = items.len();
-    end_counted(bytes, cursor)
+    *cursor = here;
+    end_counted(bytes, &here)
 }
 
 /// Whether such a list is at its end.

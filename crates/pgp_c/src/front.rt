@@ -1,15 +1,17 @@
 //! The messages of a server, read where they stand.
 
-ghost use Rattle.std.specs.Prelude.{◌≡◌, ◌≢◌, ◌≤◌, ℕ, ◌-◌, List, ◌∷◌, length, drop};
+ghost use Rattle.std.specs.Prelude.{◌≡◌, ◌≢◌, ◌<◌, ◌≤◌, ◌^◌, ℕ, ◌-◌, List, ◌∷◌, ◌++◌, length, drop, take, IfSome, IfNone};
+ghost use Rattle.pgp_base.specs.Error.{number_of};
 ghost use Rattle.pgp_base.specs.PartReading.{string_at};
+ghost use Rattle.pgp_base.specs.Wire.{uint16};
 ghost use Rattle.pgp_message.specs.Views.{view};
-ghost use Rattle.pgp_c.specs.Front.{Reported};
+ghost use Rattle.pgp_c.specs.Front.{Reported, SaysUnread};
 ghost use Rattle.pgp_c.specs.Parts.{kind_of, no_parts, part};
 ghost use Rattle.pgp_c.specs.Places.{place, first_of, second_of};
 
 use crate::missing::missing;
-use pgp_base::FallibleIterator;
-use pgp_base::reading::string_at;
+use pgp_base::reading::{byte_at, string_at, uint16_at};
+use pgp_base::{Error, FallibleIterator};
 use pgp_message::{Message, Messages};
 
 /// The answer where bytes are missing to a complete frame.
@@ -17,6 +19,11 @@ const MORE: u32 = 100;
 
 /// The number of a row's kind.
 const ROW: u8 = 20;
+
+/// The numbers of the two kinds that no `Message` is.
+const COPY_BOTH: u8 = 33;
+
+const CALL_RESULT: u8 = 34;
 
 /// Some of the bytes that a call was handed: so many, from a place on.
 #[repr(C)]
@@ -53,6 +60,14 @@ pub struct PgpParts {
     pub byte: u8,
 }
 
+/// What is reported of a message besides its frame.
+#[derive(Clone, Copy)]
+struct Seen {
+    parts: PgpParts,
+    kind: u8,
+    code: u32,
+}
+
 /// The message at the front of the bytes.
 #[unsafe(no_mangle)]
 pub extern "C" fn pgp_front(bytes: &[u8], message: &mut PgpMessage) -> u32
@@ -60,26 +75,39 @@ pub extern "C" fn pgp_front(bytes: &[u8], message: &mut PgpMessage) -> u32
 {
     let mut messages = Messages::new(bytes);
     // Rows come by the thousand. By a way of their own no row goes through memory before it is
-    // reported.
+    // reported, and no register is saved for what the others need.
     if let Some(row) = messages.next_row() {
         let frame = bytes.len() - messages.rest().len();
-        let parts = counted(row.ranges().size_hint().0, frame);
-        return reported(frame, ROW, parts, 0, 0, bytes, message);
+        let parts = counted(7, row.ranges().size_hint().0, frame);
+        return reported(frame, ROW, parts, 0, 0, tag_of(bytes, frame), message);
     }
+    any_front(bytes, message)
+}
+
+/// The same of any message.
+#[inline(never)]
+fn any_front(bytes: &[u8], message: &mut PgpMessage) -> u32
+    ensures { Reported bytes.now message.new result }
+{
+    let mut messages = Messages::new(bytes);
     let answer = messages.next();
     let frame = bytes.len() - messages.rest().len();
+    let tag = tag_of(bytes, frame);
     match answer {
-        Ok(None) => reported(frame, 0, none(), MORE, missing(bytes, 1), bytes, message),
+        Ok(None) => reported(frame, 0, none(), MORE, missing(bytes, 1), tag, message),
         Ok(Some(kept)) => reported(
             frame,
             kind(&kept),
             parts(&kept, bytes, frame),
             0,
             0,
-            bytes,
+            tag,
             message,
         ),
-        Err(e) => reported(frame, 0, none(), u32::from(e.number()), 0, bytes, message),
+        Err(e) => {
+            let seen = unread(e, tag, frame, bytes);
+            reported(frame, seen.kind, seen.parts, seen.code, 0, tag, message)
+        }
     }
 }
 
@@ -90,7 +118,7 @@ fn reported(
     parts: PgpParts,
     code: u32,
     missing: usize,
-    bytes: &[u8],
+    tag: u8,
     message: &mut PgpMessage,
 ) -> u32
     ensures code { result ≡ code }
@@ -98,13 +126,8 @@ fn reported(
     ensures missing { message.new.missing ≡ missing }
     ensures kind { message.new.kind ≡ kind }
     ensures parts { message.new.parts ≡ parts }
-    ensures tag { frame ≢ 0 → frame ≤ length bytes.now → (rest : List ℕ) × (bytes.now ≡ message.new.tag ∷ rest) }
-    ensures untagged { frame ≡ 0 → message.new.tag ≡ 0 }
+    ensures tag { message.new.tag ≡ tag }
 {
-    let tag = match bytes.first() {
-        Some(tag) if frame > 0 => *tag,
-        _ => 0,
-    };
     *message = PgpMessage {
         frame,
         missing,
@@ -113,6 +136,75 @@ fn reported(
         tag,
     };
     code
+}
+
+/// The tag of the frame of so many bytes; 0 where there is none.
+fn tag_of(bytes: &[u8], frame: usize) -> u8
+    ensures tag { frame ≢ 0 → frame ≤ length bytes.now → (rest : List ℕ) × (bytes.now ≡ result ∷ rest) }
+    ensures untagged { frame ≡ 0 → result ≡ 0 }
+{
+    match bytes.first() {
+        Some(tag) if frame > 0 => *tag,
+        _ => 0,
+    }
+}
+
+/// What is reported of a frame that `Messages` reads no message of: by the tag it may be of the two kinds that no `Message` is.
+fn unread(e: Error, tag: u8, frame: usize, bytes: &[u8]) -> Seen
+    requires { frame ≤ length bytes.now }
+    ensures { SaysUnread bytes.now frame tag e result.parts result.kind result.code }
+{
+    if tag == b'V' {
+        return Seen {
+            parts: counted(5, 1, frame),
+            kind: CALL_RESULT,
+            code: 0,
+        };
+    }
+    if tag != b'W' {
+        return refused(e);
+    }
+    match copy_head(payload(bytes, frame)) {
+        Some((format, count)) => Seen {
+            parts: copied(format, count, frame),
+            kind: COPY_BOTH,
+            code: 0,
+        },
+        None => refused(Error::UnexpectedEof),
+    }
+}
+
+/// What stands behind the header of a frame of so many bytes.
+fn payload(bytes: &[u8], frame: usize) -> &[u8]
+    requires { frame ≤ length bytes.now }
+    ensures { result.now ≡ drop 5 (take frame bytes.now) }
+{
+    bytes[..frame].get(5..).unwrap_or(&[])
+}
+
+/// What is reported of an error.
+fn refused(e: Error) -> Seen
+    ensures { result ≡ record { parts = no_parts; kind = 0; code = number_of e } }
+{
+    Seen {
+        parts: none(),
+        kind: 0,
+        code: u32::from(e.number()),
+    }
+}
+
+/// The format of a copy and the count of its columns, which stand at the front.
+fn copy_head(payload: &[u8]) -> Option<(u8, usize)>
+    ensures some { IfSome result (λ x. (x.1 < 2 ^ 16) × (storage : List ℕ) × (payload.now ≡ x.0 ∷ uint16 x.1 ++ storage)) }
+    ensures none { IfNone result (length payload.now < 3) }
+{
+    let Ok((format, behind)) = byte_at(payload) else {
+        return None;
+    };
+    let Ok((count, _)) = uint16_at(behind) else {
+        return None;
+    };
+    Some((format, count as usize))
 }
 
 /// No parts.
@@ -182,9 +274,9 @@ fn parts(message: &Message<&[u8]>, bytes: &[u8], frame: usize) -> PgpParts
         | Message::AuthenticationSaslContinue(_)
         | Message::AuthenticationSaslFinal(_) => one(9, frame.saturating_sub(9)),
         Message::AuthenticationMd5Password(_) => one(9, 4),
-        Message::DataRow(row) => counted(row.ranges().size_hint().0, frame),
-        Message::RowDescription(row) => counted(row.fields().size_hint().0, frame),
-        Message::ParameterDescription(row) => counted(row.parameters().size_hint().0, frame),
+        Message::DataRow(row) => counted(7, row.ranges().size_hint().0, frame),
+        Message::RowDescription(row) => counted(7, row.fields().size_hint().0, frame),
+        Message::ParameterDescription(row) => counted(7, row.parameters().size_hint().0, frame),
         Message::CopyInResponse(copy) => copied(
             copy.format(),
             copy.column_formats().size_hint().0,
@@ -239,14 +331,14 @@ fn one(at: usize, len: usize) -> PgpParts
     }
 }
 
-/// A count, and what stands after it.
-fn counted(count: usize, frame: usize) -> PgpParts
-    ensures { result ≡ record no_parts { first = part 7 (frame - 7); count = count } }
+/// A count, and what stands from this place on.
+fn counted(at: usize, count: usize, frame: usize) -> PgpParts
+    ensures { result ≡ record no_parts { first = part at (frame - at); count = count } }
 {
     PgpParts {
         first: PgpPart {
-            at: 7,
-            len: frame.saturating_sub(7),
+            at,
+            len: frame.saturating_sub(at),
         },
         count,
         ..none()
