@@ -62,7 +62,7 @@ class Options:
         self.connect_timeout = _seconds(kept.pop('connect_timeout', None))
         methods = kept.pop('require_auth', None) or METHODS
         self.require_auth = tuple(methods.split(',')) if isinstance(methods, str) else tuple(methods)
-        rounds = str(kept.pop('least_rounds', 4096))
+        rounds = str(kept.pop('least_rounds', 1))
         if not rounds.isdecimal() or int(rounds) >= 2 ** 32:
             raise InterfaceError('least_rounds: a number is expected, not %r' % rounds)
         self._least_rounds = int(rounds)
