@@ -92,7 +92,7 @@ def check_log_in_order(same, raises):
     """What a server sends out of order, or asks for beside what is admitted: no log-in, and nothing is sent for it."""
     unsigned, undue = 'the server did not show that it knows the password', 'the server sent %s, which has no place there'
     for names, text, given in (
-            ('sasl ok', unsigned, {}), ('sasl first ok', unsigned, {}), ('sasl first final', unsigned, {}), ('sasl few', 'the server asks for fewer than 4096 rounds', {}),
+            ('sasl ok', unsigned, {}), ('sasl first ok', unsigned, {}), ('sasl first final', unsigned, {}), ('sasl few', 'the server asks for fewer than 4096 rounds', {'least_rounds': 4096}),
             ('sasl first', 'the server asks for fewer than 4097 rounds', {'least_rounds': 4097}),
             ('first', undue % 'AuthenticationSaslContinue', {}), ('final', undue % 'AuthenticationSaslFinal', {}), ('sasl final', undue % 'AuthenticationSaslFinal', {}),
             ('sasl sasl', undue % 'AuthenticationSasl', {}), ('sasl clear', undue % 'AuthenticationCleartextPassword', {}), ('sasl md5', undue % 'AuthenticationMd5Password', {}),
