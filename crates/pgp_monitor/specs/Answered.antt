@@ -2,8 +2,9 @@
 -- PostgreSQL manual, "Message Flow".
 use Rattle.std.specs.Prelude.{◌≡◌, ℕ, ◌+◌, Bool, false, List, [], ◌∷◌, ◌++◌, ◌⊎◌, length, Option, Some, None, Ok, Err}
 use Rattle.pgp_base.specs.declared.error.Error.{Error}
+use Rattle.pgp_base.specs.declared.error.Error.TheVariants.{UnknownTag}
 use Rattle.pgp_client.specs.Flow.{Belong}
-use Rattle.pgp_client.specs.Kinds.{kind_of}
+use Rattle.pgp_client.specs.Kinds.{kind_of, kind_of_tag}
 use Rattle.pgp_client.specs.declared.event.Event.{Event}
 use Rattle.pgp_client.specs.declared.kind.Kind.{Kind}
 use Rattle.pgp_client.specs.declared.request.Asked.{Asked}
@@ -19,12 +20,17 @@ named_from n (r ∷ rs) = record { request = r; name = n } ∷ named_from (n + 1
 abbrev pub named : List Request → List Asked
 named rs = named_from 0 rs
 
+-- The frame is one message of this kind: one that `pgp_message` reads; or a FunctionCallResponse or a CopyBothResponse, of which that has no message,
+-- so that no more is said of it than its tag and its length.
+abbrev pub IsOne : List ℕ → Kind → Type 0
+IsOne frame kind = ((m : Message) × TakesFrame frame (Ok m) [] × (kind ≡ kind_of m))
+    ⊎ ((tag : ℕ) × TakesFrame frame (Err (UnknownTag tag)) [] × (kind_of_tag tag ≡ Some kind))
+
 -- The bytes are `N`s, which answer questions for encryption before the first message, and then messages of these kinds.
 pub data Spells : List Kind → List ℕ → Type 0 where
   Nothing : Spells [] []
   Declined : {bytes : List ℕ} → Spells [] bytes → Spells [] (bytes ++ 0x4e ∷ [])
-  OneMore : {kinds : List Kind} {bytes : List ℕ} (frame : List ℕ) (m : Message) → TakesFrame frame (Ok m) [] → Spells kinds bytes
-      → Spells (kinds ++ kind_of m ∷ []) (bytes ++ frame)
+  OneMore : {kinds : List Kind} {bytes : List ℕ} (frame : List ℕ) (kind : Kind) → IsOne frame kind → Spells kinds bytes → Spells (kinds ++ kind ∷ []) (bytes ++ frame)
 
 -- To these requests a server may send these bytes: they are messages of these kinds, or a front of such bytes where the session is over and was cut
 -- off, and by the client's grammar each belongs to its request.
@@ -38,15 +44,18 @@ pub record Answered (requests : List Request) (kinds : List Kind) (events : List
 pub record IsFront (bytes : List ℕ) (kind : Kind) (len : ℕ) : Type 0 where
   pub frame : List ℕ
   pub rest : List ℕ
-  pub message : Message
   pub whole : bytes ≡ frame ++ rest
-  pub is : TakesFrame frame (Ok message) []
-  pub kind_is : kind ≡ kind_of message
+  pub is : IsOne frame kind
   pub len_is : len ≡ length frame
 
--- no whole message of a server stands there: bytes are missing, or the length is too small, or the body is none of the tag's
+-- the tag has no place among a server's answers, or the body is none of the tag's
+abbrev pub IsFault : Error → Type 0
+IsFault (UnknownTag tag) = kind_of_tag tag ≡ None
+IsFault e = Unit {0}
+
+-- no whole message of a server stands there: bytes are missing, or the length is too small, or the frame is none
 abbrev pub BeginsWithNone : List ℕ → Type 0
-BeginsWithNone bytes = IsPartial bytes ⊎ (IsLengthFault bytes ⊎ ((e : Error) × (rest : List ℕ) × TakesFrame bytes (Err e) rest))
+BeginsWithNone bytes = IsPartial bytes ⊎ (IsLengthFault bytes ⊎ ((e : Error) × (rest : List ℕ) × TakesFrame bytes (Err e) rest × IsFault e))
 
 abbrev pub HasNone : List ℕ → Option (Kind × ℕ) → Type 0
 HasNone bytes None = BeginsWithNone bytes

@@ -10,7 +10,7 @@ ghost use Rattle.pgp_monitor.specs.Answered.{IsFront, HasNone};
 ghost use Rattle.pgp_monitor.specs.Monitor.{Admits, Declines, Notes, Passes, Went, after_note, after_pass, begun, is_end, shown};
 
 use bytes::BytesMut;
-use pgp_base::Memory;
+use pgp_base::{Error, Memory};
 use pgp_client::{Asked, Dialogue, Event, Kind, Request};
 use pgp_message::Messages;
 use std::alloc::{AllocError, Global};
@@ -225,6 +225,10 @@ fn front_of(bytes: &[u8]) -> Option<(Kind, usize)>
             Some((kind, bytes.len() - messages.rest().len()))
         }
         Ok(None) => None,
+        Err(Error::UnknownTag(tag)) => match Kind::of_tag(tag) {
+            Some(kind) => Some((kind, bytes.len() - messages.rest().len())),
+            None => None,
+        },
         Err(_) => None,
     }
 }

@@ -36,9 +36,12 @@ pub(crate) struct Channels {
     sent: Vec<Pair>,
 }
 
-/// Appends a notification.
-pub(crate) fn put_notification(pair: &Pair, out: &mut Outbox) {
-    let put = reply::notification_response(1, &pair.name, &pair.value, &mut out.bytes);
+/// The process of this server.
+pub(crate) const OWN: i32 = 1;
+
+/// Appends a notification of this process.
+pub(crate) fn put_notification(process: i32, pair: &Pair, out: &mut Outbox) {
+    let put = reply::notification_response(process, &pair.name, &pair.value, &mut out.bytes);
     out.put(put);
 }
 
@@ -127,7 +130,7 @@ impl Channels {
         self.commit(out);
         for pair in &self.sent {
             if self.listens(&pair.name) {
-                put_notification(pair, out);
+                put_notification(OWN, pair, out);
             }
         }
         self.sent.clear();

@@ -1,6 +1,8 @@
 //! What the lines below a `statement` of a script say.
 
+use crate::called::result_of;
 use crate::column::known_type;
+use crate::idle::later_of;
 use crate::pause::Pause;
 use crate::reader::Reader;
 use crate::reading::pair_of;
@@ -115,6 +117,15 @@ impl Statement {
         }
     }
 
+    /// The same of a line below a `function`.
+    pub(crate) fn add_called(&mut self, word: &str, rest: &str, reader: &mut Reader) {
+        match word {
+            "result" => self.set_end(result_of(rest, reader), reader),
+            "parameters" | "notice" | "error" => self.add(word, rest, reader),
+            _ => self.add_further(word, rest, reader),
+        }
+    }
+
     fn add_further(&mut self, word: &str, rest: &str, reader: &mut Reader) {
         match word {
             "status" => {
@@ -124,6 +135,10 @@ impl Statement {
             "notify" => {
                 let notification = pair_of(rest, reader);
                 reader.out.add(&mut self.notifications, notification);
+            }
+            "later" => {
+                let later = later_of(rest, reader);
+                reader.out.add(&mut self.later, later);
             }
             "wait" => {
                 let pause = pause_of(rest, reader);

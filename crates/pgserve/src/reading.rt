@@ -11,7 +11,7 @@ use crate::wording::words_of;
 use std::alloc::Global;
 
 /// The setting of this line: its name, and after a space its value, which may be empty.
-fn setting_of(line: &str, reader: &mut Reader) -> Pair {
+pub(crate) fn setting_of(line: &str, reader: &mut Reader) -> Pair {
     if !line.contains(' ') {
         reader.wrong_at(
             "a setting has a name and, after a space, a value",
@@ -58,9 +58,16 @@ fn statement_of(rest: &str, by_words: bool, reader: &mut Reader) -> Statement {
     Statement::new(By::Text, text, words, reader)
 }
 
-/// Begins a statement.
-fn begin(script: &mut Script, rest: &str, reader: &mut Reader) {
-    let mut statement = statement_of(rest, script.by_words, reader);
+/// The function of this number.
+fn function_of(rest: &str, reader: &mut Reader) -> Statement {
+    let number = reader.count(rest, 0);
+    let (no_text, no_words) = (reader.raw(""), reader.string(""));
+    Statement::new(By::Function(number), no_text, no_words, reader)
+}
+
+/// Begins a statement or a function.
+fn begin(script: &mut Script, read: Statement, reader: &mut Reader) {
+    let mut statement = read;
     if script.written(statement.by, &statement.text).is_some() {
         reader.wrong("the statement stands above");
     }
@@ -75,6 +82,7 @@ const NO_STATEMENT: &str = "this line stands below a `statement`";
 /// Begins a further answer to the last statement.
 fn begin_further(script: &mut Script, role: Role, reader: &mut Reader) {
     match script.statements.last() {
+        Some(last) if role == Role::And && last.is_function() => reader.wrong_first(NO_STATEMENT),
         Some(last) => {
             let further = last.further(role, reader);
             reader.out.add(&mut script.statements, further);
@@ -135,6 +143,7 @@ fn add_user(script: &mut Script, line: &str, reader: &mut Reader) {
 /// Adds what a line says of the last statement.
 fn add_part(script: &mut Script, word: &str, rest: &str, reader: &mut Reader) {
     match script.statements.last_mut() {
+        Some(statement) if statement.is_function() => statement.add_called(word, rest, reader),
         Some(statement) => statement.add(word, rest, reader),
         None => reader.wrong_first(NO_STATEMENT),
     }
@@ -157,7 +166,14 @@ fn read_line(script: &mut Script, line: &str, reader: &mut Reader) {
     let (word, rest) = line.split_once(' ').unwrap_or((line, ""));
     reader.pass(word);
     match word {
-        "statement" => begin(script, rest, reader),
+        "statement" => {
+            let statement = statement_of(rest, script.by_words, reader);
+            begin(script, statement, reader);
+        }
+        "function" => {
+            let function = function_of(rest, reader);
+            begin(script, function, reader);
+        }
         "setting" => {
             let setting = setting_of(rest, reader);
             reader.out.add(&mut script.settings, setting);
@@ -181,9 +197,13 @@ fn read_lines(script: &mut Script, text: &str, reader: &mut Reader) -> Result<()
         read_line(script, line, reader);
         end_of(reader)?;
     }
-    if let Some(line) = script.open_line() {
-        let column = "statement ".len().saturating_add(1);
-        reader.fail("the statement has neither a tag nor an error", line, column);
+    if let Some(open) = script.open() {
+        let (wanted, word) = if open.is_function() {
+            ("the function has neither a result nor an error", "function ")
+        } else {
+            ("the statement has neither a tag nor an error", "statement ")
+        };
+        reader.fail(wanted, open.line, word.len().saturating_add(1));
     }
     end_of(reader)
 }

@@ -7,11 +7,12 @@ ghost use Rattle.std.specs.Prelude.{◌≡◌, false};
 ghost use Rattle.pgp_monitor.specs.Transaction.{ends_portals};
 
 use crate::answer::Went;
-use crate::asked::{Refusal, malformed, not_supported, put_error, refuse};
-use crate::channels::{Channels, put_notification};
+use crate::asked::{Refusal, aborted, malformed, put_error, refuse};
+use crate::channels::{Channels, OWN, put_notification};
 use crate::command::{Command, command_of};
 use crate::copy::CopyIn;
 use crate::extended::Binding;
+use crate::idle::{Later, put_later, put_ready};
 use crate::outbox::Outbox;
 use crate::pause::Pause;
 use crate::portals::{Names, Plan, Portal};
@@ -48,6 +49,8 @@ pub(crate) struct Session<'h> {
     pub(crate) is_skipping: bool,
     /// What is sent before the server is ready.
     notifications: Vec<&'h Pair>,
+    /// What is sent in idle time.
+    later: Vec<&'h Later>,
     pub(crate) copying: Option<CopyIn<'h>>,
     /// By the place of the first answer to a statement, that of the answer of the next time.
     pub(crate) turns: Vec<(usize, usize)>,
@@ -73,6 +76,7 @@ impl<'h> Session<'h> {
             channels: Channels::new(alloc),
             is_skipping: false,
             notifications: Vec::new(alloc),
+            later: Vec::new(alloc),
             copying: None,
             turns: Vec::new(alloc),
             end_at: None,
@@ -112,8 +116,10 @@ impl<'h> Session<'h> {
         put_notifications(&self.notifications, out);
         self.notifications.clear();
         self.settings.report(out);
-        let put = reply::ready_for_query(self.transaction.status.letter(), &mut out.bytes);
-        out.put(put);
+        if put_ready(self.transaction.status, out) {
+            put_later(&self.later, &mut self.settings, &mut self.pauses, out);
+            self.later.clear();
+        }
     }
 
     /// What the statement asks for.
@@ -187,6 +193,7 @@ impl<'h> Session<'h> {
             None => self.follow(statement, went, out),
         }
         self.add_notifications(&statement.notifications, out);
+        self.add_later(&statement.later, out);
         if statement.is_fatal() {
             self.end_at = Some(out.len());
         }
@@ -198,6 +205,12 @@ impl<'h> Session<'h> {
     fn add_notifications(&mut self, notifications: &'h [Pair], out: &mut Outbox) {
         for pair in notifications {
             out.add(&mut self.notifications, pair);
+        }
+    }
+
+    fn add_later(&mut self, list: &'h [Later], out: &mut Outbox) {
+        for later in list {
+            out.add(&mut self.later, later);
         }
     }
 
@@ -248,6 +261,7 @@ impl<'h> Session<'h> {
                 self.stop_alone(malformed(), out);
             }
             _ if self.is_skipping => {}
+            b'F' if self.transaction.status.rejects(false) => self.stop_alone(aborted(), out),
             b'Q' | b'F' => self.stop_alone(malformed(), out),
             // What belongs to a copy is passed over.
             b'd' | b'c' | b'f' => {}
@@ -256,12 +270,27 @@ impl<'h> Session<'h> {
     }
 
     /// Appends what is answered to a request that is no Bind and no Parse, or is passed over.
-    fn answer_in_place(&mut self, message: &ClientMessage<'_>, out: &mut Outbox) {
+    fn answer_in_place(&mut self, message: &mut ClientMessage<'_>, out: &mut Outbox) {
         match message {
             ClientMessage::Sync => self.sync(out),
             _ if self.is_skipping => {}
             ClientMessage::Query(text) => self.query(text, out),
-            ClientMessage::FunctionCall { .. } => self.stop_alone(not_supported(), out),
+            ClientMessage::FunctionCall {
+                function,
+                formats,
+                arguments,
+                result_format,
+            } => {
+                let (formats, values) = (out.listed(formats), out.listed(arguments));
+                let call = Binding {
+                    portal: b"",
+                    statement: b"",
+                    formats: &formats,
+                    values: &values,
+                    results: &[*result_format],
+                };
+                self.call(*function, &call, out);
+            }
             message => self.extended(message, out),
         }
     }
@@ -306,13 +335,13 @@ impl<'h> Session<'h> {
                 let types = out.listed(&mut param_types);
                 self.parse(name, query, &types, out);
             }
-            other => self.answer_in_place(&other, out),
+            mut other => self.answer_in_place(&mut other, out),
         }
     }
 }
 
 fn put_notifications(notifications: &[&Pair], out: &mut Outbox) {
     for pair in notifications {
-        put_notification(pair, out);
+        put_notification(OWN, pair, out);
     }
 }

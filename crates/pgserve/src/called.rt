@@ -1,0 +1,149 @@
+//! Calls of functions.
+//!
+//! PostgreSQL manual, "Message Flow", "Function Call".
+
+use crate::answer::{Went, format_of, put_notices};
+use crate::asked::{Refusal, aborted, bad_format, not_supported, put_error, refuse, violation};
+use crate::binary::{Unwritten, value_in};
+use crate::column::known_type;
+use crate::extended::{Binding, are_formats};
+use crate::input::rejects_values;
+use crate::outbox::Outbox;
+use crate::reader::Reader;
+use crate::row_text::typed;
+use crate::script::{By, End, Statement};
+use crate::session::Session;
+use pgp_base::Oid;
+use pgp_frontend::field::{Field, message};
+
+/// The result of this line: its type, and after a space its value; `\N` is a null.
+pub(crate) fn result_of(line: &str, reader: &mut Reader) -> End {
+    let (name, text) = line.split_once(' ').unwrap_or((line, ""));
+    let kind = known_type(name, reader);
+    reader.base = name.len().saturating_add(1);
+    let value = match text {
+        "\\N" => None,
+        _ => Some(typed(kind.oid, text, "the value is none of its type", reader)),
+    };
+    reader.base = 0;
+    End::Result(kind.oid, value)
+}
+
+/// Appends a result; of a null -1 in the place of its length.
+fn put_result(value: Option<&[u8]>, out: &mut Outbox) {
+    let field = match value {
+        Some(bytes) => Field::Sized(bytes),
+        None => Field::Int32(-1),
+    };
+    let put = message(b'V', &[field], &mut out.bytes);
+    out.put(put);
+}
+
+/// Appends a result of this type in this format, or returns why it can't be sent.
+fn put_value<'r>(
+    oid: Oid,
+    value: &[u8],
+    format: i16,
+    out: &mut Outbox,
+) -> Result<(), Refusal<'r>> {
+    if !are_formats(&[format]) {
+        return Err(bad_format());
+    }
+    match value_in(out.alloc, format, oid, value) {
+        Ok(bytes) => put_result(Some(&bytes), out),
+        Err(Unwritten::Memory) => out.lack(),
+        Err(_) => return Err(not_supported()),
+    }
+    Ok(())
+}
+
+/// Appends how a call ends, whose result is asked for in this format. That of a null isn't looked at.
+fn put_end(statement: &Statement, format: i16, out: &mut Outbox) -> Went {
+    let put = match &statement.end {
+        End::Result(oid, Some(value)) => put_value(*oid, value, format, out),
+        End::Error(report) => {
+            put_error(report, out);
+            return Went::Wrong;
+        }
+        _ => {
+            put_result(None, out);
+            Ok(())
+        }
+    };
+    match put {
+        Ok(()) => Went::Well,
+        Err(refusal) => {
+            refuse(refusal, out);
+            Went::Wrong
+        }
+    }
+}
+
+/// Why a function isn't called with these arguments, if it isn't. Where the script says no types, it takes any.
+fn rejects_arguments<'m>(
+    types: &[Oid],
+    call: &Binding<'m>,
+    out: &mut Outbox,
+) -> Option<Refusal<'m>> {
+    let (formats, count) = (call.formats, call.values.len());
+    if !types.is_empty() && types.len() != count {
+        return Some(violation(
+            "function call message contains another number of arguments than the function requires",
+        ));
+    }
+    if formats.len() > 1 && formats.len() != count {
+        return Some(violation(
+            "function call message contains another number of argument formats than of arguments",
+        ));
+    }
+    if count != 0 && !are_formats(formats) {
+        return Some(bad_format());
+    }
+    rejects_values(types, call, out)
+}
+
+impl<'h> Session<'h> {
+    /// The script's answer of this time to a call of this function.
+    fn called(&self, function: Oid) -> Option<&'h Statement> {
+        let found = self.now(self.script.written(By::Function(function), b"")?);
+        if found.by == By::Function(function) {
+            Some(found)
+        } else {
+            None
+        }
+    }
+
+    /// Appends the error of a call of a function that the script doesn't have.
+    fn miss(&mut self, function: Oid, out: &mut Outbox) {
+        match format!(in out.alloc; "{function}") {
+            Ok(number) => {
+                let (front, number) = ("function with OID ", number.as_bytes());
+                self.stop(Refusal::of("42883", front, number, " does not exist"), out);
+            }
+            Err(_) => out.lack(),
+        }
+    }
+
+    /// Appends what a function comes to that the script has.
+    fn run(&mut self, statement: &'h Statement, call: &Binding<'_>, out: &mut Outbox) {
+        if let Some(refusal) = rejects_arguments(&statement.parameters, call, out) {
+            return self.stop(refusal, out);
+        }
+        let start = out.len();
+        put_notices(statement, out);
+        let went = put_end(statement, format_of(call.results, 0), out);
+        self.leave(statement, went, start, out);
+    }
+
+    /// Answers a call of this function, whose arguments stand as the values of a binding.
+    pub(crate) fn call(&mut self, function: Oid, call: &Binding<'_>, out: &mut Outbox) {
+        if self.transaction.status.rejects(false) {
+            return self.stop_alone(aborted(), out);
+        }
+        match self.called(function) {
+            Some(statement) => self.run(statement, call, out),
+            None => self.miss(function, out),
+        }
+        self.end_query(out);
+    }
+}
