@@ -5,7 +5,7 @@ use crate::column::known_type;
 use crate::idle::later_of;
 use crate::pause::Pause;
 use crate::reader::Reader;
-use crate::reading::pair_of;
+use crate::reading::{NO_STATEMENT, pair_of};
 use crate::report::report_of;
 use crate::row_text::row_of;
 use crate::script::{Copy, End, Statement};
@@ -87,7 +87,11 @@ impl Statement {
     /// Says how the answer ends, once.
     fn set_end(&mut self, end: End, reader: &mut Reader) {
         if !matches!(self.end, End::Open) {
-            reader.wrong("the statement has a tag or an error");
+            reader.wrong(if self.is_function() {
+                "the function has a result or an error"
+            } else {
+                "the statement has a tag or an error"
+            });
         }
         self.end = end;
     }
@@ -122,6 +126,9 @@ impl Statement {
         match word {
             "result" => self.set_end(result_of(rest, reader), reader),
             "parameters" | "notice" | "error" => self.add(word, rest, reader),
+            "column" | "table" | "modifier" | "format" | "row" | "tag" | "copy" | "data" => {
+                reader.wrong_first(NO_STATEMENT);
+            }
             _ => self.add_further(word, rest, reader),
         }
     }
@@ -152,6 +159,7 @@ impl Statement {
                 self.add_detail(name, text, reader);
             }
             "severity" => self.set_severity(rest, reader),
+            "result" => reader.wrong_first("this line stands below a `function`"),
             _ => reader.wrong_first("no line begins with this word"),
         }
     }

@@ -69,7 +69,11 @@ fn function_of(rest: &str, reader: &mut Reader) -> Statement {
 fn begin(script: &mut Script, read: Statement, reader: &mut Reader) {
     let mut statement = read;
     if script.written(statement.by, &statement.text).is_some() {
-        reader.wrong("the statement stands above");
+        reader.wrong(if statement.is_function() {
+            "the function stands above"
+        } else {
+            "the statement stands above"
+        });
     }
     statement.place = script.statements.len();
     statement.first = statement.place;
@@ -77,7 +81,7 @@ fn begin(script: &mut Script, read: Statement, reader: &mut Reader) {
 }
 
 /// What is said of a line that belongs to a statement.
-const NO_STATEMENT: &str = "this line stands below a `statement`";
+pub(crate) const NO_STATEMENT: &str = "this line stands below a `statement`";
 
 /// Begins a further answer to the last statement.
 fn begin_further(script: &mut Script, role: Role, reader: &mut Reader) {
