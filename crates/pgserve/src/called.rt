@@ -2,11 +2,17 @@
 //!
 //! PostgreSQL manual, "Message Flow", "Function Call".
 
+ghost use Rattle.std.specs.Prelude.{◌≡◌, Some, None, IfSome};
+ghost use Rattle.pgserve.specs.Ready.{HasEnd, HasResult, HasSome};
+ghost use Rattle.pgserve.specs.declared.answer.Went.TheVariants.{Well};
+ghost use Rattle.pgserve.specs.declared.script.By.TheVariants.{Function};
+
 use crate::answer::{Went, format_of, put_notices};
 use crate::asked::{Refusal, aborted, bad_format, not_supported, put_error, refuse, violation};
 use crate::binary::{Unwritten, value_in};
 use crate::column::known_type;
 use crate::extended::{Binding, are_formats};
+use crate::fault::Fault;
 use crate::input::rejects_values;
 use crate::outbox::Outbox;
 use crate::reader::Reader;
@@ -29,52 +35,63 @@ pub(crate) fn result_of(line: &str, reader: &mut Reader) -> End {
     End::Result(kind.oid, value)
 }
 
-/// Appends a result; of a null -1 in the place of its length.
-fn put_result(value: Option<&[u8]>, out: &mut Outbox) {
-    let field = match value {
-        Some(bytes) => Field::Sized(bytes),
-        None => Field::Int32(-1),
-    };
-    let put = message(b'V', &[field], &mut out.bytes);
-    out.put(put);
+/// Appends a result.
+fn put_result(value: &[u8], out: &mut Outbox)
+    ensures { HasResult (Some value.now) out.old.bytes.items out.new.bytes.items out.new.fault }
+{
+    match message(b'V', &[Field::Sized(value)], &mut out.bytes) {
+        Ok(()) => {}
+        Err(why) => out.fail(Fault::from(why)),
+    }
 }
 
-/// Appends a result of this type in this format, or returns why it can't be sent.
-fn put_value<'r>(
-    oid: Oid,
-    value: &[u8],
-    format: i16,
-    out: &mut Outbox,
-) -> Result<(), Refusal<'r>> {
+/// Appends that the result is a null: -1 in the place of its length.
+fn put_null(out: &mut Outbox)
+    ensures { HasResult None out.old.bytes.items out.new.bytes.items out.new.fault }
+{
+    match message(b'V', &[Field::Int32(-1)], &mut out.bytes) {
+        Ok(()) => {}
+        Err(why) => out.fail(Fault::from(why)),
+    }
+}
+
+/// Appends a result of this type in this format, or the error that it can't be sent so.
+fn put_value(oid: Oid, value: &[u8], format: i16, out: &mut Outbox) -> Went
+    ensures { result ≡ Well → HasSome out.old.bytes.items out.new.bytes.items out.new.fault }
+{
     if !are_formats(&[format]) {
-        return Err(bad_format());
+        refuse(bad_format(), out);
+        return Went::Wrong;
     }
     match value_in(out.alloc, format, oid, value) {
-        Ok(bytes) => put_result(Some(&bytes), out),
-        Err(Unwritten::Memory) => out.lack(),
-        Err(_) => return Err(not_supported()),
+        Ok(bytes) => {
+            put_result(&bytes, out);
+            Went::Well
+        }
+        Err(Unwritten::Memory) => {
+            out.lack();
+            Went::Wrong
+        }
+        Err(_) => {
+            refuse(not_supported(), out);
+            Went::Wrong
+        }
     }
-    Ok(())
 }
 
 /// Appends how a call ends, whose result is asked for in this format. That of a null isn't looked at.
-fn put_end(statement: &Statement, format: i16, out: &mut Outbox) -> Went {
-    let put = match &statement.end {
+fn put_end(statement: &Statement, format: i16, out: &mut Outbox) -> Went
+    ensures { result ≡ Well → HasSome out.old.bytes.items out.new.bytes.items out.new.fault }
+{
+    match &statement.end {
         End::Result(oid, Some(value)) => put_value(*oid, value, format, out),
         End::Error(report) => {
             put_error(report, out);
-            return Went::Wrong;
+            Went::Wrong
         }
         _ => {
-            put_result(None, out);
-            Ok(())
-        }
-    };
-    match put {
-        Ok(()) => Went::Well,
-        Err(refusal) => {
-            refuse(refusal, out);
-            Went::Wrong
+            put_null(out);
+            Went::Well
         }
     }
 }
@@ -104,7 +121,9 @@ fn rejects_arguments<'m>(
 
 impl<'h> Session<'h> {
     /// The script's answer of this time to a call of this function.
-    fn called(&self, function: Oid) -> Option<&'h Statement> {
+    fn called(&self, function: Oid) -> Option<&'h Statement>
+        ensures { IfSome result (λ statement. statement.now.by ≡ Function function) }
+    {
         let found = self.now(self.script.written(By::Function(function), b"")?);
         if found.by == By::Function(function) {
             Some(found)
@@ -136,7 +155,9 @@ impl<'h> Session<'h> {
     }
 
     /// Answers a call of this function, whose arguments stand as the values of a binding.
-    pub(crate) fn call(&mut self, function: Oid, call: &Binding<'_>, out: &mut Outbox) {
+    pub(crate) fn call(&mut self, function: Oid, call: &Binding<'_>, out: &mut Outbox)
+        ensures { HasEnd self.new.transaction.status self.new.later.items out.new.bytes.items out.new.fault }
+    {
         if self.transaction.status.rejects(false) {
             return self.stop_alone(aborted(), out);
         }

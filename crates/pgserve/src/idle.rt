@@ -2,7 +2,11 @@
 //!
 //! PostgreSQL manual, "Asynchronous Operations" of the protocol.
 
+ghost use Rattle.pgp_monitor.specs.declared.transaction.Status.TheVariants.{Idle};
+ghost use Rattle.pgserve.specs.Ready.{IsReady, Says};
+
 use crate::channels::put_notification;
+use crate::fault::Fault;
 use crate::outbox::Outbox;
 use crate::pause::Pause;
 use crate::reader::Reader;
@@ -48,20 +52,30 @@ pub(crate) fn later_of(line: &str, reader: &mut Reader) -> Later {
 }
 
 /// Appends that the server is ready, and returns whether idle time begins: whether that was appended, and no transaction is open.
-pub(crate) fn put_ready(status: Status, out: &mut Outbox) -> bool {
-    let put = reply::ready_for_query(status.letter(), &mut out.bytes);
-    let is_idle = put.is_ok() && status == Status::Idle;
-    out.put(put);
-    is_idle
+pub(crate) fn put_ready(status: Status, out: &mut Outbox) -> bool
+    ensures { Says status result out.new.bytes.items out.new.fault }
+{
+    match reply::ready_for_query(status.letter(), &mut out.bytes) {
+        Ok(()) => match status {
+            Status::Idle => true,
+            Status::Open | Status::Failed => false,
+        },
+        Err(why) => {
+            out.fail(Fault::from(why));
+            false
+        }
+    }
 }
 
-/// Appends what is sent in idle time.
+/// Appends what is sent in idle time, right behind the ReadyForQuery that begins it.
 pub(crate) fn put_later(
     list: &[&Later],
     settings: &mut Settings,
     pauses: &mut Vec<Pause>,
     out: &mut Outbox,
-) {
+)
+    requires { IsReady Idle out.old.bytes.items }
+{
     for later in list {
         match later {
             Later::Notify(process, pair) => put_notification(*process, pair, out),

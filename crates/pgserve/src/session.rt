@@ -3,8 +3,10 @@
 //!
 //! PostgreSQL manual, "Message Flow": "Simple Query", "Extended Query", "Function Call".
 
-ghost use Rattle.std.specs.Prelude.{◌≡◌, false};
+ghost use Rattle.std.specs.Prelude.{◌≡◌, ◌≢◌, false};
 ghost use Rattle.pgp_monitor.specs.Transaction.{ends_portals};
+ghost use Rattle.pgp_monitor.specs.declared.transaction.Status.TheVariants.{Idle};
+ghost use Rattle.pgserve.specs.Ready.{HasEnd};
 
 use crate::answer::Went;
 use crate::asked::{Refusal, aborted, malformed, put_error, refuse};
@@ -110,7 +112,9 @@ impl<'h> Session<'h> {
 
     /// Appends the notifications, which settings changed, and that the server is ready. Outside of a transaction what was asked for takes effect.
     fn ready(&mut self, out: &mut Outbox)
-        ensures { self.new.portals ≡ self.old.portals }
+        ensures portals { self.new.portals ≡ self.old.portals }
+        ensures waits { self.old.transaction.status ≢ Idle → self.new.later ≡ self.old.later }
+        ensures ends { HasEnd self.new.transaction.status self.new.later.items out.new.bytes.items out.new.fault }
     {
         self.channels.settle(self.transaction.status, out);
         put_notifications(&self.notifications, out);
@@ -229,8 +233,10 @@ impl<'h> Session<'h> {
         }
     }
 
-    /// Ends a simple query.
-    pub(crate) fn end_query(&mut self, out: &mut Outbox) {
+    /// Ends a simple query, or a call of a function.
+    pub(crate) fn end_query(&mut self, out: &mut Outbox)
+        ensures { HasEnd self.new.transaction.status self.new.later.items out.new.bytes.items out.new.fault }
+    {
         self.end_portals();
         self.ready(out);
     }
@@ -245,7 +251,9 @@ impl<'h> Session<'h> {
     }
 
     /// Answers a request that stands alone with an error.
-    pub(crate) fn stop_alone(&mut self, refusal: Refusal<'_>, out: &mut Outbox) {
+    pub(crate) fn stop_alone(&mut self, refusal: Refusal<'_>, out: &mut Outbox)
+        ensures { HasEnd self.new.transaction.status self.new.later.items out.new.bytes.items out.new.fault }
+    {
         self.stop(refusal, out);
         self.end_query(out);
     }
