@@ -20,11 +20,14 @@ named_from n (r ∷ rs) = record { request = r; name = n } ∷ named_from (n + 1
 abbrev pub named : List Request → List Asked
 named rs = named_from 0 rs
 
--- The frame is one message of this kind: one that `pgp_message` reads; or a FunctionCallResponse or a CopyBothResponse, of which that has no message,
--- so that no more is said of it than its tag and its length.
+-- a frame of a tag that no message of `pgp_message` has: a FunctionCallResponse, a CopyBothResponse, or one that has no place
+abbrev pub kind_of_fault : Error → Option Kind
+kind_of_fault (UnknownTag tag) = kind_of_tag tag
+kind_of_fault e = None
+
+-- The frame is one message of this kind; of one that `pgp_message` doesn't read no more is said than its tag and its length.
 abbrev pub IsOne : List ℕ → Kind → Type 0
-IsOne frame kind = ((m : Message) × TakesFrame frame (Ok m) [] × (kind ≡ kind_of m))
-    ⊎ ((tag : ℕ) × TakesFrame frame (Err (UnknownTag tag)) [] × (kind_of_tag tag ≡ Some kind))
+IsOne frame kind = ((m : Message) × TakesFrame frame (Ok m) [] × (kind ≡ kind_of m)) ⊎ ((e : Error) × TakesFrame frame (Err e) [] × (kind_of_fault e ≡ Some kind))
 
 -- The bytes are `N`s, which answer questions for encryption before the first message, and then messages of these kinds.
 pub data Spells : List Kind → List ℕ → Type 0 where
@@ -48,14 +51,9 @@ pub record IsFront (bytes : List ℕ) (kind : Kind) (len : ℕ) : Type 0 where
   pub is : IsOne frame kind
   pub len_is : len ≡ length frame
 
--- the tag has no place among a server's answers, or the body is none of the tag's
-abbrev pub IsFault : Error → Type 0
-IsFault (UnknownTag tag) = kind_of_tag tag ≡ None
-IsFault e = Unit {0}
-
 -- no whole message of a server stands there: bytes are missing, or the length is too small, or the frame is none
 abbrev pub BeginsWithNone : List ℕ → Type 0
-BeginsWithNone bytes = IsPartial bytes ⊎ (IsLengthFault bytes ⊎ ((e : Error) × (rest : List ℕ) × TakesFrame bytes (Err e) rest × IsFault e))
+BeginsWithNone bytes = IsPartial bytes ⊎ (IsLengthFault bytes ⊎ ((e : Error) × (rest : List ℕ) × TakesFrame bytes (Err e) rest × (kind_of_fault e ≡ None)))
 
 abbrev pub HasNone : List ℕ → Option (Kind × ℕ) → Type 0
 HasNone bytes None = BeginsWithNone bytes
