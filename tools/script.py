@@ -113,6 +113,7 @@ class Connection:
         self.is_idle = False
         if name == "FunctionCall":
             text = b"\0function %d" % m["function"]
+            self.parameters[text] = ["bytea"] * len(m["arguments"])
         elif name == "Query":
             text = bytes_of(m["query"])
         elif name == "Parse":

@@ -295,10 +295,10 @@ STEPS = [
     (execute(b"p", 0), no_portal(b"p")),
     (SYNC, IDLE),
     # bugs of a client
-    (bind(b"", b"s1", [], []), error(b"08P01", b"bind message supplies another number of parameters than the statement has")),
+    (bind(b"", b"s1", [], []), error(b"08P01", b"message has another number of values than there are parameters")),
     (execute(b"", 0), b""),
     (SYNC, IDLE),
-    (frame(b"B", b"\0s1\0" + int16(2, 0, 0, 1) + value(b"7") + int16(0)), error(b"08P01", b"bind message has another number of parameter formats than of parameters")),
+    (frame(b"B", b"\0s1\0" + int16(2, 0, 0, 1) + value(b"7") + int16(0)), error(b"08P01", b"message has another number of formats than of values")),
     (SYNC, IDLE),
     (frame(b"B", b"\0s1\0" + int16(1, 2, 1) + value(b"7") + int16(0)), BAD_FORMAT),
     (SYNC, IDLE),
@@ -369,11 +369,11 @@ STEPS = [
     (called(952, 0), NOTICE + error(b"42501", b"permission denied") + IDLE),
     # one that isn't there, and arguments that are none
     (called(999999, 0), error(b"42883", b"function with OID 999999 does not exist") + IDLE),
-    (called(177, 0, b"2"), error(b"08P01", b"function call message contains another number of arguments than the function requires") + IDLE),
+    (called(177, 0, b"2"), error(b"08P01", b"message has another number of values than there are parameters") + IDLE),
     (called(177, 0, b"2", b"x"), error(b"22P02", b"invalid input syntax for the parameter's type: x") + IDLE),
     (
         frame(b"F", int32(177) + int16(3, 0, 0, 0, 2) + value(b"2") + value(b"3") + int16(0)),
-        error(b"08P01", b"function call message contains another number of argument formats than of arguments") + IDLE,
+        error(b"08P01", b"message has another number of formats than of values") + IDLE,
     ),
     (frame(b"F", int32(177) + int16(1, 2, 2) + value(b"2") + value(b"3") + int16(0)), BAD_FORMAT + IDLE),
     (frame(b"F", int32(177) + int16(0)), MALFORMED + IDLE),

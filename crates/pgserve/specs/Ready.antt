@@ -4,7 +4,7 @@ use Rattle.std.specs.Prelude.{◌≡◌, ◌≢◌, ◌⊎◌, ℕ, Bool, true, 
 use Rattle.pgp_base.specs.Wire.{frame, nullable}
 use Rattle.pgp_monitor.specs.Transaction.{letter}
 use Rattle.pgp_monitor.specs.declared.transaction.Status.{Status}
-use Rattle.pgp_monitor.specs.declared.transaction.Status.TheVariants.{Idle, Open, Failed}
+use Rattle.pgp_monitor.specs.declared.transaction.Status.TheVariants.{Idle}
 
 -- a ReadyForQuery of this status is the last message
 abbrev pub IsReady : Status → List ℕ → Type 0
@@ -15,12 +15,9 @@ abbrev pub Says : {F : Type 0} → Status → (is_idle : Bool) → List ℕ → 
 Says status true bytes fault = (status ≡ Idle) × IsReady status bytes
 Says status false bytes fault = ((status ≢ Idle) × IsReady status bytes) ⊎ (fault ≢ None)
 
--- The answer has its end: in a transaction a ReadyForQuery is the last message; outside of one nothing waits for idle time, in which all is sent
--- that does; or the answer isn't sent, for a fault.
+-- The answer has its end: a ReadyForQuery is its last message, or idle time began and all that waited for it was sent; or it isn't sent, for a fault.
 abbrev pub HasEnd : {L F : Type 0} → Status → (later : List L) → List ℕ → (fault : Option F) → Type 0
-HasEnd Idle later bytes fault = (later ≡ []) ⊎ (fault ≢ None)
-HasEnd Open later bytes fault = IsReady Open bytes ⊎ (fault ≢ None)
-HasEnd Failed later bytes fault = IsReady Failed bytes ⊎ (fault ≢ None)
+HasEnd status later bytes fault = IsReady status bytes ⊎ (((status ≡ Idle) × (later ≡ [])) ⊎ (fault ≢ None))
 
 -- A FunctionCallResponse with this result was appended, or the answer isn't sent, for a fault.
 abbrev pub HasResult : {F : Type 0} → Option (List ℕ) → (before after : List ℕ) → (fault : Option F) → Type 0

@@ -8,12 +8,12 @@ ghost use Rattle.pgserve.specs.declared.answer.Went.TheVariants.{Well};
 ghost use Rattle.pgserve.specs.declared.script.By.TheVariants.{Function};
 
 use crate::answer::{Went, format_of, put_notices};
-use crate::asked::{Refusal, aborted, bad_format, not_supported, put_error, refuse, violation};
+use crate::asked::{Refusal, aborted, bad_format, not_supported, put_error, refuse};
 use crate::binary::{Unwritten, value_in};
 use crate::column::known_type;
 use crate::extended::{Binding, are_formats};
 use crate::fault::Fault;
-use crate::input::rejects_values;
+use crate::input::{rejects_counts, rejects_values};
 use crate::outbox::Outbox;
 use crate::reader::Reader;
 use crate::row_text::typed;
@@ -96,29 +96,6 @@ fn put_end(statement: &Statement, format: i16, out: &mut Outbox) -> Went
     }
 }
 
-/// Why a function isn't called with these arguments, if it isn't. Where the script says no types, it takes any.
-fn rejects_arguments<'m>(
-    types: &[Oid],
-    call: &Binding<'m>,
-    out: &mut Outbox,
-) -> Option<Refusal<'m>> {
-    let (formats, count) = (call.formats, call.values.len());
-    if !types.is_empty() && types.len() != count {
-        return Some(violation(
-            "function call message contains another number of arguments than the function requires",
-        ));
-    }
-    if formats.len() > 1 && formats.len() != count {
-        return Some(violation(
-            "function call message contains another number of argument formats than of arguments",
-        ));
-    }
-    if count != 0 && !are_formats(formats) {
-        return Some(bad_format());
-    }
-    rejects_values(types, call, out)
-}
-
 impl<'h> Session<'h> {
     /// The script's answer of this time to a call of this function.
     fn called(&self, function: Oid) -> Option<&'h Statement>
@@ -145,7 +122,9 @@ impl<'h> Session<'h> {
 
     /// Appends what a function comes to that the script has.
     fn run(&mut self, statement: &'h Statement, call: &Binding<'_>, out: &mut Outbox) {
-        if let Some(refusal) = rejects_arguments(&statement.parameters, call, out) {
+        let types = &statement.parameters;
+        let refusal = rejects_counts(types, call).or(rejects_values(types, call, out));
+        if let Some(refusal) = refusal {
             return self.stop(refusal, out);
         }
         let start = out.len();

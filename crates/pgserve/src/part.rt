@@ -5,7 +5,7 @@ use crate::column::known_type;
 use crate::idle::later_of;
 use crate::pause::Pause;
 use crate::reader::Reader;
-use crate::reading::{NO_STATEMENT, pair_of};
+use crate::reading::pair_of;
 use crate::report::report_of;
 use crate::row_text::row_of;
 use crate::script::{Copy, End, Statement};
@@ -41,6 +41,17 @@ fn pause_of(line: &str, reader: &mut Reader) -> Pause {
     Pause {
         at: at as usize,
         time: Duration::from_millis(milliseconds as u64),
+    }
+}
+
+/// Whether a line of this word stands below a `function`, or below a `statement`.
+pub(crate) fn has_place(word: &str, is_function: bool) -> bool {
+    match word {
+        "result" => is_function,
+        "column" | "table" | "modifier" | "format" | "row" | "tag" | "copy" | "data" | "and" => {
+            !is_function
+        }
+        _ => true,
     }
 }
 
@@ -87,11 +98,7 @@ impl Statement {
     /// Says how the answer ends, once.
     fn set_end(&mut self, end: End, reader: &mut Reader) {
         if !matches!(self.end, End::Open) {
-            reader.wrong(if self.is_function() {
-                "the function has a result or an error"
-            } else {
-                "the statement has a tag or an error"
-            });
+            reader.wrong("the answer has its end above");
         }
         self.end = end;
     }
@@ -110,24 +117,13 @@ impl Statement {
                 let report = report_of("NOTICE", rest, reader);
                 reader.out.add(&mut self.notices, report);
             }
+            "result" => self.set_end(result_of(rest, reader), reader),
             "tag" => self.set_end(End::Tag(reader.text(rest)), reader),
             "error" => self.set_end(End::Error(report_of("ERROR", rest, reader)), reader),
             "copy" => self.copy = Some(copy_of(rest, reader)),
             "data" => {
                 let chunk = reader.raw(rest);
                 reader.add_to(self.chunks(), chunk, "this line stands below `copy out`");
-            }
-            _ => self.add_further(word, rest, reader),
-        }
-    }
-
-    /// The same of a line below a `function`.
-    pub(crate) fn add_called(&mut self, word: &str, rest: &str, reader: &mut Reader) {
-        match word {
-            "result" => self.set_end(result_of(rest, reader), reader),
-            "parameters" | "notice" | "error" => self.add(word, rest, reader),
-            "column" | "table" | "modifier" | "format" | "row" | "tag" | "copy" | "data" => {
-                reader.wrong_first(NO_STATEMENT);
             }
             _ => self.add_further(word, rest, reader),
         }
@@ -159,7 +155,6 @@ impl Statement {
                 self.add_detail(name, text, reader);
             }
             "severity" => self.set_severity(rest, reader),
-            "result" => reader.wrong_first("this line stands below a `function`"),
             _ => reader.wrong_first("no line begins with this word"),
         }
     }

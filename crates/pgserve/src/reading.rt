@@ -1,6 +1,7 @@
 //! A script, read from its text.
 
 use crate::fault::Fault;
+use crate::part::has_place;
 use crate::pattern::matches;
 use crate::reader::Reader;
 use crate::report::report_of;
@@ -65,15 +66,14 @@ fn function_of(rest: &str, reader: &mut Reader) -> Statement {
     Statement::new(By::Function(number), no_text, no_words, reader)
 }
 
-/// Begins a statement or a function.
-fn begin(script: &mut Script, read: Statement, reader: &mut Reader) {
-    let mut statement = read;
+/// Begins a statement, or a function.
+fn begin(script: &mut Script, word: &str, rest: &str, reader: &mut Reader) {
+    let mut statement = match word {
+        "function" => function_of(rest, reader),
+        _ => statement_of(rest, script.by_words, reader),
+    };
     if script.written(statement.by, &statement.text).is_some() {
-        reader.wrong(if statement.is_function() {
-            "the function stands above"
-        } else {
-            "the statement stands above"
-        });
+        reader.wrong("such an answer stands above");
     }
     statement.place = script.statements.len();
     statement.first = statement.place;
@@ -81,12 +81,11 @@ fn begin(script: &mut Script, read: Statement, reader: &mut Reader) {
 }
 
 /// What is said of a line that belongs to a statement.
-pub(crate) const NO_STATEMENT: &str = "this line stands below a `statement`";
+const NO_STATEMENT: &str = "this line stands below a `statement`";
 
 /// Begins a further answer to the last statement.
 fn begin_further(script: &mut Script, role: Role, reader: &mut Reader) {
     match script.statements.last() {
-        Some(last) if role == Role::And && last.is_function() => reader.wrong_first(NO_STATEMENT),
         Some(last) => {
             let further = last.further(role, reader);
             reader.out.add(&mut script.statements, further);
@@ -147,7 +146,6 @@ fn add_user(script: &mut Script, line: &str, reader: &mut Reader) {
 /// Adds what a line says of the last statement.
 fn add_part(script: &mut Script, word: &str, rest: &str, reader: &mut Reader) {
     match script.statements.last_mut() {
-        Some(statement) if statement.is_function() => statement.add_called(word, rest, reader),
         Some(statement) => statement.add(word, rest, reader),
         None => reader.wrong_first(NO_STATEMENT),
     }
@@ -169,15 +167,13 @@ fn read_line(script: &mut Script, line: &str, reader: &mut Reader) {
     }
     let (word, rest) = line.split_once(' ').unwrap_or((line, ""));
     reader.pass(word);
+    if let Some(last) = script.statements.last() {
+        if !has_place(word, last.is_function()) {
+            return reader.wrong_first("such a line belongs to a statement, and a result to a function");
+        }
+    }
     match word {
-        "statement" => {
-            let statement = statement_of(rest, script.by_words, reader);
-            begin(script, statement, reader);
-        }
-        "function" => {
-            let function = function_of(rest, reader);
-            begin(script, function, reader);
-        }
+        "statement" | "function" => begin(script, word, rest, reader),
         "setting" => {
             let setting = setting_of(rest, reader);
             reader.out.add(&mut script.settings, setting);
@@ -201,13 +197,8 @@ fn read_lines(script: &mut Script, text: &str, reader: &mut Reader) -> Result<()
         read_line(script, line, reader);
         end_of(reader)?;
     }
-    if let Some(open) = script.open() {
-        let (wanted, word) = if open.is_function() {
-            ("the function has neither a result nor an error", "function ")
-        } else {
-            ("the statement has neither a tag nor an error", "statement ")
-        };
-        reader.fail(wanted, open.line, word.len().saturating_add(1));
+    if let Some(line) = script.open_line() {
+        reader.fail("the answer has no tag, no result and no error", line, 1);
     }
     end_of(reader)
 }

@@ -313,11 +313,11 @@ impl Script {
         None
     }
 
-    /// The first statement whose end isn't said.
-    pub(crate) fn open(&self) -> Option<&Statement> {
+    /// The line of the first answer whose end isn't said.
+    pub(crate) fn open_line(&self) -> Option<usize> {
         for statement in &self.statements {
             if matches!(statement.end, End::Open) {
-                return Some(statement);
+                return Some(statement.line);
             }
         }
         None

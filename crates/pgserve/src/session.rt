@@ -10,7 +10,7 @@ ghost use Rattle.pgserve.specs.Ready.{HasEnd};
 
 use crate::answer::Went;
 use crate::asked::{Refusal, aborted, malformed, put_error, refuse};
-use crate::channels::{Channels, OWN, put_notification};
+use crate::channels::{Channels, put_notification};
 use crate::command::{Command, command_of};
 use crate::copy::CopyIn;
 use crate::extended::Binding;
@@ -350,6 +350,6 @@ impl<'h> Session<'h> {
 
 fn put_notifications(notifications: &[&Pair], out: &mut Outbox) {
     for pair in notifications {
-        put_notification(OWN, pair, out);
+        put_notification(1, pair, out);
     }
 }
