@@ -4,8 +4,8 @@
 
 use crate::answer::{Went, describe, describe_none, execute};
 use crate::asked::{
-    Refusal, aborted, no_portal, no_statement, not_scripted, not_utf8, portal_there,
-    put_error, violation, was_run,
+    Refusal, aborted, no_portal, no_statement, not_scripted, not_utf8, portal_there, put_error,
+    violation, was_run,
 };
 use crate::bound::{Bound, given_of};
 use crate::input::{is_text, rejects_counts, rejects_values};

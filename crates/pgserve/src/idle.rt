@@ -30,7 +30,11 @@ pub(crate) enum Later {
 /// The notification of this line: the number of a process, a channel and a text.
 fn notification_of(line: &str, reader: &mut Reader) -> Later {
     let (process, pair) = line.split_once(' ').unwrap_or((line, ""));
-    let number = reader.found(process.parse().ok(), "the number of a process stands here", 0);
+    let number = reader.found(
+        process.parse().ok(),
+        "the number of a process stands here",
+        0,
+    );
     reader.base = reader.base.saturating_add(process.len()).saturating_add(1);
     Later::Notify(number, pair_of(pair, reader))
 }

@@ -169,7 +169,9 @@ fn read_line(script: &mut Script, line: &str, reader: &mut Reader) {
     reader.pass(word);
     if let Some(last) = script.statements.last() {
         if !has_place(word, last.is_function()) {
-            return reader.wrong_first("such a line belongs to a statement, and a result to a function");
+            return reader.wrong_first(
+                "such a line belongs to a statement, and a result to a function",
+            );
         }
     }
     match word {
