@@ -1,7 +1,7 @@
 -- The end of the answer to a request that stands alone, and what is sent in idle time.
--- PostgreSQL manual, "Message Flow": "Simple Query", "Function Call", "Asynchronous Operations"; "Message Formats": ReadyForQuery, FunctionCallResponse.
+-- PostgreSQL manual, "Message Flow": "Simple Query", "Function Call", "Asynchronous Operations"; "Message Formats": ReadyForQuery.
 use Rattle.std.specs.Prelude.{◌≡◌, ◌≢◌, ◌⊎◌, ℕ, Bool, true, false, List, [], ◌∷◌, ◌++◌, Option, None}
-use Rattle.pgp_base.specs.Wire.{frame, nullable}
+use Rattle.pgp_base.specs.Wire.{frame}
 use Rattle.pgp_monitor.specs.Transaction.{letter}
 use Rattle.pgp_monitor.specs.declared.transaction.Status.{Status}
 use Rattle.pgp_monitor.specs.declared.transaction.Status.TheVariants.{Idle}
@@ -10,7 +10,7 @@ use Rattle.pgp_monitor.specs.declared.transaction.Status.TheVariants.{Idle}
 abbrev pub IsReady : Status → List ℕ → Type 0
 IsReady status bytes = (front : List ℕ) × (bytes ≡ front ++ frame 0x5a (letter status ∷ []))
 
--- It was said that the server is ready, and idle time begins, or no transaction is idle; or the answer isn't sent, for a fault.
+-- It was said that the server is ready, and idle time begins, or a transaction is open; or the answer isn't sent, for a fault.
 abbrev pub Says : {F : Type 0} → Status → (is_idle : Bool) → List ℕ → (fault : Option F) → Type 0
 Says status true bytes fault = (status ≡ Idle) × IsReady status bytes
 Says status false bytes fault = ((status ≢ Idle) × IsReady status bytes) ⊎ (fault ≢ None)
@@ -18,11 +18,3 @@ Says status false bytes fault = ((status ≢ Idle) × IsReady status bytes) ⊎ 
 -- The answer has its end: a ReadyForQuery is its last message, or idle time began and all that waited for it was sent; or it isn't sent, for a fault.
 abbrev pub HasEnd : {L F : Type 0} → Status → (later : List L) → List ℕ → (fault : Option F) → Type 0
 HasEnd status later bytes fault = IsReady status bytes ⊎ (((status ≡ Idle) × (later ≡ [])) ⊎ (fault ≢ None))
-
--- A FunctionCallResponse with this result was appended, or the answer isn't sent, for a fault.
-abbrev pub HasResult : {F : Type 0} → Option (List ℕ) → (before after : List ℕ) → (fault : Option F) → Type 0
-HasResult value before after fault = (after ≡ before ++ frame 0x56 (nullable value)) ⊎ (fault ≢ None)
-
--- the same with some result
-abbrev pub HasSome : {F : Type 0} → (before after : List ℕ) → (fault : Option F) → Type 0
-HasSome before after fault = (value : Option (List ℕ)) × HasResult value before after fault

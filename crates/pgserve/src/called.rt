@@ -2,9 +2,8 @@
 //!
 //! PostgreSQL manual, "Message Flow", "Function Call".
 
-ghost use Rattle.std.specs.Prelude.{◌≡◌, Some, None, IfSome};
-ghost use Rattle.pgserve.specs.Ready.{HasEnd, HasResult, HasSome};
-ghost use Rattle.pgserve.specs.declared.answer.Went.TheVariants.{Well};
+ghost use Rattle.std.specs.Prelude.{◌≡◌, IfSome};
+ghost use Rattle.pgserve.specs.Ready.{HasEnd};
 ghost use Rattle.pgserve.specs.declared.script.By.TheVariants.{Function};
 
 use crate::answer::{Went, format_of, put_notices};
@@ -12,7 +11,6 @@ use crate::asked::{Refusal, aborted, bad_format, not_supported, put_error, refus
 use crate::binary::{Unwritten, value_in};
 use crate::column::known_type;
 use crate::extended::{Binding, are_formats};
-use crate::fault::Fault;
 use crate::input::{rejects_counts, rejects_values};
 use crate::outbox::Outbox;
 use crate::reader::Reader;
@@ -35,64 +33,37 @@ pub(crate) fn result_of(line: &str, reader: &mut Reader) -> End {
     End::Result(kind.oid, value)
 }
 
-/// Appends a result.
-fn put_result(value: &[u8], out: &mut Outbox)
-    ensures { HasResult (Some value.now) out.old.bytes.items out.new.bytes.items out.new.fault }
-{
-    match message(b'V', &[Field::Sized(value)], &mut out.bytes) {
-        Ok(()) => {}
-        Err(why) => out.fail(Fault::from(why)),
-    }
-}
-
-/// Appends that the result is a null: -1 in the place of its length.
-fn put_null(out: &mut Outbox)
-    ensures { HasResult None out.old.bytes.items out.new.bytes.items out.new.fault }
-{
-    match message(b'V', &[Field::Int32(-1)], &mut out.bytes) {
-        Ok(()) => {}
-        Err(why) => out.fail(Fault::from(why)),
-    }
+/// Appends a FunctionCallResponse of this part.
+fn put_result(part: Field<'_>, out: &mut Outbox) -> Went {
+    let put = message(b'V', &[part], &mut out.bytes);
+    out.put(put);
+    Went::Well
 }
 
 /// Appends a result of this type in this format, or the error that it can't be sent so.
-fn put_value(oid: Oid, value: &[u8], format: i16, out: &mut Outbox) -> Went
-    ensures { result ≡ Well → HasSome out.old.bytes.items out.new.bytes.items out.new.fault }
-{
-    if !are_formats(&[format]) {
-        refuse(bad_format(), out);
-        return Went::Wrong;
-    }
-    match value_in(out.alloc, format, oid, value) {
-        Ok(bytes) => {
-            put_result(&bytes, out);
-            Went::Well
-        }
+fn put_value(oid: Oid, value: &[u8], format: i16, out: &mut Outbox) -> Went {
+    let refusal = match value_in(out.alloc, format, oid, value) {
+        _ if !are_formats(&[format]) => bad_format(),
+        Ok(bytes) => return put_result(Field::Sized(&bytes), out),
         Err(Unwritten::Memory) => {
             out.lack();
-            Went::Wrong
+            return Went::Wrong;
         }
-        Err(_) => {
-            refuse(not_supported(), out);
-            Went::Wrong
-        }
-    }
+        Err(_) => not_supported(),
+    };
+    refuse(refusal, out);
+    Went::Wrong
 }
 
-/// Appends how a call ends, whose result is asked for in this format. That of a null isn't looked at.
-fn put_end(statement: &Statement, format: i16, out: &mut Outbox) -> Went
-    ensures { result ≡ Well → HasSome out.old.bytes.items out.new.bytes.items out.new.fault }
-{
+/// Appends how a call ends, whose result is asked for in this format. That of a null, -1 in the place of a length, isn't looked at.
+fn put_end(statement: &Statement, format: i16, out: &mut Outbox) -> Went {
     match &statement.end {
         End::Result(oid, Some(value)) => put_value(*oid, value, format, out),
         End::Error(report) => {
             put_error(report, out);
             Went::Wrong
         }
-        _ => {
-            put_null(out);
-            Went::Well
-        }
+        _ => put_result(Field::Int32(-1), out),
     }
 }
 
@@ -137,10 +108,8 @@ impl<'h> Session<'h> {
     pub(crate) fn call(&mut self, function: Oid, call: &Binding<'_>, out: &mut Outbox)
         ensures { HasEnd self.new.transaction.status self.new.later.items out.new.bytes.items out.new.fault }
     {
-        if self.transaction.status.rejects(false) {
-            return self.stop_alone(aborted(), out);
-        }
         match self.called(function) {
+            _ if self.transaction.status.rejects(false) => self.stop(aborted(), out),
             Some(statement) => self.run(statement, call, out),
             None => self.miss(function, out),
         }

@@ -8,6 +8,7 @@ ghost use Rattle.pgserve.specs.Ready.{IsReady, Says};
 use crate::channels::put_notification;
 use crate::fault::Fault;
 use crate::outbox::Outbox;
+use crate::part::pause_of;
 use crate::pause::Pause;
 use crate::reader::Reader;
 use crate::reading::{pair_of, setting_of};
@@ -15,7 +16,6 @@ use crate::script::Pair;
 use crate::settings::Settings;
 use pgp_message_write as reply;
 use pgp_monitor::Status;
-use std::time::Duration;
 
 /// What a line `later` says.
 #[derive(Drop)]
@@ -24,17 +24,14 @@ pub(crate) enum Later {
     Notify(i32, Pair),
     /// A setting that changes.
     Set(Pair),
-    Wait(Duration),
+    Wait(Pause),
 }
 
 /// The notification of this line: the number of a process, a channel and a text.
 fn notification_of(line: &str, reader: &mut Reader) -> Later {
     let (process, pair) = line.split_once(' ').unwrap_or((line, ""));
-    let number = reader.found(
-        process.parse().ok(),
-        "the number of a process stands here",
-        0,
-    );
+    let wanted = "the number of a process stands here";
+    let number = reader.found(process.parse().ok(), wanted, 0);
     reader.base = reader.base.saturating_add(process.len()).saturating_add(1);
     Later::Notify(number, pair_of(pair, reader))
 }
@@ -49,21 +46,19 @@ pub(crate) fn later_of(line: &str, reader: &mut Reader) -> Later {
     let later = match word {
         "notify" => notification_of(rest, reader),
         "setting" => Later::Set(setting_of(rest, reader)),
-        _ => Later::Wait(Duration::from_millis(reader.count(rest, 0) as u64)),
+        _ => Later::Wait(pause_of(rest, reader)),
     };
     reader.base = 0;
     later
 }
 
 /// Appends that the server is ready, and returns whether idle time begins: whether that was appended, and no transaction is open.
+#[tactic(auto, unfolding(pgp_base::specs::Held::lengthened))]
 pub(crate) fn put_ready(status: Status, out: &mut Outbox) -> bool
     ensures { Says status result out.new.bytes.items out.new.fault }
 {
     match reply::ready_for_query(status.letter(), &mut out.bytes) {
-        Ok(()) => match status {
-            Status::Idle => true,
-            Status::Open | Status::Failed => false,
-        },
+        Ok(()) => status == Status::Idle,
         Err(why) => {
             out.fail(Fault::from(why));
             false
@@ -87,13 +82,7 @@ pub(crate) fn put_later(
                 settings.begin(&pair.name, &pair.value, out);
                 settings.report(out);
             }
-            Later::Wait(time) => {
-                let pause = Pause {
-                    at: out.len(),
-                    time: *time,
-                };
-                out.add(pauses, pause);
-            }
+            Later::Wait(pause) => out.add(pauses, pause.shifted(out.len())),
         }
     }
 }

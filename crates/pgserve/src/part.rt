@@ -34,24 +34,13 @@ fn types_of(words: &str, reader: &mut Reader) -> Vec<Oid> {
 }
 
 /// The pause of this line: so many milliseconds, before the answer or after so many bytes of it.
-fn pause_of(line: &str, reader: &mut Reader) -> Pause {
+pub(crate) fn pause_of(line: &str, reader: &mut Reader) -> Pause {
     let (time, bytes) = line.split_once(' ').unwrap_or((line, "0"));
     let milliseconds = reader.count(time, 0);
     let at = reader.count(bytes, time.len().saturating_add(1));
     Pause {
         at: at as usize,
         time: Duration::from_millis(milliseconds as u64),
-    }
-}
-
-/// Whether a line of this word stands below a `function`, or below a `statement`.
-pub(crate) fn has_place(word: &str, is_function: bool) -> bool {
-    match word {
-        "result" => is_function,
-        "column" | "table" | "modifier" | "format" | "row" | "tag" | "copy" | "data" | "and" => {
-            !is_function
-        }
-        _ => true,
     }
 }
 
@@ -117,7 +106,7 @@ impl Statement {
                 let report = report_of("NOTICE", rest, reader);
                 reader.out.add(&mut self.notices, report);
             }
-            "result" => self.set_end(result_of(rest, reader), reader),
+            "result" if self.is_function() => self.set_end(result_of(rest, reader), reader),
             "tag" => self.set_end(End::Tag(reader.text(rest)), reader),
             "error" => self.set_end(End::Error(report_of("ERROR", rest, reader)), reader),
             "copy" => self.copy = Some(copy_of(rest, reader)),

@@ -1,7 +1,6 @@
 //! A script, read from its text.
 
 use crate::fault::Fault;
-use crate::part::has_place;
 use crate::pattern::matches;
 use crate::reader::Reader;
 use crate::report::report_of;
@@ -143,9 +142,17 @@ fn add_user(script: &mut Script, line: &str, reader: &mut Reader) {
     reader.out.add(&mut script.users, user);
 }
 
+/// Lines that stand below no `function`.
+static OF_ROWS: [&str; 8] = [
+    "column", "table", "modifier", "format", "row", "copy", "data", "tag",
+];
+
 /// Adds what a line says of the last statement.
 fn add_part(script: &mut Script, word: &str, rest: &str, reader: &mut Reader) {
     match script.statements.last_mut() {
+        Some(statement) if statement.is_function() && OF_ROWS.contains(&word) => {
+            reader.wrong_first(NO_STATEMENT);
+        }
         Some(statement) => statement.add(word, rest, reader),
         None => reader.wrong_first(NO_STATEMENT),
     }
@@ -167,13 +174,6 @@ fn read_line(script: &mut Script, line: &str, reader: &mut Reader) {
     }
     let (word, rest) = line.split_once(' ').unwrap_or((line, ""));
     reader.pass(word);
-    if let Some(last) = script.statements.last() {
-        if !has_place(word, last.is_function()) {
-            return reader.wrong_first(
-                "such a line belongs to a statement, and a result to a function",
-            );
-        }
-    }
     match word {
         "statement" | "function" => begin(script, word, rest, reader),
         "setting" => {

@@ -277,28 +277,12 @@ impl<'h> Session<'h> {
         }
     }
 
-    /// Appends what is answered to a request that is no Bind and no Parse, or is passed over.
-    fn answer_in_place(&mut self, message: &mut ClientMessage<'_>, out: &mut Outbox) {
+    /// Appends what is answered to a request without a list, or to one that is passed over.
+    fn answer_in_place(&mut self, message: &ClientMessage<'_>, out: &mut Outbox) {
         match message {
             ClientMessage::Sync => self.sync(out),
             _ if self.is_skipping => {}
             ClientMessage::Query(text) => self.query(text, out),
-            ClientMessage::FunctionCall {
-                function,
-                formats,
-                arguments,
-                result_format,
-            } => {
-                let (formats, values) = (out.listed(formats), out.listed(arguments));
-                let call = Binding {
-                    portal: b"",
-                    statement: b"",
-                    formats: &formats,
-                    values: &values,
-                    results: &[*result_format],
-                };
-                self.call(*function, &call, out);
-            }
             message => self.extended(message, out),
         }
     }
@@ -335,6 +319,30 @@ impl<'h> Session<'h> {
                 };
                 self.bind(&binding, out);
             }
+            other => self.answer_unbound(other, out),
+        }
+    }
+
+    /// The same of a request that is no Bind.
+    fn answer_unbound(&mut self, message: ClientMessage<'_>, out: &mut Outbox) {
+        match message {
+            ClientMessage::FunctionCall {
+                function,
+                mut formats,
+                mut arguments,
+                result_format,
+            } => {
+                let formats = out.listed(&mut formats);
+                let values = out.listed(&mut arguments);
+                let call = Binding {
+                    portal: b"",
+                    statement: b"",
+                    formats: &formats,
+                    values: &values,
+                    results: &[result_format],
+                };
+                self.call(function, &call, out);
+            }
             ClientMessage::Parse {
                 name,
                 query,
@@ -343,7 +351,7 @@ impl<'h> Session<'h> {
                 let types = out.listed(&mut param_types);
                 self.parse(name, query, &types, out);
             }
-            mut other => self.answer_in_place(&mut other, out),
+            other => self.answer_in_place(&other, out),
         }
     }
 }
