@@ -39,6 +39,11 @@ def message(row):
         values = listed(values)
         body += struct.pack(">h", len(values)) + b"".join(map(value, values))
         return frame(b"B", body + counted(listed(results), ">h"))
+    if tag == "F":
+        function, formats, values, result = rest.split(";")
+        body = struct.pack(">I", int(function)) + counted(listed(formats), ">h")
+        values = listed(values)
+        return frame(b"F", body + struct.pack(">h", len(values)) + b"".join(map(value, values)) + struct.pack(">h", int(result)))
     if tag == "E":
         portal, rows = rest.split(";")
         return frame(b"E", text(portal) + struct.pack(">i", int(rows)))
@@ -95,6 +100,8 @@ def shown(tag, body):
         words += [",".join(map(str, struct.unpack(f">{len(body) // 4}i", body[2:])))] if len(body) > 2 else []
     elif tag == "T":
         words += columns(body)
+    elif tag == "V":
+        words.append(cell(None if body[:4] == b"\xff" * 4 else body[4:]))
     elif tag == "D":
         words += map(cell, cells(body))
     return " ".join(words)

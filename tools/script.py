@@ -105,11 +105,16 @@ class Connection:
         self.settings, self.answers, self.parameters, self.columns = {}, {}, {}, {}
         self.statements, self.portals, self.requests, self.results = {}, {}, {}, {}
         self.cursors, self.notices, self.last, self.before, self.is_open = {}, [], None, "idle", False
+        self.is_idle = False
 
     def client(self, m):
         """Takes note of what a request asks."""
         name, text = m["name"], None
-        if name == "Query":
+        self.is_idle = False
+        if name == "FunctionCall":
+            text = b"\0function %d" % m["function"]
+            self.parameters[text] = ["bytea"] * len(m["arguments"])
+        elif name == "Query":
             text = bytes_of(m["query"])
         elif name == "Parse":
             text = self.statements[str(m["statement"])] = bytes_of(m["query"])
@@ -124,7 +129,7 @@ class Connection:
         elif name == "Execute":
             text = self.portals.get(str(m["portal"]), [None])[0]
         if "request" in m:
-            self.requests[m["request"]] = name, text, self.portals.get(str(m.get("portal")))
+            self.requests[m["request"]] = name, text, m.get("result_format", self.portals.get(str(m.get("portal"))))
 
     def text_of(self, portal):
         """The statement of a portal, or the query of a cursor."""
@@ -195,6 +200,10 @@ class Connection:
             self.settings.setdefault(m["parameter"], bytes_of(m["value"]))
         elif name == "NoticeResponse":
             self.notices += self.report("notice", m["fields"])
+        elif self.is_idle and self.last and name == "NotificationResponse":
+            self.last.further.append(f"later notify {m['process_id']} {escaped(bytes_of(m['channel']))} {escaped(bytes_of(m['payload']))}")
+        elif self.is_idle and self.last and name == "ParameterStatus":
+            self.last.further.append(f"later setting {m['parameter']} {escaped(bytes_of(m['value']))}")
         elif name == "NotificationResponse" and self.last:
             self.last.further.append(f"notify {escaped(bytes_of(m['channel']))} {escaped(bytes_of(m['payload']))}")
         elif name == "ParameterDescription":
@@ -209,6 +218,8 @@ class Connection:
             result.lines.append(f"copy {name[4:-8].lower()} {'binary' if m['format'] else 'text'} {len(m['column_formats'])}")
         elif name == "CopyData":
             result.lines.append("data " + escaped(bytes_of(raw["data"])))
+        elif name == "FunctionCallResponse":
+            self.end(key, kind, text, portal, result, result_of(raw["result"], portal))
         elif name == "CommandComplete":
             self.end(key, kind, text, portal, result, "tag " + escaped(bytes_of(m["command_tag"])))
         elif name == "ErrorResponse":
@@ -217,13 +228,21 @@ class Connection:
             self.ready(key, kind, text, m["status"])
 
     def ready(self, key, kind, text, status):
-        self.is_open = True
+        self.is_open, self.is_idle = True, status == "idle"
         results = self.results.pop(key, [None])[:-1]
         if len(results) > 1 and status != self.before:
             results[-1].further.append("status " + status.removeprefix("in "))
         if results and kind == "Query":
             self.keep(*without_commands(text, results))
         self.before = status
+
+
+def result_of(result, form):
+    """The line of a function's result: a text, or the bytes of binary format."""
+    if result is None:
+        return "result text \\N"
+    data = bytes_of(result)
+    return f"result bytea \\\\x{data.hex()}" if form else f"result text {escaped(data)}"
 
 
 def word_of(text):
@@ -262,7 +281,7 @@ def read(path):
 def is_known(text, answers):
     """Whether pgserve answers the statement so by itself."""
     lines = [results[0].shown()[1] for results in answers if len(results) == 1]
-    return word_of(text) in KNOWN and len(lines) == len(answers) and all(one[0].startswith("tag ") and "notify " not in [line[:7] for line in one] for one in lines)
+    return word_of(text) in KNOWN and len(lines) == len(answers) and all(one[0].startswith("tag ") and not any(line.startswith(("notify ", "later ")) for line in one) for one in lines)
 
 
 def statement(text, parameters, answers):
@@ -270,7 +289,7 @@ def statement(text, parameters, answers):
     shown = [[one.shown() for one in results] for results in answers]
     while len(shown) > 1 and shown[-1] == shown[-2]:
         shown.pop()
-    lines = ["", "statement " + escaped(text.strip())] + ["parameters " + " ".join(parameters)] * bool(parameters)
+    lines = ["", text[1:].decode() if text[:1] == b"\0" else "statement " + escaped(text.strip())] + ["parameters " + " ".join(parameters)] * bool(parameters)
     before = None
     for place, results in enumerate(shown):
         lines += ["then"] * (place > 0)

@@ -128,7 +128,7 @@ says rs ks es t next k Aside runs is = Says k Aside next runs is (λ h. cc)
 
 spells_on : (ks : List Kind) (bytes before : List ℕ) (k : Kind) (len : ℕ) → (f : IsFront bytes k len) → Spells ks before → Spells (ks ++ k ∷ []) (before ++ f.frame)
 spells_on ks bytes before k len f spelled =
-    subst (λ (x : Kind). Spells (ks ++ x ∷ []) (before ++ f.frame)) (sym f.kind_is) (OneMore f.frame f.message f.is spelled)
+    OneMore f.frame k f.is spelled
 
 pub passes : (lacks : Type 0) (bytes : List ℕ) (rs : List Request) (ks : List Kind) (es : List Event) (gone : List ℕ) (m new : Shown) (result : Result Passed Stop)
     → Passes lacks bytes m new result → Went rs ks es gone m → after_pass result rs ks es gone new

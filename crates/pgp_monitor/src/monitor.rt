@@ -6,11 +6,11 @@ ghost use Rattle.pgp_client.specs.declared.kind.Kind.{Kind as Sent};
 ghost use Rattle.pgp_client.specs.declared.request.Request.{Request as Wanted};
 ghost use Rattle.pgp_client.specs.Taking.{Takes, taken};
 ghost use Rattle.pgp_client.specs.Talk.{shown as talk_of};
-ghost use Rattle.pgp_monitor.specs.Answered.{IsFront, HasNone};
+ghost use Rattle.pgp_monitor.specs.Answered.{IsFront, HasNone, kind_of_fault};
 ghost use Rattle.pgp_monitor.specs.Monitor.{Admits, Declines, Notes, Passes, Went, after_note, after_pass, begun, is_end, shown};
 
 use bytes::BytesMut;
-use pgp_base::Memory;
+use pgp_base::{Error, Memory};
 use pgp_client::{Asked, Dialogue, Event, Kind, Request};
 use pgp_message::Messages;
 use std::alloc::{AllocError, Global};
@@ -225,7 +225,20 @@ fn front_of(bytes: &[u8]) -> Option<(Kind, usize)>
             Some((kind, bytes.len() - messages.rest().len()))
         }
         Ok(None) => None,
-        Err(_) => None,
+        Err(why) => match kind_of_fault(&why) {
+            Some(kind) => Some((kind, bytes.len() - messages.rest().len())),
+            None => None,
+        },
+    }
+}
+
+/// The kind of a frame that was rejected so: one whose tag no `Message` has, and that has its place all the same.
+fn kind_of_fault(why: &Error) -> Option<Kind>
+    ensures { result ≡ kind_of_fault why.now }
+{
+    match why {
+        Error::UnknownTag(tag) => Kind::of_tag(*tag),
+        _ => None,
     }
 }
 

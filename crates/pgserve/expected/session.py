@@ -69,6 +69,15 @@ FINAL = b"c=biws,r=" + BOTH + b",p=dHzbZapWIk4jUhN+Ute9ytag9zjfMHgsqmmiz7AndVQ="
 SERVER_FIRST = b"r=" + BOTH + b",s=W22ZaJ0SNY7soEsUEjb6gQ==,i=4096"
 SERVER_FINAL = b"v=6rriTRBi23WpRR/wtup+mMhUZUn/dB5nLTJRsjl95G4="
 
+
+def called(function, format_, *values):
+    return frame(b"F", int32(function) + int16(0, len(values)) + b"".join(map(value, values)) + int16(format_))
+
+
+def result(data):
+    return frame(b"V", value(data))
+
+
 IDLE, INSIDE, FAILED = frame(b"Z", b"I"), frame(b"Z", b"T"), frame(b"Z", b"E")
 SYNC = frame(b"S")
 
@@ -122,6 +131,7 @@ WARNINGS = {
     b"25P01": report(b"N", b"WARNING", b"25P01", b"there is no transaction in progress"),
 }
 
+LATER = frame(b"A", int32(4711) + b"told\0a text\0")
 PARSED, BOUND, CLOSED, NO_DATA, SUSPENDED = (frame(tag) for tag in (b"1", b"2", b"3", b"n", b"s"))
 
 
@@ -285,10 +295,10 @@ STEPS = [
     (execute(b"p", 0), no_portal(b"p")),
     (SYNC, IDLE),
     # bugs of a client
-    (bind(b"", b"s1", [], []), error(b"08P01", b"bind message supplies another number of parameters than the statement has")),
+    (bind(b"", b"s1", [], []), error(b"08P01", b"message has another number of values than there are parameters")),
     (execute(b"", 0), b""),
     (SYNC, IDLE),
-    (frame(b"B", b"\0s1\0" + int16(2, 0, 0, 1) + value(b"7") + int16(0)), error(b"08P01", b"bind message has another number of parameter formats than of parameters")),
+    (frame(b"B", b"\0s1\0" + int16(2, 0, 0, 1) + value(b"7") + int16(0)), error(b"08P01", b"message has another number of formats than of values")),
     (SYNC, IDLE),
     (frame(b"B", b"\0s1\0" + int16(1, 2, 1) + value(b"7") + int16(0)), BAD_FORMAT),
     (SYNC, IDLE),
@@ -339,8 +349,48 @@ STEPS = [
         query(b"NOTIFY told"),
         frame(b"N", b"SWARNING\0VWARNING\0C01000\0Mlook\0Dhere\0Hor there\0P3\0\0") + tag(b"NOTIFY") + frame(b"A", int32(1) + b"told\0a text\0") + IDLE,
     ),
-    # what is left: a call of a function, and what belongs to a copy
-    (frame(b"F", int32(1598) + int16(0, 0, 0)), NOT_SUPPORTED + IDLE),
+    # in idle time: behind the ReadyForQuery, and in a transaction behind its end
+    (query(b"LISTEN later"), tag(b"LISTEN") + IDLE + LATER + status(b"TimeZone", b"Europe/Oslo")),
+    (query(b"SHOW timezone"), frame(b"T", int16(1) + column(b"TimeZone", 25, -1, 0)) + row(b"Europe/Oslo") + tag(b"SHOW") + IDLE),
+    # what it is already isn't sent, and a RESET leaves it
+    (query(b"BEGIN; LISTEN later"), tag(b"BEGIN") + tag(b"LISTEN") + INSIDE),
+    (query(b"RESET timezone"), tag(b"RESET") + INSIDE),
+    (query(b"COMMIT"), tag(b"COMMIT") + IDLE + LATER),
+    *extended(b"LISTEN later"),
+    (execute(b"", 0), tag(b"LISTEN")),
+    (SYNC, IDLE + LATER),
+    # calls of functions: a result as a text and in binary format, a null in any format, and an error
+    (called(1299, 0), result(b"2026-11-26 00:00:00+00") + IDLE),
+    (called(1299, 1), result(struct.pack(">q", 9826 * 86400 * 10**6)) + IDLE),
+    (called(1299, 2), BAD_FORMAT + IDLE),
+    (called(177, 1, b"2", b"3"), result(int32(5)) + IDLE),
+    (called(177, 1, b"2", b"3"), result(None) + IDLE),
+    (called(177, 2, b"2", b"3"), result(None) + IDLE),
+    (called(952, 0), NOTICE + error(b"42501", b"permission denied") + IDLE),
+    # one that isn't there, and arguments that are none
+    (called(999999, 0), error(b"42883", b"function with OID 999999 does not exist") + IDLE),
+    (called(177, 0, b"2"), error(b"08P01", b"message has another number of values than there are parameters") + IDLE),
+    (called(177, 0, b"2", b"x"), error(b"22P02", b"invalid input syntax for the parameter's type: x") + IDLE),
+    (
+        frame(b"F", int32(177) + int16(3, 0, 0, 0, 2) + value(b"2") + value(b"3") + int16(0)),
+        error(b"08P01", b"message has another number of formats than of values") + IDLE,
+    ),
+    (frame(b"F", int32(177) + int16(1, 2, 2) + value(b"2") + value(b"3") + int16(0)), BAD_FORMAT + IDLE),
+    (frame(b"F", int32(177) + int16(0)), MALFORMED + IDLE),
+    # in a transaction; of one that failed nothing is looked at
+    (query(b"BEGIN"), tag(b"BEGIN") + INSIDE),
+    (called(1299, 0), result(b"2026-11-26 00:00:00+00") + INSIDE),
+    (called(999999, 0), error(b"42883", b"function with OID 999999 does not exist") + FAILED),
+    (called(1299, 0), ABORTED + FAILED),
+    (frame(b"F"), ABORTED + FAILED),
+    (query(b"ROLLBACK"), tag(b"ROLLBACK") + IDLE),
+    # it ends the portals, and is passed over up to a Sync
+    *extended(b"SELECT id, name FROM city", portal=b"p"),
+    (called(1299, 0), result(b"2026-11-26 00:00:00+00") + IDLE),
+    (execute(b"p", 0), no_portal(b"p")),
+    (called(1299, 0), b""),
+    (SYNC, IDLE),
+    # what belongs to a copy
     (frame(b"d", b"1\n"), b""),
     (frame(b"c"), b""),
     # copies from the server, and to it: complete, and given up

@@ -186,7 +186,7 @@ pub(crate) fn put_rows<'r>(
 }
 
 /// Appends the notices.
-fn put_notices(statement: &Statement, out: &mut Outbox) {
+pub(crate) fn put_notices(statement: &Statement, out: &mut Outbox) {
     for report in &statement.notices {
         put_notice(report, out);
     }
@@ -226,7 +226,7 @@ fn complete_part(tag: &[u8], rows: usize, out: &mut Outbox) {
 fn put_end(statement: &Statement, part: Option<usize>, out: &mut Outbox) -> Went {
     match &statement.end {
         End::Error(report) => put_error(report, out),
-        End::Open => refuse(not_scripted(&statement.text), out),
+        End::Open | End::Result(..) => refuse(not_scripted(&statement.text), out),
         End::Tag(tag) => {
             match part {
                 Some(rows) => complete_part(tag, rows, out),

@@ -36,9 +36,9 @@ pub(crate) struct Channels {
     sent: Vec<Pair>,
 }
 
-/// Appends a notification.
-pub(crate) fn put_notification(pair: &Pair, out: &mut Outbox) {
-    let put = reply::notification_response(1, &pair.name, &pair.value, &mut out.bytes);
+/// Appends a notification of this process; the server's own is 1.
+pub(crate) fn put_notification(process: i32, pair: &Pair, out: &mut Outbox) {
+    let put = reply::notification_response(process, &pair.name, &pair.value, &mut out.bytes);
     out.put(put);
 }
 
@@ -127,7 +127,7 @@ impl Channels {
         self.commit(out);
         for pair in &self.sent {
             if self.listens(&pair.name) {
-                put_notification(pair, out);
+                put_notification(1, pair, out);
             }
         }
         self.sent.clear();

@@ -4,11 +4,11 @@
 
 use crate::answer::{Went, describe, describe_none, execute};
 use crate::asked::{
-    Refusal, aborted, bad_format, no_portal, no_statement, not_scripted, not_utf8, portal_there,
-    put_error, violation, was_run,
+    Refusal, aborted, no_portal, no_statement, not_scripted, not_utf8, portal_there, put_error,
+    violation, was_run,
 };
 use crate::bound::{Bound, given_of};
-use crate::input::{is_text, rejects_values};
+use crate::input::{is_text, rejects_counts, rejects_values};
 use crate::outbox::Outbox;
 use crate::portals::{Life, Plan, Portal};
 use crate::script::Statement;
@@ -229,20 +229,12 @@ impl<'h> Session<'h> {
         let Some(plan) = self.prepared.find(binding.statement) else {
             return Some(no_statement(binding.statement));
         };
-        let (formats, count) = (binding.formats, binding.values.len());
-        if formats.len() > 1 && formats.len() != count {
-            return Some(violation(
-                "bind message has another number of parameter formats than of parameters",
-            ));
-        }
-        if plan.types.len() != count {
-            return Some(violation(
-                "bind message supplies another number of parameters than the statement has",
-            ));
+        let refusal = rejects_counts(&plan.types, binding);
+        if refusal.is_some() {
+            return refusal;
         }
         let results = binding.results.len();
         match self.rejects_portal(binding.portal, &plan.statement, results, out) {
-            None if count != 0 && !are_formats(formats) => Some(bad_format()),
             None => rejects_values(&plan.types, binding, out),
             refusal => refusal,
         }

@@ -3,9 +3,9 @@
 //! PostgreSQL manual, "Numeric Types", "Boolean Type", "UUID Type"; its errors are those of PostgreSQL 15's functions of input.
 
 use crate::answer::format_of;
-use crate::asked::{Refusal, not_utf8};
+use crate::asked::{Refusal, bad_format, not_utf8, violation};
 use crate::binary::{Unwritten, value_in};
-use crate::extended::Binding;
+use crate::extended::{Binding, are_formats};
 use crate::outbox::Outbox;
 use crate::types::{
     BOOL, BPCHAR, FLOAT4, FLOAT8, INT2, INT4, INT8, JSON, JSONB, NAME, NUMERIC, TEXT, UUID,
@@ -176,12 +176,27 @@ fn rejects_value<'v>(
     }
 }
 
+/// Why a binding, or a call of a function, has another number of values or formats than there are parameters, if it has.
+pub(crate) fn rejects_counts<'m>(types: &[Oid], binding: &Binding<'m>) -> Option<Refusal<'m>> {
+    let (formats, count) = (binding.formats.len(), binding.values.len());
+    if formats > 1 && formats != count {
+        return Some(violation("message has another number of formats than of values"));
+    }
+    if types.len() != count {
+        return Some(violation("message has another number of values than there are parameters"));
+    }
+    None
+}
+
 /// Why the values of a binding aren't of these types, if they aren't.
 pub(crate) fn rejects_values<'m>(
     types: &[Oid],
     binding: &Binding<'m>,
     out: &mut Outbox,
 ) -> Option<Refusal<'m>> {
+    if !types.is_empty() && !are_formats(binding.formats) {
+        return Some(bad_format());
+    }
     for (place, value) in binding.values.iter().enumerate() {
         if let (Some(value), Some(oid)) = (value, types.get(place)) {
             let refusal = rejects_value(*oid, format_of(binding.formats, place), value, out);

@@ -1,5 +1,7 @@
 //! What is answered to a message.
 
+ghost use Rattle.std.specs.Prelude.{◌≡◌, ◌≢◌, None};
+
 use crate::fault::Fault;
 use bytes::BytesMut;
 use pgp_base::{Error, FallibleIterator};
@@ -34,7 +36,10 @@ impl Outbox {
     }
 
     /// Takes note of a fault, of which the first counts.
-    pub(crate) fn fail(&mut self, fault: Fault) {
+    pub(crate) fn fail(&mut self, fault: Fault)
+        ensures bytes { self.new.bytes ≡ self.old.bytes }
+        ensures fault { self.new.fault ≢ None }
+    {
         if self.fault.is_none() {
             self.fault = Some(fault);
         }

@@ -1,6 +1,8 @@
 //! What the lines below a `statement` of a script say.
 
+use crate::called::result_of;
 use crate::column::known_type;
+use crate::idle::later_of;
 use crate::pause::Pause;
 use crate::reader::Reader;
 use crate::reading::pair_of;
@@ -32,7 +34,7 @@ fn types_of(words: &str, reader: &mut Reader) -> Vec<Oid> {
 }
 
 /// The pause of this line: so many milliseconds, before the answer or after so many bytes of it.
-fn pause_of(line: &str, reader: &mut Reader) -> Pause {
+pub(crate) fn pause_of(line: &str, reader: &mut Reader) -> Pause {
     let (time, bytes) = line.split_once(' ').unwrap_or((line, "0"));
     let milliseconds = reader.count(time, 0);
     let at = reader.count(bytes, time.len().saturating_add(1));
@@ -85,7 +87,7 @@ impl Statement {
     /// Says how the answer ends, once.
     fn set_end(&mut self, end: End, reader: &mut Reader) {
         if !matches!(self.end, End::Open) {
-            reader.wrong("the statement has a tag or an error");
+            reader.wrong("the answer has its end above");
         }
         self.end = end;
     }
@@ -104,6 +106,7 @@ impl Statement {
                 let report = report_of("NOTICE", rest, reader);
                 reader.out.add(&mut self.notices, report);
             }
+            "result" if self.is_function() => self.set_end(result_of(rest, reader), reader),
             "tag" => self.set_end(End::Tag(reader.text(rest)), reader),
             "error" => self.set_end(End::Error(report_of("ERROR", rest, reader)), reader),
             "copy" => self.copy = Some(copy_of(rest, reader)),
@@ -124,6 +127,10 @@ impl Statement {
             "notify" => {
                 let notification = pair_of(rest, reader);
                 reader.out.add(&mut self.notifications, notification);
+            }
+            "later" => {
+                let later = later_of(rest, reader);
+                reader.out.add(&mut self.later, later);
             }
             "wait" => {
                 let pause = pause_of(rest, reader);

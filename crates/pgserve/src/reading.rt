@@ -11,7 +11,7 @@ use crate::wording::words_of;
 use std::alloc::Global;
 
 /// The setting of this line: its name, and after a space its value, which may be empty.
-fn setting_of(line: &str, reader: &mut Reader) -> Pair {
+pub(crate) fn setting_of(line: &str, reader: &mut Reader) -> Pair {
     if !line.contains(' ') {
         reader.wrong_at(
             "a setting has a name and, after a space, a value",
@@ -58,11 +58,21 @@ fn statement_of(rest: &str, by_words: bool, reader: &mut Reader) -> Statement {
     Statement::new(By::Text, text, words, reader)
 }
 
-/// Begins a statement.
-fn begin(script: &mut Script, rest: &str, reader: &mut Reader) {
-    let mut statement = statement_of(rest, script.by_words, reader);
+/// The function of this number.
+fn function_of(rest: &str, reader: &mut Reader) -> Statement {
+    let number = reader.count(rest, 0);
+    let (no_text, no_words) = (reader.raw(""), reader.string(""));
+    Statement::new(By::Function(number), no_text, no_words, reader)
+}
+
+/// Begins a statement, or a function.
+fn begin(script: &mut Script, word: &str, rest: &str, reader: &mut Reader) {
+    let mut statement = match word {
+        "function" => function_of(rest, reader),
+        _ => statement_of(rest, script.by_words, reader),
+    };
     if script.written(statement.by, &statement.text).is_some() {
-        reader.wrong("the statement stands above");
+        reader.wrong("such an answer stands above");
     }
     statement.place = script.statements.len();
     statement.first = statement.place;
@@ -132,9 +142,17 @@ fn add_user(script: &mut Script, line: &str, reader: &mut Reader) {
     reader.out.add(&mut script.users, user);
 }
 
+/// Lines that stand below no `function`.
+static OF_ROWS: [&str; 8] = [
+    "column", "table", "modifier", "format", "row", "copy", "data", "tag",
+];
+
 /// Adds what a line says of the last statement.
 fn add_part(script: &mut Script, word: &str, rest: &str, reader: &mut Reader) {
     match script.statements.last_mut() {
+        Some(statement) if statement.is_function() && OF_ROWS.contains(&word) => {
+            reader.wrong_first(NO_STATEMENT);
+        }
         Some(statement) => statement.add(word, rest, reader),
         None => reader.wrong_first(NO_STATEMENT),
     }
@@ -157,7 +175,7 @@ fn read_line(script: &mut Script, line: &str, reader: &mut Reader) {
     let (word, rest) = line.split_once(' ').unwrap_or((line, ""));
     reader.pass(word);
     match word {
-        "statement" => begin(script, rest, reader),
+        "statement" | "function" => begin(script, word, rest, reader),
         "setting" => {
             let setting = setting_of(rest, reader);
             reader.out.add(&mut script.settings, setting);
@@ -182,8 +200,7 @@ fn read_lines(script: &mut Script, text: &str, reader: &mut Reader) -> Result<()
         end_of(reader)?;
     }
     if let Some(line) = script.open_line() {
-        let column = "statement ".len().saturating_add(1);
-        reader.fail("the statement has neither a tag nor an error", line, column);
+        reader.fail("the answer has no tag, no result and no error", line, 1);
     }
     end_of(reader)
 }

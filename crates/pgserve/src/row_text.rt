@@ -15,16 +15,21 @@ fn test_value(oid: Oid, value: &[u8], wanted: &'static str, reader: &mut Reader)
     }
 }
 
+/// The value of this text, of which it is wrong that it is none of the type.
+pub(crate) fn typed(oid: Oid, text: &str, wanted: &'static str, reader: &mut Reader) -> Vec<u8> {
+    let value = reader.text(text);
+    test_value(oid, &value, wanted, reader);
+    value
+}
+
 /// The value of this text, which is one of the column's type; `\N` is a null.
 fn value_of(column: &Column, text: &str, reader: &mut Reader) -> Option<Vec<u8>> {
     match text {
         "\\N" => None,
         _ if column.only.is_some() => Some(reader.raw(text)),
         _ => {
-            let value = reader.text(text);
             let wanted = "the value is none of its column's type";
-            test_value(column.kind.oid, &value, wanted, reader);
-            Some(value)
+            Some(typed(column.kind.oid, text, wanted, reader))
         }
     }
 }

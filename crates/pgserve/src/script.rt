@@ -1,5 +1,6 @@
 //! A script: statements, and what the server answers to each. docs/PGSERVE.md says how it is written.
 
+use crate::idle::Later;
 use crate::outbox::Outbox;
 use crate::pattern::matches;
 use crate::pause::Pause;
@@ -57,6 +58,8 @@ pub(crate) enum End {
     /// A line of the script has to say it yet.
     Open,
     Tag(Vec<u8>),
+    /// That of a function: its type, and its text.
+    Result(Oid, Option<Vec<u8>>),
     Error(Report),
 }
 
@@ -91,6 +94,8 @@ pub(crate) enum By {
     Words,
     /// Those in which a regular expression matches.
     Pattern,
+    /// No statement, but calls of the function of this number.
+    Function(Oid),
 }
 
 /// Which answer to a statement it is.
@@ -127,6 +132,8 @@ pub(crate) struct Statement {
     /// The status that the server says from then on.
     pub(crate) status: Option<Status>,
     pub(crate) notifications: Vec<Pair>,
+    /// What is sent in idle time.
+    pub(crate) later: Vec<Later>,
     pub(crate) copy: Option<Copy>,
     /// The connection ends after so many bytes of the answer.
     pub(crate) cut: Option<usize>,
@@ -165,6 +172,7 @@ impl Statement {
             end: End::Open,
             status: None,
             notifications: Vec::new(alloc),
+            later: Vec::new(alloc),
             copy: None,
             cut: None,
             pauses: Vec::new(alloc),
@@ -177,6 +185,11 @@ impl Statement {
             End::Error(report) if self.rows.is_empty() && is_early(&report.code) => Some(report),
             _ => None,
         }
+    }
+
+    /// Whether it is a function.
+    pub(crate) fn is_function(&self) -> bool {
+        matches!(self.by, By::Function(_))
     }
 
     /// Whether the pattern matches the text.
@@ -300,7 +313,7 @@ impl Script {
         None
     }
 
-    /// The line of the first statement whose end isn't said.
+    /// The line of the first answer whose end isn't said.
     pub(crate) fn open_line(&self) -> Option<usize> {
         for statement in &self.statements {
             if matches!(statement.end, End::Open) {

@@ -3,15 +3,18 @@
 //!
 //! PostgreSQL manual, "Message Flow": "Simple Query", "Extended Query", "Function Call".
 
-ghost use Rattle.std.specs.Prelude.{◌≡◌, false};
+ghost use Rattle.std.specs.Prelude.{◌≡◌, ◌≢◌, false};
 ghost use Rattle.pgp_monitor.specs.Transaction.{ends_portals};
+ghost use Rattle.pgp_monitor.specs.declared.transaction.Status.TheVariants.{Idle};
+ghost use Rattle.pgserve.specs.Ready.{HasEnd};
 
 use crate::answer::Went;
-use crate::asked::{Refusal, malformed, not_supported, put_error, refuse};
+use crate::asked::{Refusal, aborted, malformed, put_error, refuse};
 use crate::channels::{Channels, put_notification};
 use crate::command::{Command, command_of};
 use crate::copy::CopyIn;
 use crate::extended::Binding;
+use crate::idle::{Later, put_later, put_ready};
 use crate::outbox::Outbox;
 use crate::pause::Pause;
 use crate::portals::{Names, Plan, Portal};
@@ -48,6 +51,8 @@ pub(crate) struct Session<'h> {
     pub(crate) is_skipping: bool,
     /// What is sent before the server is ready.
     notifications: Vec<&'h Pair>,
+    /// What is sent in idle time.
+    later: Vec<&'h Later>,
     pub(crate) copying: Option<CopyIn<'h>>,
     /// By the place of the first answer to a statement, that of the answer of the next time.
     pub(crate) turns: Vec<(usize, usize)>,
@@ -73,6 +78,7 @@ impl<'h> Session<'h> {
             channels: Channels::new(alloc),
             is_skipping: false,
             notifications: Vec::new(alloc),
+            later: Vec::new(alloc),
             copying: None,
             turns: Vec::new(alloc),
             end_at: None,
@@ -106,14 +112,18 @@ impl<'h> Session<'h> {
 
     /// Appends the notifications, which settings changed, and that the server is ready. Outside of a transaction what was asked for takes effect.
     fn ready(&mut self, out: &mut Outbox)
-        ensures { self.new.portals ≡ self.old.portals }
+        ensures portals { self.new.portals ≡ self.old.portals }
+        ensures waits { self.old.transaction.status ≢ Idle → self.new.later ≡ self.old.later }
+        ensures ends { HasEnd self.new.transaction.status self.new.later.items out.new.bytes.items out.new.fault }
     {
         self.channels.settle(self.transaction.status, out);
         put_notifications(&self.notifications, out);
         self.notifications.clear();
         self.settings.report(out);
-        let put = reply::ready_for_query(self.transaction.status.letter(), &mut out.bytes);
-        out.put(put);
+        if put_ready(self.transaction.status, out) {
+            put_later(&self.later, &mut self.settings, &mut self.pauses, out);
+            self.later.clear();
+        }
     }
 
     /// What the statement asks for.
@@ -187,6 +197,7 @@ impl<'h> Session<'h> {
             None => self.follow(statement, went, out),
         }
         self.add_notifications(&statement.notifications, out);
+        self.add_later(&statement.later, out);
         if statement.is_fatal() {
             self.end_at = Some(out.len());
         }
@@ -198,6 +209,12 @@ impl<'h> Session<'h> {
     fn add_notifications(&mut self, notifications: &'h [Pair], out: &mut Outbox) {
         for pair in notifications {
             out.add(&mut self.notifications, pair);
+        }
+    }
+
+    fn add_later(&mut self, list: &'h [Later], out: &mut Outbox) {
+        for later in list {
+            out.add(&mut self.later, later);
         }
     }
 
@@ -216,8 +233,10 @@ impl<'h> Session<'h> {
         }
     }
 
-    /// Ends a simple query.
-    pub(crate) fn end_query(&mut self, out: &mut Outbox) {
+    /// Ends a simple query, or a call of a function.
+    pub(crate) fn end_query(&mut self, out: &mut Outbox)
+        ensures { HasEnd self.new.transaction.status self.new.later.items out.new.bytes.items out.new.fault }
+    {
         self.end_portals();
         self.ready(out);
     }
@@ -232,7 +251,9 @@ impl<'h> Session<'h> {
     }
 
     /// Answers a request that stands alone with an error.
-    pub(crate) fn stop_alone(&mut self, refusal: Refusal<'_>, out: &mut Outbox) {
+    pub(crate) fn stop_alone(&mut self, refusal: Refusal<'_>, out: &mut Outbox)
+        ensures { HasEnd self.new.transaction.status self.new.later.items out.new.bytes.items out.new.fault }
+    {
         self.stop(refusal, out);
         self.end_query(out);
     }
@@ -248,6 +269,7 @@ impl<'h> Session<'h> {
                 self.stop_alone(malformed(), out);
             }
             _ if self.is_skipping => {}
+            b'F' if self.transaction.status.rejects(false) => self.stop_alone(aborted(), out),
             b'Q' | b'F' => self.stop_alone(malformed(), out),
             // What belongs to a copy is passed over.
             b'd' | b'c' | b'f' => {}
@@ -255,13 +277,12 @@ impl<'h> Session<'h> {
         }
     }
 
-    /// Appends what is answered to a request that is no Bind and no Parse, or is passed over.
+    /// Appends what is answered to a request without a list, or to one that is passed over.
     fn answer_in_place(&mut self, message: &ClientMessage<'_>, out: &mut Outbox) {
         match message {
             ClientMessage::Sync => self.sync(out),
             _ if self.is_skipping => {}
             ClientMessage::Query(text) => self.query(text, out),
-            ClientMessage::FunctionCall { .. } => self.stop_alone(not_supported(), out),
             message => self.extended(message, out),
         }
     }
@@ -298,6 +319,30 @@ impl<'h> Session<'h> {
                 };
                 self.bind(&binding, out);
             }
+            other => self.answer_unbound(other, out),
+        }
+    }
+
+    /// The same of a request that is no Bind.
+    fn answer_unbound(&mut self, message: ClientMessage<'_>, out: &mut Outbox) {
+        match message {
+            ClientMessage::FunctionCall {
+                function,
+                mut formats,
+                mut arguments,
+                result_format,
+            } => {
+                let formats = out.listed(&mut formats);
+                let values = out.listed(&mut arguments);
+                let call = Binding {
+                    portal: b"",
+                    statement: b"",
+                    formats: &formats,
+                    values: &values,
+                    results: &[result_format],
+                };
+                self.call(function, &call, out);
+            }
             ClientMessage::Parse {
                 name,
                 query,
@@ -313,6 +358,6 @@ impl<'h> Session<'h> {
 
 fn put_notifications(notifications: &[&Pair], out: &mut Outbox) {
     for pair in notifications {
-        put_notification(pair, out);
+        put_notification(1, pair, out);
     }
 }

@@ -15,7 +15,7 @@ impl<'h> Session<'h> {
     }
 
     /// The answer of this time, by the first one.
-    fn now(&self, first: &'h Statement) -> &'h Statement {
+    pub(crate) fn now(&self, first: &'h Statement) -> &'h Statement {
         for (of, place) in &self.turns {
             if *of == first.place {
                 return self.script.statements.get(*place).unwrap_or(first);

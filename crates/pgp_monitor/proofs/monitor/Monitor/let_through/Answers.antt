@@ -1,8 +1,13 @@
 use Rattle.std.proofs.Common.{rules, ◌≡◌, ◌++◌, take, ap}
 use Rattle.pgp_monitor.specs.Answered.{IsFront}
 use Rattle.pgp_monitor.specs.Monitor.{Shown, shown}
-use Rattle.pgp_monitor.proofs.Fronts.{passed_so}
+use Rattle.pgp_monitor.proofs.Fronts.{not_admitted, passed_so}
 use Rattle.pgp_monitor.proofs.monitor.Monitor.let_through.Goals as goal
+
+pub returns-in-Err : goal.returns-in-Err
+returns-in-Err g c =
+    let f : IsFront c.args.bytes.now c.in-Some.kind c.in-Some.len = search rules in
+    not_admitted g.A.Memory.Lacks c.args.bytes.now c.in-Some.kind c.in-Some.len (shown c.args.self.now) (shown c.admit.new.self) c.in-Err.e f c.in-Err.ensures
 
 pub returns-in-Ok-append : goal.returns-in-Ok-append
 returns-in-Ok-append g c =
