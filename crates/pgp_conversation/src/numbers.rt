@@ -92,10 +92,6 @@ pub fn summary_of<A: MapMemory>(numbers: &Option<Numbers<A>>) -> Option<&Summary
 }
 
 /// Takes note of a frame that is this. Returns what its mark says of requests, where they are numbered.
-///
-/// # Errors
-///
-/// Returns `AllocError` if there is no memory for one more request.
 pub fn tell<A: MapMemory>(role: Role, numbers: &mut Option<Numbers<A>>) -> Result<Told, AllocError>
     ensures told { IfOk result (λ told. told_in role (numbers_in numbers.old) ≡ (told, numbers_in numbers.new)) }
     ensures lacks { OnErr result A.Lacks }
@@ -184,18 +180,12 @@ fn told_of(event: Option<Event>, sent: &[u64], now: u64) -> Told
     ensures { result ≡ told_of sent.now now event }
 {
     match event {
-        Some(Event::Part(number)) => Told::Answer {
+        Some(Event::Part(number) | Event::Last(number)) => Told::Answer {
             number,
             sent: sent_at(number, sent),
             now,
         },
-        Some(Event::Last(number)) => Told::Answer {
-            number,
-            sent: sent_at(number, sent),
-            now,
-        },
-        Some(Event::Aside) => Told::Nothing,
-        Some(Event::Ended) => Told::Nothing,
+        Some(Event::Aside | Event::Ended) => Told::Nothing,
         None => Told::Lost,
     }
 }
