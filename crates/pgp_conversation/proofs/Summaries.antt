@@ -145,10 +145,10 @@ table_in : (view : View) (lines : List ℕ) (n : Option Numbers) → is_summed n
 table_in view lines None e = absurd (no_truth e)
 table_in view lines (Some n) e = some_table view lines n.summary e
 
-begins_summed : (numbered sums : Bool) → numbered ≡ true → sums ≡ true → is_summed (first_numbers numbered sums) ≡ true
-begins_summed true true e f = refl
-begins_summed true false e f = f
-begins_summed false sums e f = e
+begins_summed : (numbered sums folds : Bool) → numbered ≡ true → sums ≡ true → is_summed (first_numbers numbered sums folds) ≡ true
+begins_summed true true folds e f = refl
+begins_summed true false folds e f = f
+begins_summed false sums folds e f = e
 
 counted : (numbered typed : Bool) → numbered ≡ true → (numbered || typed) ≡ true
 counted true typed e = refl
@@ -157,7 +157,7 @@ counted false typed e = absurd (no_truth e)
 pub table_alone : (view : View) (marking : Marking) (bytes output : List ℕ) (end : End) → marking.numbered ≡ true → marking.summed ≡ true → (l : IsListing (summarized true view) marking bytes end output)
     → (s : State) × (summary_in l.talk.known.numbers ≡ Some s) × (output ≡ table (summarized true view) s.tallies)
 table_alone view marking bytes output end numbered sums l =
-    let all : is_summed l.talk.known.numbers ≡ true = chunks_kept (summarized true view) (begins marking) l.each.chunks l.lines l.talk l.each.each ∙ begins_summed (counts marking) marking.summed (counted marking.numbered (not marking.raw) numbered) sums in
+    let all : is_summed l.talk.known.numbers ≡ true = chunks_kept (summarized true view) (begins marking) l.each.chunks l.lines l.talk l.each.each ∙ begins_summed (counts marking) marking.summed marking.folded (counted marking.numbered (not marking.raw) numbered) sums in
     let told = told_by l.talk.known.marked (unnumbered l.talk.known.numbers) in
     let last = last_of (summarized true view) told sides.Client l.talk.client.stopped (left l.talk.client) ++ last_of (summarized true view) told sides.Server l.talk.server.stopped (left l.talk.server) in
     let t = table_in (summarized true view) last l.talk.known.numbers all in

@@ -28,34 +28,39 @@ pub struct Numbers<A: MapMemory> {
 }
 
 /// Before the first request, where requests are numbered.
-pub fn first_numbers<A: MapMemory>(alloc: A, numbered: bool, summed: bool) -> Option<Numbers<A>>
-    ensures { numbers_in result ≡ first_numbers numbered summed }
+pub fn first_numbers<A: MapMemory>(
+    alloc: A,
+    numbered: bool,
+    summed: bool,
+    folds: bool,
+) -> Option<Numbers<A>>
+    ensures { numbers_in result ≡ first_numbers numbered summed folds }
 {
     if numbered {
-        Some(no_numbers(alloc, summed))
+        Some(no_numbers(alloc, summed, folds))
     } else {
         None
     }
 }
 
 /// Before the first request.
-fn no_numbers<A: MapMemory>(alloc: A, summed: bool) -> Numbers<A>
-    ensures { numbers_of result ≡ no_numbers summed }
+fn no_numbers<A: MapMemory>(alloc: A, summed: bool, folds: bool) -> Numbers<A>
+    ensures { numbers_of result ≡ no_numbers summed folds }
 {
     Numbers {
         dialogue: Some(Dialogue::new(alloc)),
         sent: Vec::new(alloc),
         now: 0,
-        summary: first_summary(alloc, summed),
+        summary: first_summary(alloc, summed, folds),
     }
 }
 
 /// Before the first request, where a summary is asked for.
-fn first_summary<A: MapMemory>(alloc: A, summed: bool) -> Option<Summary<A>>
-    ensures { result ≡ first_summary summed }
+fn first_summary<A: MapMemory>(alloc: A, summed: bool, folds: bool) -> Option<Summary<A>>
+    ensures { result ≡ first_summary summed folds }
 {
     if summed {
-        Some(Summary::new(alloc))
+        Some(Summary::new(alloc, folds))
     } else {
         None
     }

@@ -48,7 +48,7 @@ pub fn at_first<A: MapMemory>(alloc: A, marking: Marking) -> Known<A>
         kinds: Vec::new(alloc),
         phase: Phase::Beginning,
         requests: Vec::new(alloc),
-        numbers: first_numbers(alloc, counts(marking), marking.summed),
+        numbers: first_numbers(alloc, counts(marking), marking.summed, marking.folded),
         marked: marking.numbered,
         types: first_types(alloc, marking.raw),
     }

@@ -33,8 +33,8 @@ calls_tally s [] = refl
 calls_tally s (call ∷ more) =
     calls_tally (called call s) more ∙ ap (λ l. tally_after l (runs_in (called call s) more)) (call_tally call s) ∙ tally_join s.tallies (run_in call s) (runs_in (called call s) more)
 
-pub all_tallied : (calls : List Call) → (after nothing calls).tallies ≡ tally (runs_in nothing calls)
-all_tallied calls = calls_tally nothing calls
+pub all_tallied : (folds : Bool) (calls : List Call) → (after (nothing folds) calls).tallies ≡ tally (runs_in (nothing folds) calls)
+all_tallied folds calls = calls_tally (nothing folds) calls
 
 -- ---- statements
 

@@ -2,6 +2,7 @@
 use Rattle.std.specs.Prelude.{ℕ, ◌+◌, Bool, true, false, ◌&&◌, ◌==◌, nat_lt, if◌then◌else◌, List, [], ◌∷◌, ◌++◌, Option, None, Some, codes}
 use Rattle.std.specs.Option.{unwrap_or}
 use Rattle.pgp_names.specs.Names.{found, put}
+use Rattle.pgp_summary.specs.Fold.{folded}
 use Rattle.pgp_summary.specs.Runs.{Run, Tally, capped, tallied, tally_after}
 use Rattle.pgp_summary.specs.declared.work.Work.{Work}
 use Rattle.pgp_summary.specs.declared.work.Work.TheVariants.{Query, Parse, Bind, Execute}
@@ -67,8 +68,9 @@ first_of number (first ∷ more) = if first.number == number then Some first els
 
 -- ---- what is known of the requests
 
--- The texts of statements and portals; the requests whose answers aren't complete, in order; how many rows of which request came; and the statements that ran.
+-- Whether statements are noted without their literals; the texts of statements and portals; the requests whose answers aren't complete, in order; how many rows of which request came; and the statements that ran.
 pub record State : Type 0 where
+  pub folds : Bool
   pub statements : List (List ℕ × List ℕ)
   pub portals : List (List ℕ × List ℕ)
   pub waiting : List Request
@@ -77,12 +79,20 @@ pub record State : Type 0 where
   pub tallies : List Tally
 
 -- before the first request
-abbrev pub nothing : State
-nothing = record { statements = []; portals = []; waiting = []; counted = 0; rows = 0; tallies = [] }
+abbrev pub nothing : (folds : Bool) → State
+nothing folds = record { folds = folds; statements = []; portals = []; waiting = []; counted = 0; rows = 0; tallies = [] }
+
+abbrev pub text_in : (folds : Bool) → List ℕ → List ℕ
+text_in true text = folded text
+text_in false text = text
+
+-- as it is noted: without the literals of its statement, where that is asked for. (A ReadyForQuery ends a Query alone, a ParseComplete a Parse.)
+abbrev pub noted : (folds : Bool) → Request → Request
+noted folds r = record r { first = text_in (folds && ends r.work ReadyForQuery) r.first; second = text_in (folds && ends r.work ParseComplete) r.second }
 
 -- one more request
 abbrev pub asked : Request → State → State
-asked r s = record s { waiting = s.waiting ++ r ∷ [] }
+asked r s = record s { waiting = s.waiting ++ noted s.folds r ∷ [] }
 
 -- the rows of the request of this number, so far
 abbrev pub rows_of : ℕ → State → ℕ

@@ -7,7 +7,7 @@ use Rattle.pgp_frontend_read.specs.declared.message.PasswordKind.{PasswordKind}
 use Rattle.pgp_frontend_read.specs.declared.message.PasswordKind.TheVariants.{Password, Initial, Response}
 use Rattle.pgp_trace.specs.declared.marking.Marking.{Marking}
 use Rattle.pgp_trace.specs.declared.options.Choice.{Choice}
-use Rattle.pgp_trace.specs.declared.options.Choice.TheVariants.{AsJson, Full, Secrets, Resume, Replication, Only, Except, Color, Kind, Time, Requests, Slower, Summary, Raw}
+use Rattle.pgp_trace.specs.declared.options.Choice.TheVariants.{AsJson, Full, Secrets, Resume, Replication, Only, Except, Color, Kind, Time, Requests, Slower, Summary, Fold, Raw}
 use Rattle.pgp_trace.specs.declared.options.Clock.{Clock}
 use Rattle.pgp_trace.specs.declared.options.Clock.TheVariants.{Absolute, Relative}
 use Rattle.pgp_trace.specs.declared.options.Listing.{Listing}
@@ -47,6 +47,7 @@ word_of (Time clock) = codes "--time"
 word_of Requests = codes "--requests"
 word_of (Slower word millis) = codes "--slower"
 word_of Summary = codes "--summary"
+word_of Fold = codes "--fold"
 word_of Raw = codes "--raw"
 
 abbrev pub argument_of : Choice → List (List ℕ)
@@ -66,7 +67,7 @@ spelled choice = word_of choice ∷ argument_of choice
 abbrev pub options_in : Listing → List (List ℕ)
 options_in Server = codes "--json" ∷ codes "--full" ∷ codes "--secrets" ∷ codes "--resume" ∷ codes "--only" ∷ codes "--except" ∷ codes "--color" ∷ []
 options_in Client = codes "--json" ∷ codes "--full" ∷ codes "--secrets" ∷ codes "--resume" ∷ codes "--only" ∷ codes "--except" ∷ codes "--color" ∷ codes "--password-kind" ∷ codes "--replication" ∷ []
-options_in Session = codes "--json" ∷ codes "--full" ∷ codes "--secrets" ∷ codes "--requests" ∷ codes "--slower" ∷ codes "--raw" ∷ codes "--summary" ∷ codes "--time" ∷ codes "--only" ∷ codes "--except" ∷ codes "--color" ∷ []
+options_in Session = codes "--json" ∷ codes "--full" ∷ codes "--secrets" ∷ codes "--requests" ∷ codes "--slower" ∷ codes "--raw" ∷ codes "--summary" ∷ codes "--fold" ∷ codes "--time" ∷ codes "--only" ∷ codes "--except" ∷ codes "--color" ∷ []
 
 -- of that which has a number of milliseconds: it is what its word says, and less than 2³²
 abbrev pub IsSound : Choice → Type 0
@@ -94,7 +95,7 @@ pub record Chosen : Type 0 where
 
 -- with none, where a terminal shows the listing or not
 abbrev pub nothing_chosen : (terminal : Bool) → Chosen
-nothing_chosen terminal = record { json = false; full = false; secrets = false; resume = false; replicating = false; only = []; except = []; colored = terminal; kinds = []; slower = 0; marking = record { absolute = false; numbered = false; summed = false; raw = false } }
+nothing_chosen terminal = record { json = false; full = false; secrets = false; resume = false; replicating = false; only = []; except = []; colored = terminal; kinds = []; slower = 0; marking = record { absolute = false; numbered = false; summed = false; folded = false; raw = false } }
 
 abbrev pub is_comma : ℕ → Bool
 is_comma byte = byte == 44
@@ -119,6 +120,7 @@ marks (Time clock) m = record m { absolute = is_absolute clock }
 marks (Slower word millis) m = record m { numbered = true }
 marks Requests m = record m { numbered = true }
 marks Summary m = record m { numbered = true; summed = true }
+marks Fold m = record m { folded = true }
 marks Raw m = record m { raw = true }
 marks choice m = m
 

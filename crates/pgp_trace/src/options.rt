@@ -61,6 +61,8 @@ pub enum Choice<'a> {
     Slower(&'a str, u32),
     /// A table of what requests ran stands in the place of the lines.
     Summary,
+    /// Statements that differ in their literals alone are one there.
+    Fold,
     /// Values in binary format are shown as their bytes.
     Raw,
 }
@@ -107,6 +109,7 @@ const SESSION: &[&str] = &[
     "--slower",
     "--raw",
     "--summary",
+    "--fold",
     "--time",
     "--only",
     "--except",
@@ -170,6 +173,7 @@ fn no_options<'a, A: Memory>(alloc: A, terminal: bool) -> Options<'a, A>
             absolute: false,
             numbered: false,
             summed: false,
+            folded: false,
             raw: false,
         },
     }
@@ -198,7 +202,7 @@ fn choose<'a, A: Memory>(
             options.slower = u64::from(millis) * 1000;
             mark(choice, &mut options.marking)
         }
-        Choice::Time(_) | Choice::Requests | Choice::Summary | Choice::Raw => mark(
+        Choice::Time(_) | Choice::Requests | Choice::Summary | Choice::Fold | Choice::Raw => mark(
             choice,
             &mut options.marking,
         ),
@@ -217,6 +221,7 @@ fn mark(choice: Choice<'_>, marking: &mut Marking)
             marking.numbered = true;
             marking.summed = true;
         }
+        Choice::Fold => marking.folded = true,
         Choice::Raw => marking.raw = true,
         _ => {}
     }
@@ -292,6 +297,7 @@ fn first_choice<'a>(words: &[&'a str]) -> Option<Choice<'a>>
         "--requests" => Some(Choice::Requests),
         "--slower" => first_millis(rest),
         "--summary" => Some(Choice::Summary),
+        "--fold" => Some(Choice::Fold),
         "--raw" => Some(Choice::Raw),
         _ => None,
     }
