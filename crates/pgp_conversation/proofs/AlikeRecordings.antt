@@ -56,7 +56,7 @@ hidden view from _ _ _ to too (OneChunkAlike {chunks = cs} {others = ds} {lines 
 
 same_last : (view : View) (talk another : Talk) → AlikeTalks talk another → last_lines view another ≡ last_lines view talk
 same_last view talk another s =
-    let last = λ (k : Known) (a b : Bool) (m n : ℕ). ending_by view.style (summary_in k.numbers)
+    let last = λ (k : Known) (a b : Bool) (m n : ℕ). ending_by view (summary_in k.numbers)
     (last_of view (told_by k.marked (unnumbered k.numbers)) Client a m ++ last_of view (told_by k.marked (unnumbered k.numbers)) Server b n) in
     let client = s.halves Client in
     let server = s.halves Server in

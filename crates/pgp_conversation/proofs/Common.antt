@@ -7,8 +7,8 @@ pub use Rattle.std.proofs.lemmas.Grind.{flat_map-append}
 pub use Rattle.std.proofs.lemmas.List.{append-nil, length-take, take-append-drop, take-append-le, drop-drop}
 pub use Rattle.std.proofs.lemmas.List.Concat.{flat_map-cons}
 pub use Rattle.std.specs.Int.{w32, w64, from_be_bytes}
-pub use Rattle.pgp_conversation.specs.Common.{Appends, Consumes, IsAtEnd, flat_map, AllByRecursion, list_all, option_map, Error, ClientMessage, CancelRequest, PasswordMessage, SaslInitialResponse, SaslResponse, Bind, Response, ClientError, PasswordKind, Part, ListEnds, Value, closing, followed, blanks, Count, Length, Name, Tag, Text, key, opening, IsPrinted, is_visible, is_printable, json_value, quoted, up_to, Form, Json, Columns, Style, Authentication, AuthenticationGssContinue, AuthenticationMd5Password, AuthenticationSaslContinue, AuthenticationSaslFinal, BackendKeyData, Message, DataRow, ParameterDescription, RowDescription, Body, AuthenticationOk, value_at, HasPlaces, IsPlaceIn, Streams, AppendsFront, greatest, Tally, line_of, State, place_behind, name_in, LineOf, IsServerLine, server_name, client_frame_name, ending, refused, Ends, Side, is_password, expected, answered, is_reported, replicates_behind, server_at, View, color_of, is_listed, painted, shown, Marking, Beginning, Messages, Replicating, Encrypted, Sender, Client, Server, Column, End, Noted, Told, Role}
-pub use Rattle.std.specs.Prelude.{OnOk, codes, OnErr, nat_lt, if◌then◌else◌, ◌==◌, map, ◌/◌, ◌%◌, decimal, IfOk, ◌||◌, is_some, not, bytes_eq, slice_get, string_bytes}
+pub use Rattle.pgp_conversation.specs.Common.{Appends, Consumes, IsAtEnd, flat_map, AllByRecursion, list_all, option_map, Error, ClientMessage, CancelRequest, PasswordMessage, SaslInitialResponse, SaslResponse, Bind, Response, ClientError, PasswordKind, Part, ListEnds, Value, closing, followed, blanks, Count, Length, Name, Tag, Text, key, opening, IsPrinted, is_visible, is_printable, json_value, quoted, up_to, Form, Json, Columns, Style, Authentication, AuthenticationGssContinue, AuthenticationMd5Password, AuthenticationSaslContinue, AuthenticationSaslFinal, BackendKeyData, Message, DataRow, ParameterDescription, RowDescription, Body, AuthenticationOk, value_at, HasPlaces, IsPlaceIn, Streams, AppendsFront, greatest, Tally, line_of, State, place_behind, name_in, LineOf, IsServerLine, server_name, client_frame_name, ending, refused, Ends, Side, is_password, expected, answered, is_reported, replicates_behind, server_at, View, color_of, has_word, is_listed, painted, shown, Marking, Beginning, Messages, Replicating, Encrypted, Sender, Client, Server, Column, End, Noted, Told, Role}
+pub use Rattle.std.specs.Prelude.{OnOk, codes, OnErr, nat_lt, if◌then◌else◌, ◌==◌, map, ◌/◌, ◌%◌, decimal, IfOk, ◌||◌, ◌&&◌, is_some, not, bytes_eq, slice_get, string_bytes}
 pub use Rattle.std.specs.declared.ops.Range.{Range}
 pub use Rattle.pgp_base.proofs.PartLemmas.{IsBytes-drop, IsBytes-take, oid_number, uint64_number}
 pub use Rattle.pgp_base.proofs.Parts.{on_err}
@@ -26,12 +26,13 @@ pub use Rattle.pgp_message.specs.Stream.{Frame, IsEnding, IsFrame, Step, TakesFr
 pub use Rattle.pgp_trace.proofs.Ends.{stays_ended, nothing_ends}
 pub use Rattle.pgp_trace.proofs.Fronts.{more_taken, none_taken, all_taken}
 pub use Rattle.pgp_trace.proofs.Printable.{blank, plain, plain_join, plain_number, join, line_printable, cut, json_val, quote, closing_printable, opening_printable, parts_printable}
+pub use Rattle.pgp_trace.proofs.Traces.{ok_then}
 pub use Rattle.pgp_trace.specs.Client.{counted, signed_part, client_name}
 pub use Rattle.pgp_trace.specs.ClientSecrets.{AlikeAnswers, AlikeMessages, ReadsAs}
 pub use Rattle.pgp_trace.specs.Secrets.{Alike, AlikeResults, AlikeFrames, quiet, quietly}
 pub use Rattle.pgp_trace.specs.Steps.{HasLine, ListsNext, IsFrameOf, view_of}
 pub use Rattle.pgp_trace.specs.declared.frame.Next.TheVariants.{Line, Waits, Stops}
-pub use Rattle.pgp_conversation.specs.Conversation.{asks, noted_by, requests, Half, Known, Talk, ListsFrame, ListsFrames, NoLines, OneLine, first_time, now_at, side_in, with_numbers, ListsChunk, ListsChunks, NoChunkListed, OneChunkListed, at_first, begins, half_in, other, as_standby, note, noted_in, replicates_in, text_of, told_by, with_kind, with_side, with_types, last_lines, is_replicating, first_start, last_of, left, answer_to, called, counts, either, relined}
+pub use Rattle.pgp_conversation.specs.Conversation.{asks, noted_by, requests, Half, Known, Talk, ListsFrame, ListsFrames, NoLines, OneLine, first_time, now_at, side_in, with_numbers, ListsChunk, ListsChunks, NoChunkListed, OneChunkListed, at_first, begins, half_in, other, as_standby, note, noted_in, replicates_in, text_of, told_by, with_kind, with_side, with_types, last_lines, is_replicating, first_start, last_of, left, answer_to, called, counts, either, relined, waited}
 pub use Rattle.pgp_conversation.specs.Marks.{mark, since, word, marked, between, last_mark, later, member, members, says}
 unfoldable pub use Rattle.pgp_conversation.specs.Marks.{millis, number}
 pub use Rattle.pgp_conversation.specs.Pieces.{ListsAllChunks, ListsPiece, ListsSome, Stays, Tracks, TracksTo, held_first, held_last}
@@ -41,7 +42,7 @@ pub use Rattle.pgp_conversation.specs.Session.{HasLines, IsListing, Awaits, IsCu
 pub use Rattle.pgp_conversation.specs.Shelves.{formatted, formatted_from, is_binary}
 pub use Rattle.pgp_conversation.specs.Steps.{ListsBytes, ListsChunkTo, HeldHalf, HeldTalk, Holds, Keeps, ListsAllFrames, TakesChunk, ListsOneFrame, known_of, TakesPart, chunk_of, end_of, numbers_in, half_of, kept_of, KnowsNext}
 pub use Rattle.pgp_conversation.specs.Summing.{asking_from, asking_of, asking_in, summed, Asking, summed_so}
-pub use Rattle.pgp_conversation.specs.Tables.{cell, columns, heading, row_by, row_of, times, ending_by, table, row_at}
+pub use Rattle.pgp_conversation.specs.Tables.{cell, columns, heading, row_by, row_of, times, ending_by, table, row_at, row_in}
 pub use Rattle.pgp_conversation.specs.Typed.{Heard, Said, Sent, Unsaid, Learns, said_in, ShowsTyped, Gives, Hears, IsBindLine, IsRowLine, Lists, ShowsBound, ShowsBytes, ShowsFitting, ShowsHeard, ShowsRow, ShowsSent, ShowsValue, ShowsValues, bind_front, column_first, columns_of, fits, has_binary, parameters_in, row_front, column_of, parameter, sends}
 pub use Rattle.pgp_conversation.specs.TypedLines.{Reads, Passes, ReadsSo, ShowsRequest, Tells, lost, AddsValue, AddsValues}
 pub use Rattle.pgp_conversation.specs.Types.{Types, Awaited, described, first, reached, rows_of, tells}

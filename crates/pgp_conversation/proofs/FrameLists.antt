@@ -1,5 +1,5 @@
 -- The lines of a side, a frame at a time.
-use Rattle.pgp_conversation.proofs.Common.{◌≡◌, ℕ, ◌+◌, ◌-◌, ◌<◌, ◌≤◌, Bool, true, false, List, [], ◌++◌, length, min, Option, refl, sym, ap, subst, ◌∙◌, arith, length-append, PasswordKind, greatest, place_behind, name_in, Side, Ends, HasLine, View, Sender, Client, Server, Noted, Asks, Told, Known, ListsFrame, ListsFrames, NoLines, OneLine, as_standby, note, noted_by, noted_in, other, replicates_in, side_in, text_of, told_by, with_kind, with_numbers, with_side, with_types, asking_from, asking_in, summed, word, Numbers, role_by, told_in, Learns, said_in, Reads, Types, ListsOneFrame, now_at}
+use Rattle.pgp_conversation.proofs.Common.{◌≡◌, ℕ, ◌+◌, ◌-◌, ◌<◌, ◌≤◌, Bool, true, false, List, [], ◌++◌, length, min, Option, refl, sym, ap, subst, ◌∙◌, arith, length-append, PasswordKind, greatest, place_behind, name_in, Side, Ends, HasLine, View, Sender, Client, Server, Noted, Asks, Told, Known, ListsFrame, ListsFrames, NoLines, OneLine, as_standby, note, noted_by, noted_in, other, replicates_in, side_in, text_of, told_by, with_kind, with_numbers, with_side, with_types, asking_from, asking_in, summed, Numbers, role_by, told_in, Learns, said_in, Reads, Types, ListsOneFrame, now_at}
 use Rattle.pgp_trace.specs.Sides.{Server as ServerSide, Client as ClientSide}
 use Rattle.pgp_trace.proofs.Rows.{RowsTo, one_listed}
 use Rattle.pgp_trace.proofs.Shorter.{frame_has}
@@ -19,7 +19,7 @@ kept Server old side = record { requests = refl; numbers = refl; types = refl; m
 pub lists_one : (view : View) (mark : List ℕ) (who : Sender) (place : ℕ) (old mid new : Known) (told : Told) (noted : Noted) (sums : Option Numbers) (types : Option Types) (bytes behind line typed name before after : List ℕ)
     → (has : HasLine view.style place (side_in who old) bytes behind line (side_in who mid) name) → mid ≡ with_side who old (side_in who mid)
     → Reads view.style place has.frame name (said_in view.style place (side_in who old) has.frame line (side_in who mid) has.reported) mid.numbers sums mid.types types line typed told noted
-    → after ≡ before ++ text_of view (mark ++ word view.style.form (told_by mid.marked told)) place mid.requests name typed → new ≡ note noted (with_types types (with_numbers sums mid)) → ListsOneFrame view mark who place old bytes behind before after new
+    → after ≡ before ++ text_of view mark (told_by mid.marked told) place mid.requests name typed → new ≡ note noted (with_types types (with_numbers sums mid)) → ListsOneFrame view mark who place old bytes behind before after new
 lists_one view mark who place old mid new told noted sums types bytes behind line typed name before after has same reads grown is =
     let from = side_in who old in
     let to = side_in who mid in
@@ -27,13 +27,13 @@ lists_one view mark who place old mid new told noted sums types bytes behind lin
     let counted : mid.numbers ≡ old.numbers = ap (λ (k : Known). k.numbers) same ∙ (kept who old to).numbers in
     let typing : mid.types ≡ old.types = ap (λ (k : Known). k.types) same ∙ (kept who old to).types in
     let marking : mid.marked ≡ old.marked = ap (λ (k : Known). k.marked) same ∙ (kept who old to).marked in
-    let stamp = λ (marked : Bool). mark ++ word view.style.form (told_by marked told) in
+    let by = λ (marked : Bool). told_by marked told in
     let named = name_in view.style place from has.frame line to has.reported in
     let said = said_in view.style place from has.frame line to has.reported in
     let numbers = reads.tells.numbers in
     record {
       frame = has.frame;
-      text = text_of view (stamp old.marked) place old.requests named typed;
+      text = text_of view mark (by old.marked) place old.requests named typed;
       whole = has.whole;
       some = frame_has view.style place from to has.frame line has.reported;
       lists = record {
@@ -53,7 +53,7 @@ lists_one view mark who place old mid new told noted sums types bytes behind lin
             ∙ ap (λ n. note (noted_by said) (with_types types (with_numbers (summed told (asking_from said) n numbers) mid))) has.named
             ∙ ap (λ k. note (noted_by said) (with_types types (with_numbers (summed told (asking_from said) named numbers) k))) same;
       };
-      grown = grown ∙ ap (λ b. before ++ text_of view (stamp b) place mid.requests name typed) marking ∙ ap (λ r. before ++ text_of view (stamp old.marked) place r name typed) waiting ∙ ap (λ n. before ++ text_of view (stamp old.marked) place old.requests n typed) has.named;
+      grown = grown ∙ ap (λ b. before ++ text_of view mark (by b) place mid.requests name typed) marking ∙ ap (λ r. before ++ text_of view mark (by old.marked) place r name typed) waiting ∙ ap (λ n. before ++ text_of view mark (by old.marked) place old.requests n typed) has.named;
     }
 
 pub front_long : (bytes frame behind : List ℕ) → bytes ≡ frame ++ behind → length behind ≤ length bytes

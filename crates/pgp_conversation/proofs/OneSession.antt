@@ -33,11 +33,11 @@ lists_one one_text view m who place here to too f g text another x y a b e =
     let shown = subst (λ t. ShowsTyped view.style place (length f) b.told other t a.line a.typed) types shows in
     let framed = subst (λ l. ShowsTyped view.style place (length l) b.told other b.types a.line a.typed) one.0.frames shown in
     let typed : a.typed ≡ b.typed = shows_one one_text view.style place (length g) b.told other b.types b.line a.typed b.typed (subst (λ l. ShowsTyped view.style place (length g) b.told other b.types l a.typed) one.0.texts framed) b.shows in
-    let stamp = λ (t : Told). m ++ word view.style.form (told_by here.marked t) in
+    let by = λ (t : Told). told_by here.marked t in
     record {
       frames = one.0.frames;
-      texts = a.is ∙ ap (λ t. text_of view (stamp t) place here.requests (name_in view.style place from f a.line a.after a.reported) a.typed) told
-          ∙ ap (λ n. text_of view (stamp b.told) place here.requests n a.typed) one.1 ∙ ap (λ l. text_of view (stamp b.told) place here.requests named l) typed ∙ sym b.is;
+      texts = a.is ∙ ap (λ t. text_of view m (by t) place here.requests (name_in view.style place from f a.line a.after a.reported) a.typed) told
+          ∙ ap (λ n. text_of view m (by b.told) place here.requests n a.typed) one.1 ∙ ap (λ l. text_of view m (by b.told) place here.requests named l) typed ∙ sym b.is;
       rests = one.0.rests;
       states = a.behind ∙ ap (λ n. note n (with_types a.types (with_numbers (summed a.told (asking_in view.style place from f a.line a.after a.reported) first_name a.numbers) (with_side who here a.after)))) noted
           ∙ ap (λ n. note notes (with_types a.types (with_numbers n (with_side who here a.after)))) sums

@@ -1,12 +1,7 @@
 -- What a frame tells of types is one thing, and so is its line, since a value has one text.
 use Rattle.pgp_conversation.proofs.Common.{◌≡◌, ℕ, ℤ, Bool, true, false, List, [], ◌∷◌, drop, length, Option, Some, None, Ok, inl, inr, sym, ap, subst, ◌∙◌, map, codes, Range, Message, DataRow, ParameterDescription, RowDescription, FieldSpelled, FieldRefused, RangeSpelled, RangeRefused, TypeSpelled, TypeRefused, CountedBytes, value_at, ClientMessage, Bind, Part, ListEnds, Value, closing, followed, Style, counted, signed_part, ending, Column, Told, Gives, Heard, Hears, IsBindLine, IsRowLine, Learns, Lists, Said, Sent, ShowsBound, ShowsBytes, ShowsFitting, ShowsHeard, ShowsRow, ShowsSent, ShowsTyped, ShowsValue, ShowsValues, bind_front, column_first, columns_of, fits, has_binary, parameters_in, row_front, Awaited, Types, described, first, reached, rows_of, tells}
 use Rattle.std.specs.Prelude.{◌++◌}
-use Rattle.pgp_base.specs.OneList.{HasOneCountedList}
-use Rattle.pgp_base.proofs.OneLists.{one_counted_list}
-use Rattle.pgp_message.specs.ItemReading.{field_at, range_at, type_at}
-use Rattle.pgp_message.proofs.FieldLemmas.{field_reader}
-use Rattle.pgp_message.proofs.NumberLemmas.{type_reader}
-use Rattle.pgp_message.proofs.RangeLemmas.{range_reader}
+use Rattle.pgp_trace.proofs.OneListing.{columns, ranges, types}
 use Rattle.pgp_values.specs.Formats.{formats as known_formats}
 use Rattle.pgp_values.specs.FormatTable.{format_in}
 use Rattle.pgp_value_text.specs.ValueText.{IsTextOf, is_float}
@@ -14,23 +9,14 @@ use Rattle.pgp_conversation.specs.declared.placement.Told.TheVariants as told
 
 -- ---- what is told
 
-fields : HasOneCountedList FieldSpelled FieldRefused
-fields = one_counted_list FieldSpelled FieldRefused (λ place. field_at) field_reader
-
-ranges : HasOneCountedList RangeSpelled RangeRefused
-ranges = one_counted_list RangeSpelled RangeRefused range_at range_reader
-
 columns_one : (row : CountedBytes) (x y : Option (List Column)) → Lists row x → Lists row y → x ≡ y
 columns_one row x y a b =
-    let same = fields.one row.count row.storage a.fields b.fields a.end b.end a.list b.list in
+    let same = columns.one row.count row.storage a.fields b.fields a.end b.end a.list b.list in
     a.is ∙ ap (λ l. columns_of l a.end) same.0 ∙ ap (columns_of b.fields) same.1 ∙ sym b.is
-
-given : HasOneCountedList TypeSpelled TypeRefused
-given = one_counted_list TypeSpelled TypeRefused (λ place. type_at) type_reader
 
 parameters_one : (row : CountedBytes) (x y : Option (List Column)) → Gives row x → Gives row y → x ≡ y
 parameters_one row x y a b =
-    let same = given.one row.count row.storage a.types b.types a.end b.end a.list b.list in
+    let same = types.one row.count row.storage a.types b.types a.end b.end a.list b.list in
     a.is ∙ ap (λ l. parameters_in l a.end) same.0 ∙ ap (parameters_in b.types) same.1 ∙ sym b.is
 
 hears_one : (m : Message) (a : Option Awaited) (old x y : Types) → Hears m a old x → Hears m a old y → x ≡ y

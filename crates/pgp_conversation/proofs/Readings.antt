@@ -5,17 +5,15 @@ use Rattle.pgp_conversation.specs.Requests.{notes_nothing}
 use Rattle.pgp_base.specs.declared.error.Error.TheVariants as errors
 use Rattle.pgp_frontend.specs.ClientMessage.{PasswordKind}
 use Rattle.pgp_frontend_read.specs.Step as client
+use Rattle.pgp_trace.proofs.OneListing.{one_read}
 use Rattle.pgp_conversation.specs.declared.placement.Told.TheVariants as told
 
 -- ---- a server's frame has one result
 
-bodies_one : (f g : Frame) (r s : Result Message Error) → IsFrame f → f ≡ g → Body f.tag f.payload r → Body g.tag g.payload s → r ≡ s
-bodies_one f g r s fits e a b = sym (one_body f.tag f.payload r fits.payload a) ∙ one_body f.tag f.payload s fits.payload (subst (λ (h : Frame). Body h.tag h.payload s) (sym e) b)
-
 frame_read : (frame rest : List ℕ) (r s : Result Message Error) → IsFrameOf frame r → TakesFrame frame s rest → r ≡ s
 frame_read frame rest r s a b =
     let one = front_is_one a.first b.first [] rest a.fits b.fits (append-nil (frame_bytes a.first) ∙ sym a.whole ∙ b.whole) in
-    bodies_one a.first b.first r s a.fits one.0 a.body b.body
+    one_read a.first b.first r s a.fits one.0 a.body b.body
 
 pub same_read : (frame : List ℕ) (r s : Result Message Error) → IsFrameOf frame r → IsFrameOf frame s → r ≡ s
 same_read frame r s a b = frame_read frame [] r s a (record { first = b.first; whole = b.whole ∙ sym (append-nil (frame_bytes b.first)); fits = b.fits; body = b.body })

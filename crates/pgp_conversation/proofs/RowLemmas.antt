@@ -1,12 +1,6 @@
 -- Values of a row and columns of a description, one at a time.
 use Rattle.pgp_conversation.proofs.Common.{◌≡◌, ℕ, ℤ, List, [], ◌∷◌, ◌++◌, drop, length, Option, Some, None, Result, Ok, Err, refl, sym, ap, subst, ◌∙◌, append_assoc, OnOk, codes, map, option_map, Range, append-nil, Walk, TakesItem, IsFinished, IsRefused, Error, FieldPart, CountedBytes, HasPlaces, value_at, ListEnds, closing, followed, Style, counted, signed_part, ending, refused, IsBindLine, IsRowLine, ShowsValues, bind_front, column_first, column_of, columns_of, parameter, parameters_in, row_front, AddsValue, AddsValues, Column}
 
--- ---- what a call returns
-
-pub ok_then : {T E P Q : Type 0} (r : Result T E) → (P → Q) → OnOk r P → OnOk r Q
-ok_then (Ok x) f p = f p
-ok_then (Err e) f p = tt
-
 -- ---- values
 
 module _ (style : Style) (columns : List Column) (value : Option (Range ℕ) → Option (List ℕ)) (before after : Walk (Option (Range ℕ))) where

@@ -3,6 +3,7 @@ use Rattle.pgp_conversation.proofs.Common.{◌≡◌, ℕ, Bool, true, false, Li
 use Rattle.pgp_frontend.specs.ClientMessage.{PasswordKind}
 use Rattle.pgp_frontend_read.specs.Step as client
 use Rattle.pgp_frontend_read.specs.declared.message.PasswordKind as code
+use Rattle.pgp_trace.proofs.OneListing.{same_result}
 use Rattle.pgp_trace.specs.Sides as side
 use Rattle.pgp_trace.specs.declared.side.Phase.{Phase}
 use Rattle.pgp_conversation.specs.declared.state.Known as code_known
@@ -35,24 +36,6 @@ line_read P style place kept kind frame line to same Server is all = all (said_i
 
 -- ---- a frame is read as one thing
 
-abbrev message_sent : ClientMessage → Result (Option ClientMessage) ClientError → ClientMessage
-message_sent d (Ok (Some m)) = m
-message_sent d r = d
-
-abbrev fault_sent : ClientError → Result (Option ClientMessage) ClientError → ClientError
-fault_sent d (Err e) = e
-fault_sent d r = d
-
-abbrev IsSent : Result (Option ClientMessage) ClientError → Type 0
-IsSent (Ok (Some m)) = Unit {0}
-IsSent r = ⊥
-
-steps_same : (r s : Result ClientMessage ClientError) → step_of r ≡ step_of s → r ≡ s
-steps_same (Ok m) (Ok k) e = ap (λ t. Ok (message_sent m t)) e
-steps_same (Err f) (Err g) e = ap (λ t. Err (fault_sent f t)) e
-steps_same (Ok m) (Err g) e = absurd (subst IsSent e tt)
-steps_same (Err f) (Ok k) e = absurd (subst IsSent (sym e) tt)
-
 reads_one : (who : Sender) (opened : Bool) (kind : PasswordKind) (frame : List ℕ) (x y : Said) → ReadsSo who opened kind frame x → ReadsSo who opened kind frame y → x ≡ y
 reads_one Server opened kind frame (Heard r) (Heard s) a b = ap (λ t. Heard t) (same_read frame r s a b)
 reads_one Server opened kind frame (Heard r) Unsaid a b = absurd (short frame r a b)
@@ -62,7 +45,7 @@ reads_one Server opened kind frame (Sent r) y a b = absurd a
 reads_one Server opened kind frame x (Sent s) a b = absurd b
 reads_one Client opened kind frame (Sent r) (Sent s) a b =
     let here : client.Unread = record { bytes = frame; opened = opened } in
-    ap (λ t. Sent t) (steps_same r s (step_one kind here (record { bytes = []; opened = a.0 }) (record { bytes = []; opened = b.0 }) (step_of r) (step_of s) a.1 b.1).0)
+    ap (λ t. Sent t) (same_result r s (step_one kind here (record { bytes = []; opened = a.0 }) (record { bytes = []; opened = b.0 }) (step_of r) (step_of s) a.1 b.1).0)
 reads_one Client opened kind frame (Heard r) y a b = absurd a
 reads_one Client opened kind frame Unsaid y a b = absurd a
 reads_one Client opened kind frame x (Heard s) a b = absurd b

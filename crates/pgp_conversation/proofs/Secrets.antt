@@ -112,7 +112,7 @@ frames_hidden view mark who place here to frame other text alike l =
       numbered = ap (λ r. told_in r here.numbers) (sym h.role) ∙ l.numbered;
       learns = learns_alike l.told said there h.said here.types l.types l.learns;
       shows = subst (λ n. ShowsTyped style place n l.told there l.types l.line l.typed) (long_alike from frame other alike) (shows_alike style place (length frame) l.told said there h.said l.types l.line l.typed l.shows);
-      is = l.is ∙ ap (λ n. text_of (quietly view) (mark ++ word view.style.form (told_by here.marked l.told)) place here.requests n l.typed) h.named;
+      is = l.is ∙ ap (λ n. text_of (quietly view) mark (told_by here.marked l.told) place here.requests n l.typed) h.named;
       behind = l.behind ∙ ap (λ n. note n (with_types l.types (with_numbers (summed l.told (asking_in style place from frame l.line l.after l.reported) (name_in style place from frame l.line l.after l.reported) l.numbers) (with_side who here l.after)))) noted
           ∙ ap (λ a. note (noted_in style place from other l.line l.after h.same) (with_types l.types (with_numbers (summed l.told a (name_in style place from frame l.line l.after l.reported) l.numbers) (with_side who here l.after)))) (asks_alike said there h.said)
           ∙ ap (λ n. note (noted_in style place from other l.line l.after h.same) (with_types l.types (with_numbers (summed l.told (asking_in style place from other l.line l.after h.same) n l.numbers) (with_side who here l.after)))) h.named;

@@ -223,7 +223,7 @@ follows_start view marking s opened held rest fresh first none = record {
 }
 
 -- times are counted so
-pub first_held : (marking : Marking) (held : HeldTalk) → held ≡ held_first (record { absolute = false; numbered = marking.numbered; summed = marking.summed; raw = marking.raw }) → record { known = held.known; client = held.client; server = held.server; start = first_start marking.absolute } ≡ held_first marking
+pub first_held : (marking : Marking) (held : HeldTalk) → held ≡ held_first (record marking { absolute = false }) → record { known = held.known; client = held.client; server = held.server; start = first_start marking.absolute } ≡ held_first marking
 first_held marking held e = ap (λ (h : HeldTalk). record { known = h.known; client = h.client; server = h.server; start = first_start marking.absolute }) e
 
 pub follows_same : (view : View) (marking : Marking) (before after : Streams) (opened : Bool) (held : HeldTalk) (rest : List ℕ) (next : Option (List ℕ)) → Follows view marking before after opened held rest → Same after.input next
@@ -303,12 +303,12 @@ read_rest true rest input = tt
 last_is : (view : View) (held : HeldTalk) (talk : Talk) → Keeps held talk → held_last view held ≡ last_lines view talk
 last_is view held talk k =
     let told = told_by held.known.marked (unnumbered held.known.numbers) in
-    let ends : List ℕ → List ℕ = ending_by view.style (summary_in held.known.numbers) in
+    let ends : List ℕ → List ℕ = ending_by view (summary_in held.known.numbers) in
     ap (λ s. ends (last_of view told Client s held.client.left ++ last_of view told Server held.server.stopped held.server.left)) k.client.stopped
     ∙ ap (λ n. ends (last_of view told Client talk.client.stopped n ++ last_of view told Server held.server.stopped held.server.left)) k.client.count
     ∙ ap (λ s. ends (last_of view told Client talk.client.stopped (left talk.client) ++ last_of view told Server s held.server.left)) k.server.stopped
     ∙ ap (λ n. ends (last_of view told Client talk.client.stopped (left talk.client) ++ last_of view told Server talk.server.stopped n)) k.server.count
-    ∙ ap (λ (known : Known). ending_by view.style (summary_in known.numbers)
+    ∙ ap (λ (known : Known). ending_by view (summary_in known.numbers)
     (last_of view (told_by known.marked (unnumbered known.numbers)) Client talk.client.stopped (left talk.client) ++ last_of view (told_by known.marked (unnumbered known.numbers)) Server talk.server.stopped (left talk.server))) k.known
 
 hints_are : (held : HeldTalk) (talk : Talk) → Keeps held talk → (hint_of true held.known.client held.client.left ≡ hint_of true talk.known.client (left talk.client)) × (hint_of true held.known.server held.server.left ≡ hint_of true talk.known.server (left talk.server))

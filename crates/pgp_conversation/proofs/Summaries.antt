@@ -1,5 +1,5 @@
 -- Where a summary is asked for, the table is all that is written.
-use Rattle.pgp_conversation.proofs.Common.{◌≡◌, ℕ, ◌+◌, Bool, true, false, List, [], ◌∷◌, ◌++◌, length, Option, Some, None, Result, Ok, Err, refl, sym, ap, ◌∙◌, inl, inr, ◌==◌, ◌||◌, is_some, not, if◌then◌else◌, bytes_eq, codes, Error, Message, Authentication, AuthenticationOk, ClientMessage, SaslResponse, ClientError, Style, State, client_name, LineOf, client_frame_name, name_in, place_behind, server_name, Side, is_reported, View, color_of, is_listed, painted, shown, Beginning, Messages, Replicating, Encrypted, Sender, End, Marking, Role, Told, Known, ListsChunks, ListsFrame, ListsFrames, NoChunkListed, NoLines, OneChunkListed, OneLine, Talk, answer_to, begins, called, counts, either, first_time, half_in, last_lines, last_of, left, noted_in, now_at, relined, side_in, told_by, with_numbers, with_side, with_types, mark, marked, since, word, Chunk, Numbers, at_time, first_numbers, role_in, summary_in, told_in, unnumbered, IsListing, summarized, Asking, asking_in, summed, summed_so, ending_by, table}
+use Rattle.pgp_conversation.proofs.Common.{◌≡◌, ℕ, ◌+◌, Bool, true, false, List, [], ◌∷◌, ◌++◌, length, Option, Some, None, Result, Ok, Err, refl, sym, ap, ◌∙◌, inl, inr, nat_lt, ◌==◌, ◌||◌, ◌&&◌, is_some, not, if◌then◌else◌, bytes_eq, codes, Error, Message, Authentication, AuthenticationOk, ClientMessage, SaslResponse, ClientError, Style, State, client_name, LineOf, client_frame_name, name_in, place_behind, server_name, Side, is_reported, View, color_of, has_word, is_listed, painted, shown, Beginning, Messages, Replicating, Encrypted, Sender, End, Marking, Role, Told, Known, ListsChunks, ListsFrame, ListsFrames, NoChunkListed, NoLines, OneChunkListed, OneLine, Talk, answer_to, begins, called, counts, either, first_time, half_in, last_lines, last_of, left, noted_in, now_at, relined, side_in, told_by, waited, with_numbers, with_side, with_types, mark, marked, since, word, Chunk, Numbers, at_time, first_numbers, role_in, summary_in, told_in, unnumbered, IsListing, summarized, Asking, asking_in, summed, summed_so, ending_by, table}
 use Rattle.pgp_trace.specs.Names.{name_of}
 use Rattle.pgp_trace.specs.Sides.{Server, Client}
 use Rattle.pgp_conversation.specs.declared.chunk.Sender.TheVariants as sides
@@ -61,14 +61,19 @@ called_some (first ∷ more) name e = pick (bytes_eq name either) first name e
 
 shown_none : (view : View) (name line : List ℕ) → IsNamed name → shown (summarized true view) name line ≡ []
 shown_none view name line e =
-    let off : is_listed ([] ∷ []) name ≡ false = ap (λ b. b || false) e in
+    let off : is_listed (summarized true view) name ≡ false = ap (λ b. (b || false) && not (has_word view.except name)) e in
     ap (λ b. if b then painted (color_of (summarized true view) name) line else []) off
+
+none_else : {l : List ℕ} (b : Bool) → l ≡ [] → (if b then [] else l) ≡ []
+none_else true e = refl
+none_else false e = e
 
 frame_none : (view : View) (m : List ℕ) (who : Sender) (place : ℕ) (here to : Known) (frame text : List ℕ) → ListsFrame (summarized true view) m who place here frame text to → text ≡ []
 frame_none view m who place here to frame text l =
     let name = name_in view.style place (side_in who here) frame l.line l.after l.reported in
-    l.is ∙ shown_none view (called here.requests name) (marked view.style.form (m ++ word view.style.form (told_by here.marked l.told)) (relined view.style place here.requests name l.typed))
-    (called_some here.requests name (line_some view.style place (side_in who here) frame l.line l.after l.reported))
+    let told = told_by here.marked l.told in
+    l.is ∙ none_else (nat_lt (waited told) view.slower) (shown_none view (called here.requests name) (marked view.style.form (m ++ word view.style.form told) (relined view.style place here.requests name l.typed))
+    (called_some here.requests name (line_some view.style place (side_in who here) frame l.line l.after l.reported)))
 
 frames_none : (view : View) (m : List ℕ) (who : Sender) (place : ℕ) (from : Known) (bytes lines : List ℕ) (to : Known) → ListsFrames (summarized true view) m who place from bytes lines to → lines ≡ []
 frames_none view m who place from [] [] _ NoLines = refl
@@ -126,34 +131,34 @@ chunks_kept view from _ _ to (OneChunkListed {chunks = chunks} {lines = lines} {
 
 -- ---- the table
 
-abbrev IsTable : Style → (lines : List ℕ) → Option State → Type 0
-IsTable style lines o = (s : State) × (o ≡ Some s) × (ending_by style o lines ≡ table style s.tallies)
+abbrev IsTable : View → (lines : List ℕ) → Option State → Type 0
+IsTable view lines o = (s : State) × (o ≡ Some s) × (ending_by view o lines ≡ table view s.tallies)
 
 no_truth : false ≡ true → ⊥
 no_truth e = absurd cc
 
-some_table : (style : Style) (lines : List ℕ) (o : Option State) → is_some o ≡ true → IsTable style lines o
-some_table style lines None e = absurd (no_truth e)
-some_table style lines (Some s) e = (s, refl, refl)
+some_table : (view : View) (lines : List ℕ) (o : Option State) → is_some o ≡ true → IsTable view lines o
+some_table view lines None e = absurd (no_truth e)
+some_table view lines (Some s) e = (s, refl, refl)
 
-table_in : (style : Style) (lines : List ℕ) (n : Option Numbers) → is_summed n ≡ true → IsTable style lines (summary_in n)
-table_in style lines None e = absurd (no_truth e)
-table_in style lines (Some n) e = some_table style lines n.summary e
+table_in : (view : View) (lines : List ℕ) (n : Option Numbers) → is_summed n ≡ true → IsTable view lines (summary_in n)
+table_in view lines None e = absurd (no_truth e)
+table_in view lines (Some n) e = some_table view lines n.summary e
 
-begins_summed : (numbered sums : Bool) → numbered ≡ true → sums ≡ true → is_summed (first_numbers numbered sums) ≡ true
-begins_summed true true e f = refl
-begins_summed true false e f = f
-begins_summed false sums e f = e
+begins_summed : (numbered sums folds : Bool) → numbered ≡ true → sums ≡ true → is_summed (first_numbers numbered sums folds) ≡ true
+begins_summed true true folds e f = refl
+begins_summed true false folds e f = f
+begins_summed false sums folds e f = e
 
 counted : (numbered typed : Bool) → numbered ≡ true → (numbered || typed) ≡ true
 counted true typed e = refl
 counted false typed e = absurd (no_truth e)
 
 pub table_alone : (view : View) (marking : Marking) (bytes output : List ℕ) (end : End) → marking.numbered ≡ true → marking.summed ≡ true → (l : IsListing (summarized true view) marking bytes end output)
-    → (s : State) × (summary_in l.talk.known.numbers ≡ Some s) × (output ≡ table view.style s.tallies)
+    → (s : State) × (summary_in l.talk.known.numbers ≡ Some s) × (output ≡ table (summarized true view) s.tallies)
 table_alone view marking bytes output end numbered sums l =
-    let all : is_summed l.talk.known.numbers ≡ true = chunks_kept (summarized true view) (begins marking) l.each.chunks l.lines l.talk l.each.each ∙ begins_summed (counts marking) marking.summed (counted marking.numbered (not marking.raw) numbered) sums in
+    let all : is_summed l.talk.known.numbers ≡ true = chunks_kept (summarized true view) (begins marking) l.each.chunks l.lines l.talk l.each.each ∙ begins_summed (counts marking) marking.summed marking.folded (counted marking.numbered (not marking.raw) numbered) sums in
     let told = told_by l.talk.known.marked (unnumbered l.talk.known.numbers) in
     let last = last_of (summarized true view) told sides.Client l.talk.client.stopped (left l.talk.client) ++ last_of (summarized true view) told sides.Server l.talk.server.stopped (left l.talk.server) in
-    let t = table_in view.style last l.talk.known.numbers all in
+    let t = table_in (summarized true view) last l.talk.known.numbers all in
     (t.0, t.1, l.text ∙ ap (λ x. x ++ last_lines (summarized true view) l.talk) (chunks_none view (begins marking) l.each.chunks l.lines l.talk l.each.each) ∙ t.2)

@@ -39,9 +39,9 @@ abbrev pub Come : Option Numbers → List Turn → Type 0
 Come None turns = Unit {0}
 Come (Some n) turns = Reached n.dialogue turns
 
-pub none_came : (numbered summed : Bool) → Come (first_numbers numbered summed) []
-none_came true summed = refl
-none_came false summed = tt
+pub none_came : (numbered summed folds : Bool) → Come (first_numbers numbered summed folds) []
+none_came true summed folds = refl
+none_came false summed folds = tt
 
 -- a summary leaves the dialogue as it is
 pub sum_came : (told : Told) (asking : Option Asking) (name : List ℕ) (n : Option Numbers) (turns : List Turn) → Come n turns → Come (summed told asking name n) turns
@@ -159,7 +159,7 @@ frames_come view m who place from _ _ to (OneLine {bytes = bytes} {lines = lines
     (subst (λ n. Come n ((turns ++ front) ++ turns_at r here.numbers)) (sym same) (sum_came one.told asking name one.numbers ((turns ++ front) ++ turns_at r here.numbers) came))
 
 chunks_come : (view : View) (marking : Marking) (chunks : List Chunk) (lines : List ℕ) (to : Listed) (l : ListsChunks view (begins marking) chunks lines to) → Come to.known.numbers (turns_in view (begins marking) chunks lines to l)
-chunks_come view marking [] [] _ NoChunkListed = none_came (counts marking) marking.summed
+chunks_come view marking [] [] _ NoChunkListed = none_came (counts marking) marking.summed marking.folded
 chunks_come view marking _ _ to (OneChunkListed {chunks = chunks} {lines = lines} {here = here} chunk text before one) =
     let turns = turns_in view (begins marking) chunks lines here before in
     frames_come view (mark view.style.form chunk.sender (since (first_time here.start chunk.micros) chunk.micros)) chunk.sender (half_in chunk.sender here).passed (now_at chunk.micros here.known) one.front text to.known one.each turns

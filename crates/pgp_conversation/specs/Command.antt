@@ -46,7 +46,7 @@ abbrev pub IsOther : (terminal : Bool) → List (List ℕ) → Type 0
 IsOther terminal words = (command : Command) → ¬ Asks terminal words command
 
 abbrev pub usage : List ℕ
-usage = codes "usage: pgtrace server [--json] [--full] [--secrets] [--resume] [--only NAME[,NAME]..] [--color auto|always|never] | client [--json] [--full] [--secrets] [--resume] [--only NAME[,NAME]..] [--color auto|always|never] [--password-kind password|initial|response].. [--replication] | session [--json] [--full] [--secrets] [--requests] [--raw] [--summary] [--time absolute|relative] [--only NAME[,NAME]..] [--color auto|always|never] | --help | --version" ++ 10 ∷ []
+usage = codes "usage: pgtrace server [--json] [--full] [--secrets] [--resume] [--only NAME[,NAME]..] [--except NAME[,NAME]..] [--color auto|always|never] | client [--json] [--full] [--secrets] [--resume] [--only NAME[,NAME]..] [--except NAME[,NAME]..] [--color auto|always|never] [--password-kind password|initial|response].. [--replication] | session [--json] [--full] [--secrets] [--requests] [--slower MS] [--raw] [--summary] [--fold] [--time absolute|relative] [--only NAME[,NAME]..] [--except NAME[,NAME]..] [--color auto|always|never] | --help | --version" ++ 10 ∷ []
 
 abbrev pub version : List ℕ
 version = codes "pgtrace 0.1.0" ++ 10 ∷ []

@@ -40,7 +40,7 @@ pub use Rattle.pgp_trace.specs.Listing.{client_frame_name, IsServerLine, last_li
 pub use Rattle.pgp_trace.specs.Options.{AreOptions, Chosen, chosen_of, options_in, view_by}
 pub use Rattle.pgp_trace.specs.Shown.{ending, refused}
 pub use Rattle.pgp_trace.specs.Sides.{answered, Ends, expected, first_phase, is_password, is_reported, replicates_behind, server_at, Side}
-pub use Rattle.pgp_trace.specs.View.{color_of, is_listed, painted, shown, View}
+pub use Rattle.pgp_trace.specs.View.{color_of, has_word, is_listed, painted, shown, View}
 pub use Rattle.pgp_trace.specs.declared.marking.Marking.{Marking}
 pub use Rattle.pgp_trace.specs.declared.side.Phase.TheVariants.{Beginning, Encrypted, Messages, Replicating}
 pub use Rattle.pgp_value_text.specs.ValueText.{is_float, IsTextOf}

@@ -1,6 +1,6 @@
 -- The listing of both sides of a connection, a chunk at a time.
-use Rattle.std.specs.Prelude.{◌≡◌, ℕ, ◌+◌, Bool, true, false, not, ◌==◌, ◌||◌, if◌then◌else◌, List, [], ◌∷◌, ◌++◌, drop, length, Result, Ok, Err, Option, None, Some, bytes_eq, codes}
-use Rattle.pgp_conversation.specs.Common.{Error, Message, Authentication, AuthenticationCleartextPassword, AuthenticationMd5Password, AuthenticationSasl, AuthenticationSaslContinue, AuthenticationGss, AuthenticationSspi, AuthenticationGssContinue, ClientMessage, SslRequest, GssEncRequest, ClientError, PasswordKind, Length, Tag, Name, closing, followed, opening, Style, LineOf, name_in, place_behind, last_line, Side, Ends, Beginning, Messages, Replicating, Encrypted, View, shown, Sender, Client, Server, Marking, Noted, Told, Uncounted}
+use Rattle.std.specs.Prelude.{◌≡◌, ℕ, ◌+◌, ◌-◌, nat_lt, Bool, true, false, not, ◌==◌, ◌||◌, if◌then◌else◌, List, [], ◌∷◌, ◌++◌, drop, length, Result, Ok, Err, Option, None, Some, bytes_eq, codes}
+use Rattle.pgp_conversation.specs.Common.{Error, Message, Authentication, AuthenticationCleartextPassword, AuthenticationMd5Password, AuthenticationSasl, AuthenticationSaslContinue, AuthenticationGss, AuthenticationSspi, AuthenticationGssContinue, ClientMessage, SslRequest, GssEncRequest, ClientError, PasswordKind, Length, Tag, Name, closing, followed, opening, Style, LineOf, name_in, place_behind, last_line, Side, Ends, Beginning, Messages, Replicating, Encrypted, View, shown, Sender, Client, Server, Marking, Noted, Told, Answer, Uncounted}
 use Rattle.pgp_frontend_read.specs.declared.message.PasswordKind.TheVariants.{Password, Initial, Response}
 pub use Rattle.pgp_trace.specs.Rows.{Rows, NoLines, OneLine}
 use Rattle.pgp_trace.specs.Sides as side
@@ -34,7 +34,7 @@ counts marking = marking.numbered || not marking.raw
 
 -- before the first byte of a connection
 abbrev pub at_first : Marking → Known
-at_first marking = record { client = side.Client false [] false; server = side.Server Beginning; requests = []; numbers = first_numbers (counts marking) marking.summed; marked = marking.numbered; types = first_types marking.raw }
+at_first marking = record { client = side.Client false [] false; server = side.Server Beginning; requests = []; numbers = first_numbers (counts marking) marking.summed marking.folded; marked = marking.numbered; types = first_types marking.raw }
 
 abbrev pub side_in : Sender → Known → Side
 side_in Client known = known.client
@@ -127,29 +127,28 @@ answer_to Tls = codes "SSLResponse"
 answer_to Gss = codes "GSSENCResponse"
 
 -- such an answer has the name of the first request that isn't answered
-abbrev pub called_after : Encryption → List ℕ → List ℕ
-called_after first name = if bytes_eq name either then answer_to first else name
-
 abbrev pub called : List Encryption → List ℕ → List ℕ
 called [] name = name
-called (first ∷ more) name = called_after first name
+called (first ∷ more) name = if bytes_eq name either then answer_to first else name
 
 -- and a line with it, which is that of a byte `N`
-abbrev pub answer_line : Style → ℕ → Encryption → List ℕ
-answer_line style place first = followed style (opening style place) (Length 1 ∷ Tag 78 ∷ Name true (answer_to first) ∷ []) ++ closing style ++ 10 ∷ []
-
-abbrev pub relined_after : Style → ℕ → Encryption → (name line : List ℕ) → List ℕ
-relined_after style place first name line = if bytes_eq name either then answer_line style place first else line
-
 abbrev pub relined : Style → ℕ → List Encryption → (name line : List ℕ) → List ℕ
 relined style place [] name line = line
-relined style place (first ∷ more) name line = relined_after style place first name line
+relined style place (first ∷ more) name line =
+    if bytes_eq name either then followed style (opening style place) (Length 1 ∷ Tag 78 ∷ Name true (answer_to first) ∷ []) ++ closing style ++ 10 ∷ [] else line
 
 -- ---- lines with marks
 
--- what stands in the listing of a line that has this name, with this mark, where these requests aren't answered
-abbrev pub text_of : View → (mark : List ℕ) (place : ℕ) → List Encryption → (name line : List ℕ) → List ℕ
-text_of view mark place waiting name line = shown view (called waiting name) (marked view.style.form mark (relined view.style place waiting name line))
+-- how long after its request a message came
+abbrev pub waited : Told → ℕ
+waited (Answer number sent now) = now - sent
+waited told = 0
+
+-- what stands in the listing of a line that has this name, with a mark that says this of requests, where these requests for encryption aren't answered: nothing
+-- where it came earlier than is asked for
+abbrev pub text_of : View → (mark : List ℕ) → Told → (place : ℕ) → List Encryption → (name line : List ℕ) → List ℕ
+text_of view mark told place waiting name line =
+    if nat_lt (waited told) view.slower then [] else shown view (called waiting name) (marked view.style.form (mark ++ word view.style.form told) (relined view.style place waiting name line))
 
 -- what a mark says of requests, where it tells their numbers
 abbrev pub told_by : (marked : Bool) → Told → Told
@@ -168,7 +167,7 @@ pub record ListsFrame (view : View) (mark : List ℕ) (sender : Sender) (place :
   pub numbered : told_in (role_in view.style place (side_in sender here) frame line after reported) here.numbers ≡ (told, numbers)
   pub learns : Learns told (said_in view.style place (side_in sender here) frame line after reported) here.types types
   pub shows : ShowsTyped view.style place (length frame) told (said_in view.style place (side_in sender here) frame line after reported) types line typed
-  pub is : text ≡ text_of view (mark ++ word view.style.form (told_by here.marked told)) place here.requests (name_in view.style place (side_in sender here) frame line after reported) typed
+  pub is : text ≡ text_of view mark (told_by here.marked told) place here.requests (name_in view.style place (side_in sender here) frame line after reported) typed
   pub behind : to ≡ note (noted_in view.style place (side_in sender here) frame line after reported)
       (with_types types (with_numbers (summed told (asking_in view.style place (side_in sender here) frame line after reported) (name_in view.style place (side_in sender here) frame line after reported) numbers) (with_side sender here after)))
 
@@ -241,5 +240,5 @@ left half = place_behind (length half.rest)
 
 -- the last lines of both sides, or the table of a summary in their place
 abbrev pub last_lines : View → Talk → List ℕ
-last_lines view talk = ending_by view.style (summary_in talk.known.numbers)
+last_lines view talk = ending_by view (summary_in talk.known.numbers)
     (last_of view (told_by talk.known.marked (unnumbered talk.known.numbers)) Client talk.client.stopped (left talk.client) ++ last_of view (told_by talk.known.marked (unnumbered talk.known.numbers)) Server talk.server.stopped (left talk.server))

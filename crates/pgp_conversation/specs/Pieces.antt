@@ -56,5 +56,5 @@ held_first marking = record { known = at_first marking; client = held_nothing; s
 
 -- the last lines, by what is kept of both sides
 abbrev pub held_last : View → HeldTalk → List ℕ
-held_last view held = ending_by view.style (summary_in held.known.numbers)
+held_last view held = ending_by view (summary_in held.known.numbers)
     (last_of view (told_by held.known.marked (unnumbered held.known.numbers)) Client held.client.stopped held.client.left ++ last_of view (told_by held.known.marked (unnumbered held.known.numbers)) Server held.server.stopped held.server.left)

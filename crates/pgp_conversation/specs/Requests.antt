@@ -50,16 +50,16 @@ pub record Numbers : Type 0 where
   pub now : ℕ
   pub summary : Option State
 
-abbrev pub first_summary : (summed : Bool) → Option State
-first_summary summed = if summed then Some nothing else None
+abbrev pub first_summary : (summed folds : Bool) → Option State
+first_summary summed folds = if summed then Some (nothing folds) else None
 
 -- before the first
-abbrev pub no_numbers : (summed : Bool) → Numbers
-no_numbers summed = record { dialogue = Some start; sent = []; now = 0; summary = first_summary summed }
+abbrev pub no_numbers : (summed folds : Bool) → Numbers
+no_numbers summed folds = record { dialogue = Some start; sent = []; now = 0; summary = first_summary summed folds }
 
 -- nothing is known where they aren't numbered
-abbrev pub first_numbers : (numbered summed : Bool) → Option Numbers
-first_numbers numbered summed = if numbered then Some (no_numbers summed) else None
+abbrev pub first_numbers : (numbered summed folds : Bool) → Option Numbers
+first_numbers numbered summed folds = if numbered then Some (no_numbers summed folds) else None
 
 -- what they ran, where that is known
 abbrev pub summary_in : Option Numbers → Option State

@@ -6,7 +6,7 @@ use Rattle.pgp_conversation.specs.Recording.{Chunk, EndsBy, IsPartial, Records, 
 
 -- With a table no line of a message is written: its name would have to be empty.
 abbrev pub summarized : (summed : Bool) → View → View
-summarized true view = record { style = view.style; only = [] ∷ []; colored = view.colored }
+summarized true view = record view { only = [] ∷ [] }
 summarized false view = view
 
 -- These bytes are the beginning of a recording, the chunks, and a rest; and these are the lines of the chunks.

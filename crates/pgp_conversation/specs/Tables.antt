@@ -1,6 +1,6 @@
 -- The table of a summary.
-use Rattle.std.specs.Prelude.{ℕ, ◌-◌, List, [], ◌∷◌, ◌++◌, length, Option, Some, None, codes, decimal}
-use Rattle.pgp_conversation.specs.Common.{flat_map, blanks, json_value, quoted, up_to, Form, Columns, Json, Style, Tally, line_of, State}
+use Rattle.std.specs.Prelude.{ℕ, ◌-◌, nat_lt, if◌then◌else◌, List, [], ◌∷◌, ◌++◌, length, Option, Some, None, codes, decimal}
+use Rattle.pgp_conversation.specs.Common.{flat_map, blanks, json_value, quoted, up_to, Form, Columns, Json, Style, Tally, line_of, State, View}
 use Rattle.pgp_summary.specs.declared.entry.Line.{Line}
 use Rattle.pgp_conversation.specs.Marks.{millis, number}
 
@@ -31,19 +31,23 @@ row_by Json limit l text = members l ++ json_value limit text ++ codes "}" ++ 10
 abbrev pub row_of : Style → Tally → List ℕ
 row_of style e = row_by style.form style.limit (line_of e) e.text
 
-abbrev pub row_at : Style → Option Tally → List ℕ
-row_at style None = []
-row_at style (Some e) = row_of style e
+-- it isn't there where no run took as long as is asked for
+abbrev pub row_in : View → Tally → List ℕ
+row_in view e = if nat_lt (line_of e).greatest view.slower then [] else row_of view.style e
+
+abbrev pub row_at : View → Option Tally → List ℕ
+row_at view None = []
+row_at view (Some e) = row_in view e
 
 abbrev pub heading : Form → List ℕ
 heading Columns = codes "   count   errors       rows      total      least     median   greatest ms" ++ 10 ∷ []
 heading Json = []
 
--- a line for each statement that ran
-abbrev pub table : Style → List Tally → List ℕ
-table style tallies = heading style.form ++ flat_map (row_of style) tallies
+-- a line for each statement that ran so long
+abbrev pub table : View → List Tally → List ℕ
+table view tallies = heading view.style.form ++ flat_map (row_in view) tallies
 
 -- what stands at the end of a recording: the table, where one is asked for; or the last lines of both sides
-abbrev pub ending_by : Style → Option State → (lines : List ℕ) → List ℕ
-ending_by style None lines = lines
-ending_by style (Some s) lines = table style s.tallies
+abbrev pub ending_by : View → Option State → (lines : List ℕ) → List ℕ
+ending_by view None lines = lines
+ending_by view (Some s) lines = table view s.tallies

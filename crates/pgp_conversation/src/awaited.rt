@@ -62,10 +62,6 @@ pub fn first<A: MapMemory>(number: u64, awaited: &VecDeque<Awaited<A>, A>) -> Op
 }
 
 /// Adds a request that names one object.
-///
-/// # Errors
-///
-/// Returns `AllocError` if there is no memory for it.
 pub fn wait<A: MapMemory>(
     number: u64,
     object: Object,
@@ -88,10 +84,6 @@ pub fn wait<A: MapMemory>(
 }
 
 /// Adds a request with all its parts.
-///
-/// # Errors
-///
-/// Returns `AllocError` if there is no memory for it.
 pub fn wait_bound<A: MapMemory>(
     number: u64,
     object: Object,

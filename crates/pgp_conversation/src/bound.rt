@@ -26,10 +26,6 @@ use std::alloc::AllocError;
 
 /// Writes the line of a client's frame anew, whose mark says this of requests, where it is a Bind some of whose parameters come in binary format, and their
 /// types are known; by what is known once it was sent.
-///
-/// # Errors
-///
-/// Returns `AllocError` if there is no memory for it.
 pub fn show_sent<A: MapMemory>(
     style: Style,
     place: u64,
@@ -115,25 +111,7 @@ fn show_message<A: MapMemory>(
                 Ok(())
             }
         }
-        ClientMessage::CancelRequest { .. }
-        | ClientMessage::Close { .. }
-        | ClientMessage::CopyData(_)
-        | ClientMessage::CopyDone
-        | ClientMessage::CopyFail(_)
-        | ClientMessage::Describe { .. }
-        | ClientMessage::Execute { .. }
-        | ClientMessage::Flush
-        | ClientMessage::FunctionCall { .. }
-        | ClientMessage::GssEncRequest
-        | ClientMessage::Parse { .. }
-        | ClientMessage::PasswordMessage(_)
-        | ClientMessage::Query(_)
-        | ClientMessage::SaslInitialResponse { .. }
-        | ClientMessage::SaslResponse(_)
-        | ClientMessage::SslRequest
-        | ClientMessage::Startup { .. }
-        | ClientMessage::Sync
-        | ClientMessage::Terminate => Ok(()),
+        _ => Ok(()),
     }
 }
 

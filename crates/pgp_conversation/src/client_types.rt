@@ -31,10 +31,6 @@ use std::alloc::AllocError;
 
 /// Takes note of a client's frame, and writes its line anew where it has values whose types are known. Returns what its mark says of requests, and what it
 /// says of messages to come.
-///
-/// # Errors
-///
-/// Returns `AllocError` if there is no memory for it.
 pub fn read_sent<A: MapMemory>(
     style: Style,
     place: u64,
@@ -157,19 +153,7 @@ fn ask<A: MapMemory>(
             wait(number, Object::Portal, portal, &mut types.awaited)
         }
         ClientMessage::Query(_) => wait(number, Object::Simple, &[], &mut types.awaited),
-        ClientMessage::CancelRequest { .. }
-        | ClientMessage::CopyData(_)
-        | ClientMessage::CopyDone
-        | ClientMessage::CopyFail(_)
-        | ClientMessage::Flush
-        | ClientMessage::FunctionCall { .. }
-        | ClientMessage::GssEncRequest
-        | ClientMessage::PasswordMessage(_)
-        | ClientMessage::SaslInitialResponse { .. }
-        | ClientMessage::SaslResponse(_)
-        | ClientMessage::SslRequest
-        | ClientMessage::Startup { .. }
-        | ClientMessage::Terminate => Ok(()),
+        _ => Ok(()),
     }
 }
 

@@ -45,10 +45,6 @@ pub fn found<'a, A: MapMemory>(name: &[u8], shelf: &'a Names<Columns<A>, A>) -> 
 }
 
 /// Keeps columns under a name, in the place of others; or lets those go, where none are known.
-///
-/// # Errors
-///
-/// Returns `AllocError` if there is no memory for the name.
 pub fn keep<A: MapMemory>(
     name: &[u8],
     columns: Option<Vec<Column, A>>,
@@ -67,10 +63,6 @@ pub fn keep<A: MapMemory>(
 }
 
 /// The same columns once more.
-///
-/// # Errors
-///
-/// Returns `AllocError` if there is no memory for them.
 pub fn again<A: MapMemory>(
     columns: &Option<Vec<Column, A>>,
 ) -> Result<Option<Vec<Column, A>>, AllocError>
@@ -88,10 +80,6 @@ pub fn again<A: MapMemory>(
 }
 
 /// The columns in these formats.
-///
-/// # Errors
-///
-/// Returns `AllocError` if there is no memory for them.
 pub fn formatted<A: MapMemory>(
     alloc: A,
     formats: &[bool],

@@ -41,10 +41,6 @@ pub struct Talk<A: MapMemory> {
 }
 
 /// Adds the lines of all frames that are whole with this chunk.
-///
-/// # Errors
-///
-/// Returns `AllocError` if there is no memory for them.
 pub fn list_chunk<A: MapMemory>(
     view: View<'_>,
     chunk: Chunk<'_>,

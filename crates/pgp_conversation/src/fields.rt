@@ -13,10 +13,6 @@ use pgp_names::MapMemory;
 use std::alloc::AllocError;
 
 /// The columns of a description, if it doesn't break off.
-///
-/// # Errors
-///
-/// Returns `AllocError` if there is no memory for them.
 #[tactic(auto, using(crate::proofs::RowLemmas::columns_more, crate::proofs::RowLemmas::columns_end, crate::proofs::RowLemmas::columns_cut))]
 pub fn columns_of<A: MapMemory>(
     alloc: A,
@@ -45,10 +41,6 @@ fn column_of(field: &Field<'_>) -> Column
 }
 
 /// Which of the formats are binary.
-///
-/// # Errors
-///
-/// Returns `AllocError` if there is no memory for them.
 pub fn binaries_of<A: MapMemory>(
     alloc: A,
     mut formats: Formats<'_>,
@@ -74,10 +66,6 @@ fn parameter(oid: u32) -> Column
 }
 
 /// The parameters that a Parse gives.
-///
-/// # Errors
-///
-/// Returns `AllocError` if there is no memory for them.
 pub fn given_types<A: MapMemory>(
     alloc: A,
     mut types: ParamTypes<'_>,
@@ -96,10 +84,6 @@ pub fn given_types<A: MapMemory>(
 }
 
 /// The parameters that a server describes, if that doesn't break off.
-///
-/// # Errors
-///
-/// Returns `AllocError` if there is no memory for them.
 #[tactic(auto, using(crate::proofs::RowLemmas::parameters_more, crate::proofs::RowLemmas::parameters_end, crate::proofs::RowLemmas::parameters_cut))]
 pub fn described_types<A: MapMemory>(
     alloc: A,

@@ -2,14 +2,13 @@
 
 ghost use Rattle.std.specs.Prelude.{◌≡◌, ◌++◌, ◌≤◌, [], drop, length, take, IfOk, OnErr, OnOk, string_bytes};
 ghost use Rattle.pgp_trace.specs.Steps.{view_of};
-ghost use Rattle.pgp_conversation.specs.Conversation.{answer_line, answer_to, called, called_after, relined, relined_after, text_of};
-ghost use Rattle.pgp_conversation.specs.Marks.{word};
+ghost use Rattle.pgp_conversation.specs.Conversation.{answer_to, called, relined, text_of};
 ghost use Rattle.pgp_conversation.specs.Steps.{ListsAllFrames, ListsNextFrame, known_of};
 
 use crate::chunk::Sender;
 use crate::expectation::Encryption;
 use crate::line_mark::put_marked;
-use crate::placement::{Told, told_by};
+use crate::placement::{Told, told_by, waited};
 use crate::request_mark::put_stamp;
 use crate::state::{Known, next_line, note};
 use crate::typed::read_frame;
@@ -66,10 +65,6 @@ pub fn no_texts<A: MapMemory>(alloc: A) -> Texts<A>
 
 /// Adds the lines of the complete frames at the front of the bytes, which this side sent and which stand at this place. Returns how many bytes they
 /// take, and whether nothing says where the next one begins.
-///
-/// # Errors
-///
-/// Returns `AllocError` if there is no memory for them.
 pub fn list_frames<A: MapMemory>(
     view: View<'_>,
     sender: Sender,
@@ -147,10 +142,13 @@ fn list_line<A: MapMemory>(
     requests: &[Encryption],
     texts: &mut Texts<A>,
 ) -> Result<(), AllocError>
-    ensures text { OnOk result (string_bytes texts.new.lines ≡ string_bytes texts.old.lines ++ text_of (view_of view.entry) (string_bytes texts.old.mark ++ word (view_of view.entry).style.form told) place requests.now name.now (string_bytes texts.old.line)) }
+    ensures text { OnOk result (string_bytes texts.new.lines ≡ string_bytes texts.old.lines ++ text_of (view_of view.entry) (string_bytes texts.old.mark) told place requests.now name.now (string_bytes texts.old.line)) }
     ensures mark { OnOk result (string_bytes texts.new.mark ≡ string_bytes texts.old.mark) }
     ensures lacks { OnErr result A.Lacks }
 {
+    if waited(told) < view.slower {
+        return Ok(());
+    }
     reline(view.style, place, requests, name, &mut texts.line)?;
     put_stamp(
         view.style.form,
@@ -177,18 +175,11 @@ fn list_line<A: MapMemory>(
 fn called<'a>(requests: &[Encryption], name: &'a str) -> &'a str
     ensures { result.now ≡ called requests.now name.now }
 {
-    match requests {
-        [] => name,
-        [first, ..] => called_after(*first, name),
-    }
-}
-
-/// The same, where this is the first of them.
-fn called_after<'a>(first: Encryption, name: &'a str) -> &'a str
-    ensures { result.now ≡ called_after first name.now }
-{
+    let [first, ..] = requests else {
+        return name;
+    };
     if name == EITHER {
-        answer_to(first)
+        answer_to(*first)
     } else {
         name
     }
@@ -218,41 +209,13 @@ fn reline<A: MapMemory>(
     ensures line { OnOk result (string_bytes line.new ≡ relined style place requests.now name.now (string_bytes line.old)) }
     ensures lacks { OnErr result A.Lacks }
 {
-    match requests {
-        [] => Ok(()),
-        [first, ..] => reline_after(style, place, *first, name, line),
+    let [first, ..] = requests else {
+        return Ok(());
+    };
+    if name != EITHER {
+        return Ok(());
     }
-}
-
-/// The same, where this is the first of them.
-fn reline_after<A: MapMemory>(
-    style: Style,
-    place: u64,
-    first: Encryption,
-    name: &str,
-    line: &mut String<A>,
-) -> Result<(), AllocError>
-    ensures line { OnOk result (string_bytes line.new ≡ relined_after style place first name.now (string_bytes line.old)) }
-    ensures lacks { OnErr result A.Lacks }
-{
-    if name == EITHER {
-        answer_line(style, place, first, line)
-    } else {
-        Ok(())
-    }
-}
-
-/// Writes the line of the answer to a request.
-fn answer_line<A: MapMemory>(
-    style: Style,
-    place: u64,
-    request: Encryption,
-    line: &mut String<A>,
-) -> Result<(), AllocError>
-    ensures line { OnOk result (string_bytes line.new ≡ answer_line style place request) }
-    ensures lacks { OnErr result A.Lacks }
-{
     begin_line(style, place, 1, b'N', line)?;
-    put_called(style, true, answer_to(request), line)?;
+    put_called(style, true, answer_to(*first), line)?;
     put_end(style, line)
 }

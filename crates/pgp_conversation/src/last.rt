@@ -23,10 +23,6 @@ use pgp_trace::view::View;
 use std::alloc::AllocError;
 
 /// Adds what stands at the end of a recording: the last lines of both sides, or the table of a summary.
-///
-/// # Errors
-///
-/// Returns `AllocError` if there is no memory for it.
 pub fn add_end<A: MapMemory>(
     view: View<'_>,
     talk: &Talk<A>,
@@ -36,7 +32,7 @@ pub fn add_end<A: MapMemory>(
     ensures lacks { OnErr result A.Lacks }
 {
     match summary_of(&talk.known.numbers) {
-        Some(summary) => put_table(view.style, summary, &mut texts.word, &mut texts.lines),
+        Some(summary) => put_table(view, summary, &mut texts.word, &mut texts.lines),
         None => add_both(view, talk, texts),
     }
 }

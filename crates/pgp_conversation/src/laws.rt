@@ -58,7 +58,7 @@ pub fn marked_lines_are_printable()
 #[tactic(auto, using(crate::proofs::Summaries::table_alone))]
 pub fn summaries_are_tables()
     ensures { (view : View) (marking : Marking) (bytes output : List ℕ) (end : End) → marking.numbered ≡ true → marking.summed ≡ true → (listing : IsListing (summarized true view) marking bytes end output)
-        → (summary : State) × (summary_in listing.talk.known.numbers ≡ Some summary) × (output ≡ table view.style summary.tallies) }
+        → (summary : State) × (summary_in listing.talk.known.numbers ≡ Some summary) × (output ≡ table (summarized true view) summary.tallies) }
 {}
 
 /// A line of a table has characters alone that a terminal prints, before its newline.

@@ -14,10 +14,6 @@ use std::alloc::AllocError;
 const WIDTH: usize = 12;
 
 /// Writes the mark of a message that came at a time, where others are counted from another.
-///
-/// # Errors
-///
-/// Returns `AllocError` if there is no memory for it.
 pub fn put_mark<A: MapMemory>(
     form: Form,
     sender: Sender,
@@ -36,10 +32,6 @@ pub fn put_mark<A: MapMemory>(
 }
 
 /// Adds the seconds from one time to another.
-///
-/// # Errors
-///
-/// Returns `AllocError` if there is no memory for them.
 pub fn put_since<A: MapMemory>(
     start: u64,
     micros: u64,
@@ -57,10 +49,6 @@ pub fn put_since<A: MapMemory>(
 }
 
 /// Adds so many microseconds as seconds.
-///
-/// # Errors
-///
-/// Returns `AllocError` if there is no memory for them.
 #[tactic(auto, unfolding(crate::specs::Marks::number))]
 pub fn put_number<A: MapMemory>(n: u64, text: &mut String<A>) -> Result<(), AllocError>
     ensures text { OnOk result (string_bytes text.new ≡ string_bytes text.old ++ number n) }
@@ -101,10 +89,6 @@ fn put_time<A: MapMemory>(
 }
 
 /// The mark of a line that says what is left.
-///
-/// # Errors
-///
-/// Returns `AllocError` if there is no memory for it.
 pub fn put_last_mark<A: MapMemory>(
     form: Form,
     sender: Sender,
@@ -141,10 +125,6 @@ fn member_of(sender: Sender) -> &'static str
 }
 
 /// Writes a line with a mark: before it, or as the first members of its object.
-///
-/// # Errors
-///
-/// Returns `AllocError` if there is no memory for it.
 pub fn put_marked<A: MapMemory>(
     form: Form,
     mark: &str,

@@ -28,34 +28,39 @@ pub struct Numbers<A: MapMemory> {
 }
 
 /// Before the first request, where requests are numbered.
-pub fn first_numbers<A: MapMemory>(alloc: A, numbered: bool, summed: bool) -> Option<Numbers<A>>
-    ensures { numbers_in result ≡ first_numbers numbered summed }
+pub fn first_numbers<A: MapMemory>(
+    alloc: A,
+    numbered: bool,
+    summed: bool,
+    folds: bool,
+) -> Option<Numbers<A>>
+    ensures { numbers_in result ≡ first_numbers numbered summed folds }
 {
     if numbered {
-        Some(no_numbers(alloc, summed))
+        Some(no_numbers(alloc, summed, folds))
     } else {
         None
     }
 }
 
 /// Before the first request.
-fn no_numbers<A: MapMemory>(alloc: A, summed: bool) -> Numbers<A>
-    ensures { numbers_of result ≡ no_numbers summed }
+fn no_numbers<A: MapMemory>(alloc: A, summed: bool, folds: bool) -> Numbers<A>
+    ensures { numbers_of result ≡ no_numbers summed folds }
 {
     Numbers {
         dialogue: Some(Dialogue::new(alloc)),
         sent: Vec::new(alloc),
         now: 0,
-        summary: first_summary(alloc, summed),
+        summary: first_summary(alloc, summed, folds),
     }
 }
 
 /// Before the first request, where a summary is asked for.
-fn first_summary<A: MapMemory>(alloc: A, summed: bool) -> Option<Summary<A>>
-    ensures { result ≡ first_summary summed }
+fn first_summary<A: MapMemory>(alloc: A, summed: bool, folds: bool) -> Option<Summary<A>>
+    ensures { result ≡ first_summary summed folds }
 {
     if summed {
-        Some(Summary::new(alloc))
+        Some(Summary::new(alloc, folds))
     } else {
         None
     }
@@ -92,10 +97,6 @@ pub fn summary_of<A: MapMemory>(numbers: &Option<Numbers<A>>) -> Option<&Summary
 }
 
 /// Takes note of a frame that is this. Returns what its mark says of requests, where they are numbered.
-///
-/// # Errors
-///
-/// Returns `AllocError` if there is no memory for one more request.
 pub fn tell<A: MapMemory>(role: Role, numbers: &mut Option<Numbers<A>>) -> Result<Told, AllocError>
     ensures told { IfOk result (λ told. told_in role (numbers_in numbers.old) ≡ (told, numbers_in numbers.new)) }
     ensures lacks { OnErr result A.Lacks }
@@ -184,18 +185,12 @@ fn told_of(event: Option<Event>, sent: &[u64], now: u64) -> Told
     ensures { result ≡ told_of sent.now now event }
 {
     match event {
-        Some(Event::Part(number)) => Told::Answer {
+        Some(Event::Part(number) | Event::Last(number)) => Told::Answer {
             number,
             sent: sent_at(number, sent),
             now,
         },
-        Some(Event::Last(number)) => Told::Answer {
-            number,
-            sent: sent_at(number, sent),
-            now,
-        },
-        Some(Event::Aside) => Told::Nothing,
-        Some(Event::Ended) => Told::Nothing,
+        Some(Event::Aside | Event::Ended) => Told::Nothing,
         None => Told::Lost,
     }
 }

@@ -1,7 +1,7 @@
 //! What a mark says of requests.
 
 ghost use Rattle.std.specs.Prelude.{◌≡◌};
-ghost use Rattle.pgp_conversation.specs.Conversation.{told_by};
+ghost use Rattle.pgp_conversation.specs.Conversation.{told_by, waited};
 
 /// What a mark says of requests.
 #[derive(Debug, Clone, Copy, PartialEq, Eq)]
@@ -23,4 +23,14 @@ pub fn told_by(marked: bool, told: Told) -> Told
     ensures { result ≡ told_by marked told }
 {
     if marked { told } else { Told::Uncounted }
+}
+
+/// How many microseconds after its request a message came.
+pub fn waited(told: Told) -> u64
+    ensures { result ≡ waited told }
+{
+    match told {
+        Told::Answer { sent, now, .. } => now.saturating_sub(sent),
+        _ => 0,
+    }
 }

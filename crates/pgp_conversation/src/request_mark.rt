@@ -22,10 +22,6 @@ fn width_of(told: Told) -> usize
 }
 
 /// Writes a mark with what it says of requests behind it.
-///
-/// # Errors
-///
-/// Returns `AllocError` if there is no memory for it.
 pub fn put_stamp<A: MapMemory>(
     form: Form,
     mark: &str,
@@ -122,10 +118,6 @@ fn put_later<A: MapMemory>(sent: u64, now: u64, text: &mut String<A>) -> Result<
 }
 
 /// Adds so many microseconds as milliseconds.
-///
-/// # Errors
-///
-/// Returns `AllocError` if there is no memory for them.
 #[tactic(auto, unfolding(crate::specs::Marks::millis))]
 pub fn put_millis<A: MapMemory>(n: u64, text: &mut String<A>) -> Result<(), AllocError>
     ensures text { OnOk result (string_bytes text.new ≡ string_bytes text.old ++ millis n) }

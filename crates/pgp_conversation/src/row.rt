@@ -21,10 +21,6 @@ use std::ops::Range;
 
 /// Writes the line of a row anew, whose frame stands at this place and has so many bytes, where its columns are known and some of its values come in
 /// binary format.
-///
-/// # Errors
-///
-/// Returns `AllocError` if there is no memory for it.
 pub fn type_row<A: MapMemory>(
     style: Style,
     place: u64,
@@ -110,7 +106,7 @@ fn put_values<A: MapMemory>(
     'items: loop {
         match places.next() {
             Ok(Some(place)) => {
-                put_next(style, rest, buffer, &place, text, line)?;
+                put_place(style, column_first(rest), buffer, &place, text, line)?;
                 rest = behind_first(rest);
             }
             Ok(None) => return end_list(style, line),
@@ -140,22 +136,6 @@ pub fn behind_first(columns: &[Column]) -> &[Column]
         [] => columns,
         [_, rest @ ..] => rest,
     }
-}
-
-/// Adds the value at a place, under the first of these columns.
-fn put_next<A: MapMemory>(
-    style: Style,
-    columns: &[Column],
-    buffer: &[u8],
-    place: &Option<Range<usize>>,
-    text: &mut BytesMut<A>,
-    line: &mut String<A>,
-) -> Result<(), AllocError>
-    requires within { IsPlaceIn (length buffer.now) place.now }
-    ensures adds { OnOk result (AddsValue style (column_first columns.now) (value_at buffer.now place.now) (string_bytes line.old) (string_bytes line.new)) }
-    ensures lacks { OnErr result A.Lacks }
-{
-    put_place(style, column_first(columns), buffer, place, text, line)
 }
 
 /// Adds the value at a place.

@@ -27,7 +27,7 @@ use pgp_trace::view::View;
 use std::alloc::AllocError;
 
 const USAGE: &str =
-    "usage: pgtrace server [--json] [--full] [--secrets] [--resume] [--only NAME[,NAME]..] [--color auto|always|never] | client [--json] [--full] [--secrets] [--resume] [--only NAME[,NAME]..] [--color auto|always|never] [--password-kind password|initial|response].. [--replication] | session [--json] [--full] [--secrets] [--requests] [--raw] [--summary] [--time absolute|relative] [--only NAME[,NAME]..] [--color auto|always|never] | --help | --version\n";
+    "usage: pgtrace server [--json] [--full] [--secrets] [--resume] [--only NAME[,NAME]..] [--except NAME[,NAME]..] [--color auto|always|never] | client [--json] [--full] [--secrets] [--resume] [--only NAME[,NAME]..] [--except NAME[,NAME]..] [--color auto|always|never] [--password-kind password|initial|response].. [--replication] | session [--json] [--full] [--secrets] [--requests] [--slower MS] [--raw] [--summary] [--fold] [--time absolute|relative] [--only NAME[,NAME]..] [--except NAME[,NAME]..] [--color auto|always|never] | --help | --version\n";
 
 const VERSION: &str = "pgtrace 0.1.0\n";
 
@@ -100,7 +100,9 @@ fn view_by<'a, A: MapMemory>(options: &'a Options<'_, A>) -> View<'a>
     View {
         style: style_of(options.json, options.full, options.secrets),
         only: options.only.as_slice(),
+        except: options.except.as_slice(),
         colored: options.colored,
+        slower: options.slower,
     }
 }
 
@@ -116,7 +118,9 @@ fn session_by<'a, A: MapMemory>(options: &'a Options<'_, A>) -> View<'a>
         return View {
             style: view.style,
             only: NO_NAME,
+            except: view.except,
             colored: view.colored,
+            slower: view.slower,
         };
     }
     view

@@ -31,10 +31,6 @@ use std::alloc::AllocError;
 
 /// Takes note of a server's frame, and writes the line of a row anew where its types are known. Returns what its mark says of requests, and what it says of
 /// messages to come.
-///
-/// # Errors
-///
-/// Returns `AllocError` if there is no memory for it.
 pub fn read_heard<A: MapMemory>(
     style: Style,
     place: u64,

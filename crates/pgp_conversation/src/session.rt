@@ -88,7 +88,7 @@ pub fn list_session<A: MapMemory, R: Input, W: Output>(
 /// Before the first byte of a recording.
 fn held_at_first<A: MapMemory>(alloc: A, marking: Marking) -> Held<A>
     ensures begun { result.begun ≡ false }
-    ensures talk { kept_of result.talk ≡ held_first (record { absolute = false; numbered = marking.numbered; summed = marking.summed; raw = marking.raw }) }
+    ensures talk { kept_of result.talk ≡ held_first (record marking { absolute = false }) }
     ensures bytes { result.bytes.items ≡ [] }
 {
     Held {
@@ -101,7 +101,7 @@ fn held_at_first<A: MapMemory>(alloc: A, marking: Marking) -> Held<A>
 
 /// Before the first chunk.
 fn talk_at_first<A: MapMemory>(alloc: A, marking: Marking) -> Talk<A>
-    ensures { kept_of result ≡ held_first (record { absolute = false; numbered = marking.numbered; summed = marking.summed; raw = marking.raw }) }
+    ensures { kept_of result ≡ held_first (record marking { absolute = false }) }
 {
     Talk {
         known: at_first(alloc, marking),
@@ -140,7 +140,7 @@ fn list_pieces<A: MapMemory, R: Input, W: Output>(
 ) -> Result<Said, Fault>
     requires some { 0 < length piece.old }
     requires begun { held.old.begun ≡ false }
-    requires talk { kept_of held.old.talk ≡ held_first (record { absolute = false; numbered = marking.numbered; summed = marking.summed; raw = marking.raw }) }
+    requires talk { kept_of held.old.talk ≡ held_first (record marking { absolute = false }) }
     requires bytes { held.old.bytes.items ≡ [] }
     requires live { ReadsWhenReady R.remaining W.contents W.Passed R.MayRead (view_of view) marking input.old output.old }
     ensures listed { IfOk result (λ said. WritesListing (view_of view.entry) marking (streams (R.remaining input.old) (W.contents output.old)) (streams (R.remaining input.new) (W.contents output.new)) said.end (said.client.now ++ said.server.now ++ complaint_of said.end)) }

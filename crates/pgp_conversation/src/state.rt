@@ -48,7 +48,7 @@ pub fn at_first<A: MapMemory>(alloc: A, marking: Marking) -> Known<A>
         kinds: Vec::new(alloc),
         phase: Phase::Beginning,
         requests: Vec::new(alloc),
-        numbers: first_numbers(alloc, counts(marking), marking.summed),
+        numbers: first_numbers(alloc, counts(marking), marking.summed, marking.folded),
         marked: marking.numbered,
         types: first_types(alloc, marking.raw),
     }
@@ -62,10 +62,6 @@ fn counts(marking: Marking) -> bool
 }
 
 /// Makes the line of the frame at the front of the bytes, which this side sent and which stands at this place. Returns what stands after it.
-///
-/// # Errors
-///
-/// Returns `AllocError` if there is no memory for the line.
 pub fn next_line<'b, A: MapMemory>(
     style: Style,
     sender: Sender,
@@ -143,29 +139,17 @@ pub fn is_replicating(phase: Phase) -> bool
 }
 
 /// Takes note of what a message says of those that are still to come.
-///
-/// # Errors
-///
-/// Returns `AllocError` if there is no memory for it.
 pub fn note<A: MapMemory>(noted: Noted, known: &mut Known<A>) -> Result<(), AllocError>
     ensures noted { OnOk result (known_of known.new ≡ note noted (known_of known.old)) }
     ensures lacks { OnErr result A.Lacks }
 {
     match noted {
-        Noted::Asks(kind) => {
-            A::push(&mut known.kinds, kind)?;
-            Ok(())
-        }
-        Noted::Requests(encryption) => {
-            A::push(&mut known.requests, encryption)?;
-            Ok(())
-        }
-        Noted::Answers => {
-            drop_first(&mut known.requests);
-            Ok(())
-        }
-        Noted::Nothing => Ok(()),
+        Noted::Asks(kind) => A::push(&mut known.kinds, kind)?,
+        Noted::Requests(encryption) => A::push(&mut known.requests, encryption)?,
+        Noted::Answers => drop_first(&mut known.requests),
+        Noted::Nothing => {}
     }
+    Ok(())
 }
 
 /// Lets the first request go.

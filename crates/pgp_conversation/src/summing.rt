@@ -50,10 +50,6 @@ fn asks_to<'a>(work: Work, first: &'a [u8], second: &'a [u8]) -> Asking<'a>
 }
 
 /// Takes note of a frame that has this name, asks for this, and whose mark says this of requests, where a summary is asked for.
-///
-/// # Errors
-///
-/// Returns `AllocError` if there is no memory for it.
 pub fn sum_frame<A: MapMemory>(
     asking: Option<Asking<'_>>,
     name: &str,

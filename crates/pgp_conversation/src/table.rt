@@ -2,8 +2,9 @@
 
 ghost use Rattle.std.specs.Prelude.{◌≡◌, ◌++◌, ◌∷◌, [], slice_get, OnErr, OnOk, decimal, string_bytes};
 ghost use Rattle.std.specs.List.{flat_map};
+ghost use Rattle.pgp_trace.specs.Steps.{view_of};
 ghost use Rattle.pgp_conversation.specs.Marks.{millis, number};
-ghost use Rattle.pgp_conversation.specs.Tables.{cell, columns, counts, heading, members, row_at, row_by, row_of, table, times};
+ghost use Rattle.pgp_conversation.specs.Tables.{cell, columns, counts, heading, members, row_at, row_by, row_in, table, times};
 
 use crate::line_mark::put_number;
 use crate::request_mark::put_millis;
@@ -13,6 +14,7 @@ use pgp_line::quote::{put_cut_text, put_json};
 use pgp_line::style::{Form, Style};
 use pgp_names::MapMemory;
 use pgp_summary::{Line, Summary};
+use pgp_trace::view::View;
 use std::alloc::AllocError;
 
 /// How many characters a count of runs or of errors takes, and how many a count of rows, or a time.
@@ -21,21 +23,17 @@ const COUNT: usize = 8;
 const WIDTH: usize = 10;
 
 /// Adds the table of a summary: a line for each statement that ran.
-///
-/// # Errors
-///
-/// Returns `AllocError` if there is no memory for it.
 pub fn put_table<A: MapMemory>(
-    style: Style,
+    view: View<'_>,
     summary: &Summary<A>,
     part: &mut String<A>,
     text: &mut String<A>,
 ) -> Result<(), AllocError>
-    ensures text { OnOk result (string_bytes text.new ≡ string_bytes text.old ++ table style summary.now.tallies) }
+    ensures text { OnOk result (string_bytes text.new ≡ string_bytes text.old ++ table (view_of view.entry) summary.now.tallies) }
     ensures lacks { OnErr result A.Lacks }
 {
-    put_heading(style.form, text)?;
-    put_rows(style, summary, part, text)
+    put_heading(view.style.form, text)?;
+    put_rows(view, summary, part, text)
 }
 
 /// Adds the line above the others.
@@ -54,35 +52,38 @@ fn put_heading<A: MapMemory>(form: Form, text: &mut String<A>) -> Result<(), All
 
 /// Adds the lines of statements.
 fn put_rows<A: MapMemory>(
-    style: Style,
+    view: View<'_>,
     summary: &Summary<A>,
     part: &mut String<A>,
     text: &mut String<A>,
 ) -> Result<(), AllocError>
-    ensures text { OnOk result (string_bytes text.new ≡ string_bytes text.old ++ flat_map (row_of style) summary.now.tallies) }
+    ensures text { OnOk result (string_bytes text.new ≡ string_bytes text.old ++ flat_map (row_in (view_of view.entry)) summary.now.tallies) }
     ensures lacks { OnErr result A.Lacks }
 {
     'rows: for place in 0..summary.len() {
-        put_place(style, summary, place, part, text)?;
+        put_place(view, summary, place, part, text)?;
     }
     Ok(())
 }
 
 /// Adds the line of the statement at this place.
 fn put_place<A: MapMemory>(
-    style: Style,
+    view: View<'_>,
     summary: &Summary<A>,
     place: usize,
     part: &mut String<A>,
     text: &mut String<A>,
 ) -> Result<(), AllocError>
-    ensures text { OnOk result (string_bytes text.new ≡ string_bytes text.old ++ row_at style (slice_get summary.now.tallies place)) }
+    ensures text { OnOk result (string_bytes text.new ≡ string_bytes text.old ++ row_at (view_of view.entry) (slice_get summary.now.tallies place)) }
     ensures lacks { OnErr result A.Lacks }
 {
     match summary.entry(place) {
         Some(entry) => {
             let line = entry.line()?;
-            put_row(style, line, entry.text(), part, text)
+            if line.greatest < view.slower {
+                return Ok(());
+            }
+            put_row(view.style, line, entry.text(), part, text)
         }
         None => Ok(()),
     }

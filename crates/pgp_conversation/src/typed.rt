@@ -32,10 +32,6 @@ pub fn first_types<A: MapMemory>(alloc: A, raw: bool) -> Option<Types<A>>
 
 /// Takes note of a frame of this side, which has this name, and writes its line anew where it has values whose types are known. Returns what its mark says of
 /// requests, and what it says of messages to come.
-///
-/// # Errors
-///
-/// Returns `AllocError` if there is no memory for it.
 pub fn read_frame<A: MapMemory>(
     style: Style,
     place: u64,
@@ -62,10 +58,6 @@ pub fn read_frame<A: MapMemory>(
 }
 
 /// Takes note of a frame that isn't read, and that is this to the requests.
-///
-/// # Errors
-///
-/// Returns `AllocError` if there is no memory for it.
 pub fn pass<A: MapMemory>(
     role: Role,
     name: &str,

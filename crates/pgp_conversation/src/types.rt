@@ -77,10 +77,6 @@ pub fn reach_answer<A: MapMemory>(number: u64, types: &mut Types<A>)
 }
 
 /// The object of a request has these columns, or none are known.
-///
-/// # Errors
-///
-/// Returns `AllocError` if there is no memory for them.
 pub fn describe<A: MapMemory>(
     number: u64,
     columns: Option<Vec<Column, A>>,
@@ -126,10 +122,6 @@ fn pass_on<A: MapMemory>(
 }
 
 /// A Bind is done: its portal has its statement's columns, in its formats.
-///
-/// # Errors
-///
-/// Returns `AllocError` if there is no memory for them.
 pub fn bind<A: MapMemory>(number: u64, types: &mut Types<A>) -> Result<(), AllocError>
     ensures bound { OnOk result (types_of types.new ≡ bound (first number (types_of types.old).awaited) (types_of types.old)) }
     ensures lacks { OnErr result A.Lacks }
@@ -187,10 +179,6 @@ pub fn end<A: MapMemory>(status: u8, types: &mut Types<A>)
 }
 
 /// A Parse is sent, under this number.
-///
-/// # Errors
-///
-/// Returns `AllocError` if there is no memory for it.
 pub fn parse<A: MapMemory>(
     number: u64,
     name: &[u8],
@@ -237,10 +225,6 @@ pub fn parameters_of<'a, A: MapMemory>(name: &[u8], types: &'a Types<A>) -> &'a 
 }
 
 /// The statement of a request has these parameters, or none are known.
-///
-/// # Errors
-///
-/// Returns `AllocError` if there is no memory for them.
 pub fn tell<A: MapMemory>(
     number: u64,
     parameters: Option<Vec<Column, A>>,
@@ -283,10 +267,6 @@ fn put_told<A: MapMemory>(
 }
 
 /// A Parse is done.
-///
-/// # Errors
-///
-/// Returns `AllocError` if there is no memory for what it gave.
 pub fn finish<A: MapMemory>(number: u64, types: &mut Types<A>) -> Result<(), AllocError>
     ensures parsed { OnOk result (types_of types.new ≡ parsed (first number (types_of types.old).awaited) (types_of types.old)) }
     ensures lacks { OnErr result A.Lacks }
@@ -313,10 +293,6 @@ pub fn finish<A: MapMemory>(number: u64, types: &mut Types<A>) -> Result<(), All
 }
 
 /// A statement or a portal is closed.
-///
-/// # Errors
-///
-/// Returns `AllocError` if there is no memory.
 pub fn close<A: MapMemory>(number: u64, types: &mut Types<A>) -> Result<(), AllocError>
     ensures closed { OnOk result (types_of types.new ≡ closed (first number (types_of types.old).awaited) (types_of types.old)) }
     ensures lacks { OnErr result A.Lacks }

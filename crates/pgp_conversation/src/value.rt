@@ -17,10 +17,6 @@ use pgp_values::{BinaryFormat, binary_format_of};
 use std::alloc::AllocError;
 
 /// Adds a value under its column, by way of a buffer for its text; or that it is a null.
-///
-/// # Errors
-///
-/// Returns `AllocError` if there is no memory for it.
 pub fn put_typed<A: MapMemory>(
     style: Style,
     column: Column,

@@ -1,19 +1,9 @@
 -- One more run of a statement.
-use Rattle.pgp_summary.proofs.Common.{◌≡◌, ℕ, Bool, true, false, Option, List, [], ◌∷◌, Some, None, refl, sym, ap, ◌∙◌, inl, inr, if◌then◌else◌, bytes_eq, cases_Bool, bytes_eq-Decides, found, put, Ran, more_of, no_run, tallies_of, tally_of, tallied}
+use Rattle.pgp_summary.proofs.Common.{◌≡◌, ℕ, Bool, true, false, Option, List, [], ◌∷◌, Some, None, refl, sym, ap, ◌∙◌, inl, inr, if◌then◌else◌, bytes_eq, bytes_eq-Decides, cases_Bool, found, put, Ran, more_of, no_run, tallies_of, tally_of, tallied}
+use Rattle.std.proofs.lemmas.Cmp.{nat_list_eq_equiv}
 
-not_both : (b : Bool) → b ≡ true → b ≡ false → ⊥
-not_both true e f = cc
-not_both false e f = cc
-
-same_back : (x y : List ℕ) → bytes_eq x y ≡ true → bytes_eq y x ≡ true
-same_back x y e = (bytes_eq-Decides y x).1 (sym ((bytes_eq-Decides x y).0 e))
-
-differs_back : (x y : List ℕ) → bytes_eq x y ≡ false → bytes_eq y x ≡ false
-differs_back x y e =
-    elim (cases_Bool (bytes_eq y x)) [
-      | inl same ↦ absurd (not_both (bytes_eq x y) (same_back y x same) e)
-      | inr differs ↦ differs
-    ]
+pub turned : (x y : List ℕ) (b : Bool) → bytes_eq x y ≡ b → bytes_eq y x ≡ b
+turned x y b e = nat_list_eq_equiv.symm y x ∙ e
 
 -- what is put twice is put the second time
 pub put_put : {V : Type 0} (name : List ℕ) (v w : V) (list : List (List ℕ × V)) → put name w (put name v list) ≡ put name w list
@@ -33,8 +23,8 @@ some_more text rows errors micros had [] is = absurd (no_none is)
 some_more text rows errors micros had (e ∷ more) is =
     elim (cases_Bool (bytes_eq text e.0)) [
       | inl same ↦ (let x : e.1 ≡ had = here (ap (λ b. if b then Some e.1 else found text more) (sym same) ∙ is) in
-          rw (same, same_back text e.0 same) (ap (λ (r : Ran). tally_of (e.0, more_of rows errors micros r) ∷ tallies_of more) (sym x)))
-      | inr other ↦ rw (other, differs_back text e.0 other) (ap (λ l. tally_of e ∷ l) (some_more text rows errors micros had more (ap (λ b. if b then Some e.1 else found text more) (sym other) ∙ is)))
+          rw (same, turned text e.0 true same) (ap (λ (r : Ran). tally_of (e.0, more_of rows errors micros r) ∷ tallies_of more) (sym x)))
+      | inr other ↦ rw (other, turned text e.0 false other) (ap (λ l. tally_of e ∷ l) (some_more text rows errors micros had more (ap (λ b. if b then Some e.1 else found text more) (sym other) ∙ is)))
     ]
   where
     here : {x y : Ran} → Some x ≡ Some y → x ≡ y
@@ -46,5 +36,5 @@ none_more text rows errors micros [] is = refl
 none_more text rows errors micros (e ∷ more) is =
     elim (cases_Bool (bytes_eq text e.0)) [
       | inl same ↦ absurd (no_none (sym (ap (λ b. if b then Some e.1 else found text more) (sym same) ∙ is)))
-      | inr other ↦ rw (other, differs_back text e.0 other) (ap (λ l. tally_of e ∷ l) (none_more text rows errors micros more (ap (λ b. if b then Some e.1 else found text more) (sym other) ∙ is)))
+      | inr other ↦ rw (other, turned text e.0 false other) (ap (λ l. tally_of e ∷ l) (none_more text rows errors micros more (ap (λ b. if b then Some e.1 else found text more) (sym other) ∙ is)))
     ]

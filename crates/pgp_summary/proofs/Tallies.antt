@@ -1,7 +1,9 @@
 -- Each run is tallied, among those of its statement.
 use Rattle.pgp_summary.proofs.Common.{◌≡◌, ℕ, ◌+◌, ◌^◌, ◌-◌, Bool, true, false, List, [], ◌∷◌, ◌++◌, min, Option, Some, None, refl, sym, ap, arith, ◌∙◌, inl, inr, append_assoc, if◌then◌else◌, bytes_eq, cases_Bool, bytes_eq-Decides, Run, Tally, begun, capped, grown, tallied, tally, tally_after, Request, State, done, nothing, skipped, taken, with_waiting}
 use Rattle.std.specs.Option.{option_to_list, unwrap_or}
+use Rattle.std.proofs.lemmas.Cmp.{nat_list_eq_equiv}
 use Rattle.std.proofs.lemmas.List.{append-nil}
+use Rattle.pgp_summary.proofs.Places.{turned}
 use Rattle.pgp_summary.specs.Calls.{AreApart, Call, Ask, Row, End, Fail, after, all_errors, all_micros, all_rows, called, found, run_by, run_in, run_of, runs_in, said_of, stands_in, times_of}
 use Rattle.pgp_summary.specs.declared.work.Work.{Work}
 use Rattle.pgp_summary.specs.declared.work.Work.TheVariants.{Query, Parse, Bind, Execute}
@@ -31,32 +33,17 @@ calls_tally s [] = refl
 calls_tally s (call ∷ more) =
     calls_tally (called call s) more ∙ ap (λ l. tally_after l (runs_in (called call s) more)) (call_tally call s) ∙ tally_join s.tallies (run_in call s) (runs_in (called call s) more)
 
-pub all_tallied : (calls : List Call) → (after nothing calls).tallies ≡ tally (runs_in nothing calls)
-all_tallied calls = calls_tally nothing calls
+pub all_tallied : (folds : Bool) (calls : List Call) → (after (nothing folds) calls).tallies ≡ tally (runs_in (nothing folds) calls)
+all_tallied folds calls = calls_tally (nothing folds) calls
 
 -- ---- statements
 
 same_text : (x y : List ℕ) → bytes_eq x y ≡ true → x ≡ y
 same_text x y e = (bytes_eq-Decides x y).0 e
 
-not_both : (b : Bool) → b ≡ true → b ≡ false → ⊥
-not_both true e f = cc
-not_both false e f = cc
-
 -- one that differs from one of two that are the same differs from the other
 apart : (x s name : List ℕ) → bytes_eq x s ≡ false → bytes_eq x name ≡ true → bytes_eq s name ≡ false
-apart x s name other is =
-    elim (cases_Bool (bytes_eq s name)) [
-      | inl same ↦ absurd (not_both (bytes_eq x s) ((bytes_eq-Decides x s).1 (same_text x name is ∙ sym (same_text s name same))) other)
-      | inr differs ↦ differs
-    ]
-
-differs_back : (x y : List ℕ) → bytes_eq x y ≡ false → bytes_eq y x ≡ false
-differs_back x y e =
-    elim (cases_Bool (bytes_eq y x)) [
-      | inl same ↦ absurd (not_both (bytes_eq x y) ((bytes_eq-Decides x y).1 (sym (same_text y x same))) e)
-      | inr differs ↦ differs
-    ]
+apart x s name other is = nat_list_eq_equiv.symm s name ∙ sym (nat_list_eq_equiv.congr x name s is) ∙ other
 
 -- the statement of a run has it more
 abbrev joined : Run → Option Tally → Tally
@@ -136,7 +123,7 @@ apart_more run [] a = (refl, tt)
 apart_more run (e ∷ more) a =
     elim (cases_Bool (bytes_eq e.text run.text)) [
       | inl same ↦ rw same a
-      | inr differs ↦ rw differs (stands_kept e.text run more (differs_back e.text run.text differs) ∙ a.0, apart_more run more a.1)
+      | inr differs ↦ rw differs (stands_kept e.text run more (turned e.text run.text false differs) ∙ a.0, apart_more run more a.1)
     ]
 
 apart_after : (tallies : List Tally) (runs : List Run) → AreApart tallies → AreApart (tally_after tallies runs)

@@ -2,3 +2,4 @@ pub mod Runs
 pub mod Summary
 pub mod Places
 pub mod Calls
+pub mod Fold

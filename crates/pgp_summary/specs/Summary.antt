@@ -2,6 +2,7 @@
 use Rattle.std.specs.Prelude.{ℕ, ◌+◌, Bool, true, false, ◌&&◌, ◌==◌, nat_lt, if◌then◌else◌, List, [], ◌∷◌, ◌++◌, Option, None, Some, codes}
 use Rattle.std.specs.Option.{unwrap_or}
 use Rattle.pgp_names.specs.Names.{found, put}
+use Rattle.pgp_summary.specs.Fold.{folded}
 use Rattle.pgp_summary.specs.Runs.{Run, Tally, capped, tallied, tally_after}
 use Rattle.pgp_summary.specs.declared.work.Work.{Work}
 use Rattle.pgp_summary.specs.declared.work.Work.TheVariants.{Query, Parse, Bind, Execute}
@@ -30,36 +31,13 @@ pub record Request : Type 0 where
   pub first : List ℕ
   pub second : List ℕ
 
-abbrev pub is_ready : Reply → Bool
-is_ready ParseComplete = false
-is_ready BindComplete = false
-is_ready ExecuteEnd = false
-is_ready ReadyForQuery = true
-
-abbrev pub is_parsed : Reply → Bool
-is_parsed ParseComplete = true
-is_parsed BindComplete = false
-is_parsed ExecuteEnd = false
-is_parsed ReadyForQuery = false
-
-abbrev pub is_bound : Reply → Bool
-is_bound ParseComplete = false
-is_bound BindComplete = true
-is_bound ExecuteEnd = false
-is_bound ReadyForQuery = false
-
-abbrev pub is_end : Reply → Bool
-is_end ParseComplete = false
-is_end BindComplete = false
-is_end ExecuteEnd = true
-is_end ReadyForQuery = false
-
 -- whether a message ends the answer to what does this, and it took effect: a Parse and a Bind that fail have no such end
 abbrev pub ends : Work → Reply → Bool
-ends Query reply = is_ready reply
-ends Parse reply = is_parsed reply
-ends Bind reply = is_bound reply
-ends Execute reply = is_end reply
+ends Query ReadyForQuery = true
+ends Parse ParseComplete = true
+ends Bind BindComplete = true
+ends Execute ExecuteEnd = true
+ends work reply = false
 
 -- whether a request has this number, and is ended so
 abbrev pub is_ended : ℕ → Reply → Request → Bool
@@ -90,8 +68,9 @@ first_of number (first ∷ more) = if first.number == number then Some first els
 
 -- ---- what is known of the requests
 
--- The texts of statements and portals; the requests whose answers aren't complete, in order; how many rows of which request came; and the statements that ran.
+-- Whether statements are noted without their literals; the texts of statements and portals; the requests whose answers aren't complete, in order; how many rows of which request came; and the statements that ran.
 pub record State : Type 0 where
+  pub folds : Bool
   pub statements : List (List ℕ × List ℕ)
   pub portals : List (List ℕ × List ℕ)
   pub waiting : List Request
@@ -100,12 +79,20 @@ pub record State : Type 0 where
   pub tallies : List Tally
 
 -- before the first request
-abbrev pub nothing : State
-nothing = record { statements = []; portals = []; waiting = []; counted = 0; rows = 0; tallies = [] }
+abbrev pub nothing : (folds : Bool) → State
+nothing folds = record { folds = folds; statements = []; portals = []; waiting = []; counted = 0; rows = 0; tallies = [] }
+
+abbrev pub text_in : (folds : Bool) → List ℕ → List ℕ
+text_in true text = folded text
+text_in false text = text
+
+-- as it is noted: without the literals of its statement, where that is asked for. (A ReadyForQuery ends a Query alone, a ParseComplete a Parse.)
+abbrev pub noted : (folds : Bool) → Request → Request
+noted folds r = record r { first = text_in (folds && ends r.work ReadyForQuery) r.first; second = text_in (folds && ends r.work ParseComplete) r.second }
 
 -- one more request
 abbrev pub asked : Request → State → State
-asked r s = record { statements = s.statements; portals = s.portals; waiting = s.waiting ++ r ∷ []; counted = s.counted; rows = s.rows; tallies = s.tallies }
+asked r s = record s { waiting = s.waiting ++ noted s.folds r ∷ [] }
 
 -- the rows of the request of this number, so far
 abbrev pub rows_of : ℕ → State → ℕ
@@ -113,19 +100,19 @@ rows_of number s = if s.counted == number then s.rows else 0
 
 -- a row of it
 abbrev pub row : ℕ → State → State
-row number s = record { statements = s.statements; portals = s.portals; waiting = s.waiting; counted = number; rows = capped (rows_of number s + 1); tallies = s.tallies }
+row number s = record s { counted = number; rows = capped (rows_of number s + 1) }
 
 abbrev pub with_waiting : List Request → State → State
-with_waiting waiting s = record { statements = s.statements; portals = s.portals; waiting = waiting; counted = s.counted; rows = s.rows; tallies = s.tallies }
+with_waiting waiting s = record s { waiting = waiting }
 
 abbrev pub with_statement : (name text : List ℕ) → State → State
-with_statement name text s = record { statements = named name text s.statements; portals = s.portals; waiting = s.waiting; counted = s.counted; rows = s.rows; tallies = s.tallies }
+with_statement name text s = record s { statements = named name text s.statements }
 
 abbrev pub with_portal : (name text : List ℕ) → State → State
-with_portal name text s = record { statements = s.statements; portals = named name text s.portals; waiting = s.waiting; counted = s.counted; rows = s.rows; tallies = s.tallies }
+with_portal name text s = record s { portals = named name text s.portals }
 
 abbrev pub with_run : Run → State → State
-with_run run s = record { statements = s.statements; portals = s.portals; waiting = s.waiting; counted = s.counted; rows = s.rows; tallies = tallied run s.tallies }
+with_run run s = record s { tallies = tallied run s.tallies }
 
 -- a run of this text by the request of this number
 abbrev pub ran : (text : List ℕ) (number micros : ℕ) → State → State
@@ -154,7 +141,7 @@ error_of None s = []
 error_of (Some r) s = record { text = text_of r.work r s.statements s.portals; rows = 0; micros = None; errors = 1 } ∷ []
 
 abbrev pub with_runs : List Run → State → State
-with_runs runs s = record { statements = s.statements; portals = s.portals; waiting = s.waiting; counted = s.counted; rows = s.rows; tallies = tally_after s.tallies runs }
+with_runs runs s = record s { tallies = tally_after s.tallies runs }
 
 -- the server sent an error for the request of this number
 abbrev pub failed : ℕ → State → State

@@ -1,13 +1,13 @@
 //! Laws of summaries.
 
-ghost use Rattle.std.specs.Prelude.{◌≡◌, ℕ, List};
+ghost use Rattle.std.specs.Prelude.{◌≡◌, ℕ, Bool, List};
 ghost use Rattle.pgp_summary.specs.Calls.{AreApart, Call, after, found, runs_in, said_of};
 ghost use Rattle.pgp_summary.specs.Runs.{Run, tally};
 ghost use Rattle.pgp_summary.specs.Summary.{nothing};
 
 /// Whatever calls were made: the statements are those of the runs that they ended and of their errors, and no others.
 pub fn runs_are_tallied()
-    ensures { (calls : List Call) → (after nothing calls).tallies ≡ tally (runs_in nothing calls) }
+    ensures { (folds : Bool) (calls : List Call) → (after (nothing folds) calls).tallies ≡ tally (runs_in (nothing folds) calls) }
 {}
 
 /// Of these runs each statement has one line, with the times, the rows and the errors of all its runs, and of no others.

@@ -3,6 +3,7 @@
 #![tactic(auto)]
 
 mod entry;
+mod fold;
 pub mod laws;
 mod named;
 mod summary;

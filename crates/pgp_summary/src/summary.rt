@@ -1,12 +1,13 @@
 //! What the requests of a connection ran.
 
-ghost use Rattle.std.specs.Prelude.{◌≡◌, length, slice_get, Some, IfErr, OnErr, OnOk};
-ghost use Rattle.pgp_summary.specs.Summary.{asked, did, ended, failed, nothing, ran, row, rows_of, text_of, text_under, with_portal};
+ghost use Rattle.std.specs.Prelude.{◌≡◌, ◌&&◌, length, slice_get, Some, IfErr, IfOk, OnErr, OnOk};
+ghost use Rattle.pgp_summary.specs.Summary.{asked, did, ended, failed, nothing, ran, row, rows_of, text_in, text_of, text_under, with_portal};
 
 use crate::entry::{Entry, More, Ran, entry_at, plus, tally};
+use crate::fold::fold;
 use crate::named::{Text, put, text_under};
 use crate::waiting::{Asked, first_of, push, skip, take};
-use crate::work::{Reply, Work};
+use crate::work::{Reply, Work, ends};
 use pgp_base::Memory;
 use pgp_names::{MapMemory, Names};
 use std::alloc::{AllocError, Global};
@@ -24,6 +25,7 @@ const ERROR: More = More {
 #[derive(Drop)]
 pub struct Summary<A: MapMemory = Global> {
     alloc: A,
+    folds: bool,
     statements: Names<Text<A>, A>,
     portals: Names<Text<A>, A>,
     waiting: VecDeque<Asked<A>, A>,
@@ -38,16 +40,17 @@ impl<A: MapMemory> Model for Summary<A> {
 
     ghost Value = { State };
 
-    ghost view = { λ x. record { statements = x.statements; portals = x.portals; waiting = x.waiting.items; counted = x.counted; rows = x.rows; tallies = tallies_of x.entries } };
+    ghost view = { λ x. record { folds = x.folds; statements = x.statements; portals = x.portals; waiting = x.waiting.items; counted = x.counted; rows = x.rows; tallies = tallies_of x.entries } };
 }
 
 impl<A: MapMemory> Summary<A> {
-    /// Before the first request.
-    pub fn new(alloc: A) -> Summary<A>
-        ensures { result ≡ nothing }
+    /// Before the first request. Statements are noted with a question mark in the place of each literal, where `folds` says so.
+    pub fn new(alloc: A, folds: bool) -> Summary<A>
+        ensures { result ≡ nothing folds }
     {
         Summary {
             alloc,
+            folds,
             statements: Names::new(alloc),
             portals: Names::new(alloc),
             waiting: VecDeque::new(alloc),
@@ -74,8 +77,8 @@ impl<A: MapMemory> Summary<A> {
         ensures same { OnErr result (self.new ≡ self.old) }
         ensures lacks { OnErr result A.Lacks }
     {
-        let first = self.alloc.list_of(first)?;
-        let second = self.alloc.list_of(second)?;
+        let first = self.text(ends(work, Reply::ReadyForQuery), first)?;
+        let second = self.text(ends(work, Reply::ParseComplete), second)?;
         let asked = Asked {
             number,
             work,
@@ -83,6 +86,18 @@ impl<A: MapMemory> Summary<A> {
             second,
         };
         push(asked, &mut self.waiting)
+    }
+
+    /// A text as it is noted, which is a statement or a name.
+    fn text(&self, is_statement: bool, bytes: &[u8]) -> Result<Vec<u8, A>, AllocError>
+        ensures noted { IfOk result (λ list. list.items ≡ text_in (self.now.folds && is_statement) bytes.now) }
+        ensures lacks { OnErr result A.Lacks }
+    {
+        if self.folds && is_statement {
+            fold(self.alloc, bytes)
+        } else {
+            self.alloc.list_of(bytes)
+        }
     }
 
     /// Takes note of a DataRow that belongs to the request of this number.

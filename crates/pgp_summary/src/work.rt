@@ -1,7 +1,7 @@
 //! What requests do, and what ends them.
 
 ghost use Rattle.std.specs.Prelude.{◌≡◌};
-ghost use Rattle.pgp_summary.specs.Summary.{ends, is_bound, is_end, is_parsed, is_ready};
+ghost use Rattle.pgp_summary.specs.Summary.{ends};
 
 /// A request that runs a statement, or says which statement another one runs.
 #[derive(Debug, Clone, Copy, PartialEq, Eq)]
@@ -26,46 +26,11 @@ pub enum Reply {
 pub(crate) fn ends(work: Work, reply: Reply) -> bool
     ensures { result ≡ ends work reply }
 {
-    match work {
-        Work::Query => is_ready(reply),
-        Work::Parse => is_parsed(reply),
-        Work::Bind => is_bound(reply),
-        Work::Execute => is_end(reply),
-    }
-}
-
-fn is_ready(reply: Reply) -> bool
-    ensures { result ≡ is_ready reply }
-{
-    match reply {
-        Reply::ReadyForQuery => true,
-        Reply::ParseComplete | Reply::BindComplete | Reply::ExecuteEnd => false,
-    }
-}
-
-fn is_parsed(reply: Reply) -> bool
-    ensures { result ≡ is_parsed reply }
-{
-    match reply {
-        Reply::ParseComplete => true,
-        Reply::ReadyForQuery | Reply::BindComplete | Reply::ExecuteEnd => false,
-    }
-}
-
-fn is_bound(reply: Reply) -> bool
-    ensures { result ≡ is_bound reply }
-{
-    match reply {
-        Reply::BindComplete => true,
-        Reply::ReadyForQuery | Reply::ParseComplete | Reply::ExecuteEnd => false,
-    }
-}
-
-fn is_end(reply: Reply) -> bool
-    ensures { result ≡ is_end reply }
-{
-    match reply {
-        Reply::ExecuteEnd => true,
-        Reply::ReadyForQuery | Reply::ParseComplete | Reply::BindComplete => false,
+    match (work, reply) {
+        (Work::Query, Reply::ReadyForQuery)
+        | (Work::Parse, Reply::ParseComplete)
+        | (Work::Bind, Reply::BindComplete)
+        | (Work::Execute, Reply::ExecuteEnd) => true,
+        _ => false,
     }
 }

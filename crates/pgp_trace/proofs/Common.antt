@@ -26,7 +26,7 @@ pub use Rattle.pgp_program.specs.Words.{greatest}
 pub use Rattle.pgp_trace.specs.Client.{client_line, grouped, ClientSays, client_copied, client_data, client_name, client_called, client_groups, refusal_parts, client_value, first_text, signed_part, pair_parts}
 pub use Rattle.pgp_trace.specs.Listing.{IsAnswerLine, IsListing, LineOf, Listed, Lines, Rows, NoLines, OneLine, answer_line, answer_name, last_line, name_in, place_behind, EndsSo, client_frame_name, client_front, IsNextLine, client_tag, front, unread_name, GoesOn, IsLineOf, IsServerLine, server_name, IsRunBehindAnswers, IsReady, WasListed, WritesListing, IsCutShort}
 pub use Rattle.pgp_trace.specs.Names.{name_of, state_of}
-pub use Rattle.pgp_trace.specs.Options.{AreOptions, AreNoOptions, BeginsWithNone, BeginsWithNoneOf, Chosen, IsOneOf, argument_of, chooses, chosen_by, has_word, nothing_chosen, word_of, chosen_of}
+pub use Rattle.pgp_trace.specs.Options.{AreOptions, AreNoOptions, BeginsWithNone, BeginsWithNoneOf, Chosen, IsOneOf, argument_of, chooses, chosen_by, nothing_chosen, word_of, chosen_of}
 pub use Rattle.pgp_trace.specs.PlainBody.{numbers_of, IsCallResult, IsCopyBoth}
 pub use Rattle.pgp_trace.specs.Replication.{Inner, IsInner, IsInt32, IsInt64, XLogData, Keepalive, StatusUpdate, Feedback, spelled, ShowsInner, inner_parts, data_parts, clock_parts}
 pub use Rattle.pgp_trace.specs.Secrets.{quiet, quietly, Alike, AlikeBeginnings, AlikeResults, AlikeFrames, AlikeReceived, AlikeStreams, NoFrames, OneAlike}
@@ -34,4 +34,4 @@ pub use Rattle.pgp_trace.specs.Shown.{Says, called, inner_data, Shows, closed, e
 pub use Rattle.pgp_trace.specs.Sides.{Side, Server, AreAnswers, Ends, answered, phase_behind, replicates_behind, server_at, Client, expected, is_reported, kinds_behind, is_password, IsRefusedPacket, replicates}
 pub use Rattle.pgp_trace.specs.Steps.{HasLine, ListsNext, phase_of, IsFrameOf, IsNamedLine, ReportsFault, ListsAll, ListsSome, Held, Holds, ListsPiece, side_of, view_of}
 pub use Rattle.pgp_trace.specs.Unread.{ShowsUnread, ShowsCopyBoth, ShowsResult, CallResult, CopyBoth, Rejected, copy_parts, result_parts}
-pub use Rattle.pgp_trace.specs.View.{View, shown, is_listed, color_by, color_of, ends_in_newline, painted, uncolored}
+pub use Rattle.pgp_trace.specs.View.{View, shown, has_word, is_listed, color_by, color_of, ends_in_newline, painted, uncolored}

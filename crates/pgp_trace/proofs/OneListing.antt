@@ -48,13 +48,13 @@ options = one_counted_list TextSpelled TextRefused (λ place. text_at) text_read
 formats : HasOneCountedList FormatSpelled FormatRefused
 formats = one_counted_list FormatSpelled FormatRefused (λ place. format_at) format_reader
 
-types : HasOneCountedList TypeSpelled TypeRefused
+pub types : HasOneCountedList TypeSpelled TypeRefused
 types = one_counted_list TypeSpelled TypeRefused (λ place. type_at) type_reader
 
-ranges : HasOneCountedList RangeSpelled RangeRefused
+pub ranges : HasOneCountedList RangeSpelled RangeRefused
 ranges = one_counted_list RangeSpelled RangeRefused range_at range_reader
 
-columns : HasOneCountedList FieldSpelled FieldRefused
+pub columns : HasOneCountedList FieldSpelled FieldRefused
 columns = one_counted_list FieldSpelled FieldRefused (λ place. field_at) field_reader
 
 fields : HasOneMarkedList ErrorFieldSpelled ErrorFieldRefused
@@ -124,8 +124,8 @@ line_of_one style place replicating f line other fits a b =
     let reported = subst (λ r. GoesOn style replicating f.tag f.payload r (front style place f) a.text) result a.reported in
     a.ended ∙ ap (λ t. t ++ closing style ++ 10 ∷ []) (goes_one style replicating f.tag f.payload b.result (front style place f) a.text b.text reported b.reported) ∙ sym b.ended
 
-same_read : (f g : Frame) (r s : Result Message Error) → IsFrame f → f ≡ g → Body f.tag f.payload r → Body g.tag g.payload s → r ≡ s
-same_read f g r s fits e a b = sym (one_body f.tag f.payload r fits.payload a) ∙ one_body f.tag f.payload s fits.payload (subst (λ (h : Frame). Body h.tag h.payload s) (sym e) b)
+pub one_read : (f g : Frame) (r s : Result Message Error) → IsFrame f → f ≡ g → Body f.tag f.payload r → Body g.tag g.payload s → r ≡ s
+one_read f g r s fits e a b = sym (one_body f.tag f.payload r fits.payload a) ∙ one_body f.tag f.payload s fits.payload (subst (λ (h : Frame). Body h.tag h.payload s) (sym e) b)
 
 same_name : (f g : Frame) (r s : Result Message Error) → f ≡ g → r ≡ s → server_name f.tag r ≡ server_name g.tag s
 same_name f g r s e h = ap (λ (k : Frame). server_name k.tag r) e ∙ ap (server_name g.tag) h
@@ -138,7 +138,7 @@ server_one style place replicating f g line other x y a b e =
       a.whole ∙ ap frame_bytes one.0 ∙ sym b.whole,
       line_of_one style place replicating b.first line other b.fits reported b.reported,
       one.1,
-      same_name a.first b.first a.reported.result b.reported.result one.0 (same_read a.first b.first a.reported.result b.reported.result a.fits one.0 a.reported.body b.reported.body),
+      same_name a.first b.first a.reported.result b.reported.result one.0 (one_read a.first b.first a.reported.result b.reported.result a.fits one.0 a.reported.body b.reported.body),
     )
 
 front_answer : (byte : ℕ) (f x y : List ℕ) (phase : Phase) → phase_behind byte ≡ Some phase → byte ∷ x ≡ f ++ y → 0 < length f → answered f ≡ None → ⊥
@@ -160,7 +160,7 @@ answers_one style place f g line other x y p q a b e =
       ap answer_name byte,
     )
 
-same_result : (r s : Result ClientMessage ClientError) → step_of r ≡ step_of s → r ≡ s
+pub same_result : (r s : Result ClientMessage ClientError) → step_of r ≡ step_of s → r ≡ s
 same_result (Ok x) (Ok y) e = cc
 same_result (Ok x) (Err d) e = absurd cc
 same_result (Err d) (Ok y) e = absurd cc

@@ -3,7 +3,7 @@ use Rattle.pgp_trace.proofs.Common.{◌≡◌, ◌≢◌, ℕ, suc, ◌+◌, ◌
 use Rattle.std.proofs.lemmas.Grind.{flat_map-append}
 use Rattle.pgp_trace.specs.Options.{spelled}
 use Rattle.pgp_trace.specs.declared.options.Choice.{Choice}
-use Rattle.pgp_trace.specs.declared.options.Choice.TheVariants.{Only}
+use Rattle.pgp_trace.specs.declared.options.Choice.TheVariants.{Only, Except}
 
 -- Some options came, and these words stand after them.
 pub record Received (terminal : Bool) (has all rest : List (List ℕ)) (chosen : Chosen) : Type 0 where
@@ -55,10 +55,11 @@ first words = get_or words 0 []
 
 -- how many words stand after the first word of an option
 abbrev behind : List ℕ → ℕ
-behind word = if has_word (codes "--only" ∷ codes "--color" ∷ codes "--password-kind" ∷ codes "--time" ∷ []) word then 1 else 0
+behind word = if has_word (codes "--only" ∷ codes "--except" ∷ codes "--color" ∷ codes "--password-kind" ∷ codes "--time" ∷ codes "--slower" ∷ []) word then 1 else 0
 
 arguments : (c : Choice) → length (argument_of c) ≡ behind (word_of c)
 arguments (Only names) = refl
+arguments (Except names) = refl
 arguments c = refl
 
 first_word : (c d : Choice) (x y : List (List ℕ)) → spelled c ++ x ≡ spelled d ++ y → word_of c ≡ word_of d

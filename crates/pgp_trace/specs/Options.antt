@@ -1,12 +1,13 @@
 -- The options of a listing, as words spell them.
-use Rattle.std.specs.Prelude.{◌≡◌, ◌≢◌, ℕ, Bool, true, false, List, [], ◌∷◌, ◌++◌, ◌==◌, codes, map}
+use Rattle.std.specs.Prelude.{◌≡◌, ◌≢◌, ⊤, ℕ, ◌*◌, Ok, Bool, true, false, List, [], ◌∷◌, ◌++◌, ◌==◌, codes, map}
 use Rattle.std.specs.Borrow.{Bor}
-use Rattle.pgp_trace.specs.Common.{flat_map, list_any, slice_split, AllByRecursion, bytes_eq}
+use Rattle.std.specs.Str.Parse.{ParsesUnsigned}
+use Rattle.pgp_trace.specs.Common.{flat_map, slice_split, AllByRecursion}
 use Rattle.pgp_frontend_read.specs.declared.message.PasswordKind.{PasswordKind}
 use Rattle.pgp_frontend_read.specs.declared.message.PasswordKind.TheVariants.{Password, Initial, Response}
 use Rattle.pgp_trace.specs.declared.marking.Marking.{Marking}
 use Rattle.pgp_trace.specs.declared.options.Choice.{Choice}
-use Rattle.pgp_trace.specs.declared.options.Choice.TheVariants.{AsJson, Full, Secrets, Resume, Replication, Only, Color, Kind, Time, Requests, Summary, Raw}
+use Rattle.pgp_trace.specs.declared.options.Choice.TheVariants.{AsJson, Full, Secrets, Resume, Replication, Only, Except, Color, Kind, Time, Requests, Slower, Summary, Fold, Raw}
 use Rattle.pgp_trace.specs.declared.options.Clock.{Clock}
 use Rattle.pgp_trace.specs.declared.options.Clock.TheVariants.{Absolute, Relative}
 use Rattle.pgp_trace.specs.declared.options.Listing.{Listing}
@@ -15,7 +16,7 @@ use Rattle.pgp_trace.specs.declared.options.Options as code
 use Rattle.pgp_trace.specs.declared.options.When.{When}
 use Rattle.pgp_trace.specs.declared.options.When.TheVariants.{Auto, Always, Never}
 use Rattle.pgp_line.specs.Styles.{style_of}
-use Rattle.pgp_trace.specs.View.{View}
+use Rattle.pgp_trace.specs.View.{View, has_word}
 
 abbrev pub kind_word : PasswordKind → List ℕ
 kind_word Password = codes "password"
@@ -39,18 +40,23 @@ word_of Secrets = codes "--secrets"
 word_of Resume = codes "--resume"
 word_of Replication = codes "--replication"
 word_of (Only names) = codes "--only"
+word_of (Except names) = codes "--except"
 word_of (Color when) = codes "--color"
 word_of (Kind kind) = codes "--password-kind"
 word_of (Time clock) = codes "--time"
 word_of Requests = codes "--requests"
+word_of (Slower word millis) = codes "--slower"
 word_of Summary = codes "--summary"
+word_of Fold = codes "--fold"
 word_of Raw = codes "--raw"
 
 abbrev pub argument_of : Choice → List (List ℕ)
 argument_of (Only names) = names.now ∷ []
+argument_of (Except names) = names.now ∷ []
 argument_of (Color when) = when_word when ∷ []
 argument_of (Kind kind) = kind_word kind ∷ []
 argument_of (Time clock) = clock_word clock ∷ []
+argument_of (Slower word millis) = word.now ∷ []
 argument_of choice = []
 
 abbrev pub spelled : Choice → List (List ℕ)
@@ -59,18 +65,21 @@ spelled choice = word_of choice ∷ argument_of choice
 -- The options that each listing has. A recording begins with its connection, and the server says in it which a client's messages of tag `p` are, and whether
 -- the stream is one of replication.
 abbrev pub options_in : Listing → List (List ℕ)
-options_in Server = codes "--json" ∷ codes "--full" ∷ codes "--secrets" ∷ codes "--resume" ∷ codes "--only" ∷ codes "--color" ∷ []
-options_in Client = codes "--json" ∷ codes "--full" ∷ codes "--secrets" ∷ codes "--resume" ∷ codes "--only" ∷ codes "--color" ∷ codes "--password-kind" ∷ codes "--replication" ∷ []
-options_in Session = codes "--json" ∷ codes "--full" ∷ codes "--secrets" ∷ codes "--requests" ∷ codes "--raw" ∷ codes "--summary" ∷ codes "--time" ∷ codes "--only" ∷ codes "--color" ∷ []
+options_in Server = codes "--json" ∷ codes "--full" ∷ codes "--secrets" ∷ codes "--resume" ∷ codes "--only" ∷ codes "--except" ∷ codes "--color" ∷ []
+options_in Client = codes "--json" ∷ codes "--full" ∷ codes "--secrets" ∷ codes "--resume" ∷ codes "--only" ∷ codes "--except" ∷ codes "--color" ∷ codes "--password-kind" ∷ codes "--replication" ∷ []
+options_in Session = codes "--json" ∷ codes "--full" ∷ codes "--secrets" ∷ codes "--requests" ∷ codes "--slower" ∷ codes "--raw" ∷ codes "--summary" ∷ codes "--fold" ∷ codes "--time" ∷ codes "--only" ∷ codes "--except" ∷ codes "--color" ∷ []
 
-abbrev pub has_word : List (List ℕ) → List ℕ → Bool
-has_word has word = list_any (λ other. bytes_eq other word) has
+-- of that which has a number of milliseconds: it is what its word says, and less than 2³²
+abbrev pub IsSound : Choice → Type 0
+IsSound (Slower word millis) = ParsesUnsigned {E = ⊤} 32 10 word.now (Ok millis)
+IsSound choice = ⊤
 
 abbrev pub IsOneOf : List (List ℕ) → Choice → Type 0
-IsOneOf has choice = has_word has (word_of choice) ≡ true
+IsOneOf has choice = (has_word has (word_of choice) ≡ true) × IsSound choice
 
--- What options come to: of which style lines are, the names of the messages that are listed, and whether lines have colours; whether a stream is taken in
--- mid-session, whether it is one of replication, and which a client's messages of tag `p` are, from the first on; and what the marks of a recording say.
+-- What options come to: of which style lines are, the names of the messages that are listed and of those that aren't, and whether lines have colours; whether a stream is taken in
+-- mid-session, whether it is one of replication, and which a client's messages of tag `p` are, from the first on; how late the answers are that are listed,
+-- and what the marks of a recording say.
 pub record Chosen : Type 0 where
   pub json : Bool
   pub full : Bool
@@ -78,13 +87,15 @@ pub record Chosen : Type 0 where
   pub resume : Bool
   pub replicating : Bool
   pub only : List (List ℕ)
+  pub except : List (List ℕ)
   pub colored : Bool
   pub kinds : List PasswordKind
+  pub slower : ℕ
   pub marking : Marking
 
 -- with none, where a terminal shows the listing or not
 abbrev pub nothing_chosen : (terminal : Bool) → Chosen
-nothing_chosen terminal = record { json = false; full = false; secrets = false; resume = false; replicating = false; only = []; colored = terminal; kinds = []; marking = record { absolute = false; numbered = false; summed = false; raw = false } }
+nothing_chosen terminal = record { json = false; full = false; secrets = false; resume = false; replicating = false; only = []; except = []; colored = terminal; kinds = []; slower = 0; marking = record { absolute = false; numbered = false; summed = false; folded = false; raw = false } }
 
 abbrev pub is_comma : ℕ → Bool
 is_comma byte = byte == 44
@@ -103,25 +114,29 @@ abbrev pub is_absolute : Clock → Bool
 is_absolute Absolute = true
 is_absolute Relative = false
 
--- what one changes of marks: of those that say what times are counted from the last counts, and for a summary requests are numbered
+-- what one changes of marks: of those that say what times are counted from the last counts, and for a summary or late answers requests are numbered
 abbrev pub marks : Choice → Marking → Marking
-marks (Time clock) m = record { absolute = is_absolute clock; numbered = m.numbered; summed = m.summed; raw = m.raw }
-marks Requests m = record { absolute = m.absolute; numbered = true; summed = m.summed; raw = m.raw }
-marks Summary m = record { absolute = m.absolute; numbered = true; summed = true; raw = m.raw }
-marks Raw m = record { absolute = m.absolute; numbered = m.numbered; summed = m.summed; raw = true }
+marks (Time clock) m = record m { absolute = is_absolute clock }
+marks (Slower word millis) m = record m { numbered = true }
+marks Requests m = record m { numbered = true }
+marks Summary m = record m { numbered = true; summed = true }
+marks Fold m = record m { folded = true }
+marks Raw m = record m { raw = true }
 marks choice m = m
 
 -- What one more changes. Of those that say when a listing has colours the last counts.
 abbrev pub chooses : (terminal : Bool) → Chosen → Choice → Chosen
-chooses terminal o AsJson = record { json = true; full = o.full; secrets = o.secrets; resume = o.resume; replicating = o.replicating; only = o.only; colored = o.colored; kinds = o.kinds; marking = o.marking }
-chooses terminal o Full = record { json = o.json; full = true; secrets = o.secrets; resume = o.resume; replicating = o.replicating; only = o.only; colored = o.colored; kinds = o.kinds; marking = o.marking }
-chooses terminal o Secrets = record { json = o.json; full = o.full; secrets = true; resume = o.resume; replicating = o.replicating; only = o.only; colored = o.colored; kinds = o.kinds; marking = o.marking }
-chooses terminal o Resume = record { json = o.json; full = o.full; secrets = o.secrets; resume = true; replicating = o.replicating; only = o.only; colored = o.colored; kinds = o.kinds; marking = o.marking }
-chooses terminal o Replication = record { json = o.json; full = o.full; secrets = o.secrets; resume = o.resume; replicating = true; only = o.only; colored = o.colored; kinds = o.kinds; marking = o.marking }
-chooses terminal o (Only names) = record { json = o.json; full = o.full; secrets = o.secrets; resume = o.resume; replicating = o.replicating; only = o.only ++ names_in names.now; colored = o.colored; kinds = o.kinds; marking = o.marking }
-chooses terminal o (Color when) = record { json = o.json; full = o.full; secrets = o.secrets; resume = o.resume; replicating = o.replicating; only = o.only; colored = is_colored terminal when; kinds = o.kinds; marking = o.marking }
-chooses terminal o (Kind kind) = record { json = o.json; full = o.full; secrets = o.secrets; resume = o.resume; replicating = o.replicating; only = o.only; colored = o.colored; kinds = o.kinds ++ kind ∷ []; marking = o.marking }
-chooses terminal o choice = record { json = o.json; full = o.full; secrets = o.secrets; resume = o.resume; replicating = o.replicating; only = o.only; colored = o.colored; kinds = o.kinds; marking = marks choice o.marking }
+chooses terminal o AsJson = record o { json = true }
+chooses terminal o Full = record o { full = true }
+chooses terminal o Secrets = record o { secrets = true }
+chooses terminal o Resume = record o { resume = true }
+chooses terminal o Replication = record o { replicating = true }
+chooses terminal o (Only names) = record o { only = o.only ++ names_in names.now }
+chooses terminal o (Except names) = record o { except = o.except ++ names_in names.now }
+chooses terminal o (Color when) = record o { colored = is_colored terminal when }
+chooses terminal o (Kind kind) = record o { kinds = o.kinds ++ kind ∷ [] }
+chooses terminal o (Slower word millis) = record o { slower = millis * 1000; marking = marks (Slower word millis) o.marking }
+chooses terminal o choice = record o { marking = marks choice o.marking }
 
 -- what all do, one after another
 abbrev pub chosen_by : (terminal : Bool) → Chosen → List Choice → Chosen
@@ -141,7 +156,7 @@ AreNoOptions has words = (choices : List Choice) → AllByRecursion (IsOneOf has
 
 -- no option stands first
 abbrev pub BeginsWithNone : List (List ℕ) → Type 0
-BeginsWithNone words = (choice : Choice) (more : List (List ℕ)) → words ≢ spelled choice ++ more
+BeginsWithNone words = (choice : Choice) (more : List (List ℕ)) → IsSound choice → words ≢ spelled choice ++ more
 
 -- none that the listing has
 abbrev pub BeginsWithNoneOf : List (List ℕ) → List (List ℕ) → Type 0
@@ -149,7 +164,7 @@ BeginsWithNoneOf has words = (choice : Choice) (more : List (List ℕ)) → IsOn
 
 -- how a listing looks for which this is chosen
 abbrev pub view_by : Chosen → View
-view_by o = record { style = style_of o.json o.full o.secrets; only = o.only; colored = o.colored }
+view_by o = record { style = style_of o.json o.full o.secrets; only = o.only; except = o.except; colored = o.colored; slower = o.slower }
 
 -- what the code's options come to
 abbrev pub chosen_of : {A : Type 0} → code.Options A → Chosen
@@ -160,7 +175,9 @@ chosen_of options = record {
   resume = options.resume;
   replicating = options.replicating;
   only = map (λ (name : Bor (List ℕ)). name.now) options.only.items;
+  except = map (λ (name : Bor (List ℕ)). name.now) options.except.items;
   colored = options.colored;
   kinds = options.kinds.items;
+  slower = options.slower;
   marking = options.marking;
 }

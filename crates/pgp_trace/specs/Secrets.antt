@@ -19,7 +19,7 @@ quiet style = record { form = style.form; limit = style.limit; secrets = false }
 
 -- nor are they in a listing
 abbrev pub quietly : View → View
-quietly view = record { style = quiet view.style; only = view.only; colored = view.colored }
+quietly view = record view { style = quiet view.style }
 
 -- messages that are alike, or the same error
 abbrev pub AlikeResults : Result Message Error → Result Message Error → Type 0

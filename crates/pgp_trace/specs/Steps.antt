@@ -19,7 +19,7 @@ side_of (variants.Client opened kinds replicating) = Client opened kinds.now rep
 
 -- the code's views
 abbrev pub view_of : seen.View → View
-view_of view = record { style = view.style; only = map (λ name. name.now) view.only.now; colored = view.colored }
+view_of view = record { style = view.style; only = map (λ name. name.now) view.only.now; except = map (λ name. name.now) view.except.now; colored = view.colored; slower = view.slower }
 
 -- how far a server's stream has come after its first message, if it came
 abbrev pub phase_of : Next → (replicating : Bool) → Phase

@@ -1,21 +1,27 @@
 -- How a listing looks.
-use Rattle.std.specs.Prelude.{ℕ, ◌-◌, Bool, true, false, List, [], ◌∷◌, ◌++◌, length, take, get_or, Option, None, Some, ◌==◌, if◌then◌else◌, codes}
+use Rattle.std.specs.Prelude.{ℕ, ◌-◌, Bool, false, not, ◌&&◌, ◌||◌, List, [], ◌∷◌, ◌++◌, length, take, get_or, Option, None, Some, ◌==◌, if◌then◌else◌, codes}
 use Rattle.pgp_trace.specs.Common.{list_any, bytes_eq, Form, Columns, Json, Style}
 
--- The style of its lines, the names of the messages that are listed: all of them where none is named, and whether lines have colours.
+-- The style of its lines, the names of the messages that are listed (all of them where none is named) and of those that aren't, whether lines have colours, and of
+-- a recording how many microseconds after its request an answer comes at least that is listed.
 pub record View : Type 0 where
   pub style : Style
   pub only : List (List ℕ)
+  pub except : List (List ℕ)
   pub colored : Bool
+  pub slower : ℕ
 
 -- each line, as it is
 abbrev pub plain : Style → View
-plain style = record { style = style; only = []; colored = false }
+plain style = record { style = style; only = []; except = []; colored = false; slower = 0 }
+
+-- whether a word is one of these
+abbrev pub has_word : List (List ℕ) → List ℕ → Bool
+has_word has word = list_any (λ other. bytes_eq other word) has
 
 -- whether messages of a name are listed
-abbrev pub is_listed : List (List ℕ) → List ℕ → Bool
-is_listed [] name = true
-is_listed (first ∷ more) name = list_any (λ other. bytes_eq other name) (first ∷ more)
+abbrev pub is_listed : View → List ℕ → Bool
+is_listed view name = (length view.only == 0 || has_word view.only name) && not (has_word view.except name)
 
 -- the escape sequences by which a terminal shows what follows in red, in yellow, and as before
 abbrev pub red : List ℕ
@@ -53,4 +59,4 @@ painted (Some color) line = if ends_in_newline line then color ++ take (length l
 
 -- what stands in the listing of a line that has this name
 abbrev pub shown : View → (name line : List ℕ) → List ℕ
-shown view name line = if is_listed view.only name then painted (color_of view name) line else []
+shown view name line = if is_listed view name then painted (color_of view name) line else []

@@ -9,6 +9,8 @@ pub struct Marking {
     pub numbered: bool,
     /// Whether a table of what they ran stands in the place of the lines.
     pub summed: bool,
+    /// Whether statements that differ in their literals alone are one there.
+    pub folded: bool,
     /// Whether values in binary format are shown as their bytes.
     pub raw: bool,
 }

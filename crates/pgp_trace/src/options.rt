@@ -1,9 +1,10 @@
 //! The options of a listing.
 
 ghost use Rattle.std.specs.Prelude.{◌≡◌, ◌++◌, ◌∷◌, true, codes, drop, length, map, IfNone, IfOk, IfSome, OnErr, OnOk};
-ghost use Rattle.pgp_trace.specs.Options.{AreNoOptions, AreOptions, BeginsWithNone, BeginsWithNoneOf, IsOneOf, chooses, chosen_of, has_word, is_colored, marks, names_in, nothing_chosen, options_in, spelled};
+ghost use Rattle.pgp_trace.specs.Options.{AreNoOptions, AreOptions, BeginsWithNone, BeginsWithNoneOf, IsOneOf, IsSound, chooses, chosen_of, is_colored, marks, names_in, nothing_chosen, options_in, spelled};
 
 use crate::marking::Marking;
+use crate::view::has_word;
 use pgp_base::Memory;
 use pgp_frontend_read::PasswordKind;
 use std::alloc::AllocError;
@@ -49,14 +50,19 @@ pub enum Choice<'a> {
     Replication,
     /// Names of messages, between commas.
     Only(&'a str),
+    Except(&'a str),
     Color(When),
     /// Which the next message of tag `p` is that none names yet.
     Kind(PasswordKind),
     Time(Clock),
     /// Requests are numbered.
     Requests,
+    /// Answers are listed that come at least so many milliseconds after their request, and statements that ran so long; the word that says so.
+    Slower(&'a str, u32),
     /// A table of what requests ran stands in the place of the lines.
     Summary,
+    /// Statements that differ in their literals alone are one there.
+    Fold,
     /// Values in binary format are shown as their bytes.
     Raw,
 }
@@ -71,22 +77,17 @@ pub struct Options<'a, A: Memory> {
     pub replicating: bool,
     /// The names of the messages that are listed.
     pub only: Vec<&'a str, A>,
+    /// The names of those that aren't.
+    pub except: Vec<&'a str, A>,
     /// Whether lines have colours.
     pub colored: bool,
     /// Which the messages of tag `p` are, from the first on.
     pub kinds: Vec<PasswordKind, A>,
+    /// How many microseconds after its request an answer comes at least that is listed.
+    pub slower: u64,
     /// What the marks of a recording say.
     pub marking: Marking,
 }
-
-const SERVER: &[&str] = &[
-    "--json",
-    "--full",
-    "--secrets",
-    "--resume",
-    "--only",
-    "--color",
-];
 
 const CLIENT: &[&str] = &[
     "--json",
@@ -94,6 +95,7 @@ const CLIENT: &[&str] = &[
     "--secrets",
     "--resume",
     "--only",
+    "--except",
     "--color",
     "--password-kind",
     "--replication",
@@ -104,10 +106,13 @@ const SESSION: &[&str] = &[
     "--full",
     "--secrets",
     "--requests",
+    "--slower",
     "--raw",
     "--summary",
+    "--fold",
     "--time",
     "--only",
+    "--except",
     "--color",
 ];
 
@@ -116,7 +121,7 @@ pub fn options_in(listing: Listing) -> &'static [&'static str]
     ensures { map (λ word. word.now) result.now ≡ options_in listing }
 {
     match listing {
-        Listing::Server => SERVER,
+        Listing::Server => &CLIENT[..7],
         Listing::Client => CLIENT,
         Listing::Session => SESSION,
     }
@@ -160,12 +165,15 @@ fn no_options<'a, A: Memory>(alloc: A, terminal: bool) -> Options<'a, A>
         resume: false,
         replicating: false,
         only: Vec::new(alloc),
+        except: Vec::new(alloc),
         colored: terminal,
         kinds: Vec::new(alloc),
+        slower: 0,
         marking: Marking {
             absolute: false,
             numbered: false,
             summed: false,
+            folded: false,
             raw: false,
         },
     }
@@ -187,11 +195,17 @@ fn choose<'a, A: Memory>(
         Choice::Resume => options.resume = true,
         Choice::Replication => options.replicating = true,
         Choice::Only(names) => add_names(names, &mut options.only)?,
+        Choice::Except(names) => add_names(names, &mut options.except)?,
         Choice::Color(when) => options.colored = is_colored(terminal, when),
         Choice::Kind(kind) => A::push(&mut options.kinds, kind)?,
-        Choice::Time(_) | Choice::Requests | Choice::Summary | Choice::Raw => {
+        Choice::Slower(_, millis) => {
+            options.slower = u64::from(millis) * 1000;
             mark(choice, &mut options.marking)
         }
+        Choice::Time(_) | Choice::Requests | Choice::Summary | Choice::Fold | Choice::Raw => mark(
+            choice,
+            &mut options.marking,
+        ),
     }
     Ok(())
 }
@@ -202,11 +216,12 @@ fn mark(choice: Choice<'_>, marking: &mut Marking)
 {
     match choice {
         Choice::Time(clock) => marking.absolute = matches!(clock, Clock::Absolute),
-        Choice::Requests => marking.numbered = true,
+        Choice::Requests | Choice::Slower(..) => marking.numbered = true,
         Choice::Summary => {
             marking.numbered = true;
             marking.summed = true;
         }
+        Choice::Fold => marking.folded = true,
         Choice::Raw => marking.raw = true,
         _ => {}
     }
@@ -240,7 +255,12 @@ fn len(choice: Choice<'_>) -> usize
     ensures { result ≡ length (spelled choice.entry) }
 {
     match choice {
-        Choice::Only(_) | Choice::Color(_) | Choice::Kind(_) | Choice::Time(_) => 2,
+        Choice::Only(_)
+        | Choice::Except(_)
+        | Choice::Color(_)
+        | Choice::Kind(_)
+        | Choice::Time(_)
+        | Choice::Slower(..) => 2,
         _ => 1,
     }
 }
@@ -257,16 +277,9 @@ fn first_of<'a>(has: &[&str], words: &[&'a str]) -> Option<Choice<'a>>
     first_choice(words)
 }
 
-/// Whether the word is one of these.
-fn has_word(has: &[&str], word: &str) -> bool
-    ensures { result ≡ has_word (map (λ other. other.now) has.now) word.now }
-{
-    has.contains(&word)
-}
-
 /// The option that stands first.
 fn first_choice<'a>(words: &[&'a str]) -> Option<Choice<'a>>
-    ensures some { IfSome result (λ choice. map (λ word. word.now) words.now ≡ spelled choice ++ map (λ word. word.now) (drop (length (spelled choice)) words.now)) }
+    ensures some { IfSome result (λ choice. IsSound choice × (map (λ word. word.now) words.now ≡ spelled choice ++ map (λ word. word.now) (drop (length (spelled choice)) words.now))) }
     ensures none { IfNone result (BeginsWithNone (map (λ word. word.now) words.now)) }
 {
     let (word, rest) = words.split_first()?;
@@ -277,11 +290,14 @@ fn first_choice<'a>(words: &[&'a str]) -> Option<Choice<'a>>
         "--resume" => Some(Choice::Resume),
         "--replication" => Some(Choice::Replication),
         "--only" => first_names(rest),
+        "--except" => first_excepted(rest),
         "--color" => first_when(rest),
         "--password-kind" => first_kind(rest),
         "--time" => first_clock(rest),
         "--requests" => Some(Choice::Requests),
+        "--slower" => first_millis(rest),
         "--summary" => Some(Choice::Summary),
+        "--fold" => Some(Choice::Fold),
         "--raw" => Some(Choice::Raw),
         _ => None,
     }
@@ -289,16 +305,25 @@ fn first_choice<'a>(words: &[&'a str]) -> Option<Choice<'a>>
 
 /// The names that stand first, after the word that asks for them.
 fn first_names<'a>(words: &[&'a str]) -> Option<Choice<'a>>
-    ensures some { IfSome result (λ choice. (length (spelled choice) ≡ 2) × (codes "--only" ∷ map (λ word. word.now) words.now ≡ spelled choice ++ map (λ word. word.now) (drop 1 words.now))) }
+    ensures some { IfSome result (λ choice. IsSound choice × (length (spelled choice) ≡ 2) × (codes "--only" ∷ map (λ word. word.now) words.now ≡ spelled choice ++ map (λ word. word.now) (drop 1 words.now))) }
     ensures none { IfNone result (BeginsWithNone (codes "--only" ∷ map (λ word. word.now) words.now)) }
 {
     let (names, _) = words.split_first()?;
     Some(Choice::Only(*names))
 }
 
+/// The same after the word that leaves them out.
+fn first_excepted<'a>(words: &[&'a str]) -> Option<Choice<'a>>
+    ensures some { IfSome result (λ choice. IsSound choice × (length (spelled choice) ≡ 2) × (codes "--except" ∷ map (λ word. word.now) words.now ≡ spelled choice ++ map (λ word. word.now) (drop 1 words.now))) }
+    ensures none { IfNone result (BeginsWithNone (codes "--except" ∷ map (λ word. word.now) words.now)) }
+{
+    let (names, _) = words.split_first()?;
+    Some(Choice::Except(*names))
+}
+
 /// When a listing has colours, by the word that stands first.
 fn first_when<'a>(words: &[&str]) -> Option<Choice<'a>>
-    ensures some { IfSome result (λ choice. (length (spelled choice) ≡ 2) × (codes "--color" ∷ map (λ word. word.now) words.now ≡ spelled choice ++ map (λ word. word.now) (drop 1 words.now))) }
+    ensures some { IfSome result (λ choice. IsSound choice × (length (spelled choice) ≡ 2) × (codes "--color" ∷ map (λ word. word.now) words.now ≡ spelled choice ++ map (λ word. word.now) (drop 1 words.now))) }
     ensures none { IfNone result (BeginsWithNone (codes "--color" ∷ map (λ word. word.now) words.now)) }
 {
     let (word, _) = words.split_first()?;
@@ -312,7 +337,7 @@ fn first_when<'a>(words: &[&str]) -> Option<Choice<'a>>
 
 /// The kind that the word names that stands first.
 fn first_kind<'a>(words: &[&str]) -> Option<Choice<'a>>
-    ensures some { IfSome result (λ choice. (length (spelled choice) ≡ 2) × (codes "--password-kind" ∷ map (λ word. word.now) words.now ≡ spelled choice ++ map (λ word. word.now) (drop 1 words.now))) }
+    ensures some { IfSome result (λ choice. IsSound choice × (length (spelled choice) ≡ 2) × (codes "--password-kind" ∷ map (λ word. word.now) words.now ≡ spelled choice ++ map (λ word. word.now) (drop 1 words.now))) }
     ensures none { IfNone result (BeginsWithNone (codes "--password-kind" ∷ map (λ word. word.now) words.now)) }
 {
     let (word, _) = words.split_first()?;
@@ -326,7 +351,7 @@ fn first_kind<'a>(words: &[&str]) -> Option<Choice<'a>>
 
 /// What times are counted from, by the word that stands first.
 fn first_clock<'a>(words: &[&str]) -> Option<Choice<'a>>
-    ensures some { IfSome result (λ choice. (length (spelled choice) ≡ 2) × (codes "--time" ∷ map (λ word. word.now) words.now ≡ spelled choice ++ map (λ word. word.now) (drop 1 words.now))) }
+    ensures some { IfSome result (λ choice. IsSound choice × (length (spelled choice) ≡ 2) × (codes "--time" ∷ map (λ word. word.now) words.now ≡ spelled choice ++ map (λ word. word.now) (drop 1 words.now))) }
     ensures none { IfNone result (BeginsWithNone (codes "--time" ∷ map (λ word. word.now) words.now)) }
 {
     let (word, _) = words.split_first()?;
@@ -334,5 +359,17 @@ fn first_clock<'a>(words: &[&str]) -> Option<Choice<'a>>
         "absolute" => Some(Choice::Time(Clock::Absolute)),
         "relative" => Some(Choice::Time(Clock::Relative)),
         _ => None,
+    }
+}
+
+/// A number of milliseconds, by the word that stands first.
+fn first_millis<'a>(words: &[&'a str]) -> Option<Choice<'a>>
+    ensures some { IfSome result (λ choice. IsSound choice × (length (spelled choice) ≡ 2) × (codes "--slower" ∷ map (λ word. word.now) words.now ≡ spelled choice ++ map (λ word. word.now) (drop 1 words.now))) }
+    ensures none { IfNone result (BeginsWithNone (codes "--slower" ∷ map (λ word. word.now) words.now)) }
+{
+    let (word, _) = words.split_first()?;
+    match word.parse::<u32>() {
+        Ok(millis) => Some(Choice::Slower(*word, millis)),
+        Err(_) => None,
     }
 }

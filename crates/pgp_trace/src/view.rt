@@ -3,7 +3,7 @@
 ghost use Rattle.std.specs.Prelude.{◌≡◌, ◌++◌, Some, map, OnErr, OnOk, string_bytes};
 ghost use Rattle.std.specs.Option.{option_map};
 ghost use Rattle.pgp_trace.specs.Steps.{view_of};
-ghost use Rattle.pgp_trace.specs.View.{color_named, color_of, is_listed, painted, shown};
+ghost use Rattle.pgp_trace.specs.View.{color_named, color_of, has_word, is_listed, painted, shown};
 
 use pgp_base::Memory;
 use pgp_line::line::add_line;
@@ -17,8 +17,12 @@ pub struct View<'a> {
     pub style: Style,
     /// The names of the messages that are listed. Where none is named, all are.
     pub only: &'a [&'a str],
+    /// The names of those that aren't.
+    pub except: &'a [&'a str],
     /// Whether lines of text that report an error are red, and those that report a notice yellow. Objects have no colour.
     pub colored: bool,
+    /// How many microseconds after its request an answer of a recording comes at least that is listed.
+    pub slower: u64,
 }
 
 const RED: &str = "\x1b[31m";
@@ -28,10 +32,6 @@ const YELLOW: &str = "\x1b[33m";
 const UNCOLORED: &str = "\x1b[0m\n";
 
 /// Adds a line with this name to the lines, if it is asked for, in its colour.
-///
-/// # Errors
-///
-/// Returns `AllocError` if there is no memory for it.
 pub fn add_shown<A: Memory>(
     view: View<'_>,
     name: &str,
@@ -41,7 +41,7 @@ pub fn add_shown<A: Memory>(
     ensures added { OnOk result (string_bytes lines.new ≡ string_bytes lines.old ++ shown (view_of view.entry) name.now line.now) }
     ensures lacks { OnErr result A.Lacks }
 {
-    if !is_listed(view.only, name) {
+    if !is_listed(view, name) {
         return Ok(());
     }
     match color_of(view, name) {
@@ -90,8 +90,15 @@ fn add_painted<A: Memory>(color: &str, line: &str, lines: &mut String<A>) -> Res
 }
 
 /// Whether messages of this name are listed.
-fn is_listed(only: &[&str], name: &str) -> bool
-    ensures { result ≡ is_listed (map (λ other. other.now) only.now) name.now }
+fn is_listed(view: View<'_>, name: &str) -> bool
+    ensures { result ≡ is_listed (view_of view.entry) name.now }
 {
-    only.is_empty() || only.contains(&name)
+    (view.only.is_empty() || has_word(view.only, name)) && !has_word(view.except, name)
+}
+
+/// Whether the word is one of these.
+pub(crate) fn has_word(has: &[&str], word: &str) -> bool
+    ensures { result ≡ has_word (map (λ other. other.now) has.now) word.now }
+{
+    has.contains(&word)
 }

@@ -1,6 +1,6 @@
-use Rattle.pgp_conversation.proofs.Common.{◌≡◌, rules, string_bytes, bind_front}
+use Rattle.pgp_conversation.proofs.Common.{◌≡◌, rules, string_bytes, bind_front, ok_then}
 use Rattle.std.specs.Prelude.{length}
-use Rattle.pgp_conversation.proofs.RowLemmas.{bind_line, ok_then}
+use Rattle.pgp_conversation.proofs.RowLemmas.{bind_line}
 use Rattle.pgp_conversation.proofs.bound.put_bind.Goals as goal
 
 pub returns-clause-line : goal.returns-clause-line

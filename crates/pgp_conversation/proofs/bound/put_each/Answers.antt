@@ -1,6 +1,6 @@
-use Rattle.pgp_conversation.proofs.Common.{List, rules, subst, string_bytes, IsFinished, IsRefused, TakesItem, Column, column_first, AddsValue, AddsValues}
+use Rattle.pgp_conversation.proofs.Common.{List, rules, subst, string_bytes, IsFinished, IsRefused, TakesItem, Column, column_first, AddsValue, AddsValues, ok_then}
 use Rattle.pgp_frontend_read.specs.Whole.{shown, whole}
-use Rattle.pgp_conversation.proofs.RowLemmas.{each_end, each_fault, each_more, ok_then}
+use Rattle.pgp_conversation.proofs.RowLemmas.{each_end, each_fault, each_more}
 use Rattle.pgp_conversation.proofs.bound.put_each.Goals as goal
 
 pub items-preserved : goal.items-preserved

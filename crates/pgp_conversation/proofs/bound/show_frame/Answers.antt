@@ -1,6 +1,5 @@
-use Rattle.pgp_conversation.proofs.Common.{length, Ok, Err, None, Some, refl, rules, subst, string_bytes, kind_view, view, ShowsRequest, types_of}
+use Rattle.pgp_conversation.proofs.Common.{length, Ok, Err, None, Some, refl, rules, subst, string_bytes, kind_view, view, ShowsRequest, types_of, ok_then}
 use Rattle.pgp_frontend_read.specs.Step.{Step}
-use Rattle.pgp_conversation.proofs.RowLemmas.{ok_then}
 use Rattle.pgp_conversation.proofs.Readings.{refused_all, sent_all, silent_all}
 use Rattle.pgp_conversation.proofs.bound.show_frame.Goals as goal
 

@@ -1,4 +1,4 @@
-use Rattle.pgp_conversation.proofs.Common.{◌≡◌, ◌++◌, ◌∙◌, List, ℕ, ap, rules, subst, string_bytes, kind_view, expected, view_of, Line, side_in, text_of, told_by, word, KnowsNext, known_of, numbers_in, Said, Reads, ReadsSo, types_in}
+use Rattle.pgp_conversation.proofs.Common.{◌≡◌, ◌++◌, ◌∙◌, List, ℕ, ap, rules, subst, string_bytes, kind_view, expected, view_of, Line, side_in, text_of, told_by, KnowsNext, known_of, numbers_in, Said, Reads, ReadsSo, types_in}
 use Rattle.pgp_conversation.proofs.FrameLists.{front_long, lists_one}
 use Rattle.pgp_trace.proofs.Parts.{front_taken}
 use Rattle.pgp_conversation.proofs.Sayings.{line_read}
@@ -33,7 +33,7 @@ returns-in_ok-note-in-Line-clause-each g c =
     let all = subst (λ (f : List ℕ). (said : Said) → ReadsSo c.args.sender c.args.known.now.opened kind f said → Reads style c.args.place f name said mid.numbers sums mid.types types line typed told noted) whole c.in_ok-told-in-Line.ensures.read in
     let reads = line_read (λ said. Reads style c.args.place has.frame name said mid.numbers sums mid.types types line typed told noted) style c.args.place c.args.known.now kind has.frame line (side_in c.args.sender mid)
     (c.expected-kind.ensures ∙ ap expected c.as_slice.ensures.value) c.args.sender has.reported all in
-    let grown : after ≡ before ++ text_of view (mark ++ word view.style.form (told_by mid.marked told)) c.args.place c.as_slice-in-Line.result.now name typed =
-    c.in_ok-list_line-in-Line.ensures.text ∙ ap (λ t. before ++ text_of view (mark ++ word view.style.form t) c.args.place c.as_slice-in-Line.result.now name typed) c.told_by-told.ensures in
+    let grown : after ≡ before ++ text_of view mark (told_by mid.marked told) c.args.place c.as_slice-in-Line.result.now name typed =
+    c.in_ok-list_line-in-Line.ensures.text ∙ ap (λ t. before ++ text_of view mark t c.args.place c.as_slice-in-Line.result.now name typed) c.told_by-told.ensures in
     rw c.in-Line.is (lists_one view mark c.args.sender c.args.place old mid new told noted sums types c.args.bytes.now c.in_ok-next.behind.now line typed name before after has knows.same reads
-    (grown ∙ ap (λ r. before ++ text_of view (mark ++ word view.style.form (told_by mid.marked told)) c.args.place r name typed) c.as_slice-in-Line.ensures.value) c.in_ok-note-in-Line.ensures.noted)
+    (grown ∙ ap (λ r. before ++ text_of view mark (told_by mid.marked told) c.args.place r name typed) c.as_slice-in-Line.ensures.value) c.in_ok-note-in-Line.ensures.noted)

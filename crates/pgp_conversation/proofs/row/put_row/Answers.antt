@@ -1,7 +1,7 @@
 -- The places of a row lie in its bytes.
-use Rattle.pgp_conversation.proofs.Common.{◌≡◌, rules, string_bytes, row_front}
+use Rattle.pgp_conversation.proofs.Common.{◌≡◌, rules, string_bytes, row_front, ok_then}
 use Rattle.pgp_message.proofs.TableLemmas.{places_in}
-use Rattle.pgp_conversation.proofs.RowLemmas.{ok_then, row_line}
+use Rattle.pgp_conversation.proofs.RowLemmas.{row_line}
 use Rattle.pgp_conversation.proofs.row.put_row.Goals as goal
 
 pub put_values-requires : goal.put_values-requires

@@ -1,5 +1,5 @@
-use Rattle.pgp_conversation.proofs.Common.{List, length, rules, subst, map, string_bytes, AllByRecursion, IsFinished, IsRefused, TakesItem, IsPlaceIn, value_at, Column, column_first, AddsValue, AddsValues}
-use Rattle.pgp_conversation.proofs.RowLemmas.{ok_then, values_end, values_fault, values_more}
+use Rattle.pgp_conversation.proofs.Common.{List, length, rules, subst, map, string_bytes, AllByRecursion, IsFinished, IsRefused, TakesItem, IsPlaceIn, value_at, Column, column_first, AddsValue, AddsValues, ok_then}
+use Rattle.pgp_conversation.proofs.RowLemmas.{values_end, values_fault, values_more}
 use Rattle.pgp_conversation.proofs.row.put_values.Goals as goal
 
 pub items-preserved : goal.items-preserved
@@ -10,9 +10,9 @@ items-preserved g c =
     let after = c.next.new.self in
     let x = c.in-Ok-Some.place in
     let old = string_bytes c.items.line in
-    let mid = string_bytes c.put_next.new.line in
+    let mid = string_bytes c.put_place.new.line in
     let takes : TakesItem before x after = search rules in
-    let adds : AddsValue style (column_first c.items.rest.now) (value x) old mid = c.in_ok-put_next-in-Ok-Some.ensures.adds in (
+    let adds : AddsValue style (column_first c.items.rest.now) (value x) old mid = subst (λ k. AddsValue style k (value x) old mid) c.column_first.ensures c.in_ok-put_place-in-Ok-Some.ensures.adds in (
       λ new more. c.items.invariant.0 new (values_more style c.items.rest.now value before after x old mid new takes adds
           (subst (λ (l : List Column). AddsValues style l (map value after.items) after.end mid new) c.behind_first-rest.ensures more)),
       (subst (AllByRecursion (IsPlaceIn (length c.args.buffer.now))) takes.items c.items.invariant.1).1,

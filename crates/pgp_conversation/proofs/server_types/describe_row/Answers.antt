@@ -1,5 +1,4 @@
-use Rattle.pgp_conversation.proofs.Common.{◌∙◌, ap, refl, columns_of, described, first, types_of}
-use Rattle.pgp_conversation.proofs.RowLemmas.{ok_then}
+use Rattle.pgp_conversation.proofs.Common.{◌∙◌, ap, refl, columns_of, described, first, types_of, ok_then}
 use Rattle.pgp_conversation.proofs.server_types.describe_row.Goals as goal
 
 pub returns-clause-hears : goal.returns-clause-hears

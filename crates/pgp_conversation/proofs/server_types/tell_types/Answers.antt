@@ -1,5 +1,4 @@
-use Rattle.pgp_conversation.proofs.Common.{◌∙◌, ap, refl, parameters_in, first, tells, types_of}
-use Rattle.pgp_conversation.proofs.RowLemmas.{ok_then}
+use Rattle.pgp_conversation.proofs.Common.{◌∙◌, ap, refl, parameters_in, first, tells, types_of, ok_then}
 use Rattle.pgp_conversation.proofs.server_types.tell_types.Goals as goal
 
 pub returns-clause-hears : goal.returns-clause-hears

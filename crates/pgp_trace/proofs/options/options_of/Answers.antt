@@ -7,8 +7,9 @@ each-init g c = (omega arith, received_none c.args.terminal (map (λ word. word.
 
 pub each-preserved : goal.each-preserved
 each-preserved g c =
+    let first = rw take_rest at c.in-Some.ensures.some in
     place_more c.args.terminal (λ word. word.now) (map (λ word. word.now) c.args.has.now) c.args.words.now c.each.at c.len-at.result (c.each.at + c.len-at.result) (chosen_of c.each.options) (chosen_of c.choose.new.options) c.in-Some.choice
-    c.each-test.true c.each.invariant.1 (search rules) (search rules) c.len-at.ensures refl c.in_ok-choose.ensures.chosen
+    c.each-test.true c.each.invariant.1 first.1 first.0 c.len-at.ensures refl c.in_ok-choose.ensures.chosen
 
 pub returns-in_default-clause-other : goal.returns-in_default-clause-other
 returns-in_default-clause-other g c =
