@@ -1,9 +1,6 @@
-//! Exchanges with drawn nonces, what is drawn or asked for besides, names, and texts of each length that are escaped.
+//! Exchanges with drawn nonces, what is drawn or asked for besides, and names.
 
 mod drawn;
-mod escaped;
-mod hi;
-mod lanes;
 mod mapped;
 mod met;
 

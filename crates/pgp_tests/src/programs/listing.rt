@@ -16,8 +16,9 @@ use std::test::Fail;
 struct Listing {
     words: &'static [&'static str],
     bytes: &'static [u8],
-    /// The lines, each with the place behind which it is written.
-    lines: &'static [(usize, &'static str)],
+    lines: &'static [&'static str],
+    /// The place behind which each is written.
+    places: &'static [usize],
     last: &'static str,
     reported: &'static str,
     /// The cuts that are there in each cutting, and the place of the first of nine that may be.
@@ -31,18 +32,13 @@ static LISTINGS: [Listing; 5] = [
         words: &["server"],
         bytes: b"NR\x00\x00\x00\x08\x00\x00\x00\x00S\x00\x00\x00\x08n\x00\n\x00Z\x00\x00\x00\x05IK\x00\x00\x00\x0c\x00\x00\x00\x01abcdZ\x00",
         lines: &[
-            (1, "         0        1 N SSLResponse or GSSENCResponse\n"),
-            (10, "         1        9 R AuthenticationOk\n"),
-            (
-                19,
-                "        10        9 S ParameterStatus      name \"n\" value \"\\x0a\"\n",
-            ),
-            (25, "        19        6 Z ReadyForQuery        idle\n"),
-            (
-                38,
-                "        25       13 K BackendKeyData       process 1 key (4 bytes)\n",
-            ),
+            "         0        1 N SSLResponse or GSSENCResponse\n",
+            "         1        9 R AuthenticationOk\n",
+            "        10        9 S ParameterStatus      name \"n\" value \"\\x0a\"\n",
+            "        19        6 Z ReadyForQuery        idle\n",
+            "        25       13 K BackendKeyData       process 1 key (4 bytes)\n",
         ],
+        places: &[1, 10, 19, 25, 38],
         last: "rest 2\n",
         reported: "",
         cuts: 0,
@@ -53,20 +49,12 @@ static LISTINGS: [Listing; 5] = [
         words: &["client", "--password-kind", "password"],
         bytes: b"\x00\x00\x00\x08\x04\xd2\x16/\x00\x00\x00\x10\x00\x03\x00\x00user\x00a\x00\x00p\x00\x00\x00\x07pw\x00Q\x00\x00\x00\x06x\x00X\x00",
         lines: &[
-            (8, "         0        8 - SSLRequest\n"),
-            (
-                24,
-                "         8       16 - StartupMessage       version 196608 parameters \"user\" \"a\"\n",
-            ),
-            (
-                32,
-                "        24        8 p PasswordMessage      password (2 bytes)\n",
-            ),
-            (
-                39,
-                "        32        7 Q Query                query \"x\"\n",
-            ),
+            "         0        8 - SSLRequest\n",
+            "         8       16 - StartupMessage       version 196608 parameters \"user\" \"a\"\n",
+            "        24        8 p PasswordMessage      password (2 bytes)\n",
+            "        32        7 Q Query                query \"x\"\n",
         ],
+        places: &[8, 24, 32, 39],
         last: "rest 2\n",
         reported: "",
         cuts: 0,
@@ -77,15 +65,10 @@ static LISTINGS: [Listing; 5] = [
         words: &["server", "--resume"],
         bytes: b"W\x00\x00\x00\x07\x00\x00\x00d\x00\x00\x00\x16k\x00\x00\x00\x00\x00\x00\x00\x01\x00\x00\x00\x00\x00\x00\x00\x02\x00",
         lines: &[
-            (
-                8,
-                "         0        8 W CopyBothResponse     format 0 columns 0\n",
-            ),
-            (
-                31,
-                "         8       23 d CopyData             PrimaryKeepalive end 0/1 clock 2 reply 0\n",
-            ),
+            "         0        8 W CopyBothResponse     format 0 columns 0\n",
+            "         8       23 d CopyData             PrimaryKeepalive end 0/1 clock 2 reply 0\n",
         ],
+        places: &[8, 31],
         last: "rest 0\n",
         reported: "",
         cuts: 0,
@@ -102,25 +85,14 @@ static LISTINGS: [Listing; 5] = [
     >\x00\x00\x00\x00\x00\x0fB?\x00\x00\x00\x08p\x00\x00\x00\x07ab\x00\
     <\x00\x00\x00\x00\x00\x13\xd6!\x00\x00\x00\x0aR\x00\x00\x00\x08\x00\x00\x00\x00Z",
         lines: &[
-            (41, "    0.000000 >          0        8 - SSLRequest\n"),
-            (55, "    0.000312 <          0        1 N SSLResponse\n"),
-            (
-                84,
-                "    0.100000 >          8       16 - StartupMessage       version 196608 parameters \"user\" \"a\"\n",
-            ),
-            (
-                106,
-                "    0.200000 <          1        9 R AuthenticationCleartextPassword\n",
-            ),
-            (
-                127,
-                "   -0.000001 >         24        8 p PasswordMessage      password (2 bytes)\n",
-            ),
-            (
-                150,
-                "    0.300001 <         10        9 R AuthenticationOk\n",
-            ),
+            "    0.000000 >          0        8 - SSLRequest\n",
+            "    0.000312 <          0        1 N SSLResponse\n",
+            "    0.100000 >          8       16 - StartupMessage       version 196608 parameters \"user\" \"a\"\n",
+            "    0.200000 <          1        9 R AuthenticationCleartextPassword\n",
+            "   -0.000001 >         24        8 p PasswordMessage      password (2 bytes)\n",
+            "    0.300001 <         10        9 R AuthenticationOk\n",
         ],
+        places: &[41, 55, 84, 106, 127, 150],
         last: "             < rest 1\n",
         reported: "",
         cuts: 0,
@@ -130,10 +102,8 @@ static LISTINGS: [Listing; 5] = [
     Listing {
         words: &["session"],
         bytes: b"pgtrace recording 1\n<\x00\x00\x00\x00\x00\x00\x00\x01\x00\x00\x00\x01N>\x00",
-        lines: &[(
-            34,
-            "    0.000000 <          0        1 N SSLResponse or GSSENCResponse\n",
-        )],
+        lines: &["    0.000000 <          0        1 N SSLResponse or GSSENCResponse\n"],
+        places: &[34],
         last: "",
         reported: "pgtrace: the recording ends inside a chunk\n",
         cuts: 1 << 19,
@@ -145,7 +115,7 @@ impl Listing {
     /// The lines of what is whole in so many bytes.
     fn front(&self, alloc: Global, end: usize) -> Result<Vec<u8>, AllocError> {
         let mut lines = Vec::new(alloc);
-        for (place, line) in self.lines {
+        for (place, line) in self.places.iter().zip(self.lines) {
             if *place <= end {
                 lines.extend_from_slice(line.as_bytes())?;
             }

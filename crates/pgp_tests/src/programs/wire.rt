@@ -19,17 +19,11 @@ struct Ran {
 }
 
 /// Frames with a length fault behind them, and scripts.
-static READ: [Ran; 5] = [
+static READ: [Ran; 4] = [
     Ran {
         words: &["backend"],
         input: b"\x5a\0\0\0\x06\x49\0\x31\0\0\0\x04\x64\0\0\0\x06ab\x57\0\0\0\x04\x5a\0\0\0\x03",
         output: "fault 8\nParseComplete\nCopyData\nfault 5\nstopped rest 5\n",
-        status: 0,
-    },
-    Ran {
-        words: &["backend"],
-        input: b"\x31\0\0\0\x04\x5a\0\0\0\x03",
-        output: "ParseComplete\nstopped rest 5\n",
         status: 0,
     },
     Ran {
@@ -53,7 +47,7 @@ static READ: [Ran; 5] = [
 ];
 
 /// What nothing is read for.
-static TEXTS: [Ran; 3] = [
+static TEXTS: [Ran; 2] = [
     Ran {
         words: &["verifier", "secret", "0102030405060708090a0b0c0d0e0f10"],
         input: b"",
@@ -64,12 +58,6 @@ static TEXTS: [Ran; 3] = [
         words: &["escape", "literal", "f'oo"],
         input: b"",
         output: "'f''oo'\n",
-        status: 0,
-    },
-    Ran {
-        words: &["escape", "identifier", "f\"oo"],
-        input: b"",
-        output: "\"f\"\"oo\"\n",
         status: 0,
     },
 ];
