@@ -46,8 +46,7 @@ fn needs_its_room(message: &ClientMessage<'_>, len: usize, out: &mut Shown) {
     }
 }
 
-/// The message, written again, is the bytes that stood there; in memory that is a byte short it is refused. Otherwise that is
-/// shown.
+/// The message, written again, is the bytes that stood there; in memory that is a byte short it is refused. Otherwise that is shown.
 fn forwards(message: &ClientMessage<'_>, stood: &[u8], out: &mut Shown) {
     let mut buf = BytesMut::new(out.alloc());
     if let Err(e) = forward(message, &mut buf) {

@@ -28,8 +28,7 @@ const SYNC: &[u8] = b"S\0\0\0\x04";
 /// What an error for lack of memory leaves of that.
 const LACKS_MEMORY: &str = "OutOfMemory 5300000004";
 
-/// What a call has to come to: its bytes, as they are shown, and what is shown of a buffer that held a message. It appends none where
-/// it is refused.
+/// What a call has to come to: its bytes, as they are shown, and what is shown of a buffer that held a message. It appends none where it is refused.
 #[derive(Drop)]
 struct Wanted {
     bytes: Vec<u8>,
@@ -208,8 +207,7 @@ pub fn check_written<C: Codec>(row: &Row<'_>, out: &mut Shown) -> Result<(), Fau
     writes::<C>(row, row.call, row.left, out)
 }
 
-/// A row of a client's call: it appends the bytes, which a server reads back as the call, or it is
-/// rejected.
+/// A row of a client's call: it appends the bytes, which a server reads back as the call, or it is rejected.
 pub fn check_writer<C: Codec>(row: &Row<'_>, out: &mut Shown) -> Result<(), Fault> {
     check_written::<C>(row, out)?;
     if row.is_refusal() {

@@ -62,8 +62,7 @@ fn count_each(
     Ok(())
 }
 
-/// `each_character`: how many texts of one character come to themselves, to another text, to nothing, and are
-/// rejected.
+/// `each_character`: how many texts of one character come to themselves, to another text, to nothing, and are rejected.
 fn show_counts(out: &mut Shown) {
     let alloc = out.alloc();
     let mut counts = Counts {

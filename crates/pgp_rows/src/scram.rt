@@ -85,8 +85,7 @@ fn show_text_left(client: &ScramSha256<Global>, has_text: bool, out: &mut Shown)
     }
 }
 
-/// Each further step is out of turn, makes no code and leaves no text. Otherwise `not over` is
-/// shown.
+/// Each further step is out of turn, makes no code and leaves no text. Otherwise `not over` is shown.
 fn show_end(client: &mut ScramSha256<Global>, out: &mut Shown) {
     let made = client.hmacs();
     let is_over = matches!(client.update(ONE_ROUND), Err(ScramError::WrongState))

@@ -19,8 +19,7 @@ struct Served<'w> {
     own: &'w str,
 }
 
-/// A stored verifier's text, or `mock SECRET USER`; `none`, `declined` or the hash of the server's certificate; the server's
-/// part of the nonce.
+/// A stored verifier's text, or `mock SECRET USER`; `none`, `declined` or the hash of the server's certificate; the server's part of the nonce.
 fn read_served<'w>(words: &mut Words<'w>) -> Served<'w> {
     let secret = if words.takes("mock") {
         Some(words.bytes())
@@ -152,8 +151,7 @@ fn count(outcome: &Result<(), ServerError>, counts: &mut Counts) {
     }
 }
 
-/// How a first text ends; where one is reported, it is taken, and the text is the final one after
-/// it.
+/// How a first text ends; where one is reported, it is taken, and the text is the final one after it.
 fn outcome(
     server: &mut ScramServer<Global>,
     first: Option<&[u8]>,

@@ -10,8 +10,7 @@ pub trait Show {
     fn show(self, out: &mut Shown);
 }
 
-/// Words that are written one after the other. A fault, as no memory for one of them, is remembered, and reported where they are
-/// compared.
+/// Words that are written one after the other. A fault, as no memory for one of them, is remembered, and reported where they are compared.
 #[derive(Drop)]
 pub struct Shown {
     alloc: Global,

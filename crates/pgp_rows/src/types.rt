@@ -1,5 +1,4 @@
-//! Values of the types that `pgp_types` has: numbers, texts, addresses, shapes, lists, arrays and ranges. The bits of a float are reported
-//! as bytes.
+//! Values of the types that `pgp_types` has: numbers, texts, addresses, shapes, lists, arrays and ranges. The bits of a float are reported as bytes.
 
 use crate::arrays::{show_array, write_array};
 use crate::ranges::{show_range, write_range};

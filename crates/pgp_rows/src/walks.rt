@@ -116,8 +116,7 @@ where
     (received, end)
 }
 
-/// Shows an iterator so, and after it `greedy` where `collect` asks for more memory than the items need. The second iterator is the
-/// same.
+/// Shows an iterator so, and after it `greedy` where `collect` asks for more memory than the items need. The second iterator is the same.
 pub fn show_list<W: FallibleIterator + Drop>(walk: W, again: W, out: &mut Shown)
 where
     W::Item: Show + Drop,

@@ -144,8 +144,7 @@ fn refusal(parser: &mut ClientParser, piece: &mut &[u8]) -> Option<ParserError> 
     }
 }
 
-/// An opening packet past the limit is rejected by its header alone, also where that is cut; one at the limit is waited
-/// for.
+/// An opening packet past the limit is rejected by its header alone, also where that is cut; one at the limit is waited for.
 #[test]
 fn limit_of_opening_packets(rt: HostRuntime) {
     let mut parser = ClientParser::new(rt.alloc(), SERVER);

@@ -1,5 +1,4 @@
-//! What a test holds to be so. Each is proved once; an assertion in the text of a test is proved there again, with all
-//! that stands around it.
+//! What a test holds to be so. Each is proved once; an assertion in the text of a test is proved there again, with all that stands around it.
 
 use std::fmt::Debug;
 use std::process::Abort;

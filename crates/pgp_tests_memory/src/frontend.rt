@@ -1,5 +1,4 @@
-//! The writers that all messages are made of, with fault injection on each allocation. Those of messages are tried by
-//! their rows (`pgp_rows`).
+//! The writers that all messages are made of, with fault injection on each allocation. Those of messages are tried by their rows (`pgp_rows`).
 
 use crate::checks::{holds, same};
 use crate::turns::{DONE, Tried, Turn, WRONG, refused};

@@ -26,8 +26,7 @@ fn feed(parser: &mut StreamParser<&LocalHeap>, bytes: &[u8]) -> Result<(), Error
     parser.feed(bytes)
 }
 
-/// Feeds a thousand pieces, and takes the two results after each: how much of the heap was used at the most, or nothing where
-/// something else came.
+/// Feeds a thousand pieces, and takes the two results after each: how much of the heap was used at the most, or nothing where something else came.
 fn most_used(parser: &mut StreamParser<&LocalHeap>, heap: &LocalHeap) -> Result<usize, Error> {
     let mut most = 0usize;
     for _ in 0..1000 {
@@ -59,8 +58,7 @@ fn take_four_thousand(rt: &impl Abort, heap: &LocalHeap) {
     same(rt, parser.headers(), 8001);
 }
 
-/// Four thousand pieces: what is held after each `take` grows no more, and no request of memory is refused
-/// on the way.
+/// Four thousand pieces: what is held after each `take` grows no more, and no request of memory is refused on the way.
 #[test]
 fn parser_that_is_taken_from_does_not_grow(rt: HostRuntime) {
     match LocalHeap::new(rt.alloc(), HEAP) {

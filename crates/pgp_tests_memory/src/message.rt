@@ -1,5 +1,4 @@
-//! Messages of a server and the iterators over their bodies, with fault injection on each
-//! allocation.
+//! Messages of a server and the iterators over their bodies, with fault injection on each allocation.
 #![tactic(auto, using(pgp_base::proofs::Parts::held_steps))]
 
 use crate::checks::{holds, same};

@@ -9,8 +9,7 @@ use postgres_protocol::session::{Parsed, StreamParser, parse_stream};
 use std::alloc::{Allocator, Global};
 use std::process::Abort;
 
-/// AuthenticationSASL, RowDescription, DataRow, ErrorResponse, a ReadyForQuery with a byte too many,
-/// ParseComplete, and a length fault.
+/// AuthenticationSASL, RowDescription, DataRow, ErrorResponse, a ReadyForQuery with a byte too many, ParseComplete, and a length fault.
 const HOSTILE: [u8; 101] =
     *b"R\0\0\0\x17\0\0\0\x0aSCRAM-SHA-256\0\0T\0\0\0\x1a\0\x01a\0\0\0\0\0\0\0\0\0\0\x17\0\x04\xff\xff\xff\xff\0\0D\0\0\0\x13\0\x03\0\0\0\x01a\xff\xff\xff\xff\0\0\0\0E\0\0\0\x0cSERROR\0\0Z\0\0\0\x06I\0\x31\0\0\0\x04Z\0\0\0\x03";
 

@@ -151,8 +151,7 @@ fn reported_in(alloc: Global, caller: Caller, room: usize) -> Result<Reported, A
     }
 }
 
-// How often the serializer reported of the refused growth, and how often the writer; never, where another answer
-// came.
+// How often the serializer reported of the refused growth, and how often the writer; never, where another answer came.
 fn tellers_of(alloc: Global, caller: Caller) -> Result<(u32, u32), AllocError> {
     let mut by_serializer = 0u32;
     let mut by_writer = 0u32;

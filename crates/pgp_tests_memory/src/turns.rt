@@ -84,8 +84,7 @@ pub(crate) fn refused<T: Tried>(
     refusals.asked
 }
 
-/// Each of these comes to its end, and so many requests are refused before, each of which is
-/// reported.
+/// Each of these comes to its end, and so many requests are refused before, each of which is reported.
 pub(crate) fn refuse_each<T: Tried>(
     rt: &impl Abort,
     alloc: Global,

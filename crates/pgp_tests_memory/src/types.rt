@@ -1,5 +1,4 @@
-//! The iterators over values, with fault injection on each allocation. The writers of values are tried by their rows
-//! (`pgp_rows`).
+//! The iterators over values, with fault injection on each allocation. The writers of values are tried by their rows (`pgp_rows`).
 
 use crate::checks::same;
 use crate::reads::count;

@@ -129,8 +129,7 @@ fn drain(
     received
 }
 
-/// The bytes, cut after those whose bit is set: how many of these results came, what is left, and how many
-/// headers were read.
+/// The bytes, cut after those whose bit is set: how many of these results came, what is left, and how many headers were read.
 fn read_in_pieces(
     alloc: Global,
     bytes: &[u8],

@@ -22,8 +22,7 @@ impl Read for FailingReader<'_> {
     }
 }
 
-/// A reader that ends a piece after each byte whose bit is set, the lowest bit for the first byte. It is
-/// interrupted before each piece.
+/// A reader that ends a piece after each byte whose bit is set, the lowest bit for the first byte. It is interrupted before each piece.
 #[derive(Drop)]
 pub struct PieceReader<'a> {
     pub rest: &'a [u8],
@@ -47,8 +46,7 @@ impl Read for PieceReader<'_> {
     }
 }
 
-/// A writer that takes so many bytes, one at a time, and then fails; its flush fails where it has none
-/// left to take.
+/// A writer that takes so many bytes, one at a time, and then fails; its flush fails where it has none left to take.
 #[derive(Drop)]
 pub struct FailingWriter {
     pub left: usize,

@@ -1,5 +1,4 @@
-//! Our client against our server, a thousand times, with nonces that each draws: each channel binding, the right password in turn
-//! with a wrong one.
+//! Our client against our server, a thousand times, with nonces that each draws: each channel binding, the right password in turn with a wrong one.
 
 use crate::checks::same;
 use pgp_auth::authentication::sasl::{

@@ -1,5 +1,4 @@
-//! Values in messages. Expected bytes are from the message formats of the PostgreSQL manual, and for the layout
-//! of arrays as a server sends them.
+//! Values in messages. Expected bytes are from the message formats of the PostgreSQL manual, and for the layout of arrays as a server sends them.
 #![tactic(auto, using(pgp_base::proofs::Parts::held_steps))]
 
 use super::ROW;
