@@ -2,36 +2,51 @@
 
 use super::{AllocFailed, Global};
 use std::borrow::Borrow;
+use std::cell::Cell;
 use std::collections::HashMap;
 use std::hash::Hash;
 
-/// Each key's place, and the pairs in order.
+/// Each key's place, the pairs in order, and the place that was found last: rows ask for the same key again and again.
 pub struct IndexMap<K, V> {
     places: HashMap<K, usize>,
     pairs: Vec<(K, V)>,
+    last: Cell<usize>,
 }
 
 impl<K: Clone + Eq + Hash, V> IndexMap<K, V> {
     pub fn new() -> IndexMap<K, V> {
-        IndexMap { places: HashMap::new(), pairs: Vec::new() }
+        IndexMap { places: HashMap::new(), pairs: Vec::new(), last: Cell::new(0) }
     }
 
     pub fn len(&self) -> usize {
         self.pairs.len()
     }
 
+    fn place<Q: Eq + Hash + ?Sized>(&self, key: &Q) -> Option<usize>
+    where
+        K: Borrow<Q>,
+    {
+        let last = self.last.get();
+        if self.pairs.get(last).is_some_and(|(had, _)| had.borrow() == key) {
+            return Some(last);
+        }
+        let place = *self.places.get(key)?;
+        self.last.set(place);
+        Some(place)
+    }
+
     pub fn get<Q: Eq + Hash + ?Sized>(&self, key: &Q) -> Option<&V>
     where
         K: Borrow<Q>,
     {
-        self.places.get(key).map(|place| &self.pairs[*place].1)
+        self.place(key).map(|place| &self.pairs[place].1)
     }
 
     pub fn get_mut<Q: Eq + Hash + ?Sized>(&mut self, key: &Q) -> Option<&mut V>
     where
         K: Borrow<Q>,
     {
-        self.places.get(key).map(|place| &mut self.pairs[*place].1)
+        self.place(key).map(|place| &mut self.pairs[place].1)
     }
 
     pub fn get_index(&self, place: usize) -> Option<(&K, &V)> {
