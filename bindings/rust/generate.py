@@ -10,14 +10,14 @@ top = os.path.dirname(os.path.dirname(here))
 
 
 def below(*tops):
-    """The crates of this repository that these stand on, after crates.txt, in its order; the shim's text.rs stands for pgp_text."""
+    """The crates of this repository that these stand on, after crates.txt, in its order."""
     with open(os.path.join(top, 'crates.txt')) as file:
         uses = {m[1]: m[2].split() for m in re.finditer(r'^(\w+)(?: staticlib)?:(.*)$', file.read(), re.M)}
     found, more = set(), set(tops)
     while more:
         found |= more
         more = {dep for name in more for dep in uses[name] if dep in uses} - found
-    return [name for name in uses if name in found - set(tops) - {'pgp_text'}]
+    return [name for name in uses if name in found - set(tops)]
 
 
 # What the API of the Rust crate stands on; the rest is the package postgres-session.
@@ -28,7 +28,7 @@ SHOWN = {'pgp_auth', 'pgp_saslprep', *MORE}
 # The crates that a `use` may name; else it names a module.
 NAMES = set(CORE + MORE) | {'pgp_rows', 'postgres_protocol', 'std', 'crate', 'bytes', 'self', 'super'}
 HEAD = '//! The generated modules: the proved sources without their contracts. Change the sources, not these.\n'
-LEFT_OUT = re.compile(r'^(laws|memory|tests)(/|\.rt$)')
+LEFT_OUT = re.compile(r'^(laws|memory|scanning|tests)(/|\.rt$)')
 
 
 def sources(crate, without=LEFT_OUT):

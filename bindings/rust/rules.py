@@ -55,7 +55,9 @@ SHIMS = re.compile(r'(?<![\w:])(clap|indexmap|jiff|jiff_core|jiff_fmt|json|rand_
 
 # Single places: file, how often, text, its substitute.
 PLACES = [
-    ('pgp_base/texts', 1, 'use pgp_text::is_text;\n', ''),
+    ('pgp_base/texts', 1, 'use crate::scanning::is_text;\n', ''),
+    ('pgp_base/reading', 1, 'crate::scanning::', 'crate::kit::text::'),
+    ('pgp_base/writing', 1, 'crate::scanning::', 'crate::kit::text::'),
     ('pgp_base/texts', 1, '    if is_text(bytes) {\n        Ok(unsafe { str::from_utf8_unchecked(bytes) })\n    } else {\n        Err(Error::NotUtf8)\n    }\n',
      '    match str::from_utf8(bytes) {\n        Ok(text) if text.len() == bytes.len() => Ok(text),\n        _ => Err(Error::NotUtf8),\n    }\n'),
     ('pgp_base/buffer', 1, '        let all = self.as_mut_slice();\n        all[place..place + over.len()].copy_from_slice(over);\n',
@@ -220,8 +222,7 @@ def in_one_crate(text, crate):
     if not re.search(r'\blaws::', text):
         text = re.sub(r'^(use [^;]*?)(?:\blaws, |, laws\b)', r'\1', text, flags=re.M)
     text = re.sub(r'^use (?:crate|pgp_\w+)::laws;\n', '', text, flags=re.M)
-    text = re.sub(r'^(?:pub )?mod (?:laws|memory|tests);\n|^#\[cfg\(test\)\]\n|^pub use memory::.*\n', '', text, flags=re.M)
-    text = re.sub(r'(?<![\w:])pgp_text::', 'crate::kit::text::', text)
+    text = re.sub(r'^(?:pub )?mod (?:laws|memory|scanning|tests);\n|^#\[cfg\(test\)\]\n|^pub use memory::.*\n', '', text, flags=re.M)
     text = re.sub(r'\bcrate::(?!kit\b)', f'crate::proved::{crate}::', text)
     text = re.sub(r'(?<![\w:])(pgp_\w+|postgres_protocol)::', r'crate::proved::\1::', text)
     return re.sub(r'^((?:pub )?use )(pgp_\w+) as', r'\1crate::proved::\2 as', text, flags=re.M)

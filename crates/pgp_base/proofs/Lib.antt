@@ -17,3 +17,6 @@ pub mod Spellings
 pub mod CountedWalks
 pub mod Needs
 pub mod Fitting
+pub mod AsciiLemmas
+pub mod ZeroLemmas
+pub mod CharacterLemmas

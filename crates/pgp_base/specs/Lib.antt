@@ -13,3 +13,5 @@ pub mod PartReading
 pub mod WalkReading
 pub mod CountedRest
 pub mod CountedWalk
+pub mod Ascii
+pub mod Characters

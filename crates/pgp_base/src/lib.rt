@@ -11,6 +11,7 @@ pub mod laws;
 mod memory;
 mod number;
 pub mod reading;
+mod scanning;
 mod texts;
 mod walk;
 mod window;

@@ -6,8 +6,8 @@ ghost use Rattle.pgp_base.specs.PartReading.{Gives, Answers, byte_at, uint16_at,
 
 use crate::big_endian::{u16_of, u32_of};
 use crate::error::Error;
+use crate::scanning::first_zero;
 use crate::texts::text;
-use pgp_text::first_zero;
 
 /// Whether a byte 0, which ends a list, stands at the front.
 pub fn is_marked(bytes: &[u8]) -> bool

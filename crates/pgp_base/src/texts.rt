@@ -3,7 +3,7 @@
 ghost use Rattle.std.specs.Prelude.{◌≡◌, IsUtf8, MatchResult};
 
 use crate::error::Error;
-use pgp_text::is_text;
+use crate::scanning::is_text;
 use std::str;
 
 /// The bytes as text: what `str::from_utf8` gives, faster where they are ASCII.

@@ -13,7 +13,7 @@ use crate::big_endian::{u16_bytes, u32_bytes};
 use crate::buffer::Buffer;
 use crate::error::{BindError, Error};
 use crate::number::IsNull;
-use pgp_text::stray_zero;
+use crate::scanning::stray_zero;
 use std::alloc::AllocError;
 
 /// Appends a byte.

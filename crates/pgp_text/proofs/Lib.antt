@@ -1,4 +1,0 @@
-mod Common
-pub mod AsciiLemmas
-pub mod ZeroLemmas
-pub mod CharacterLemmas

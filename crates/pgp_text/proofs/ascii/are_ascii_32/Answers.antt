@@ -1,6 +1,0 @@
-use Rattle.pgp_text.proofs.Common.{arith, eqb-true}
-use Rattle.pgp_text.proofs.AsciiLemmas.{ascii_of_mask}
-use Rattle.pgp_text.proofs.ascii.are_ascii_32.Goals as goal
-
-pub returns : goal.returns
-returns c none = ascii_of_mask c.args.bytes.now c.args.at 32 (omega arith) (omega arith) (eqb-true _ _ none)

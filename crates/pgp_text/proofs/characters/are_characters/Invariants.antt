@@ -1,8 +1,0 @@
-use Rattle.pgp_text.proofs.Common.{◌-◌, ◌≤◌, length, take, IsUtf8}
-use Rattle.pgp_text.proofs.characters.are_characters.Given as goal
-
-abbrev pub invariant-fronts : goal.invariant-fronts
-invariant-fronts l = (l.at ≤ length l.bytes) × IsUtf8 (take l.at l.bytes)
-
-abbrev pub decreases-fronts : goal.decreases-fronts
-decreases-fronts l = length l.bytes - l.at

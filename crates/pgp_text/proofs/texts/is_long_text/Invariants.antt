@@ -1,8 +1,0 @@
-use Rattle.pgp_text.proofs.Common.{◌+◌, ◌-◌, ◌≤◌, length, AreAscii}
-use Rattle.pgp_text.proofs.texts.is_long_text.Given as goal
-
-abbrev pub invariant-lanes : goal.invariant-lanes
-invariant-lanes l = (l.at + 64 ≤ length l.bytes) × AreAscii l.bytes 0 l.at
-
-abbrev pub decreases-lanes : goal.decreases-lanes
-decreases-lanes l = length l.bytes - l.at
