@@ -71,7 +71,6 @@ Stands ways observed gave AwaitsFirst s = (x : Client) × (s ≡ Some x) × Offe
 Stands ways observed gave AwaitsFinal s = (x : Client) × (y : Client) × (s ≡ Some y) × Answered ways observed gave x y
 Stands ways observed gave AwaitsOk s = Awaits ways observed gave
 Stands ways observed gave Done s = Admitted ways observed gave
-Stands ways observed gave Over s = Unit {0}
 
 record IsAt (ways : Ways) (observed : List Message) (gave : List ClientMessage) (l : Login) : Type 0 where
   md5 : l.ways.md5 ≡ ways.md5
@@ -149,7 +148,6 @@ module _ (ways : Ways) (observed : List Message) (gave : List ClientMessage) (m 
   )
   stands_more AwaitsOk s h = awaits_more h
   stands_more Done s h = admitted_more h
-  stands_more Over s h = tt
 
   received_more : {wanted : List Message} (x : Message) → m ≡ x → ReceivedAmong wanted observed → ReceivedAmong (wanted ++ x ∷ []) (observed ++ m ∷ [])
   received_more {wanted} x e a = subst (λ (y : Message). ReceivedAmong (wanted ++ y ∷ []) (observed ++ m ∷ [])) e (OneReceived m a)

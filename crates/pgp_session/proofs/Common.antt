@@ -42,7 +42,7 @@ pub use Rattle.pgp_session.specs.Connection.{is_longer, longer, Advances, Comes,
 pub use Rattle.pgp_session.specs.Incoming.{Reads, HasFrame, Waiting}
 pub use Rattle.pgp_session.specs.Login.{Asking, Cleartext, Md5, Sasl, First, Final, Welcome, Login, LogsOn, NothingAsked, ByCleartext, ByMd5, ScramBegins, ScramGoesOn, ScramEnds, Welcomed, Trusted, Ways, asking, Added, AnswersFirst, CountsFirst, AsksCleartext, AsksMd5, AsksSasl, HearsDue, Nothing, Other, Puts, VerifiesFinal, WelcomesAt, is_due, AddsReply, LoggedOn, RepliesFirst, goes_on, given, seen}
 pub use Rattle.pgp_session.specs.Proxy.{Call, ProxiesAll, PassesOn, NoneReceived, NoneRead, OneRead, Went, Stayed, Proxies, all_forwarded, statement_of}
-pub use Rattle.pgp_session.specs.ScramLogin.{Offers, ReceivedAmong, NoneWanted, OneReceived, OtherReceived, initial, offer, first_text, final_text, welcome, Notice, Failure, Offer, says, if_due, Knows, HearsOffer, HearsFirst, HearsFinal, StepsOn, Steps, mechanism_of}
+pub use Rattle.pgp_session.specs.Mechanisms.{Offers, ReceivedAmong, NoneWanted, OneReceived, OtherReceived, initial, offer, first_text, final_text, welcome, mechanism_of}
 pub use Rattle.pgp_session.specs.ServerState.{newer, status, state_after}
 pub use Rattle.pgp_session.specs.Serving.{admission, Due, Outcome, StepsAll, IsAsked, Proves, HasShown, IsUnderWay, IsChallenged, IsAdmitted, ReceivedIn, due, starts, at_opening, at_password, at_first, at_final, at_open, phase_after, password_message, first_message, final_message, scram, NamesLast, NoneStands, OneStands, OtherStands, IsNewer, signature}
 pub use Rattle.pgp_session.specs.Session.{Admitted, ByNone, ByPassword, ByHash, BySignature, IsAllowed, Plays, Begins, Encrypts, Writes, Hears, asks_hash, asks_password, is_secret, secrets_of, Follows, History, IsOpenedAt, Known, and_fed, and_observed, and_sent, and_wrote, good, requests_in, requests_of, turns_of}
@@ -50,5 +50,5 @@ pub use Rattle.pgp_session.specs.Settings.{AreInOrder, HasRoom, Said, heard, cos
 pub use Rattle.pgp_session.specs.declared.connection.ConnectionPhase.{ConnectionPhase}
 pub use Rattle.pgp_session.specs.declared.connection.ConnectionPhase.TheVariants.{Started, Encrypting}
 pub use Rattle.pgp_session.specs.declared.connection_error.ConnectionError.{ConnectionError}
-pub use Rattle.pgp_session.specs.declared.scram_login.LoginPhase.{LoginPhase}
-pub use Rattle.pgp_session.specs.declared.scram_login.LoginPhase.TheVariants.{AwaitsOffer, AwaitsFirst, AwaitsFinal, AwaitsOk, Done, Over}
+pub use Rattle.pgp_session.specs.declared.login.LoginPhase.{LoginPhase}
+pub use Rattle.pgp_session.specs.declared.login.LoginPhase.TheVariants.{AwaitsOffer, AwaitsFirst, AwaitsFinal, AwaitsOk, Done}

@@ -1,6 +1,5 @@
 mod Common
 pub mod Lent
-pub mod Known
 pub mod Listed
 pub mod Mechanisms
 pub mod Naming
@@ -17,3 +16,7 @@ pub mod Incomings
 pub mod Binds
 pub mod Connections
 pub mod Bounds
+mod MonitorListed
+mod MonitorBelongs
+mod MonitorFronts
+mod MonitorSteps

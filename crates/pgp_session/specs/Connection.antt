@@ -36,8 +36,8 @@ use Rattle.pgp_session.specs.declared.connection.ConnectionPhase.TheVariants.{Op
 use Rattle.pgp_session.specs.declared.connection_error.ConnectionError.{ConnectionError}
 use Rattle.pgp_session.specs.declared.connection_error.ConnectionError.TheVariants.{BadAnswer, BadStatus, Malformed, Misplaced, OutOfMemory, OutOfPhase, TooLong, Undue, Unkept, Unwritten}
 use Rattle.pgp_session.specs.declared.server_state.BackendKey.{BackendKey}
-use Rattle.pgp_session.specs.declared.scram_login.LoginPhase.{LoginPhase}
-use Rattle.pgp_session.specs.declared.scram_login.LoginPhase.TheVariants.{AwaitsOffer, Done}
+use Rattle.pgp_session.specs.declared.login.LoginPhase.{LoginPhase}
+use Rattle.pgp_session.specs.declared.login.LoginPhase.TheVariants.{AwaitsOffer, Done}
 
 pub record Shown : Type 0 where
   pub phase : ConnectionPhase

@@ -1,4 +1,4 @@
-pub mod ScramLogin
+pub mod Mechanisms
 pub mod Serving
 pub mod Proxy
 pub mod Pooler
@@ -9,3 +9,6 @@ pub mod Connection
 pub mod ConnectionBind
 pub mod Session
 pub mod Incoming
+pub mod Transaction
+pub mod Answered
+pub mod Monitor

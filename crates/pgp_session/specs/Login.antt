@@ -11,15 +11,15 @@ use Rattle.pgp_auth.specs.ScramRefusal.{AsksFewer, WrongState}
 use Rattle.pgp_frontend.specs.ClientMessage.{ClientMessage, PasswordMessage, SaslResponse}
 use Rattle.pgp_frontend.specs.Payload.{bytes_of, cause, IsInRange}
 use Rattle.pgp_message.specs.BackendMessage.{Message, Authentication, AuthenticationOk, AuthenticationCleartextPassword, AuthenticationMd5Password, AuthenticationSasl, AuthenticationSaslContinue, AuthenticationSaslFinal}
-use Rattle.pgp_session.specs.ScramLogin.{IsStripped, Offers, initial}
+use Rattle.pgp_session.specs.Mechanisms.{IsStripped, Offers, initial}
 use Rattle.pgp_session.specs.declared.connection_error.ConnectionError.{ConnectionError}
 use Rattle.pgp_session.specs.declared.connection_error.ConnectionError.TheVariants.{NotAdmitted, NotOffered, Scram, TooFewRounds, Undue, Unwritten}
 use Rattle.pgp_session.specs.declared.login.Asking.{Asking as Asked}
 use Rattle.pgp_session.specs.declared.login.Asking.TheVariants as code
 use Rattle.pgp_session.specs.declared.login.Login.{Login as Kept}
 use Rattle.pgp_session.specs.declared.login.Ways.{Ways as Given}
-use Rattle.pgp_session.specs.declared.scram_login.LoginPhase.{LoginPhase}
-use Rattle.pgp_session.specs.declared.scram_login.LoginPhase.TheVariants.{AwaitsOffer, AwaitsFirst, AwaitsFinal, AwaitsOk, Done}
+use Rattle.pgp_session.specs.declared.login.LoginPhase.{LoginPhase}
+use Rattle.pgp_session.specs.declared.login.LoginPhase.TheVariants.{AwaitsOffer, AwaitsFirst, AwaitsFinal, AwaitsOk, Done}
 
 -- The ways that are admitted: SCRAM-SHA-256 by this exchange, of at least so many rounds, MD5 by this user and password, this password in clear text, and none.
 pub record Ways : Type 0 where

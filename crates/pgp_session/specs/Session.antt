@@ -19,13 +19,13 @@ use Rattle.pgp_frontend.specs.ClientRun.{ClientRun, is_opened, kinds_of}
 use Rattle.pgp_message.specs.BackendMessage.{Message, Authentication, AuthenticationCleartextPassword, AuthenticationMd5Password}
 use Rattle.pgp_message.specs.Stream.{Frames}
 use Rattle.pgp_session.specs.Login.{Login, LogsOn, Ways, asking, encrypted_by}
-use Rattle.pgp_session.specs.ScramLogin.{Offers, ReceivedAmong, initial, offer, first_text, final_text, welcome}
+use Rattle.pgp_session.specs.Mechanisms.{Offers, ReceivedAmong, initial, offer, first_text, final_text, welcome}
 use Rattle.pgp_session.specs.Connection.{Shown, asked_of, is_end}
 use Rattle.pgp_session.specs.ServerState.{state_after, unsaid}
 use Rattle.pgp_session.specs.Settings.{last_reported, nothing_said, said_after, value_of}
 use Rattle.pgp_session.specs.declared.connection.ConnectionPhase.{ConnectionPhase}
 use Rattle.pgp_session.specs.declared.connection.ConnectionPhase.TheVariants.{Opening, Encrypting, Started, Over}
-use Rattle.pgp_session.specs.declared.scram_login.LoginPhase.TheVariants.{AwaitsOffer, Done}
+use Rattle.pgp_session.specs.declared.login.LoginPhase.TheVariants.{AwaitsOffer, Done}
 
 -- ---- a session, a message at a time
 

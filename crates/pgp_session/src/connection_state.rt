@@ -8,9 +8,8 @@ ghost use Rattle.pgp_session.specs.Connection.{Hears, Shown, Takes, answered, be
 use crate::connection::ConnectionPhase;
 use crate::connection_error::ConnectionError;
 use crate::connection_parts::{is_bulk, is_end, is_timely, lacks_status};
-use crate::login::{Login, Ways};
+use crate::login::{Login, LoginPhase, Ways};
 use crate::protocol_options::OptionName;
-use crate::scram_login::LoginPhase;
 use crate::server_state::ServerState;
 use crate::session_storage::SessionStorage;
 use crate::settings::{SETTINGS_MOST, Settings};

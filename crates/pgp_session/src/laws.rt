@@ -1,14 +1,18 @@
-//! What holds of a connection after any calls.
+//! What holds of a connection after any calls, and of all that a monitor let through.
 
-ghost use Rattle.std.specs.Prelude.{◌≡◌, ◌⊎◌, ◌≤◌, ℕ, Bool, List, Ok, Option, false, length};
+ghost use Rattle.std.specs.Prelude.{◌≡◌, ◌⊎◌, ◌≤◌, ◌++◌, ℕ, Bool, List, Ok, Option, false, length};
 ghost use Rattle.pgp_client.specs.declared.event.Event.{Event as Reported};
+ghost use Rattle.pgp_client.specs.declared.kind.Kind.{Kind as SentKind};
+ghost use Rattle.pgp_client.specs.declared.request.Request.{Request as Asked};
 ghost use Rattle.pgp_frontend.specs.ClientMessage.{ClientMessage as Written, SslRequest, Startup, Terminate};
 ghost use Rattle.pgp_frontend.specs.Reading.{IsNamed};
 ghost use Rattle.pgp_message.specs.BackendMessage.{Message as Observed};
 ghost use Rattle.pgp_message.specs.Stream.{IsPartial, TakesFrame};
 ghost use Rattle.pgp_session.specs.Connection.{HasStarted, Sent, Shown, Took, Wrote, begun, dropped, fed, in_phase, is_longer, told, with_incoming};
+ghost use Rattle.pgp_session.specs.Answered.{Answered};
 ghost use Rattle.pgp_session.specs.Incoming.{Reads};
 ghost use Rattle.pgp_session.specs.Login.{Ways as Admitting};
+ghost use Rattle.pgp_session.specs.Monitor.{Shown as Monitored, Went};
 ghost use Rattle.pgp_session.specs.Session.{Follows, History, Known, and_fed, and_observed, and_sent, and_wrote, nothing};
 ghost use Rattle.pgp_session.specs.declared.connection.ConnectionPhase.TheVariants.{Opening, Encrypting, Started, Over};
 
@@ -55,3 +59,10 @@ pub fn what_is_kept_is_bounded()
 {
     pgp_message::laws::one_header();
 }
+
+/// Whatever requests were noted and whatever bytes were handed to a monitor: those that it let through, which were handed on (`gone`) or are to
+/// be sent, are whole messages that belong to those requests; where it was ended, a front of such bytes.
+pub fn what_is_sent_belongs()
+    ensures { (requests : List Asked) (kinds : List SentKind) (events : List Reported) (gone : List ℕ) (now : Monitored) → Went requests kinds events gone now
+        → Answered requests kinds events now.is_over (gone ++ now.out) }
+{}

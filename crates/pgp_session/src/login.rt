@@ -5,11 +5,12 @@ ghost use Rattle.pgp_auth.specs.Md5Text.{md5_answer};
 ghost use Rattle.pgp_frontend.specs.ClientMessage.{PasswordMessage};
 ghost use Rattle.pgp_message.specs.Views.{view};
 ghost use Rattle.pgp_frontend_read.specs.Views.{view as sent_view};
-ghost use Rattle.pgp_session.specs.ScramLogin.{initial};
+ghost use Rattle.pgp_session.specs.Mechanisms.{initial};
 ghost use Rattle.pgp_session.specs.Login.{AnswersFirst, AsksCleartext, CountsFirst, AsksMd5, AsksSasl, Hears, Puts, RepliesFirst, Begins, VerifiesFinal, Welcomes, asking, given, is_due, seen, reported};
 
 use crate::connection_error::ConnectionError;
-use crate::scram_login::{LoginPhase, SaslStorage, is_stripped, mechanism, offers};
+use crate::mechanisms::{is_stripped, mechanism, offers};
+use crate::session_storage::SessionStorage;
 use bytes::BytesMut;
 use pgp_auth::authentication::md5_hash;
 use pgp_auth::authentication::sasl::{ScramError, ScramSha256, asks_fewer};
@@ -37,6 +38,20 @@ pub struct Ways<'a, A: Memory = Global> {
     pub encrypted: bool,
 }
 
+/// How far a log-in is.
+#[derive(Clone, Copy, PartialEq, Eq)]
+pub(crate) enum LoginPhase {
+    /// A way is to be asked for.
+    AwaitsOffer,
+    /// The exchange has begun.
+    AwaitsFirst,
+    /// The server's first text is answered.
+    AwaitsFinal,
+    /// All that was asked for is answered, and the server's signature was shown if an exchange was begun.
+    AwaitsOk,
+    Done,
+}
+
 /// A log-in.
 #[derive(Drop)]
 pub(crate) struct Login<'a, A: Memory> {
@@ -47,7 +62,7 @@ pub(crate) struct Login<'a, A: Memory> {
 
 impl<'a, A: Memory> Login<'a, A> {
     /// Takes a message of the server, and appends the reply if there is one. On error nothing is appended, and the log-in has failed.
-    pub(crate) fn hear<S: SaslStorage>(
+    pub(crate) fn hear<S: SessionStorage>(
         &mut self,
         message: &Message<S>,
         out: &mut BytesMut<A>,
@@ -105,7 +120,7 @@ impl<'a, A: Memory> Login<'a, A> {
     }
 
     /// The server's mechanisms came: the exchange's first text is sent.
-    fn begin<S: SaslStorage>(
+    fn begin<S: SessionStorage>(
         &mut self,
         body: &AuthenticationSaslBody<S>,
         out: &mut BytesMut<A>,
@@ -194,7 +209,7 @@ impl<'a, A: Memory> Login<'a, A> {
 
 /// What a message asks of a client that logs in.
 #[derive(Drop)]
-enum Asking<'m, S: SaslStorage> {
+enum Asking<'m, S: SessionStorage> {
     /// It is none of the log-in's.
     Nothing,
     Cleartext,
@@ -208,7 +223,7 @@ enum Asking<'m, S: SaslStorage> {
 }
 
 /// What the message asks.
-fn asked_by<'m, S: SaslStorage>(message: &'m Message<S>) -> Asking<'m, S>
+fn asked_by<'m, S: SessionStorage>(message: &'m Message<S>) -> Asking<'m, S>
     ensures { reported result ≡ asking (view message.now) }
 {
     match message {
@@ -228,7 +243,7 @@ fn asked_by<'m, S: SaslStorage>(message: &'m Message<S>) -> Asking<'m, S>
 }
 
 /// Whether it is due in the phase.
-fn is_due<S: SaslStorage>(phase: LoginPhase, asked: &Asking<'_, S>) -> bool
+fn is_due<S: SessionStorage>(phase: LoginPhase, asked: &Asking<'_, S>) -> bool
     ensures { result ≡ is_due phase (reported asked.now) }
 {
     match asked {

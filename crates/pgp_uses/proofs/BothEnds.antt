@@ -9,14 +9,7 @@ use Rattle.pgp_frontend_read.proofs.Items.{bytes_behind}
 use Rattle.pgp_frontend_read.proofs.Steps.{frame_payload}
 use Rattle.pgp_message_write.specs.Reply.{bytes_of, cause, parts}
 use Rattle.pgp_session.proofs.Mechanisms.{only_it}
-use Rattle.pgp_session.specs.ScramLogin as login
-use Rattle.pgp_session.specs.ScramLogin.{Shown}
 use Rattle.pgp_session.specs.Serving as serving
-use Rattle.pgp_session.specs.declared.scram_login.LoginEvent.{LoginEvent}
-use Rattle.pgp_session.specs.declared.scram_login.LoginEvent.TheVariants.{Began, Replied, Verified, Admitted}
-use Rattle.pgp_session.specs.declared.scram_login.LoginFault.{LoginFault}
-use Rattle.pgp_session.specs.declared.scram_login.LoginFault.TheVariants.{NotOffered, Unsent, Scram}
-use Rattle.pgp_session.specs.declared.scram_login.LoginPhase.TheVariants as client_phases
 use Rattle.pgp_session.specs.declared.serving.Denial.TheVariants.{WrongPassword, Violation}
 use Rattle.pgp_session.specs.declared.serving.Method.{Method}
 use Rattle.pgp_session.specs.declared.serving.Method.TheVariants as methods
@@ -189,80 +182,7 @@ module _ {A L : Type 0} (memory : Type 0) (lacks : Held L → ℕ → Type 0) wh
       let d = final_comes client answered server mid meeting first text final is ch a last o new.method (decided (final_message final) old new AwaitsFinal (methods.Exchange mid) o phase method comes) in
       inr (wanted memory lacks Signed before e d.0 o d.2 why)
 
--- ---- the client's steps
-
-module _ {B K : Type 0} (held : B → Held K) where
-  -- the offer is taken
-  pub record HasBegun (meeting_text : List ℕ) (old new : Shown B) : Type 0 where
-    pub first : List ℕ
-    pub is : first ≡ meeting_text
-    pub phase : new.phase ≡ client_phases.AwaitsFirst
-    pub exchange : new.exchange ≡ old.exchange
-    pub added : IsAdded held (first_message first) old.out new.out
-
-  -- the server's first text is answered
-  pub record HasReplied (start : Client) (text : List ℕ) (old new : Shown B) : Type 0 where
-    pub final : List ℕ
-    pub phase : new.phase ≡ client_phases.AwaitsFinal
-    pub answers : Answers start text new.exchange
-    pub is : final ≡ answers.answered.final
-    pub added : IsAdded held (final_message final) old.out new.out
-
-module _ {B K E : Type 0} (held : B → Held K) (memory : Type 0) (lacks : Held K → ℕ → Type 0) where
-  heard : (m : Message) (old new : Shown B) (p : LoginPhase) (result : Result LoginEvent (LoginFault E)) → old.phase ≡ p → login.Steps held memory lacks m old new result → login.StepsOn held memory lacks (observed p m) old new result
-  heard m old new p result e h = subst (λ (q : LoginPhase). login.StepsOn held memory lacks (observed q m) old new result) e h
-
-  begins : (server : Server) (old new : Shown B) (meeting : Meeting old.exchange server) → mechanism_of old.exchange ≡ scram → (result : Result LoginEvent (LoginFault E)) → Offers old.exchange (names_of (scram ∷ []))
-      → login.HearsOffer held memory lacks (names_of (scram ∷ [])) old new result
-      → ((result ≡ Ok Began) × HasBegun held (text_of meeting.begun) old new) ⊎ IsClientsWant held memory lacks first_message old result
-  begins server old new meeting unbound (Ok Began) offers (offered, phase, exchange, (text, said, added)) =
-      inl (
-        refl,
-        record {
-          first = text;
-          is = text_is old.exchange server meeting text (sym said);
-          phase = phase;
-          exchange = exchange;
-          added = subst (λ (m : ClientMessage). IsAdded held m old.out new.out) (unbound_first old.exchange text said unbound) added;
-        },
-      )
-  begins server old new meeting unbound (Ok event) offers h = absurd h
-  begins server old new meeting unbound (Err NotOffered) offers h = absurd (h.0 offers)
-  begins server old new meeting unbound (Err (Unsent e)) offers (offered, phase, exchange, (text, said, refused, left)) =
-      inr (text, subst (λ (m : ClientMessage). RefusesMessage m lacks (held old.out.buf) e) (unbound_first old.exchange text said unbound) refused)
-  begins server old new meeting unbound (Err (Scram e)) offers h = absurd (no_none (message_of old.exchange.state) (text_of meeting.begun) (message_is old.exchange server meeting) h.1)
-    where
-      no_none : (o : Option (List ℕ)) (text : List ℕ) → o ≡ Some text → o ≡ None → ⊥
-      no_none o text e f = cc
-  begins server old new meeting unbound (Err e) offers h = absurd h
-
-  replies : (start : Client) (server mid : Server) (meeting : Meeting start server) (first text : List ℕ) → first ≡ text_of meeting.begun → Challenges server first mid text → (old new : Shown B) → old.exchange ≡ start
-      → (result : Result LoginEvent (LoginFault E)) → login.HearsFirst held memory lacks text old new result
-      → ((result ≡ Ok Replied) × HasReplied held start text old new) ⊎ IsClientsWant held memory lacks final_message old result
-  replies start server mid meeting first text is ch old new same (Ok Replied) (phase, answers, (final, said, added)) =
-      let answered : Answers start text new.exchange = subst (λ (x : Client). Answers x text new.exchange) same answers in
-      inl (refl, record { final = final; phase = phase; answers = answered; is = last_is start new.exchange text answered final (sym said); added = added })
-  replies start server mid meeting first text is ch old new same (Ok event) h = absurd h
-  replies start server mid meeting first text is ch old new same (Err (Unsent e)) (phase, answers, (final, said, refused, left)) = inr (final, refused)
-  replies start server mid meeting first text is ch old new same (Err (Scram e)) (phase, refused, left) =
-      inr (update_memory_met {lacks = memory} start new.exchange server mid first text (refusal e) meeting is ch (subst (λ (x : Client). UpdateRefused memory x text (refusal e) new.exchange) same refused))
-  replies start server mid meeting first text is ch old new same (Err e) h = absurd h
-
-  verifies : (start : Client) (server mid done : Server) (meeting : Meeting start server) (first text final signed : List ℕ) → first ≡ text_of meeting.begun → Challenges server first mid text → (old new : Shown B)
-      → Answers start text old.exchange → Admits mid final done signed → (result : Result LoginEvent (LoginFault E)) → login.HearsFinal held memory lacks signed old new result
-      → (result ≡ Ok Verified) × (new.phase ≡ client_phases.AwaitsOk)
-  verifies start server mid done meeting first text final signed is ch old new answers admits (Ok Verified) h = (refl, h.0)
-  verifies start server mid done meeting first text final signed is ch old new answers admits (Ok event) h = absurd h
-  verifies start server mid done meeting first text final signed is ch old new answers admits (Err (Scram e)) h =
-      absurd (signature_never_refused {lacks = memory} start old.exchange new.exchange server mid done first text final signed (refusal e) meeting is ch answers admits h.1)
-  verifies start server mid done meeting first text final signed is ch old new answers admits (Err e) h = absurd h
-
-  welcomed : (old new : Shown B) (result : Result LoginEvent (LoginFault E)) → login.Hears held memory lacks login.Welcome old new result → (result ≡ Ok Admitted) × (new.phase ≡ client_phases.Done)
-  welcomed old new (Ok Admitted) h = (refl, ap (λ (x : Shown B). x.phase) h)
-  welcomed old new (Ok event) h = absurd h
-  welcomed old new (Err e) h = absurd h
-
--- ---- all turns
+-- ---- what goes out at the offer and at the end
 
 pub offer_spelled : cause scram_offer ≡ None
 unfolding int32
@@ -296,57 +216,3 @@ offers_no_binding back only lists =
     let same : lists.0 ≡ scram ∷ [] = (only.one (names_of (scram ∷ [])) lists.0 (scram ∷ []) None None lists.1 (the_offer back)).0 in
     let is : scram ≡ codes "SCRAM-SHA-256-PLUS" = only_it scram (codes "SCRAM-SHA-256-PLUS") (subst (λ (l : List (List ℕ)). Contains l (codes "SCRAM-SHA-256-PLUS")) same lists.2) in
     cc
-
-module _ (one : (m : Message) (rest : List ℕ) → IsReply m → TakesFrame (bytes_of m ++ rest) (Ok m) rest) (none : (bytes : List ℕ) → Frames bytes [] bytes)
-    (next : (bytes before after : List ℕ) (results : List (Result Message Error)) (r : Result Message Error) → Frames bytes results before → TakesFrame before r after → Frames bytes (results ++ r ∷ []) after)
-    (back : (names : List (List ℕ)) → AllByRecursion IsMechanism names → MarkedItems TextSpelled TextRefused (names_of names) names None)
-    {A B K L : Type 0} (E : Type 0) (held : B → Held K) (memory : Type 0) (lacks : Held K → ℕ → Type 0) (memory_there : Type 0) (lacks_there : Held L → ℕ → Type 0) where
-  pub logs_in : (client : Shown B) (there : Serving A) → client.phase ≡ client_phases.AwaitsOffer → Facing client.exchange there → LogsIn E held memory lacks memory_there lacks_there client there
-  logs_in client there awaits facing =
-      let mate = server_of facing in
-      let meeting = meeting_of client.exchange there facing in (
-        one_read one none next scram_offer (tt, offer_spelled),
-        λ begun r1 h1. on_left (λ x. (
-          x.0,
-          (
-            x.1.first,
-            x.1.added,
-            (
-              ap (λ (p : ServingPhase). kind_in p ∷ []) (sym facing.awaits),
-              λ challenged before behind r2 h2. on_left (λ y. (
-                y.0,
-                (
-                  y.1.text,
-                  (y.1.sent, one_read one none next (challenge y.1.text) (tt, y.1.none)),
-                  λ replied r3 h3. on_left (λ z. (
-                    z.0,
-                    (
-                      z.1.final,
-                      z.1.added,
-                      (
-                        ap (λ (p : ServingPhase). kind_in p ∷ []) (sym y.1.phase),
-                        λ through here after r4 h4. on_left (λ w. (
-                          w.0,
-                          (
-                            w.1.signed,
-                            (w.1.sent, two_read one none next (signature w.1.signed) admission (tt, w.1.none) (tt, admission_spelled)),
-                            λ verified r5 h5.
-                                let v = verifies {E = E} held memory lacks client.exchange mate y.1.mid w.1.over meeting x.1.first y.1.text z.1.final w.1.signed x.1.is y.1.challenges replied verified z.1.answers w.1.admits r5
-                                (heard {E = E} held memory lacks (signature w.1.signed) replied verified client_phases.AwaitsFinal r5 z.1.phase h5) in
-                                inl (
-                                  v.0,
-                                  λ admitted r6 h6.
-                                      let u = welcomed {E = E} held memory lacks verified admitted r6 (heard {E = E} held memory lacks admission verified admitted client_phases.AwaitsOk r6 v.1 h6) in
-                                      inl (u.0, (u.1, w.1.phase)),
-                                ),
-                          ),
-                        )) (takes_final memory_there lacks_there client.exchange replied.exchange mate y.1.mid meeting x.1.first y.1.text z.1.final x.1.is y.1.challenges z.1.answers z.1.is challenged through here after r4 y.1.phase y.1.method h4),
-                      ),
-                    ),
-                  )) (replies {E = E} held memory lacks client.exchange mate y.1.mid meeting x.1.first y.1.text x.1.is y.1.challenges begun replied x.1.exchange r3 (heard {E = E} held memory lacks (challenge y.1.text) begun replied client_phases.AwaitsFirst r3 x.1.phase h3)),
-                ),
-              )) (takes_first memory_there lacks_there client.exchange mate meeting x.1.first x.1.is there challenged before behind r2 facing.awaits facing.holds h2),
-            ),
-          ),
-        )) (begins {E = E} held memory lacks mate client begun meeting facing.unbound r1 (offers_scram client.exchange facing.unbound back) (heard {E = E} held memory lacks scram_offer client begun client_phases.AwaitsOffer r1 awaits h1)),
-      )

@@ -48,10 +48,10 @@ pub use Rattle.pgp_message.specs.Stream.{Frames, TakesFrame, IsPartial, Step, Fr
 pub use Rattle.pgp_message.specs.Views.{view, parsed}
 pub use Rattle.pgp_message_write.specs.Reply.{IsInRange, IsMechanism, IsReply, names_of}
 pub use Rattle.pgp_session.specs.Connection.{IsCut, Nexts, Shown, nexted, Took, TookEnd, with_incoming, Hears, IsUnfit, ComesInTime, is_end, is_logged_in, lacks_status, logged_in_at, begun, shown}
-pub use Rattle.pgp_session.specs.ScramLogin.{Lists, Offers, initial, mechanism_by, mechanism_of, observed}
+pub use Rattle.pgp_session.specs.Mechanisms.{Lists, Offers, initial, mechanism_by, mechanism_of}
 pub use Rattle.pgp_session.specs.Serving.{Comes, Outcome, Challenge, Denied, Signed, IsAdmitted, IsChallenged, IsNoFinal, IsNoFirst, admission, cause_of, challenge, due, final_message, first_message, kind_in, scram, scram_offer, signature, spelled}
 pub use Rattle.pgp_session.specs.declared.connection_error.ConnectionError.{ConnectionError}
-pub use Rattle.pgp_session.specs.declared.scram_login.LoginPhase.{LoginPhase}
+pub use Rattle.pgp_session.specs.declared.login.LoginPhase.{LoginPhase}
 pub use Rattle.pgp_session.specs.declared.serving.Serving.{Serving}
 pub use Rattle.pgp_session.specs.declared.serving.ServingPhase.{ServingPhase}
 pub use Rattle.pgp_stream.specs.ClientStream.{Sent, IsAdded, IsLeft, Adds, RefusesMessage}
@@ -64,7 +64,7 @@ pub use Rattle.postgres_protocol.proofs.StepLemmas.{same_more, array_length, hea
 pub use Rattle.postgres_protocol.specs.OneValue.{PutsOne, OneWants, unnamed, OneBinds, BindsOne}
 pub use Rattle.pgp_uses.specs.Arrays.{ReadsElement, ReadsElements, RefusesElement, RefusesEnd, BindsInt4s, PutsInt4s, int4_array, IsInt4}
 pub use Rattle.pgp_uses.specs.Asking.{AreAdded, Blames, Stops, AddsAll, NamedBinds, BindsNamed, named, named_bound}
-pub use Rattle.pgp_uses.specs.BothEnds.{AreRead, Facing, IsClientsWant, IsServersWant, LogsIn, ConnectionLogsIn, HasStarted, IsConnectionsWant}
+pub use Rattle.pgp_uses.specs.BothEnds.{AreRead, Facing, IsServersWant, ConnectionLogsIn, HasStarted, IsConnectionsWant}
 pub use Rattle.pgp_uses.specs.Client.{IsSo, received_as, row_if, is_part, scram_alone}
 pub use Rattle.pgp_uses.specs.Columns.{IsOther, Passed, Columns, FirstColumns, HasNames, HasBroken}
 pub use Rattle.pgp_uses.specs.Server.{refusal_of}

@@ -18,7 +18,7 @@ use Rattle.pgp_session.specs.Settings.{IsUnkept, most, setting_in}
 use Rattle.pgp_session.specs.declared.connection.ConnectionPhase.{ConnectionPhase}
 use Rattle.pgp_session.specs.declared.connection.ConnectionPhase.TheVariants.{Started}
 use Rattle.pgp_session.specs.declared.connection_error.ConnectionError.TheVariants.{Scram, Unwritten}
-use Rattle.pgp_session.specs.declared.scram_login.LoginPhase.TheVariants.{AwaitsOffer, AwaitsFirst, AwaitsFinal, AwaitsOk, Done}
+use Rattle.pgp_session.specs.declared.login.LoginPhase.TheVariants.{AwaitsOffer, AwaitsFirst, AwaitsFinal, AwaitsOk, Done}
 use Rattle.pgp_uses.proofs.BothEnds.{admission_spelled, count_met, meeting_of, offer_spelled, offers_no_binding, offers_scram, on_left, one_read, server_of, takes_final, takes_first, two_read, unbound_first}
 
 -- ---- where a connection is

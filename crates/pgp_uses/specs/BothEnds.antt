@@ -23,22 +23,16 @@ use Rattle.pgp_frontend.specs.ClientRun.{kinds_of}
 use Rattle.pgp_message.specs.BackendMessage.{Message}
 use Rattle.pgp_message.specs.Stream.{Frames}
 use Rattle.pgp_message_write.specs.Reply.{bytes_of}
-use Rattle.pgp_stream.specs.ClientStream.{IsAdded, RefusesMessage}
 use Rattle.pgp_session.specs.Connection.{Shown as Connected, is_logged_in}
 use Rattle.pgp_session.specs.Connection as connection
 use Rattle.pgp_session.specs.Login.{Added, Unsent}
-use Rattle.pgp_session.specs.ScramLogin.{Shown}
-use Rattle.pgp_session.specs.ScramLogin as login
+use Rattle.pgp_session.specs.Mechanisms.{mechanism_of}
 use Rattle.pgp_session.specs.Serving.{Challenge, Outcome, Signed, admission, cause_of, challenge, final_message, first_message, kind_in, scram, scram_offer, signature, spelled}
 use Rattle.pgp_session.specs.Serving as serving
 use Rattle.pgp_session.specs.declared.connection.ConnectionPhase.TheVariants.{Started}
 use Rattle.pgp_session.specs.declared.connection_error.ConnectionError.{ConnectionError}
 use Rattle.pgp_session.specs.declared.connection_error.ConnectionError.TheVariants as errors
-use Rattle.pgp_session.specs.declared.scram_login.LoginEvent.{LoginEvent}
-use Rattle.pgp_session.specs.declared.scram_login.LoginEvent.TheVariants.{Began, Replied, Verified, Admitted}
-use Rattle.pgp_session.specs.declared.scram_login.LoginFault.{LoginFault}
-use Rattle.pgp_session.specs.declared.scram_login.LoginFault.TheVariants as faults
-use Rattle.pgp_session.specs.declared.scram_login.LoginPhase.TheVariants.{AwaitsOffer, Done}
+use Rattle.pgp_session.specs.declared.login.LoginPhase.TheVariants.{AwaitsOffer}
 use Rattle.pgp_session.specs.declared.serving.Method.TheVariants.{Exchange}
 use Rattle.pgp_session.specs.declared.serving.Serving.{Serving}
 use Rattle.pgp_session.specs.declared.serving.ServingEvent.{ServingEvent}
@@ -57,7 +51,7 @@ pub record Facing {A : Type 0} (exchange : Client) (serving : Serving A) : Type 
   pub binding : Binding
   pub offer : Offer
   pub exchange_is : exchange.state ≡ client.AwaitsFirst (record { password = password; binding = binding; nonce = nonce })
-  pub unbound : login.mechanism_of exchange ≡ scram
+  pub unbound : mechanism_of exchange ≡ scram
   pub awaits : serving.phase ≡ AwaitsFirst
   pub holds : serving.method ≡ Exchange (server.AwaitsFirst (record { verifier = verifier password salt count; is_mock = false; offer = offer; own = own }))
   pub taken : IsTaken offer binding
@@ -86,35 +80,11 @@ abbrev pub ServerTakes : {A L : Type 0} → Type 0 → (Held L → ℕ → Type 
 ServerTakes {A} {L} memory lacks m event answer old Next = (kinds_of m ≡ kind_in old.phase ∷ []) × ((new : Serving A) (before behind : Held L) (result : Result ServingEvent Error)
     → serving.Steps memory lacks m old new before behind result → ((result ≡ Ok event) × Next new before behind) ⊎ IsServersWant memory lacks answer before result)
 
--- ---- `ScramLogin`
-
-module _ {B K E : Type 0} (held : B → Held K) (memory : Type 0) (lacks : Held K → ℕ → Type 0) where
-  -- the client couldn't send this reply
-  abbrev pub IsClientsWant : (List ℕ → ClientMessage) → Shown B → Result LoginEvent (LoginFault E) → Type 0
-  IsClientsWant reply old (Err (faults.Unsent e)) = (text : List ℕ) × RefusesMessage (reply text) lacks (held old.out.buf) e
-  IsClientsWant reply old (Err (faults.Scram e)) = (refusal e ≡ OutOfMemory) × memory
-  IsClientsWant reply old result = ⊥
-
-  -- the client takes this message: its step is this event, or such a want
-  abbrev pub ClientTakes : Message → LoginEvent → (Result LoginEvent (LoginFault E) → Type 0) → Shown B → (Shown B → Type 0) → Type 0
-  ClientTakes m event IsWant old Next = (new : Shown B) (result : Result LoginEvent (LoginFault E)) → login.Steps held memory lacks m old new result → ((result ≡ Ok event) × Next new) ⊎ IsWant result
+-- ---- the connection
 
 -- there is none
 abbrev pub IsNoWant : {T : Type 0} → T → Type 0
 IsNoWant result = ⊥
-
--- Each takes what the other sends, and after the last turn both are logged in.
-abbrev pub LogsIn : {A B K L : Type 0} → (E : Type 0) → (B → Held K) → Type 0 → (Held K → ℕ → Type 0) → Type 0 → (Held L → ℕ → Type 0) → Shown B → Serving A → Type 0
-LogsIn E held memory lacks memory_there lacks_there client server =
-    AreRead (bytes_of scram_offer) (scram_offer ∷ [])
-    × ClientTakes {E = E} held memory lacks scram_offer Began (IsClientsWant held memory lacks first_message client) client (λ begun. (first : List ℕ) × IsAdded held (first_message first) client.out begun.out
-    × ServerTakes memory_there lacks_there (first_message first) Challenged Challenge server (λ challenged before behind. (text : List ℕ) × Answered (Challenge text) (challenge text ∷ []) before behind
-    × ClientTakes {E = E} held memory lacks (challenge text) Replied (IsClientsWant held memory lacks final_message begun) begun (λ replied. (final : List ℕ) × IsAdded held (final_message final) begun.out replied.out
-    × ServerTakes memory_there lacks_there (final_message final) LoggedIn Signed challenged (λ through before behind. (signed : List ℕ) × Answered (Signed signed) (signature signed ∷ admission ∷ []) before behind
-    × ClientTakes {E = E} held memory lacks (signature signed) Verified IsNoWant replied (λ verified.
-    ClientTakes {E = E} held memory lacks admission Admitted IsNoWant verified (λ admitted. (admitted.phase ≡ Done) × (through.phase ≡ Open)))))))
-
--- ---- `Connection`
 
 module _ {E : Type 0} (lacks : Type 0) where
   abbrev pub IsConnectionsWant : (List ℕ → ClientMessage) → Result (Option (Event × Message)) (ConnectionError E) → Type 0
@@ -133,6 +103,7 @@ pub record HasStarted (name : ℕ) (exchange : Client) (c : Connected) : Type 0 
   pub awaits : c.login.phase ≡ AwaitsOffer
   pub admits : c.login.ways.scram ≡ Some exchange
 
+-- Each takes what the other sends, and after the last turn both are logged in.
 abbrev pub ConnectionLogsIn : {A L : Type 0} → (E : Type 0) → Type 0 → Type 0 → (Held L → ℕ → Type 0) → ℕ → Connected → Serving A → Type 0
 ConnectionLogsIn E lacks memory_there lacks_there name client server =
     AreRead (bytes_of scram_offer) (scram_offer ∷ [])

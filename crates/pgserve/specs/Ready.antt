@@ -2,9 +2,9 @@
 -- PostgreSQL manual, "Message Flow": "Simple Query", "Function Call", "Asynchronous Operations"; "Message Formats": ReadyForQuery.
 use Rattle.std.specs.Prelude.{◌≡◌, ◌≢◌, ◌⊎◌, ℕ, Bool, true, false, List, [], ◌∷◌, ◌++◌, Option, None}
 use Rattle.pgp_base.specs.Wire.{frame}
-use Rattle.pgp_monitor.specs.Transaction.{letter}
-use Rattle.pgp_monitor.specs.declared.transaction.Status.{Status}
-use Rattle.pgp_monitor.specs.declared.transaction.Status.TheVariants.{Idle}
+use Rattle.pgp_session.specs.Transaction.{letter}
+use Rattle.pgp_session.specs.declared.transaction.Status.{Status}
+use Rattle.pgp_session.specs.declared.transaction.Status.TheVariants.{Idle}
 
 -- a ReadyForQuery of this status is the last message
 abbrev pub IsReady : Status → List ℕ → Type 0

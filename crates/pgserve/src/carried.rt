@@ -11,7 +11,7 @@ use crate::settings::{Scope, Setting};
 use crate::transaction::Taken;
 use crate::wording::Wording;
 use pgp_message_write as reply;
-use pgp_monitor::Status;
+use pgp_session::transaction::Status;
 
 /// The tag of a command that is none of transactions.
 fn tag_of(command: Command<'_>) -> &'static [u8] {

@@ -5,7 +5,7 @@
 use crate::outbox::Outbox;
 use crate::script::Pair;
 use pgp_message_write as reply;
-use pgp_monitor::Status;
+use pgp_session::transaction::Status;
 use std::alloc::Global;
 
 /// What a transaction asks of a channel.

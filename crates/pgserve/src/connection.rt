@@ -16,7 +16,7 @@ use pgp_client::Request;
 use pgp_frontend_read::{
     ClientError, ClientFrame, ClientMessage, ClientParser, Limits, ParserError,
 };
-use pgp_monitor::Monitor;
+use pgp_session::monitor::Monitor;
 use pgp_session::serving::{Method, Serving, ServingEvent, ServingPhase};
 use std::alloc::{AllocError, Global};
 

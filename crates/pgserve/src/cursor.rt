@@ -13,7 +13,7 @@ use crate::portals::{Life, Portal};
 use crate::script::{End, Statement};
 use crate::session::Session;
 use crate::wording::Wording;
-use pgp_monitor::Status;
+use pgp_session::transaction::Status;
 
 /// How far the first word goes.
 fn word_end(text: &[u8]) -> usize {

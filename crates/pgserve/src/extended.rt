@@ -18,7 +18,7 @@ use crate::wording::Wording;
 use pgp_base::Oid;
 use pgp_frontend_read::ClientMessage;
 use pgp_message_write as reply;
-use pgp_monitor::Status;
+use pgp_session::transaction::Status;
 
 /// What a Bind says.
 #[derive(Clone, Copy)]

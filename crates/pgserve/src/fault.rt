@@ -2,7 +2,7 @@
 
 use crate::wrong::Place;
 use pgp_base::Error;
-use pgp_monitor::Stop;
+use pgp_session::monitor::Stop;
 use std::alloc::AllocError;
 
 /// Why the program stops short, as `complaint` says it.

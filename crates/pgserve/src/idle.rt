@@ -2,7 +2,7 @@
 //!
 //! PostgreSQL manual, "Asynchronous Operations" of the protocol.
 
-ghost use Rattle.pgp_monitor.specs.declared.transaction.Status.TheVariants.{Idle};
+ghost use Rattle.pgp_session.specs.declared.transaction.Status.TheVariants.{Idle};
 ghost use Rattle.pgserve.specs.Ready.{IsReady, Says};
 
 use crate::channels::put_notification;
@@ -15,7 +15,7 @@ use crate::reading::{pair_of, setting_of};
 use crate::script::Pair;
 use crate::settings::Settings;
 use pgp_message_write as reply;
-use pgp_monitor::Status;
+use pgp_session::transaction::Status;
 
 /// What a line `later` says.
 #[derive(Drop)]

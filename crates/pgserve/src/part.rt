@@ -10,7 +10,7 @@ use crate::report::report_of;
 use crate::row_text::row_of;
 use crate::script::{Copy, End, Statement};
 use pgp_base::Oid;
-use pgp_monitor::Status;
+use pgp_session::transaction::Status;
 use std::time::Duration;
 
 /// The status of this name.

@@ -10,7 +10,7 @@ use crate::types::Type;
 use crate::user::User;
 use crate::wording::Wording;
 use pgp_base::Oid;
-use pgp_monitor::Status;
+use pgp_session::transaction::Status;
 use std::alloc::Global;
 
 /// A column of the rows.

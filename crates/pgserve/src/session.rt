@@ -4,8 +4,8 @@
 //! PostgreSQL manual, "Message Flow": "Simple Query", "Extended Query", "Function Call".
 
 ghost use Rattle.std.specs.Prelude.{◌≡◌, ◌≢◌, false};
-ghost use Rattle.pgp_monitor.specs.Transaction.{ends_portals};
-ghost use Rattle.pgp_monitor.specs.declared.transaction.Status.TheVariants.{Idle};
+ghost use Rattle.pgp_session.specs.Transaction.{ends_portals};
+ghost use Rattle.pgp_session.specs.declared.transaction.Status.TheVariants.{Idle};
 ghost use Rattle.pgserve.specs.Ready.{HasEnd};
 
 use crate::answer::Went;
@@ -24,7 +24,7 @@ use crate::transaction::Transaction;
 use crate::wording::Wording;
 use pgp_frontend_read::ClientMessage;
 use pgp_message_write as reply;
-use pgp_monitor::Status;
+use pgp_session::transaction::Status;
 use std::mem;
 
 /// What a statement asks for.

@@ -1,12 +1,12 @@
 //! The transaction in which a session is.
 
 ghost use Rattle.std.specs.Prelude.{◌≡◌};
-ghost use Rattle.pgp_monitor.specs.Transaction.{after_error};
+ghost use Rattle.pgp_session.specs.Transaction.{after_error};
 
 use crate::asked::{Refusal, no_transaction};
 use crate::command::Command;
 use crate::outbox::Outbox;
-use pgp_monitor::Status;
+use pgp_session::transaction::Status;
 use std::alloc::Global;
 
 /// The warning of a command that changes nothing outside of a transaction.

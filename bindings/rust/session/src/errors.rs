@@ -4,7 +4,6 @@ use crate::message::client::{ClientError, ParserError};
 use crate::proved::pgp_base::BindError;
 use crate::proved::pgp_client::{Full, Refusal};
 use crate::proved::pgp_session::proxy::ProxyError;
-use crate::proved::pgp_session::scram_login::LoginFault;
 use crate::proved::pgp_session::{BindSendError, ConnectionError};
 use std::error::Error;
 use std::fmt::{self, Debug, Display, Formatter};
@@ -12,8 +11,6 @@ use std::fmt::{self, Debug, Display, Formatter};
 const NO_MEMORY: &str = "out of memory";
 const OUT_OF_PHASE: &str = "the call has no place in this phase of the connection";
 const UNWRITTEN: &str = "the message can't be written";
-const NOT_OFFERED: &str = "the server doesn't offer the exchange's mechanism";
-const SCRAM: &str = "the SCRAM exchange failed";
 
 impl Display for ConnectionError {
     fn fmt(&self, f: &mut Formatter<'_>) -> fmt::Result {
@@ -28,9 +25,9 @@ impl Display for ConnectionError {
             ConnectionError::Undue => "the server's message isn't due in the log-in",
             ConnectionError::BadStatus => "the server reports a status that doesn't exist",
             ConnectionError::NotAdmitted => "the server asks for a way of logging in that isn't admitted",
-            ConnectionError::NotOffered => NOT_OFFERED,
+            ConnectionError::NotOffered => "the server doesn't offer the exchange's mechanism",
             ConnectionError::TooFewRounds => "the server asks for too few rounds",
-            ConnectionError::Scram(_) => SCRAM,
+            ConnectionError::Scram(_) => "the SCRAM exchange failed",
             ConnectionError::BadAnswer => "the answer to the request for encryption isn't one byte, S or N",
         })
     }
@@ -70,27 +67,6 @@ impl Display for Refusal {
 }
 
 impl Error for Refusal {}
-
-impl Display for LoginFault {
-    fn fmt(&self, f: &mut Formatter<'_>) -> fmt::Result {
-        f.write_str(match self {
-            LoginFault::Unexpected => "the message has no place in the log-in",
-            LoginFault::NotOffered => NOT_OFFERED,
-            LoginFault::Unsent(_) => UNWRITTEN,
-            LoginFault::Scram(_) => SCRAM,
-        })
-    }
-}
-
-impl Error for LoginFault {
-    fn source(&self) -> Option<&(dyn Error + 'static)> {
-        match self {
-            LoginFault::Unsent(e) => Some(e),
-            LoginFault::Scram(e) => Some(e),
-            _ => None,
-        }
-    }
-}
 
 impl Display for ClientError {
     fn fmt(&self, f: &mut Formatter<'_>) -> fmt::Result {

@@ -1,4 +1,0 @@
-mod Listed
-mod Belongs
-mod Fronts
-mod Steps

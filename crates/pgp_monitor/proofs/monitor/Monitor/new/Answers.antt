@@ -1,6 +1,0 @@
-use Rattle.std.proofs.Common.{rules}
-use Rattle.pgp_monitor.proofs.Steps.{begins}
-use Rattle.pgp_monitor.proofs.monitor.Monitor.new.Goals as goal
-
-pub returns-clause-known : goal.returns-clause-known
-returns-clause-known g c = begins _ (search rules)

@@ -1,6 +1,0 @@
-use Rattle.pgp_monitor.specs.Monitor.{shown}
-use Rattle.pgp_monitor.proofs.Steps.{notes}
-use Rattle.pgp_monitor.proofs.monitor.Monitor.note.Goals as goal
-
-pub returns-clause-known : goal.returns-clause-known
-returns-clause-known g c = λ requests kinds events gone w. notes g.A.Memory.Lacks c.args.request requests kinds events gone (shown c.args.self.now) (shown c.put_down.new.self) c.put_down.result c.put_down.ensures w

@@ -1,3 +1,0 @@
-pub mod Answered
-pub mod Monitor
-pub mod Transaction
