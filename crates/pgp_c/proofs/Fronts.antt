@@ -9,7 +9,7 @@ use Rattle.pgp_c.specs.declared.front.PgpParts.{PgpParts}
 use Rattle.pgp_c.specs.Front.{CallResult, CopyBoth, CutShort, Misses, Reported, Says, SaysUnread, Unknown}
 use Rattle.pgp_c.proofs.Announced.{of_server}
 use Rattle.pgp_c.specs.Parts.{Shows, kind_of}
-use Rattle.pgp_c.specs.Places.{place, first_of, second_of}
+use Rattle.pgp_c.specs.Places.{place, two_texts}
 
 module _ (bytes new : List ℕ) (f : Frame) (whole : bytes ≡ frame_bytes f ++ new) where
   abbrev head : List ℕ
@@ -41,36 +41,23 @@ module _ (bytes new : List ℕ) (f : Frame) (whole : bytes ≡ frame_bytes f ++ 
   last front rest n frame is pay at =
       sits front rest [] n (frame - n) (pay ∙ ap (λ l. front ++ l) (sym (append-nil rest))) at (omega (arith, frame_length frame is, at, ap length pay, length-append front rest))
 
-  module _ (front a b : List ℕ) (at frame : ℕ) (is : frame ≡ length bytes - length new) (pay : f.payload ≡ front ++ (text a ++ text b)) (none : HasNoZero a) (place_is : at ≡ 5 + length front) where
-    read : string_at (drop at bytes) ≡ Some (a, text b ++ new)
-    read = ap string_at (behind front (text a ++ text b) at pay place_is ∙ append_assoc (text a) (text b) new) ∙ string_front a (text b ++ new) none
+  module _ (front a b : List ℕ) (at frame : ℕ) (is : frame ≡ length bytes - length new) (pay : f.payload ≡ front ++ (text a ++ text b)) (place_is : at ≡ 5 + length front) where
+    texts : PgpParts
+    texts = two_texts at a b frame
 
-    first_stands : stands bytes (first_of at (string_at (drop at bytes))) ≡ a
-    first_stands =
-        ap (λ s. stands bytes (first_of at s)) read
-        ∙ sits front a (0 ∷ text b) at (length a) (pay ∙ ap (λ l. front ++ l) (append_assoc a (0 ∷ []) (text b))) place_is refl
+    lengths : frame ≡ 5 + length front + length a + 1 + length b + 1
+    lengths = omega (arith, frame_length frame is, ap length pay, length-append front (text a ++ text b), length-append (text a) (text b), length-append a (0 ∷ []), length-append b (0 ∷ []))
 
-    lengths : length bytes ≡ 5 + length front + length a + 1 + length b + 1 + length new
-    lengths = omega (arith, ap length whole, length-append (head ++ f.payload) new, length-append head f.payload, head_length, ap length pay, length-append front (text a ++ text b), length-append (text a) (text b), length-append a (0 ∷ []), length-append b (0 ∷ []))
+    first_stands : stands bytes texts.first ≡ a
+    first_stands = sits front a (0 ∷ text b) at (length a) (pay ∙ ap (λ l. front ++ l) (append_assoc a (0 ∷ []) (text b))) place_is refl
 
-    second_at : length bytes - length (text b ++ new) ≡ 5 + length (front ++ text a)
-    second_at = omega (arith, lengths, length-append (text b) new, length-append b (0 ∷ []), length-append front (text a), length-append a (0 ∷ []))
-
-    second_len : frame - 1 - (length bytes - length (text b ++ new)) ≡ length b
-    second_len = omega (arith, is, lengths, length-append (text b) new, length-append b (0 ∷ []))
-
-    first_fits : IsInside frame (first_of at (string_at (drop at bytes)))
-    first_fits = subst (λ s. IsInside frame (first_of at s)) (sym read) (omega (arith, is, lengths, place_is))
-
-    second_fits : IsInside frame (second_of (length bytes) frame (string_at (drop at bytes)))
-    second_fits =
-        subst (λ s. IsInside frame (second_of (length bytes) frame s)) (sym read)
-        (omega (arith, is, lengths, second_at, second_len, length-append front (text a), length-append a (0 ∷ [])))
-
-    second_stands : stands bytes (second_of (length bytes) frame (string_at (drop at bytes))) ≡ b
+    second_stands : stands bytes texts.second ≡ b
     second_stands =
-        ap (λ s. stands bytes (second_of (length bytes) frame s)) read
-        ∙ sits (front ++ text a) b (0 ∷ []) _ _ (pay ∙ sym (append_assoc front (text a) (text b))) second_at second_len
+        sits (front ++ text a) b (0 ∷ []) (frame - 1 - length b) (length b) (pay ∙ sym (append_assoc front (text a) (text b)))
+        (omega (arith, lengths, length-append front (text a), length-append a (0 ∷ []))) refl
+
+    texts_fit : AreInside frame texts
+    texts_fit = (omega (arith, lengths, place_is), omega (arith, lengths))
 
   module _ (frame : ℕ) (is : frame ≡ length bytes - length new) where
     -- what ends the payload lies inside the frame
@@ -106,7 +93,7 @@ module _ (bytes new : List ℕ) (f : Frame) (whole : bytes ≡ frame_bytes f ++ 
     formats format count b e = last (format ∷ uint16 count) b 8 frame is (e ∙ append-nil (format ∷ uint16 count ++ b)) refl
 
 -- the parts of a message that was taken stand where `place` says
-shows : (bytes new : List ℕ) (m : Message) (frame : ℕ) → frame ≡ length bytes - length new → TakesFrame bytes (Ok m) new → Shows bytes m (place m bytes frame)
+shows : (bytes new : List ℕ) (m : Message) (frame : ℕ) → frame ≡ length bytes - length new → TakesFrame bytes (Ok m) new → Shows bytes m (place m frame)
 shows bytes new (CommandComplete tag) frame is t =
     let e = alone bytes new t.first t.whole frame is (CommandComplete tag) t.body.parts in
     (refl, sits bytes new t.first t.whole [] tag (0 ∷ []) 5 (frame - 6) e refl (omega (arith, frame_length bytes new t.first t.whole frame is, ap length e, length-append tag (0 ∷ []))))
@@ -134,11 +121,11 @@ shows bytes new (NegotiateProtocolVersion n) frame is t =
 shows bytes new (ReadyForQuery status) frame is t = refl
 shows bytes new (ParameterStatus s) frame is t =
     let e = alone bytes new t.first t.whole frame is (ParameterStatus s) t.body.parts in
-    (refl, first_stands bytes new t.first t.whole [] s.name s.value 5 frame is e t.body.fits.0 refl, second_stands bytes new t.first t.whole [] s.name s.value 5 frame is e t.body.fits.0 refl)
+    (refl, first_stands bytes new t.first t.whole [] s.name s.value 5 frame is e refl, second_stands bytes new t.first t.whole [] s.name s.value 5 frame is e refl)
 shows bytes new (NotificationResponse n) frame is t =
     let e = alone bytes new t.first t.whole frame is (NotificationResponse n) t.body.parts ∙ append_assoc (int32 n.process_id) (text n.channel) (text n.message) in
     let at : 9 ≡ 5 + length (int32 n.process_id) = ap (λ n. 5 + n) (sym (int32_number.len n.process_id)) in
-    (refl, first_stands bytes new t.first t.whole (int32 n.process_id) n.channel n.message 9 frame is e t.body.fits.1 at, second_stands bytes new t.first t.whole (int32 n.process_id) n.channel n.message 9 frame is e t.body.fits.1 at)
+    (refl, first_stands bytes new t.first t.whole (int32 n.process_id) n.channel n.message 9 frame is e at, second_stands bytes new t.first t.whole (int32 n.process_id) n.channel n.message 9 frame is e at)
 shows bytes new (Authentication AuthenticationOk) frame is t = refl
 shows bytes new (Authentication AuthenticationKerberosV5) frame is t = refl
 shows bytes new (Authentication AuthenticationCleartextPassword) frame is t = refl
@@ -151,7 +138,7 @@ shows bytes new m frame is t = refl
 abbrev AreInside : ℕ → PgpParts → Type 0
 AreInside frame p = IsInside frame p.first × IsInside frame p.second
 
-inside : (bytes new : List ℕ) (m : Message) (frame : ℕ) → frame ≡ length bytes - length new → TakesFrame bytes (Ok m) new → AreInside frame (place m bytes frame)
+inside : (bytes new : List ℕ) (m : Message) (frame : ℕ) → frame ≡ length bytes - length new → TakesFrame bytes (Ok m) new → AreInside frame (place m frame)
 inside bytes new (CommandComplete tag) frame is t = (omega (arith, frame_length bytes new t.first t.whole frame is), omega arith)
 inside bytes new (ErrorResponse b) frame is t = (rest_fits bytes new t.first t.whole frame is 5 (omega arith), omega arith)
 inside bytes new (NoticeResponse b) frame is t = (rest_fits bytes new t.first t.whole frame is 5 (omega arith), omega arith)
@@ -173,11 +160,11 @@ inside bytes new (NegotiateProtocolVersion n) frame is t =
     (behind_fits bytes new t.first t.whole frame is (int32 n.version ++ int32 (pos n.count)) n.options 13 t.body.parts at, omega arith)
 inside bytes new (ParameterStatus s) frame is t =
     let e = alone bytes new t.first t.whole frame is (ParameterStatus s) t.body.parts in
-    (first_fits bytes new t.first t.whole [] s.name s.value 5 frame is e t.body.fits.0 refl, second_fits bytes new t.first t.whole [] s.name s.value 5 frame is e t.body.fits.0 refl)
+    texts_fit bytes new t.first t.whole [] s.name s.value 5 frame is e refl
 inside bytes new (NotificationResponse n) frame is t =
     let e = alone bytes new t.first t.whole frame is (NotificationResponse n) t.body.parts ∙ append_assoc (int32 n.process_id) (text n.channel) (text n.message) in
     let at : 9 ≡ 5 + length (int32 n.process_id) = ap (λ n. 5 + n) (sym (int32_number.len n.process_id)) in
-    (first_fits bytes new t.first t.whole (int32 n.process_id) n.channel n.message 9 frame is e t.body.fits.1 at, second_fits bytes new t.first t.whole (int32 n.process_id) n.channel n.message 9 frame is e t.body.fits.1 at)
+    texts_fit bytes new t.first t.whole (int32 n.process_id) n.channel n.message 9 frame is e at
 inside bytes new (ReadyForQuery status) frame is t = (omega arith, omega arith)
 inside bytes new (Authentication AuthenticationOk) frame is t = (omega arith, omega arith)
 inside bytes new (Authentication AuthenticationKerberosV5) frame is t = (omega arith, omega arith)
@@ -211,7 +198,7 @@ rest_is bytes new (Err e) s = left bytes new e s
 -- what is reported, by the places of the parts
 abbrev pub Placed : List ℕ → Result (Option Message) Error → PgpMessage → ℕ → Type 0
 Placed bytes (Ok None) p code = (p.parts ≡ no_parts) × (p.kind ≡ 0) × (code ≡ 100)
-Placed bytes (Ok (Some m)) p code = (p.parts ≡ place m bytes p.frame) × (p.kind ≡ kind_of m) × (code ≡ 0)
+Placed bytes (Ok (Some m)) p code = (p.parts ≡ place m p.frame) × (p.kind ≡ kind_of m) × (code ≡ 0)
 Placed bytes (Err e) p code = SaysUnread bytes p.frame p.tag e p.parts p.kind code
 
 says : (bytes new : List ℕ) (r : Result (Option Message) Error) (p : PgpMessage) (code : ℕ) → p.frame ≡ length bytes - length new → Step ⊥ bytes r new → Placed bytes r p code → Says bytes r p code

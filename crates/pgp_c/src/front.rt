@@ -2,15 +2,14 @@
 
 ghost use Rattle.std.specs.Prelude.{◌≡◌, ◌≢◌, ◌<◌, ◌≤◌, ◌^◌, ℕ, ◌-◌, List, ◌∷◌, ◌++◌, length, drop, take, IfSome, IfNone};
 ghost use Rattle.pgp_base.specs.Error.{number_of};
-ghost use Rattle.pgp_base.specs.PartReading.{string_at};
 ghost use Rattle.pgp_base.specs.Wire.{uint16};
 ghost use Rattle.pgp_message.specs.Views.{view};
 ghost use Rattle.pgp_c.specs.Front.{Reported, SaysUnread};
 ghost use Rattle.pgp_c.specs.Parts.{kind_of, no_parts, part};
-ghost use Rattle.pgp_c.specs.Places.{place, first_of, second_of};
+ghost use Rattle.pgp_c.specs.Places.{place, two_texts};
 
 use crate::missing::missing;
-use pgp_base::reading::{byte_at, string_at, uint16_at};
+use pgp_base::reading::{byte_at, uint16_at};
 use pgp_base::{Error, FallibleIterator};
 use pgp_message::{Message, Messages};
 
@@ -73,15 +72,26 @@ struct Seen {
 pub extern "C" fn pgp_front(bytes: &[u8], message: &mut PgpMessage) -> u32
     ensures { Reported bytes.now message.new result }
 {
-    let mut messages = Messages::new(bytes);
     // Rows come by the thousand. By a way of their own no row goes through memory before it is
     // reported, and no register is saved for what the others need.
-    if let Some(row) = messages.next_row() {
-        let frame = bytes.len() - messages.rest().len();
-        let parts = counted(7, row.ranges().size_hint().0, frame);
-        return reported(frame, ROW, parts, 0, 0, tag_of(bytes, frame), message);
+    match bytes {
+        [b'D', ..] => row_front(bytes, message),
+        _ => any_front(bytes, message),
     }
-    any_front(bytes, message)
+}
+
+/// The same of a row.
+#[inline(always)]
+fn row_front(bytes: &[u8], message: &mut PgpMessage) -> u32
+    ensures { Reported bytes.now message.new result }
+{
+    let mut messages = Messages::new(bytes);
+    let Some(row) = messages.next_row() else {
+        return any_front(bytes, message);
+    };
+    let frame = bytes.len() - messages.rest().len();
+    let parts = counted(7, row.ranges().size_hint().0, frame);
+    reported(frame, ROW, parts, 0, 0, tag_of(bytes, frame), message)
 }
 
 /// The same of any message.
@@ -95,15 +105,7 @@ fn any_front(bytes: &[u8], message: &mut PgpMessage) -> u32
     let tag = tag_of(bytes, frame);
     match answer {
         Ok(None) => reported(frame, 0, none(), MORE, missing(bytes, 1), tag, message),
-        Ok(Some(kept)) => reported(
-            frame,
-            kind(&kept),
-            parts(&kept, bytes, frame),
-            0,
-            0,
-            tag,
-            message,
-        ),
+        Ok(Some(kept)) => reported(frame, kind(&kept), parts(&kept, frame), 0, 0, tag, message),
         Err(e) => {
             let seen = unread(e, tag, frame, bytes);
             reported(frame, seen.kind, seen.parts, seen.code, 0, tag, message)
@@ -261,8 +263,8 @@ fn kind(message: &Message<&[u8]>) -> u8
 }
 
 /// Where the parts of a message stand in its frame, which takes so many of the bytes.
-fn parts(message: &Message<&[u8]>, bytes: &[u8], frame: usize) -> PgpParts
-    ensures { result ≡ place (view message.now) bytes.now frame }
+fn parts(message: &Message<&[u8]>, frame: usize) -> PgpParts
+    ensures { result ≡ place (view message.now) frame }
 {
     match message {
         Message::CommandComplete(_) => one(5, frame.saturating_sub(6)),
@@ -300,23 +302,13 @@ fn parts(message: &Message<&[u8]>, bytes: &[u8], frame: usize) -> PgpParts
             byte: ready.status(),
             ..none()
         },
-        Message::ParameterStatus(_) => {
-            let (first, second) = two(5, bytes, frame);
-            PgpParts {
-                first,
-                second,
-                ..none()
-            }
+        Message::ParameterStatus(setting) => {
+            two(5, setting.name_bytes(), setting.value_bytes(), frame)
         }
-        Message::NotificationResponse(n) => {
-            let (first, second) = two(9, bytes, frame);
-            PgpParts {
-                first,
-                second,
-                number: n.process_id(),
-                ..none()
-            }
-        }
+        Message::NotificationResponse(n) => PgpParts {
+            number: n.process_id(),
+            ..two(9, n.channel_bytes(), n.message_bytes(), frame)
+        },
         _ => none(),
     }
 }
@@ -360,19 +352,16 @@ fn copied(byte: u8, count: usize, frame: usize) -> PgpParts
     }
 }
 
-/// The places of two texts, of which the first begins at this place, and the second ends before the frame's last byte.
-fn two(at: usize, bytes: &[u8], frame: usize) -> (PgpPart, PgpPart)
-    ensures first { result.0 ≡ first_of at (string_at (drop at bytes.now)) }
-    ensures second { result.1 ≡ second_of (length bytes.now) frame (string_at (drop at bytes.now)) }
+/// Two texts, of which the first begins at this place, and the second ends before the frame's last byte.
+fn two(at: usize, first: &[u8], second: &[u8], frame: usize) -> PgpParts
+    ensures { result ≡ two_texts at first.now second.now frame }
 {
-    let Ok((string, more)) = string_at(bytes.get(at..).unwrap_or(&[])) else {
-        return (PgpPart { at: 0, len: 0 }, PgpPart { at: 0, len: 0 });
+    let second = PgpPart {
+        at: frame.saturating_sub(1).saturating_sub(second.len()),
+        len: second.len(),
     };
-    let second = bytes.len().saturating_sub(more.len());
-    let len = frame.saturating_sub(1).saturating_sub(second);
-    let first = PgpPart {
-        at,
-        len: string.len(),
-    };
-    (first, PgpPart { at: second, len })
+    PgpParts {
+        second,
+        ..one(at, first.len())
+    }
 }

@@ -11,6 +11,7 @@ ghost use Rattle.pgp_session.specs.Login.{Puts};
 ghost use Rattle.pgp_message.specs.Views.{view};
 ghost use Rattle.pgp_session.specs.Connection.{IsTimely, is_bulk, is_end, is_part, is_longer, is_status, lacks_status, letter, may_send, next_name};
 
+use crate::login::LoginPhase;
 use crate::protocol_options::{OptionName, is_answered};
 use crate::session_storage::SessionStorage;
 use bytes::BytesMut;

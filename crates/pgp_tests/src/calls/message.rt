@@ -260,6 +260,25 @@ fn found_frames_are_read_onto_a_list(rt: HostRuntime) -> Result<(), Fail> {
     Ok(())
 }
 
+#[test]
+fn messages_are_taken_off_shared_bytes(rt: HostRuntime) -> Result<(), Fail> {
+    let mut bytes = Bytes::copy_from_slice(rt.alloc(), FOUR_AND_A_CUT_ROW)?;
+    for wanted in [
+        Err(Error::NotDrained),
+        Ok(Some("ParseComplete")),
+        Ok(Some("CommandComplete")),
+        Ok(Some("AuthenticationOk")),
+        Ok(None),
+    ] {
+        same(&rt, named(Message::parse_shared(&mut bytes)), wanted);
+    }
+    same(&rt, bytes.as_slice(), b"\x44\0\0\0\x13\0".as_slice());
+    let mut bytes = Bytes::copy_from_slice(rt.alloc(), b"\x31\0\0\0\x03")?;
+    let fault = named(Message::parse_shared(&mut bytes));
+    same(&rt, (fault, bytes.len()), (Err(Error::InvalidLength), 5));
+    Ok(())
+}
+
 /// The bytes of a copy that was read in place.
 fn copied<'a>(read: &Result<Option<Message<&'a [u8]>>, Error>) -> Option<&'a [u8]> {
     match read {
