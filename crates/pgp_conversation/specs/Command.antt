@@ -1,7 +1,7 @@
 -- What the program does for its words.
 use Rattle.std.specs.Prelude.{◌≡◌, ⊤, ◌⊎◌, ℕ, Bool, List, [], ◌∷◌, ◌++◌, Option, IfSome, codes}
 use Rattle.pgp_conversation.specs.Common.{Keeps, Appends, IsAtEnd, Streams, Caused, IsUnread, AppendsFront, AreWords, Fault, Memory, Read, Write, AreOptions, Chosen, chosen_of, options_in, view_by, first_phase, View, Marking, End}
-use Rattle.pgp_program.specs.Run as run
+use Rattle.pgp_line.specs.Run as run
 use Rattle.pgp_trace.specs.Listing as stream
 use Rattle.pgp_trace.specs.Sides as side
 use Rattle.pgp_trace.specs.declared.options.Listing.{Listing}

@@ -27,12 +27,12 @@ pub use Rattle.pgp_line.specs.declared.style.Style.{Style}
 pub use Rattle.pgp_message.specs.BackendMessage.{Authentication, AuthenticationCleartextPassword, AuthenticationGss, AuthenticationGssContinue, AuthenticationMd5Password, AuthenticationOk, AuthenticationSasl, AuthenticationSaslContinue, AuthenticationSaslFinal, AuthenticationSspi, BackendKeyData, BindComplete, Body, CloseComplete, DataRow, Message, NoData, ParameterDescription, ParseComplete, ReadyForQuery, RowDescription}
 pub use Rattle.pgp_message.specs.Table.{HasPlaces, IsPlaceIn, value_at}
 pub use Rattle.pgp_names.specs.Names.{found, put, without}
-pub use Rattle.pgp_program.specs.Interruptions.{GivesUp}
-pub use Rattle.pgp_program.specs.Run.{Caused, IsSaid, IsUnread, Streams}
-pub use Rattle.pgp_program.specs.Taken.{AppendsFront}
-pub use Rattle.pgp_program.specs.Words.{AreWords, greatest, LacksWords}
-pub use Rattle.pgp_program.specs.declared.fault.Fault.{Fault}
-pub use Rattle.pgp_program.specs.declared.fault.Fault.TheVariants.{Memory, Read, Write}
+pub use Rattle.pgp_line.specs.Interruptions.{GivesUp}
+pub use Rattle.pgp_line.specs.Run.{Caused, IsSaid, IsUnread, Streams}
+pub use Rattle.pgp_line.specs.Taken.{AppendsFront}
+pub use Rattle.pgp_line.specs.Words.{AreWords, greatest, LacksWords}
+pub use Rattle.pgp_line.specs.declared.fault.Fault.{Fault}
+pub use Rattle.pgp_line.specs.declared.fault.Fault.TheVariants.{Memory, Read, Write}
 pub use Rattle.pgp_summary.specs.Runs.{line_of, Tally}
 pub use Rattle.pgp_summary.specs.Summary.{asked, ended, failed, nothing, row, State}
 pub use Rattle.pgp_trace.specs.Hints.{hint_of}

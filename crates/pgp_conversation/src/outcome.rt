@@ -4,9 +4,9 @@ ghost use Rattle.std.specs.Prelude.{◌≡◌, ◌++◌, OnErr, OnOk};
 ghost use Rattle.pgp_conversation.specs.Common.{Appends, GivesUp, IsSaid, AppendsFront};
 ghost use Rattle.pgp_conversation.specs.Command.{complaint_of};
 
-use pgp_program::fault::Fault;
-use pgp_program::ports::Output;
-use pgp_program::print::put;
+use pgp_line::fault::Fault;
+use pgp_line::ports::Output;
+use pgp_line::print::put;
 
 /// How a run ended: the status, and what is to be said on standard error, in this order.
 #[derive(Debug, Clone, Copy)]

@@ -1,5 +1,5 @@
 -- Columns of a line.
-use Rattle.pgp_line.proofs.Common.{◌≡◌, ℕ, zero, suc, ◌+◌, ◌-◌, false, List, [], ◌∷◌, ◌++◌, length, refl, ap, ◌∙◌, arith, decimal, encode_utf8, char_count, format_spec, padded_integral, styled_decimal, repeat, append-nil, encode_ascii, blanks, right}
+use Rattle.pgp_line.proofs.Common.{◌≡◌, ℕ, zero, suc, ◌-◌, false, List, [], ◌∷◌, ◌++◌, length, refl, ap, ◌∙◌, arith, decimal, encode_utf8, char_count, format_spec, padded_integral, styled_decimal, repeat, append-nil, encode_ascii, blanks, right}
 
 -- a fill of blanks
 pub filled : (n : ℕ) → repeat n (encode_utf8 32) ≡ blanks n

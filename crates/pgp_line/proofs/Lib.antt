@@ -5,3 +5,4 @@ pub mod Escapes
 pub mod Quotes
 pub mod JsonQuotes
 pub mod JsonReads
+pub mod WordLemmas

@@ -4,3 +4,7 @@ pub mod Types
 pub mod Line
 pub mod Secret
 pub mod Styles
+pub mod Words
+pub mod Interruptions
+pub mod Run
+pub mod Taken

@@ -2,7 +2,7 @@
 use Rattle.std.specs.Prelude.{Bool, if◌then◌else◌}
 use Rattle.pgp_line.specs.declared.style.Form.TheVariants.{Columns, Json}
 use Rattle.pgp_line.specs.declared.style.Style.{Style}
-use Rattle.pgp_program.specs.Words.{greatest}
+use Rattle.pgp_line.specs.Words.{greatest}
 
 -- By a line of text or a JSON object; 64 bytes of a text or a value are shown, or all of them; and secrets aren't, or are
 abbrev pub style_of : Bool → Bool → Bool → Style

@@ -31,9 +31,9 @@ abbrev pub quoted_by : List ℕ → Option (List ℕ) → ℕ
 quoted_by bytes None = 0
 quoted_by bytes (Some body) = length bytes - length (behind_next (take (length bytes - length body) bytes) body)
 
--- how many bytes the one has that stands first, with both tags: 0 where none does
+-- how many bytes the one has that begins with the first, a dollar, with both tags: 0 where none does
 abbrev pub quoted : List ℕ → ℕ
-quoted bytes = if get_or bytes 0 0 == 36 && not (is_digit (get_or bytes 1 0)) then quoted_by bytes (behind_tag (drop 1 bytes)) else 0
+quoted bytes = if is_digit (get_or bytes 1 0) then 0 else quoted_by bytes (behind_tag (drop 1 bytes))
 
 -- ---- in what a byte stands, by the one before it, and how many after it stand in the same
 
@@ -44,13 +44,17 @@ is_e byte = byte == 69 || byte == 101
 abbrev pub is_mark : ℕ → Bool
 is_mark byte = list_any (λ mark. mark == byte) (codes "BbEeNnXx")
 
+-- at a dollar, with which a text of so many bytes begins, or a word
+abbrev pub dollared : ℕ → Inside × ℕ
+dollared len = if nat_le 1 len then (Closed, len - 1) else (Word, 0)
+
 -- where anything may begin
-abbrev pub begun : (byte next dollars : ℕ) → Inside × ℕ
-begun byte next dollars =
+abbrev pub begun : (byte next : ℕ) → List ℕ → Inside × ℕ
+begun byte next bytes =
     if byte == 39 then (Text false, 0)
     else if is_mark byte && next == 39 then (Text (is_e byte), 1)
     else if is_digit byte || (byte == 46 && is_digit next) then (Number, 0)
-    else if nat_le 1 dollars then (Closed, dollars - 1)
+    else if byte == 36 then dollared (quoted bytes)
     else if goes_on byte then (Word, 0)
     else if byte == 34 then (Name, 0)
     else if byte == 45 && next == 45 then (LineComment, 0)
@@ -58,11 +62,11 @@ begun byte next dollars =
     else (Between, 0)
 
 -- the sign of an exponent is a number's
-abbrev pub numbered : (byte next dollars : ℕ) → Inside × ℕ
-numbered byte next dollars =
+abbrev pub numbered : (byte next : ℕ) → List ℕ → Inside × ℕ
+numbered byte next bytes =
     if is_e byte && (next == 43 || next == 45) then (Number, 1)
     else if goes_on byte || byte == 46 then (Number, 0)
-    else begun byte next dollars
+    else begun byte next bytes
 
 -- a doubled quote is a text's, and so is what an escape's backslash stands before
 abbrev pub texted : (escapes : Bool) → (byte next : ℕ) → Inside × ℕ
@@ -77,18 +81,18 @@ commented depth byte next =
     else if byte == 47 && next == 42 then (BlockComment (capped (depth + 1)), 1)
     else (BlockComment depth, 0)
 
-abbrev pub read : Inside → (byte next dollars : ℕ) → Inside × ℕ
-read Between byte next dollars = begun byte next dollars
-read Closed byte next dollars = begun byte next dollars
-read Word byte next dollars = if goes_on byte then (Word, 0) else begun byte next dollars
-read Number byte next dollars = numbered byte next dollars
-read (Text escapes) byte next dollars = texted escapes byte next
-read Name byte next dollars = if byte == 34 then (Between, 0) else (Name, 0)
-read LineComment byte next dollars = if byte == 10 then (Between, 0) else (LineComment, 0)
-read (BlockComment depth) byte next dollars = commented depth byte next
+abbrev pub read : Inside → (byte next : ℕ) → List ℕ → Inside × ℕ
+read Between byte next bytes = begun byte next bytes
+read Closed byte next bytes = begun byte next bytes
+read Word byte next bytes = if goes_on byte then (Word, 0) else begun byte next bytes
+read Number byte next bytes = numbered byte next bytes
+read (Text escapes) byte next bytes = texted escapes byte next
+read Name byte next bytes = if byte == 34 then (Between, 0) else (Name, 0)
+read LineComment byte next bytes = if byte == 10 then (Between, 0) else (LineComment, 0)
+read (BlockComment depth) byte next bytes = commented depth byte next
 
 abbrev pub step : Inside → (same : ℕ) → List ℕ → Inside × ℕ
-step inside same bytes = if same == 0 then read inside (get_or bytes 0 0) (get_or bytes 1 0) (quoted bytes) else (inside, same - 1)
+step inside same bytes = if same == 0 then read inside (get_or bytes 0 0) (get_or bytes 1 0) bytes else (inside, same - 1)
 
 -- ---- what is left
 

@@ -1,7 +1,7 @@
 //! Statements without their literals.
 
 ghost use Rattle.std.specs.Prelude.{◌≡◌, ◌++◌, drop, get_or, option_map, IfOk, OnErr, OnOk};
-ghost use Rattle.pgp_summary.specs.Fold.{begun, behind_next, behind_tag, commented, folded, goes_on, is_among, is_e, is_literal, is_mark, numbered, quoted, read, shown, step, texted};
+ghost use Rattle.pgp_summary.specs.Fold.{begun, behind_next, behind_tag, commented, dollared, folded, goes_on, is_among, is_e, is_literal, is_mark, numbered, quoted, read, shown, step, texted};
 
 use crate::entry::plus;
 use pgp_base::Memory;
@@ -77,7 +77,7 @@ fn step(inside: Inside, same: usize, bytes: &[u8]) -> (Inside, usize)
     ensures { result ≡ step inside same bytes.now }
 {
     if same == 0 {
-        read(inside, byte_at(bytes, 0), byte_at(bytes, 1), quoted(bytes))
+        read(inside, byte_at(bytes, 0), byte_at(bytes, 1), bytes)
     } else {
         (inside, same - 1)
     }
@@ -93,13 +93,13 @@ fn byte_at(bytes: &[u8], place: usize) -> u8
     }
 }
 
-fn read(inside: Inside, byte: u8, next: u8, dollars: usize) -> (Inside, usize)
-    ensures { result ≡ read inside byte next dollars }
+fn read(inside: Inside, byte: u8, next: u8, bytes: &[u8]) -> (Inside, usize)
+    ensures { result ≡ read inside byte next bytes.now }
 {
     match inside {
         Inside::Word if goes_on(byte) => (Inside::Word, 0),
-        Inside::Between | Inside::Closed | Inside::Word => begun(byte, next, dollars),
-        Inside::Number => numbered(byte, next, dollars),
+        Inside::Between | Inside::Closed | Inside::Word => begun(byte, next, bytes),
+        Inside::Number => numbered(byte, next, bytes),
         Inside::Text(escapes) => texted(escapes, byte, next),
         Inside::Name if byte != b'"' => (Inside::Name, 0),
         Inside::LineComment if byte != b'\n' => (Inside::LineComment, 0),
@@ -109,8 +109,8 @@ fn read(inside: Inside, byte: u8, next: u8, dollars: usize) -> (Inside, usize)
 }
 
 /// Where anything may begin.
-fn begun(byte: u8, next: u8, dollars: usize) -> (Inside, usize)
-    ensures { result ≡ begun byte next dollars }
+fn begun(byte: u8, next: u8, bytes: &[u8]) -> (Inside, usize)
+    ensures { result ≡ begun byte next bytes.now }
 {
     if byte == b'\'' {
         (Inside::Text(false), 0)
@@ -118,8 +118,8 @@ fn begun(byte: u8, next: u8, dollars: usize) -> (Inside, usize)
         (Inside::Text(is_e(byte)), 1)
     } else if is_digit(byte) || (byte == b'.' && is_digit(next)) {
         (Inside::Number, 0)
-    } else if dollars >= 1 {
-        (Inside::Closed, dollars - 1)
+    } else if byte == b'$' {
+        dollared(quoted(bytes))
     } else if goes_on(byte) {
         (Inside::Word, 0)
     } else if byte == b'"' {
@@ -130,6 +130,17 @@ fn begun(byte: u8, next: u8, dollars: usize) -> (Inside, usize)
         (Inside::BlockComment(0), 1)
     } else {
         (Inside::Between, 0)
+    }
+}
+
+/// At a dollar, with which a text of so many bytes begins, or a word.
+fn dollared(len: usize) -> (Inside, usize)
+    ensures { result ≡ dollared len }
+{
+    if len >= 1 {
+        (Inside::Closed, len - 1)
+    } else {
+        (Inside::Word, 0)
     }
 }
 
@@ -147,15 +158,15 @@ fn is_mark(byte: u8) -> bool
 }
 
 /// In a number, or behind it.
-fn numbered(byte: u8, next: u8, dollars: usize) -> (Inside, usize)
-    ensures { result ≡ numbered byte next dollars }
+fn numbered(byte: u8, next: u8, bytes: &[u8]) -> (Inside, usize)
+    ensures { result ≡ numbered byte next bytes.now }
 {
     if is_e(byte) && (next == b'+' || next == b'-') {
         (Inside::Number, 1)
     } else if goes_on(byte) || byte == b'.' {
         (Inside::Number, 0)
     } else {
-        begun(byte, next, dollars)
+        begun(byte, next, bytes)
     }
 }
 
@@ -213,11 +224,11 @@ fn goes_on(byte: u8) -> bool
         || byte >= 128
 }
 
-/// How many bytes the text in dollar quotes has that stands first, or 0.
+/// How many bytes the text in dollar quotes has that begins with the first, a dollar; or 0.
 fn quoted(bytes: &[u8]) -> usize
     ensures { result ≡ quoted bytes.now }
 {
-    if byte_at(bytes, 0) != b'$' || is_digit(byte_at(bytes, 1)) {
+    if is_digit(byte_at(bytes, 1)) {
         return 0;
     }
     let Some(body) = behind_tag(bytes.get(1..).unwrap_or(&[])) else {

@@ -22,7 +22,7 @@ pub use Rattle.pgp_frontend_read.proofs.Steps.{payload_fits, step_fault}
 unfoldable pub use Rattle.pgp_line.specs.Line.{extended, comma, lsn}
 pub use Rattle.pgp_message.proofs.Runs.{front_is_one, no_ending, runs_one, frames_none, frames_next, each_push, pushed}
 pub use Rattle.pgp_message.specs.Items.{TextSpelled, TextRefused, FormatSpelled, FormatRefused, TypeSpelled, TypeRefused, RangeSpelled, RangeRefused, FieldSpelled, FieldRefused, ErrorFieldSpelled, ErrorFieldRefused}
-pub use Rattle.pgp_program.specs.Words.{greatest}
+pub use Rattle.pgp_line.specs.Words.{greatest}
 pub use Rattle.pgp_trace.specs.Client.{client_line, grouped, ClientSays, client_copied, client_data, client_name, client_called, client_groups, refusal_parts, client_value, first_text, signed_part, pair_parts}
 pub use Rattle.pgp_trace.specs.Listing.{IsAnswerLine, IsListing, LineOf, Listed, Lines, Rows, NoLines, OneLine, answer_line, answer_name, last_line, name_in, place_behind, EndsSo, client_frame_name, client_front, IsNextLine, client_tag, front, unread_name, GoesOn, IsLineOf, IsServerLine, server_name, IsRunBehindAnswers, IsReady, WasListed, WritesListing, IsCutShort}
 pub use Rattle.pgp_trace.specs.Names.{name_of, state_of}

@@ -2,7 +2,7 @@
 use Rattle.pgp_trace.proofs.Common.{◌≡◌, ◌⊎◌, ℕ, ◌+◌, ◌-◌, ◌≤◌, Bool, true, false, List, [], ◌++◌, length, take, drop, min, Option, Result, Ok, Err, refl, sym, ap, subst, ◌∙◌, arith, inl, inr, length-append, append_assoc, IfOk, IfSome, OnOk, OnErr, Appends, Consumes, Keeps, IsAtEnd, Appends-nil, Appends-trans, Consumes-nil, Consumes-trans, Consumes-kept, Consumes-whole, min-eq_left, min-le_right, append-nil, length-take, View, shown, Listed, Lines, NoLines, place_behind, last_line, IsReady, WasListed, WritesListing, IsCutShort, Side, Ends, HasLine, ListsAll, ListsSome, Held, Holds, ListsPiece, AppendsFront, greatest}
 use Rattle.pgp_base.proofs.Parts.{on_err}
 use Rattle.pgp_trace.specs.Hints.{hint_of}
-use Rattle.pgp_program.specs.Run.{Streams}
+use Rattle.pgp_line.specs.Run.{Streams}
 use Rattle.pgp_trace.proofs.Ends.{stays_ended, nothing_ends}
 use Rattle.pgp_trace.proofs.Fronts.{none_taken, all_taken, more_taken, kept_nothing}
 use Rattle.pgp_trace.proofs.Parts.{saturates}

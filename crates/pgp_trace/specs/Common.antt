@@ -16,8 +16,8 @@ pub use Rattle.pgp_message.specs.BackendMessage.{Authentication, AuthenticationC
 pub use Rattle.pgp_message.specs.Stream.{BackendRun, Frame, frame_bytes, Frames, IsEnding, IsFrame, IsLengthFault, TakesFrame}
 pub use Rattle.pgp_message.specs.Table.{IsPlaceIn, value_at}
 pub use Rattle.pgp_message.specs.Views.{view}
-pub use Rattle.pgp_program.specs.Run.{Caused, Streams}
-pub use Rattle.pgp_program.specs.Taken.{AppendsFront}
+pub use Rattle.pgp_line.specs.Run.{Caused, Streams}
+pub use Rattle.pgp_line.specs.Taken.{AppendsFront}
 pub use Rattle.pgp_trace.specs.declared.side.Phase.{Phase}
 pub use Rattle.pgp_trace.specs.declared.side.Phase.TheVariants.{Beginning, Encrypted, Messages, Replicating}
 pub use Rattle.std.specs.Int.{cast_signed, from_be_bytes, w16, w32, w64}

@@ -1,6 +1,6 @@
 -- Frames with their texts, one after another, whatever is known between them.
 use Rattle.std.specs.Prelude.{ℕ, ◌+◌, min, List, [], ◌++◌, length}
-use Rattle.pgp_program.specs.Words.{greatest}
+use Rattle.pgp_line.specs.Words.{greatest}
 
 -- how many bytes stand before, as far as a number of the machine reports it
 abbrev pub place_behind : ℕ → ℕ

@@ -10,7 +10,7 @@ use Rattle.pgp_trace.specs.Unread.{ShowsUnread}
 use Rattle.pgp_trace.specs.Listing.{IsServerLine, LineOf, Lines, name_in, place_behind, server_name}
 use Rattle.pgp_trace.specs.View.{View}
 use Rattle.pgp_trace.specs.Sides.{Side, Server, Client, Ends, phase_in}
-use Rattle.pgp_program.specs.Words.{greatest}
+use Rattle.pgp_line.specs.Words.{greatest}
 
 -- the code's sides
 abbrev pub side_of : code.Side → Side

@@ -15,6 +15,10 @@ use std::alloc::AllocError;
 
 /// Makes the line of the answer or of the first message at the front of the bytes, which stands at this place. Returns how far the stream then
 /// has come, and what stands after it.
+///
+/// # Errors
+///
+/// Returns `AllocError` if there is no memory for the line.
 pub fn first_line<'b, A: Memory>(
     style: Style,
     place: u64,

@@ -22,6 +22,10 @@ use std::alloc::AllocError;
 
 /// Makes the line of a client's frame at the front of the bytes, which stands at this place. Returns whether a startup packet came then, the kinds
 /// that are left, and what stands after the frame.
+///
+/// # Errors
+///
+/// Returns `AllocError` if there is no memory for the line.
 pub fn client_line<'a, 'b, A: Memory>(
     style: Style,
     place: u64,

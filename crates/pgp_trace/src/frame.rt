@@ -31,6 +31,10 @@ pub enum Next {
 
 /// Makes the line of a server's frame at the front of the bytes, which stands at this place, in a replication stream or not. Returns whether the stream
 /// then is one, and what stands after the frame.
+///
+/// # Errors
+///
+/// Returns `AllocError` if there is no memory for the line.
 pub fn server_line<'b, A: Memory>(
     style: Style,
     place: u64,

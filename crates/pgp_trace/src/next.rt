@@ -14,6 +14,10 @@ use std::alloc::AllocError;
 
 /// Makes the line of the frame at the front of the bytes, which stands at this place. Returns what is then known of the side, and what stands
 /// after the frame, both unchanged where there is none.
+///
+/// # Errors
+///
+/// Returns `AllocError` if there is no memory for the line.
 pub fn next_line<'a, 'b, A: Memory>(
     style: Style,
     place: u64,
@@ -57,6 +61,10 @@ pub fn next_line<'a, 'b, A: Memory>(
 }
 
 /// The same of a server's stream that has come so far. Returns how far it then has come.
+///
+/// # Errors
+///
+/// Returns `AllocError` if there is no memory for the line.
 pub fn server_line<'b, A: Memory>(
     style: Style,
     place: u64,

@@ -289,8 +289,8 @@ fn first_choice<'a>(words: &[&'a str]) -> Option<Choice<'a>>
         "--secrets" => Some(Choice::Secrets),
         "--resume" => Some(Choice::Resume),
         "--replication" => Some(Choice::Replication),
-        "--only" => first_names(rest),
-        "--except" => first_excepted(rest),
+        "--only" => Some(Choice::Only(*rest.first()?)),
+        "--except" => Some(Choice::Except(*rest.first()?)),
         "--color" => first_when(rest),
         "--password-kind" => first_kind(rest),
         "--time" => first_clock(rest),
@@ -301,24 +301,6 @@ fn first_choice<'a>(words: &[&'a str]) -> Option<Choice<'a>>
         "--raw" => Some(Choice::Raw),
         _ => None,
     }
-}
-
-/// The names that stand first, after the word that asks for them.
-fn first_names<'a>(words: &[&'a str]) -> Option<Choice<'a>>
-    ensures some { IfSome result (λ choice. IsSound choice × (length (spelled choice) ≡ 2) × (codes "--only" ∷ map (λ word. word.now) words.now ≡ spelled choice ++ map (λ word. word.now) (drop 1 words.now))) }
-    ensures none { IfNone result (BeginsWithNone (codes "--only" ∷ map (λ word. word.now) words.now)) }
-{
-    let (names, _) = words.split_first()?;
-    Some(Choice::Only(*names))
-}
-
-/// The same after the word that leaves them out.
-fn first_excepted<'a>(words: &[&'a str]) -> Option<Choice<'a>>
-    ensures some { IfSome result (λ choice. IsSound choice × (length (spelled choice) ≡ 2) × (codes "--except" ∷ map (λ word. word.now) words.now ≡ spelled choice ++ map (λ word. word.now) (drop 1 words.now))) }
-    ensures none { IfNone result (BeginsWithNone (codes "--except" ∷ map (λ word. word.now) words.now)) }
-{
-    let (names, _) = words.split_first()?;
-    Some(Choice::Except(*names))
 }
 
 /// When a listing has colours, by the word that stands first.

@@ -2,7 +2,7 @@
 
 ghost use Rattle.std.specs.Prelude.{◌≡◌, ◌⊎◌, ◌≤◌, ◌<◌, ◌++◌, ◌∷◌, [], ℕ, List, drop, length, take, IfErr, IfOk, IfSome, OnErr, OnOk, string_bytes};
 ghost use Rattle.pgp_trace.specs.Common.{Appends, IsAtEnd, Keeps, Caused, AppendsFront, Columns, Json};
-ghost use Rattle.pgp_program.specs.Interruptions.{GivesUp};
+ghost use Rattle.pgp_line.specs.Interruptions.{GivesUp};
 ghost use Rattle.pgp_trace.specs.Listing.{IsCutShort, ReadsWhenReady, WasListed, WritesListing, last_by, last_line, streams};
 ghost use Rattle.pgp_trace.specs.Steps.{Holds, ListsAll, ListsPiece, ListsSome, side_of, view_of};
 
@@ -14,10 +14,10 @@ use crate::side::Side;
 use crate::view::{View, add_shown};
 use bytes::{Buf, BytesMut};
 use pgp_base::Memory;
+use pgp_line::fault::Fault;
+use pgp_line::ports::Output;
+use pgp_line::print::{flush, put};
 use pgp_line::style::{Form, Style};
-use pgp_program::fault::Fault;
-use pgp_program::ports::Output;
-use pgp_program::print::{flush, put};
 use std::alloc::AllocError;
 use std::io::ErrorKind;
 

@@ -32,6 +32,10 @@ const YELLOW: &str = "\x1b[33m";
 const UNCOLORED: &str = "\x1b[0m\n";
 
 /// Adds a line with this name to the lines, if it is asked for, in its colour.
+///
+/// # Errors
+///
+/// Returns `AllocError` if there is no memory for it.
 pub fn add_shown<A: Memory>(
     view: View<'_>,
     name: &str,

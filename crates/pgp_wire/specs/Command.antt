@@ -5,13 +5,13 @@ use Rattle.hex.specs.Hex.{decode_sized}
 use Rattle.pgp_auth.specs.Lexer.{Literal, Identifier, IsPlain, backslash}
 use Rattle.pgp_auth.specs.Verifier.{verifier, verifier_text}
 use Rattle.pgp_base.specs.Held.{Held}
-use Rattle.pgp_program.specs.declared.fault.Fault.{Fault}
-use Rattle.pgp_program.specs.declared.fault.Fault.TheVariants.{Memory, Read, Write}
+use Rattle.pgp_line.specs.declared.fault.Fault.{Fault}
+use Rattle.pgp_line.specs.declared.fault.Fault.TheVariants.{Memory, Read, Write}
 use Rattle.pgp_wire.specs.Output.{line, BackendOutput}
 use Rattle.pgp_wire.specs.ClientOutput.{ClientOutput}
-use Rattle.pgp_program.specs.Taken.{AppendsFront}
-use Rattle.pgp_program.specs.Run.{Streams, Caused, IsUnread}
-use Rattle.pgp_program.specs.Run as run
+use Rattle.pgp_line.specs.Taken.{AppendsFront}
+use Rattle.pgp_line.specs.Run.{Streams, Caused, IsUnread}
+use Rattle.pgp_line.specs.Run as run
 
 pub data Command : Type 0 where
   Client : Command

@@ -4,18 +4,18 @@ ghost use Rattle.std.specs.Prelude.{◌≡◌, ◌≢◌, ◌<◌, ◌++◌, len
 ghost use Rattle.std.specs.Io.KnownBytes.{IsAtEnd, Keeps};
 ghost use Rattle.std.specs.List.{flat_map};
 ghost use Rattle.pgp_message.specs.Views.{seen};
-ghost use Rattle.pgp_program.specs.Interruptions.{GivesUp};
+ghost use Rattle.pgp_line.specs.Interruptions.{GivesUp};
 ghost use Rattle.pgp_wire.specs.Output.{line, line_of, last_line, BackendOutput};
 ghost use Rattle.pgp_wire.specs.Listing.{ListsPiece};
-ghost use Rattle.pgp_program.specs.Run.{Caused};
+ghost use Rattle.pgp_line.specs.Run.{Caused};
 ghost use Rattle.pgp_wire.specs.Command.{Backend, IsCut, IsWritten};
 
 use crate::ports::Input;
 use crate::rest::read_rest;
 use pgp_base::Memory;
-use pgp_program::fault::Fault;
-use pgp_program::ports::Output;
-use pgp_program::print::put;
+use pgp_line::fault::Fault;
+use pgp_line::ports::Output;
+use pgp_line::print::put;
 use postgres_protocol::Error;
 use postgres_protocol::message::backend::{Message, Storage};
 use postgres_protocol::session::StreamParser;

@@ -3,7 +3,7 @@
 ghost use Rattle.std.specs.Prelude.{◌≡◌};
 ghost use Rattle.pgp_wire.specs.Command.{complaint_of};
 
-use pgp_program::fault::Fault;
+use pgp_line::fault::Fault;
 
 /// The line that reports it.
 pub fn complaint(fault: Fault) -> &'static str

@@ -2,15 +2,15 @@
 
 ghost use Rattle.std.specs.Prelude.{◌≡◌, ◌≢◌, IfErr, IfOk, OnErr, OnOk, string_bytes};
 ghost use Rattle.std.specs.Io.KnownBytes.{Appends, Keeps};
-ghost use Rattle.pgp_program.specs.Interruptions.{GivesUp};
-ghost use Rattle.pgp_program.specs.Taken.{AppendsFront};
-ghost use Rattle.pgp_program.specs.Run.{Caused};
+ghost use Rattle.pgp_line.specs.Interruptions.{GivesUp};
+ghost use Rattle.pgp_line.specs.Taken.{AppendsFront};
+ghost use Rattle.pgp_line.specs.Run.{Caused};
 ghost use Rattle.pgp_wire.specs.Output.{line};
 
 use pgp_base::Memory;
-use pgp_program::fault::Fault;
-use pgp_program::ports::Output;
-use pgp_program::print::put;
+use pgp_line::fault::Fault;
+use pgp_line::ports::Output;
+use pgp_line::print::put;
 
 /// Writes the text and a newline.
 pub fn print<A: Memory, W: Output>(mut text: String<A>, output: &mut W) -> Result<u8, Fault>

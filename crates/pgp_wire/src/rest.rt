@@ -2,11 +2,11 @@
 
 ghost use Rattle.std.specs.Prelude.{◌≡◌, IfErr, IfOk, IfSome, OnOk};
 ghost use Rattle.std.specs.Io.KnownBytes.{Consumes, IsAtEnd};
-ghost use Rattle.pgp_program.specs.Run.{Caused};
+ghost use Rattle.pgp_line.specs.Run.{Caused};
 
 use crate::ports::Input;
 use pgp_base::Memory;
-use pgp_program::fault::Fault;
+use pgp_line::fault::Fault;
 use std::io::ErrorKind;
 
 /// Reads all that is left.

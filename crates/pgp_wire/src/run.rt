@@ -2,10 +2,10 @@
 
 ghost use Rattle.std.specs.Prelude.{◌≡◌, [], map, IfSome, IfNone, IfOk, IfErr};
 ghost use Rattle.std.specs.Io.KnownBytes.{Keeps};
-ghost use Rattle.pgp_program.specs.Interruptions.{GivesUp};
+ghost use Rattle.pgp_line.specs.Interruptions.{GivesUp};
 ghost use Rattle.pgp_wire.specs.Command.{Asks, IsOther, usage, complaint_of, Obeys, Succeeds, Stops, Runs, ObeysOwn, RunsOwn};
 ghost use Rattle.pgp_wire.specs.Asked.{asked};
-ghost use Rattle.pgp_program.specs.Words.{LacksWords};
+ghost use Rattle.pgp_line.specs.Words.{LacksWords};
 
 use crate::backend::backend;
 use crate::client::client;
@@ -14,10 +14,10 @@ use crate::ports::Input;
 use crate::text;
 use hex::FromHex;
 use pgp_base::Memory;
-use pgp_program::fault::Fault;
-use pgp_program::outcome::{Outcome, tell};
-use pgp_program::ports::{Output, Words};
-use pgp_program::words::{lent, texts};
+use pgp_line::fault::Fault;
+use pgp_line::outcome::{Outcome, tell};
+use pgp_line::ports::{Output, Words};
+use pgp_line::words::{lent, texts};
 
 const USAGE: &str =
     "usage: pgwire client | backend | verifier PASSWORD SALTHEX | escape literal|identifier TEXT\n";

@@ -4,16 +4,16 @@ ghost use Rattle.std.specs.Prelude.{◌≡◌, ◌≢◌, ℕ, List, IfOk, IfErr
 ghost use Rattle.std.specs.Io.KnownBytes.{Appends, Keeps};
 ghost use Rattle.pgp_auth.specs.Lexer.{Identifier};
 ghost use Rattle.pgp_auth.specs.Verifier.{verifier, verifier_text};
-ghost use Rattle.pgp_program.specs.Interruptions.{GivesUp};
+ghost use Rattle.pgp_line.specs.Interruptions.{GivesUp};
 ghost use Rattle.pgp_wire.specs.Output.{line};
-ghost use Rattle.pgp_program.specs.Run.{Caused};
+ghost use Rattle.pgp_line.specs.Run.{Caused};
 ghost use Rattle.pgp_wire.specs.Command.{IsEscapedLiteral};
-ghost use Rattle.pgp_program.specs.Taken.{AppendsFront};
+ghost use Rattle.pgp_line.specs.Taken.{AppendsFront};
 
 use crate::print::print;
 use pgp_base::Memory;
-use pgp_program::fault::Fault;
-use pgp_program::ports::Output;
+use pgp_line::fault::Fault;
+use pgp_line::ports::Output;
 use postgres_protocol::authentication::sasl::NoPrep;
 use postgres_protocol::{escape, password};
 

@@ -1,6 +1,6 @@
 use Rattle.pgp_wire.proofs.Common.{rules, subst, ℕ, List, string_bytes}
 use Rattle.pgp_base.proofs.Parts.{if_err_at}
-use Rattle.pgp_program.specs.Taken.{AppendsFront}
+use Rattle.pgp_line.specs.Taken.{AppendsFront}
 use Rattle.pgp_wire.proofs.client.client.Goals as goal
 
 pub returns-in_err-put-clause-cut : goal.returns-in_err-put-clause-cut

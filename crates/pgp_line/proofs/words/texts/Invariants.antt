@@ -1,5 +1,5 @@
-use Rattle.pgp_program.proofs.Common.{◌≡◌, map, string_bytes, ◌+◌, length, TextsFrom}
-use Rattle.pgp_program.proofs.words.texts.Given as goal
+use Rattle.pgp_line.proofs.Common.{◌≡◌, map, string_bytes, ◌+◌, length, TextsFrom}
+use Rattle.pgp_line.proofs.words.texts.Given as goal
 
 abbrev pub invariant-places : goal.invariant-places
 invariant-places g l = TextsFrom (g.V.Words.Stands l.env) 1 (map string_bytes l.texts.items)

@@ -1,7 +1,7 @@
 -- What the writer took is gone from the rest.
-use Rattle.pgp_program.proofs.Common.{◌≡◌, ℕ, ◌-◌, List, ◌++◌, length, take, drop, sym, ap, ◌∙◌, append_assoc, take-append-drop, take_rest}
+use Rattle.pgp_line.proofs.Common.{◌≡◌, ℕ, ◌-◌, List, ◌++◌, length, take, drop, sym, ap, ◌∙◌, append_assoc, take-append-drop, take_rest}
 use Rattle.std.proofs.KnownBytes.{Appends-trans}
-use Rattle.pgp_program.proofs.print.write.Goals as goal
+use Rattle.pgp_line.proofs.print.write.Goals as goal
 
 moves_front : (all done rest : List ℕ) (n : ℕ) → all ≡ done ++ rest → all ≡ (done ++ take n rest) ++ take (length rest - n) (drop n rest)
 moves_front all done rest n e =

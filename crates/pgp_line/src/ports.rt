@@ -3,7 +3,7 @@
 ghost use Rattle.std.specs.Prelude.{◌≡◌, ◌<◌, ℕ, List, length, take, IfErr, IfOk, OnOk};
 ghost use Rattle.std.specs.Io.{WritesAtMost};
 ghost use Rattle.std.specs.Io.KnownBytes.{Keeps, WriteAppends};
-ghost use Rattle.pgp_program.specs.Interruptions.{Refuses};
+ghost use Rattle.pgp_line.specs.Interruptions.{Refuses};
 
 use std::env::FillError;
 use std::io::{self, Write};

@@ -1,5 +1,5 @@
 -- One word more, after those that stand.
-use Rattle.pgp_program.proofs.Common.{◌≡◌, ℕ, suc, ◌+◌, List, [], ◌∷◌, ◌++◌, length, length-append, subst, sym, ap, ◌∙◌, arith, TextsFrom}
+use Rattle.pgp_line.proofs.Common.{◌≡◌, ℕ, suc, ◌+◌, List, [], ◌∷◌, ◌++◌, length, length-append, subst, sym, ap, ◌∙◌, arith, TextsFrom}
 use Rattle.std.specs.Str.{IsUtf8}
 
 module _ (Stands : ℕ → List ℕ → Type 0) where

@@ -1,8 +1,8 @@
 //! How a run ends.
 
 ghost use Rattle.std.specs.Prelude.{◌≡◌, []};
-ghost use Rattle.pgp_program.specs.Interruptions.{GivesUp};
-ghost use Rattle.pgp_program.specs.Run.{IsSaid};
+ghost use Rattle.pgp_line.specs.Interruptions.{GivesUp};
+ghost use Rattle.pgp_line.specs.Run.{IsSaid};
 
 use crate::ports::Output;
 use crate::print::put;

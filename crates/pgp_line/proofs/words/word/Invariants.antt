@@ -1,6 +1,6 @@
 use Rattle.std.specs.Prelude.{◌<◌, ◌-◌}
-use Rattle.pgp_program.proofs.Common.{greatest}
-use Rattle.pgp_program.proofs.words.word.Given as goal
+use Rattle.pgp_line.proofs.Common.{greatest}
+use Rattle.pgp_line.proofs.words.word.Given as goal
 
 abbrev pub invariant-sizes : goal.invariant-sizes
 invariant-sizes g l = 0 < l.size

@@ -3,7 +3,7 @@ use Rattle.std.specs.Prelude.{◌≡◌, ◌≢◌, ◌⊎◌, ℕ, ◌+◌}
 use Rattle.std.specs.IoError.{error_kind}
 use Rattle.std.specs.declared.io.Error.{Error}
 use Rattle.std.specs.declared.io.ErrorKind.TheVariants.{Interrupted}
-use Rattle.pgp_program.specs.Words.{greatest}
+use Rattle.pgp_line.specs.Words.{greatest}
 
 -- A call that is rejected so was interrupted, one call in a row more than before it; or it failed.
 pub record Refuses {S : Type 0} (fails : Type 0) (interrupted : S → ℕ → Type 0) (old new : S) (e : Error) : Type 0 where

@@ -1,7 +1,7 @@
 //! The words that the process was started with.
 
 ghost use Rattle.std.specs.Prelude.{◌≡◌, map, IfNone, IfOk, IfSome, OnErr, string_bytes};
-ghost use Rattle.pgp_program.specs.Words.{AreWords, HasOther, LacksWord, LacksWords};
+ghost use Rattle.pgp_line.specs.Words.{AreWords, HasOther, LacksWord, LacksWords};
 
 use crate::ports::Words;
 use pgp_base::Memory;

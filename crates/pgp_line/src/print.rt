@@ -2,8 +2,8 @@
 
 ghost use Rattle.std.specs.Prelude.{◌≡◌, ◌<◌, ◌≤◌, length, take, IfErr, IfOk, OnErr, OnOk};
 ghost use Rattle.std.specs.Io.KnownBytes.{Appends, Keeps};
-ghost use Rattle.pgp_program.specs.Interruptions.{GivesUp};
-ghost use Rattle.pgp_program.specs.Taken.{AppendsFront};
+ghost use Rattle.pgp_line.specs.Interruptions.{GivesUp};
+ghost use Rattle.pgp_line.specs.Taken.{AppendsFront};
 
 use crate::fault::Fault;
 use crate::ports::Output;

@@ -1,7 +1,7 @@
-use Rattle.pgp_program.proofs.Common.{rules, map, string_bytes, [], ◌∷◌, sym, ap, subst, ◌∙◌, map-append}
+use Rattle.pgp_line.proofs.Common.{rules, map, string_bytes, [], ◌∷◌, sym, ap, subst, ◌∙◌, map-append}
 use Rattle.std.proofs.lemmas.Str.{IsUtf8-string_bytes}
-use Rattle.pgp_program.proofs.WordLemmas.{one_more}
-use Rattle.pgp_program.proofs.words.texts.Goals as goal
+use Rattle.pgp_line.proofs.WordLemmas.{one_more}
+use Rattle.pgp_line.proofs.words.texts.Goals as goal
 
 pub places-preserved : goal.places-preserved
 places-preserved g c =

@@ -1,10 +1,10 @@
 -- A run of a program: what is done for its words, and what is said on standard error.
 use Rattle.std.specs.Prelude.{◌≡◌, ◌⊎◌, ℕ, List, Option}
 use Rattle.std.specs.Io.KnownBytes.{Appends, Keeps}
-use Rattle.pgp_program.specs.Taken.{AppendsFront}
-use Rattle.pgp_program.specs.Words.{AreWords, HasOther, LacksWords}
-use Rattle.pgp_program.specs.declared.fault.Fault.{Fault}
-use Rattle.pgp_program.specs.declared.fault.Fault.TheVariants.{Memory, Read, Write}
+use Rattle.pgp_line.specs.Taken.{AppendsFront}
+use Rattle.pgp_line.specs.Words.{AreWords, HasOther, LacksWords}
+use Rattle.pgp_line.specs.declared.fault.Fault.{Fault}
+use Rattle.pgp_line.specs.declared.fault.Fault.TheVariants.{Memory, Read, Write}
 
 -- Before and after: what the reader has left, what the writer holds.
 pub record Streams : Type 0 where

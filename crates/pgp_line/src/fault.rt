@@ -13,7 +13,7 @@ pub enum Fault {
 }
 
 impl From<AllocError> for Fault {
-    ghost use Rattle.pgp_program.specs.declared.fault.Fault.TheVariants.{Memory};
+    ghost use Rattle.pgp_line.specs.declared.fault.Fault.TheVariants.{Memory};
 
     ghost from_gives = { λ _ e. e ≡ Memory };
 

@@ -1,2 +1,0 @@
-mod Common
-pub mod WordLemmas

@@ -1,4 +1,0 @@
-pub mod Words
-pub mod Interruptions
-pub mod Run
-pub mod Taken
