@@ -1,5 +1,5 @@
 -- By which way a client is logged in, and what it wrote for that.
-use Rattle.pgp_session.proofs.Common.{◌≡◌, ℕ, true, false, List, [], ◌∷◌, ◌++◌, Option, Some, None, refl, sym, ap, subst, ◌∙◌, inl, inr, option_to_list, AllByRecursion, cond-true, cond-false, append-nil, filter-append, md5_answer, Client, Answers, Completes, message_of, taken, Talk, Turn, ClientMessage, PasswordMessage, SaslInitialResponse, SaslResponse, each_push, Message, Authentication, AuthenticationOk, AuthenticationCleartextPassword, AuthenticationMd5Password, AuthenticationSasl, AuthenticationSaslContinue, AuthenticationSaslFinal, Asking, Cleartext, Md5, Sasl, First, Final, Welcome, Login, LogsOn, NothingAsked, ByCleartext, ByMd5, ScramBegins, ScramGoesOn, ScramEnds, Welcomed, Trusted, Ways, asking, Offers, ReceivedAmong, NoneWanted, OneReceived, OtherReceived, initial, offer, first_text, final_text, welcome, Admitted, ByNone, ByPassword, ByHash, BySignature, IsAllowed, Plays, Begins, Writes, Hears, asks_hash, asks_password, is_secret, secrets_of, LoginPhase, AwaitsOffer, AwaitsFirst, AwaitsFinal, AwaitsOk, Done, Over, Encrypts}
+use Rattle.pgp_session.proofs.Common.{◌≡◌, ℕ, true, false, List, [], ◌∷◌, ◌++◌, Option, Some, None, refl, sym, ap, subst, ◌∙◌, inl, inr, option_to_list, AllByRecursion, cond-true, cond-false, append-nil, filter-append, md5_answer, Client, Answers, Completes, message_of, taken, Talk, Turn, ClientMessage, PasswordMessage, SaslInitialResponse, SaslResponse, each_push, Message, Authentication, AuthenticationOk, AuthenticationCleartextPassword, AuthenticationMd5Password, AuthenticationSasl, AuthenticationSaslContinue, AuthenticationSaslFinal, Asking, Cleartext, Md5, Sasl, First, Final, Welcome, Login, LogsOn, NothingAsked, ByCleartext, ByMd5, ScramBegins, ScramGoesOn, ScramEnds, Welcomed, Trusted, Ways, asking, Offers, ReceivedAmong, NoneWanted, OneReceived, OtherReceived, initial, offer, first_text, final_text, welcome, Admitted, ByNone, ByPassword, ByHash, BySignature, IsAllowed, Plays, Begins, Writes, Hears, asks_hash, asks_password, is_secret, secrets_of, LoginPhase, AwaitsOffer, AwaitsFirst, AwaitsFinal, AwaitsOk, Done, Encrypts}
 
 IsAskedBy : Message → Asking → Type 0
 IsAskedBy m Cleartext = m ≡ asks_password

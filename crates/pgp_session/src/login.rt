@@ -9,7 +9,7 @@ ghost use Rattle.pgp_session.specs.Mechanisms.{initial};
 ghost use Rattle.pgp_session.specs.Login.{AnswersFirst, AsksCleartext, CountsFirst, AsksMd5, AsksSasl, Hears, Puts, RepliesFirst, Begins, VerifiesFinal, Welcomes, asking, given, is_due, seen, reported};
 
 use crate::connection_error::ConnectionError;
-use crate::mechanisms::{is_stripped, mechanism, offers};
+use crate::sasl::{is_stripped, mechanism, offers};
 use crate::session_storage::SessionStorage;
 use bytes::BytesMut;
 use pgp_auth::authentication::md5_hash;

@@ -1,7 +1,7 @@
 use Rattle.pgp_session.proofs.Common.{rules}
 use Rattle.pgp_base.proofs.Walks.{one_fewer}
 use Rattle.pgp_session.proofs.Mechanisms.{none_sought, one_sought, all_sought, refused_sought}
-use Rattle.pgp_session.proofs.mechanisms.has_name.Goals as goal
+use Rattle.pgp_session.proofs.sasl.has_name.Goals as goal
 
 pub names-init : goal.names-init
 names-init c = none_sought c.args.sought.now c.args.names

@@ -1,6 +1,6 @@
 use Rattle.pgp_session.proofs.Common.{length}
 use Rattle.pgp_session.proofs.Mechanisms.{HasSought}
-use Rattle.pgp_session.proofs.mechanisms.has_name.Given as goal
+use Rattle.pgp_session.proofs.sasl.has_name.Given as goal
 
 abbrev pub invariant-names : goal.invariant-names
 invariant-names l = HasSought l.fn.sought l.fn.names l.found l.names

@@ -1,5 +1,5 @@
 use Rattle.pgp_session.proofs.Common.{List, ℕ, None, Contains, sym, subst}
-use Rattle.pgp_session.proofs.mechanisms.lists.Goals as goal
+use Rattle.pgp_session.proofs.sasl.lists.Goals as goal
 
 pub returns-clause-no : goal.returns-clause-no
 returns-clause-no g c = λ e offered.
