@@ -6,7 +6,7 @@ use Rattle.std.proofs.lemmas.List.{append-nil}
 use Rattle.pgp_summary.proofs.Places.{turned}
 use Rattle.pgp_summary.specs.Calls.{AreApart, Call, Ask, Row, End, Fail, after, all_errors, all_micros, all_rows, called, found, run_by, run_in, run_of, runs_in, said_of, stands_in, times_of}
 use Rattle.pgp_summary.specs.declared.work.Work.{Work}
-use Rattle.pgp_summary.specs.declared.work.Work.TheVariants.{Query, Parse, Bind, Execute}
+use Rattle.pgp_summary.specs.declared.work.Work.TheVariants.{Query}
 
 -- ---- calls
 

@@ -1,4 +1,4 @@
-use Rattle.pgp_trace.proofs.Common.{◌+◌, rules, refl, map, arith, take_rest, chosen_of}
+use Rattle.pgp_trace.proofs.Common.{◌+◌, refl, map, arith, take_rest, chosen_of}
 use Rattle.pgp_trace.proofs.OptionLemmas.{place_more, received_all, received_none, received_wrong}
 use Rattle.pgp_trace.proofs.options.options_of.Goals as goal
 
