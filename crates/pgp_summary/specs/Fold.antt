@@ -3,7 +3,7 @@ use Rattle.std.specs.Prelude.{ℕ, ◌+◌, ◌-◌, Bool, true, false, not, ◌
 use Rattle.std.specs.List.{list_any, starts_with}
 use Rattle.pgp_summary.specs.Runs.{capped}
 use Rattle.pgp_summary.specs.declared.fold.Inside.{Inside}
-use Rattle.pgp_summary.specs.declared.fold.Inside.TheVariants.{Between, Word, Number, Text, Closed, Name, LineComment, BlockComment}
+use Rattle.pgp_summary.specs.declared.fold.Inside.TheVariants.{Between, Opened, Word, Number, Text, Closed, Name, LineComment, BlockComment}
 
 abbrev pub is_among : (low high byte : ℕ) → Bool
 is_among low high byte = nat_le low byte && nat_le byte high
@@ -44,6 +44,12 @@ is_e byte = byte == 69 || byte == 101
 abbrev pub is_mark : ℕ → Bool
 is_mark byte = list_any (λ mark. mark == byte) (codes "BbEeNnXx")
 
+abbrev pub is_blank : ℕ → Bool
+is_blank byte = byte == 32 || is_among 9 13 byte
+
+abbrev pub is_closing : ℕ → Bool
+is_closing byte = byte == 41 || byte == 93
+
 -- at a dollar, with which a text of so many bytes begins, or a word
 abbrev pub dollared : ℕ → Inside × ℕ
 dollared len = if nat_le 1 len then (Closed, len - 1) else (Word, 0)
@@ -59,7 +65,15 @@ begun byte next bytes =
     else if byte == 34 then (Name, 0)
     else if byte == 45 && next == 45 then (LineComment, 0)
     else if byte == 47 && next == 42 then (BlockComment 0, 1)
-    else (Between, 0)
+    else if is_blank byte || is_closing byte then (Between, 0)
+    else (Opened, 0)
+
+-- behind an operator, a comma or an opening bracket a sign is a number's
+abbrev pub opened : (byte next : ℕ) → List ℕ → Inside × ℕ
+opened byte next bytes =
+    if (byte == 43 || byte == 45) && is_digit next then (Number, 0)
+    else if is_blank byte then (Opened, 0)
+    else begun byte next bytes
 
 -- the sign of an exponent is a number's
 abbrev pub numbered : (byte next : ℕ) → List ℕ → Inside × ℕ
@@ -83,6 +97,7 @@ commented depth byte next =
 
 abbrev pub read : Inside → (byte next : ℕ) → List ℕ → Inside × ℕ
 read Between byte next bytes = begun byte next bytes
+read Opened byte next bytes = opened byte next bytes
 read Closed byte next bytes = begun byte next bytes
 read Word byte next bytes = if goes_on byte then (Word, 0) else begun byte next bytes
 read Number byte next bytes = numbered byte next bytes

@@ -1,7 +1,7 @@
 //! Statements without their literals.
 
 ghost use Rattle.std.specs.Prelude.{◌≡◌, ◌++◌, drop, get_or, option_map, IfOk, OnErr, OnOk};
-ghost use Rattle.pgp_summary.specs.Fold.{begun, behind_next, behind_tag, commented, dollared, folded, goes_on, is_among, is_e, is_literal, is_mark, numbered, quoted, read, shown, step, texted};
+ghost use Rattle.pgp_summary.specs.Fold.{begun, behind_next, behind_tag, commented, dollared, folded, goes_on, is_among, is_blank, is_closing, is_e, is_literal, is_mark, numbered, opened, quoted, read, shown, step, texted};
 
 use crate::entry::plus;
 use pgp_base::Memory;
@@ -10,8 +10,10 @@ use std::alloc::AllocError;
 /// In what a byte of a statement stands.
 #[derive(Clone, Copy)]
 pub(crate) enum Inside {
-    /// A blank or a sign, behind which anything may begin.
+    /// Blanks and closing brackets, behind which anything may begin.
     Between,
+    /// An operator, a comma or an opening bracket, and blanks behind it: a sign is a number's here.
+    Opened,
     /// A name, a key word or a parameter.
     Word,
     Number,
@@ -99,6 +101,7 @@ fn read(inside: Inside, byte: u8, next: u8, bytes: &[u8]) -> (Inside, usize)
     match inside {
         Inside::Word if goes_on(byte) => (Inside::Word, 0),
         Inside::Between | Inside::Closed | Inside::Word => begun(byte, next, bytes),
+        Inside::Opened => opened(byte, next, bytes),
         Inside::Number => numbered(byte, next, bytes),
         Inside::Text(escapes) => texted(escapes, byte, next),
         Inside::Name if byte != b'"' => (Inside::Name, 0),
@@ -128,9 +131,36 @@ fn begun(byte: u8, next: u8, bytes: &[u8]) -> (Inside, usize)
         (Inside::LineComment, 0)
     } else if byte == b'/' && next == b'*' {
         (Inside::BlockComment(0), 1)
-    } else {
+    } else if is_blank(byte) || is_closing(byte) {
         (Inside::Between, 0)
+    } else {
+        (Inside::Opened, 0)
     }
+}
+
+/// Behind an operator, a comma or an opening bracket.
+fn opened(byte: u8, next: u8, bytes: &[u8]) -> (Inside, usize)
+    ensures { result ≡ opened byte next bytes.now }
+{
+    if (byte == b'+' || byte == b'-') && is_digit(next) {
+        (Inside::Number, 0)
+    } else if is_blank(byte) {
+        (Inside::Opened, 0)
+    } else {
+        begun(byte, next, bytes)
+    }
+}
+
+fn is_blank(byte: u8) -> bool
+    ensures { result ≡ is_blank byte }
+{
+    byte == b' ' || is_among(b'\t', 13, byte)
+}
+
+fn is_closing(byte: u8) -> bool
+    ensures { result ≡ is_closing byte }
+{
+    byte == b')' || byte == b']'
 }
 
 /// At a dollar, with which a text of so many bytes begins, or a word.
