@@ -1,18 +1,30 @@
 -- A value of each format has one text.
-use Rattle.pgp_value_text.proofs.Common.{◌≡◌, ℕ, ℤ, false, List, Option, Some, None, Ok, Err, refl, sym, ap, ◌∙◌, subst, IfOk, IsErr, false≢true, decimal, signed_decimal, hyphenated_text, lower, bool, bytea, char, int2, int4, int8, oid, lsn, time, fixed_sound, int8_spelling, int16_spelling, int32_spelling, int64_spelling, uint32_spelling, uint64_spelling, numeric_text, date_value, timestamp_value, xid8, interval, timetz, Moment, PosInfinity, NegInfinity, Value, interval_sound, timetz_sound, date_value_sound, timestamp_value_sound, span_text, ShowsDay, ShowsInstant, ShowsMoment, ShowsTime, bool_text, char_text, hex_text, lsn_text, zone_of, As, is_float, IsShown, IsShownIn, ShowsNumeric, ShowsTimeTz}
+use Rattle.pgp_value_text.proofs.Common.{◌≡◌, ℕ, ℤ, true, false, List, Option, Some, None, Ok, Err, refl, sym, ap, ◌∙◌, subst, IfOk, IsErr, false≢true, decimal, signed_decimal, hyphenated_text, lower, bool, bytea, char, int2, int4, int8, oid, lsn, time, fixed_sound, int8_spelling, int16_spelling, int32_spelling, int64_spelling, uint32_spelling, uint64_spelling, numeric_text, date_value, timestamp_value, xid8, interval, timetz, Moment, PosInfinity, NegInfinity, Value, interval_sound, timetz_sound, date_value_sound, timestamp_value_sound, span_text, ShowsDay, ShowsInstant, ShowsMoment, ShowsTime, bool_text, char_text, hex_text, lsn_text, zone_of, As, is_float, IsShown, IsShownIn, ShowsNumeric, ShowsTimeTz}
 use Rattle.pgp_value_text.proofs.Uniqueness.{one_date, one_instant, one_time}
 use Rattle.std.specs.Int.{w8, cast_unsigned}
-use Rattle.pgp_types.specs.Network.{uuid}
+use Rattle.pgp_types.specs.Format.{IsSound}
+use Rattle.pgp_types.specs.Network.{inet, macaddr, uuid}
+use Rattle.pgp_types.specs.Varbit.{varbit}
+use Rattle.pgp_types.proofs.InetLemmas.{inet_sound}
+use Rattle.pgp_types.proofs.VarbitLemmas.{varbit_sound}
+use Rattle.pgp_values.proofs.Fixed.{tid_sound}
+use Rattle.pgp_values.specs.Network.{macaddr8}
+use Rattle.pgp_values.specs.System.{tid}
+use Rattle.pgp_value_text.specs.Bits.{bits_text, tid_text}
+use Rattle.pgp_value_text.specs.Network.{has_netmask, network_text, octets_text}
 use Rattle.pgp_types.specs.Text.{text}
 use Rattle.pgp_types.proofs.Readings.{all_sound, bool_sound, label_sound, text_sound, whole_sound}
 use Rattle.pgp_values.specs.declared.formats.BinaryFormat.{BinaryFormat}
-use Rattle.pgp_values.specs.declared.formats.BinaryFormat.TheVariants.{Bool as BoolFormat, Bytea as BytesFormat, Char as CharFormat, Date, Float4, Float8, Int2, Int4, Int8, Interval, Jsonb, Jsonpath, Lsn, Numeric, Oid, Text as TextFormat, Time, Timestamp, Timetz, Uuid, Xid8}
+use Rattle.pgp_values.specs.declared.formats.BinaryFormat.TheVariants.{Bool as BoolFormat, Bytea as BytesFormat, Char as CharFormat, Cidr, Date, Float4, Float8, Inet, Int2, Int4, Int8, Interval, Jsonb, Jsonpath, Lsn, Macaddr, Macaddr8, Numeric, Oid, Text as TextFormat, Tid, Time, Timestamp, Timetz, Uuid, Varbit, Xid8}
 use Rattle.pgp_values.specs.Decimal.{NumericReads}
 use Rattle.pgp_values.specs.Text.{jsonb, jsonpath}
 use Rattle.pgp_values.specs.declared.error.NumericError.{NumericError}
 use Rattle.pgp_values.proofs.DecimalLemmas.{one_numeric}
 use Rattle.pgp_value_text.proofs.Texts.{one_as, one_shown}
 use Rattle.pgp_value_text.proofs.Zones.{one_zoned}
+
+pub macaddr8_sound : IsSound macaddr8
+macaddr8_sound = fixed_sound (record { sized = λ v has. has.1; has = λ bytes small l. (small, l); spelled = λ bytes small l. refl; again = λ v has. refl })
 
 one_moment : (shows : ℤ → List ℕ → Type 0) → ((n : ℤ) (a b : List ℕ) → shows n a → shows n b → a ≡ b) → (v : Moment ℤ) (a b : List ℕ) → ShowsMoment shows v a → ShowsMoment shows v b → a ≡ b
 one_moment shows h PosInfinity a b s t = s ∙ sym t
@@ -32,9 +44,11 @@ pub one_formatted : (f : BinaryFormat) (type_oid : ℕ) → is_float (Some f) �
 one_formatted BoolFormat n h = one_shown bool bool_sound (As bool_text) (one_as bool_text)
 one_formatted BytesFormat n h = λ bytes a b s t. one_shown bytea all_sound (As hex_text) (one_as hex_text) bytes a b s.1 t.1
 one_formatted CharFormat n h = one_shown char (fixed_sound int8_spelling) (As (λ z. char_text (cast_unsigned w8 z))) (one_as (λ z. char_text (cast_unsigned w8 z)))
+one_formatted Cidr n h = one_shown inet inet_sound (As (network_text true)) (one_as (network_text true))
 one_formatted Date n h = one_shown date_value date_value_sound (ShowsMoment ShowsDay) (one_moment ShowsDay one_date)
 one_formatted Float4 n h = absurd (false≢true (sym h))
 one_formatted Float8 n h = absurd (false≢true (sym h))
+one_formatted Inet n h = one_shown inet inet_sound (As (λ v. network_text (has_netmask v) v)) (one_as (λ v. network_text (has_netmask v) v))
 one_formatted Int2 n h = one_shown int2 (fixed_sound int16_spelling) (As signed_decimal) (one_as signed_decimal)
 one_formatted Int4 n h = one_shown int4 (fixed_sound int32_spelling) (As signed_decimal) (one_as signed_decimal)
 one_formatted Int8 n h = one_shown int8 (fixed_sound int64_spelling) (As signed_decimal) (one_as signed_decimal)
@@ -42,13 +56,17 @@ one_formatted Interval n h = one_shown interval interval_sound (As span_text) (o
 one_formatted Jsonb n h = one_shown jsonb (label_sound 1) (As (λ text. text)) (one_as (λ text. text))
 one_formatted Jsonpath n h = one_shown jsonpath (label_sound 1) (As (λ text. text)) (one_as (λ text. text))
 one_formatted Lsn n h = one_shown lsn (fixed_sound uint64_spelling) (As lsn_text) (one_as lsn_text)
+one_formatted Macaddr n h = one_shown macaddr (whole_sound 6) (As octets_text) (one_as octets_text)
+one_formatted Macaddr8 n h = one_shown macaddr8 macaddr8_sound (As octets_text) (one_as octets_text)
 one_formatted Numeric n h = one_number
 one_formatted Oid n h = λ bytes a b s t. one_shown oid (fixed_sound uint32_spelling) (As decimal) (one_as decimal) bytes a b s.1 t.1
 one_formatted TextFormat n h = one_shown text text_sound (As (λ text. text)) (one_as (λ text. text))
+one_formatted Tid n h = one_shown tid tid_sound (As tid_text) (one_as tid_text)
 one_formatted Time n h = one_shown time (fixed_sound int64_spelling) ShowsTime one_time
 one_formatted Timestamp n h = one_shown timestamp_value timestamp_value_sound (ShowsMoment (ShowsInstant (zone_of n))) (one_moment (ShowsInstant (zone_of n)) (one_instant (zone_of n)))
 one_formatted Timetz n h = one_shown timetz timetz_sound ShowsTimeTz one_zoned
 one_formatted Uuid n h = one_shown uuid (whole_sound 16) (As (hyphenated_text lower)) (one_as (hyphenated_text lower))
+one_formatted Varbit n h = one_shown varbit varbit_sound (As bits_text) (one_as bits_text)
 one_formatted Xid8 n h = one_shown xid8 (fixed_sound uint64_spelling) (As decimal) (one_as decimal)
 one_formatted _ n h = λ bytes a b s t. absurd s
 

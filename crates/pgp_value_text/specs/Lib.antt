@@ -1,5 +1,7 @@
+pub mod Bits
 pub mod Calendar
 pub mod Float
+pub mod Network
 pub mod Numbers
 pub mod Span
 pub mod Told

@@ -1,7 +1,7 @@
 -- The text of a value whose bytes in binary format are given, by the number (OID) of its type: as a server shows it in UTF-8 with the settings
 -- `DateStyle` `ISO`, `IntervalStyle` `iso_8601` and `TimeZone` `UTC`. Of a floating-point number: a text that reads back as the same.
 -- PostgreSQL manual, "Data Types": "Numeric Types", "Character Types", "Binary Data Types", "Date/Time Types", "Boolean Type", "UUID Type", "JSON Types",
--- "Object Identifier Types", "pg_lsn Type".
+-- "Object Identifier Types", "pg_lsn Type", "Network Address Types", "Bit String Types".
 use Rattle.std.specs.Prelude.{◌≡◌, ℕ, from_bits, ◌+◌, ◌/◌, ◌%◌, ◌^◌, nat_eq, nat_lt, ◌==◌, ◌||◌, if◌then◌else◌, Bool, true, false, IsTrue, List, [], ◌∷◌, ◌++◌, codes, Option, Some, None, Result, Ok, Err}
 use Rattle.std.specs.Int.{w8, cast_unsigned}
 use Rattle.std.specs.Float.{binary32, binary64}
@@ -9,20 +9,24 @@ use Rattle.std.specs.Fmt.{decimal, digits, signed_decimal}
 use Rattle.hex.specs.Hex.{encode_lower}
 use Rattle.uuid.specs.Text.{hyphenated_text, lower}
 use Rattle.pgp_types.specs.Format.{Plain}
-use Rattle.pgp_types.specs.Network.{uuid}
+use Rattle.pgp_types.specs.Network.{inet, macaddr, uuid}
 use Rattle.pgp_types.specs.Scalar.{bool, bytea, char, int2, int4, int8, oid, lsn, float4, float8}
 use Rattle.pgp_types.specs.Text.{text}
 use Rattle.pgp_types.specs.Time.{time}
+use Rattle.pgp_types.specs.Varbit.{varbit}
 use Rattle.pgp_values.specs.declared.formats.BinaryFormat.{BinaryFormat}
-use Rattle.pgp_values.specs.declared.formats.BinaryFormat.TheVariants.{Bool as BoolFormat, Bytea as BytesFormat, Char as CharFormat, Date, Float4, Float8, Int2, Int4, Int8, Interval, Jsonb, Jsonpath, Lsn, Numeric, Oid, Text as TextFormat, Time, Timestamp, Timetz, Uuid, Xid8}
+use Rattle.pgp_values.specs.declared.formats.BinaryFormat.TheVariants.{Bool as BoolFormat, Bytea as BytesFormat, Char as CharFormat, Cidr, Date, Float4, Float8, Inet, Int2, Int4, Int8, Interval, Jsonb, Jsonpath, Lsn, Macaddr, Macaddr8, Numeric, Oid, Text as TextFormat, Tid, Time, Timestamp, Timetz, Uuid, Varbit, Xid8}
 use Rattle.pgp_values.specs.Decimal.{NumericReads}
 use Rattle.pgp_values.specs.DecimalText.{numeric_text}
 use Rattle.pgp_values.specs.Formats.{formats}
 use Rattle.pgp_values.specs.FormatTable.{format_in}
 use Rattle.pgp_values.specs.Moment.{date_value, timestamp_value}
-use Rattle.pgp_values.specs.System.{xid8}
+use Rattle.pgp_values.specs.Network.{cidr, macaddr8}
+use Rattle.pgp_values.specs.System.{tid, xid8}
 use Rattle.pgp_values.specs.Text.{jsonb, jsonpath}
 use Rattle.pgp_values.specs.Time.{interval, timetz}
+use Rattle.pgp_value_text.specs.Bits.{bits_text, tid_text}
+use Rattle.pgp_value_text.specs.Network.{has_netmask, network_text, octets_text}
 use Rattle.pgp_value_text.specs.Span.{span_text}
 use Rattle.pgp_value_text.specs.Calendar.{ShowsDay, ShowsInstant, ShowsMoment, ShowsTime}
 use Rattle.pgp_value_text.specs.Float.{ShowsDouble, ShowsSingle}
@@ -69,9 +73,11 @@ abbrev pub IsShown : BinaryFormat → ℕ → List ℕ → List ℕ → Type 0
 IsShown BoolFormat type_oid = Shows bool (As bool_text)
 IsShown BytesFormat type_oid = λ bytes text. (type_oid ≡ 17) × Shows bytea (As hex_text) bytes text
 IsShown CharFormat type_oid = Shows char (As (λ z. char_text (cast_unsigned w8 z)))
+IsShown Cidr type_oid = Shows cidr (As (network_text true))
 IsShown Date type_oid = Shows date_value (ShowsMoment ShowsDay)
 IsShown Float4 type_oid = Shows float4 (λ bits. ShowsSingle (from_bits binary32 bits))
 IsShown Float8 type_oid = Shows float8 (λ bits. ShowsDouble (from_bits binary64 bits))
+IsShown Inet type_oid = Shows inet (As (λ v. network_text (has_netmask v) v))
 IsShown Int2 type_oid = Shows int2 (As signed_decimal)
 IsShown Int4 type_oid = Shows int4 (As signed_decimal)
 IsShown Int8 type_oid = Shows int8 (As signed_decimal)
@@ -79,13 +85,17 @@ IsShown Interval type_oid = Shows interval (As span_text)
 IsShown Jsonb type_oid = Shows jsonb (As (λ document. document))
 IsShown Jsonpath type_oid = Shows jsonpath (As (λ path. path))
 IsShown Lsn type_oid = Shows lsn (As lsn_text)
+IsShown Macaddr type_oid = Shows macaddr (As octets_text)
+IsShown Macaddr8 type_oid = Shows macaddr8 (As octets_text)
 IsShown Numeric type_oid = ShowsNumeric
 IsShown Oid type_oid = λ bytes text. IsTrue (is_numbered type_oid) × Shows oid (As decimal) bytes text
 IsShown TextFormat type_oid = Shows text (As (λ shown. shown))
+IsShown Tid type_oid = Shows tid (As tid_text)
 IsShown Time type_oid = Shows time ShowsTime
 IsShown Timestamp type_oid = Shows timestamp_value (ShowsMoment (ShowsInstant (zone_of type_oid)))
 IsShown Timetz type_oid = Shows timetz ShowsTimeTz
 IsShown Uuid type_oid = Shows uuid (As (hyphenated_text lower))
+IsShown Varbit type_oid = Shows varbit (As bits_text)
 IsShown Xid8 type_oid = Shows xid8 (As decimal)
 IsShown _ type_oid = λ bytes text. ⊥
 

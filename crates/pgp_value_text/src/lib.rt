@@ -6,6 +6,7 @@
 //! no value of it.
 #![tactic(auto)]
 
+mod bits;
 mod calendar;
 mod civil;
 mod digits;
@@ -13,6 +14,7 @@ mod error;
 mod float;
 pub mod laws;
 mod moment;
+mod network;
 mod number;
 mod object;
 mod plain;

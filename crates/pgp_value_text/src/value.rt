@@ -2,8 +2,10 @@
 
 ghost use Rattle.pgp_value_text.specs.ValueText.{IsShown, IsShownIn, IsTextOf, Tells};
 
+use crate::bits::{put_tid, put_varbit};
 use crate::float::{put_float4, put_float8};
 use crate::moment::{put_date, put_interval, put_time, put_timestamp};
+use crate::network::{put_cidr, put_inet, put_macaddr, put_macaddr8};
 use crate::number::{put_bool, put_int2, put_int4, put_int8, put_numbered, put_numeric, put_xid8};
 use crate::object::{put_lsn, put_uuid};
 use crate::plain::{put_bytea, put_char, put_jsonb, put_jsonpath, put_text};
@@ -26,9 +28,11 @@ fn put_formatted<A: Memory>(
         BinaryFormat::Bool => put_bool(bytes, text),
         BinaryFormat::Bytea => put_bytea(type_oid, bytes, text),
         BinaryFormat::Char => put_char(bytes, text),
+        BinaryFormat::Cidr => put_cidr(bytes, text),
         BinaryFormat::Date => put_date(bytes, text),
         BinaryFormat::Float4 => put_float4(bytes, text),
         BinaryFormat::Float8 => put_float8(bytes, text),
+        BinaryFormat::Inet => put_inet(bytes, text),
         BinaryFormat::Int2 => put_int2(bytes, text),
         BinaryFormat::Int4 => put_int4(bytes, text),
         BinaryFormat::Int8 => put_int8(bytes, text),
@@ -36,13 +40,17 @@ fn put_formatted<A: Memory>(
         BinaryFormat::Jsonb => put_jsonb(bytes, text),
         BinaryFormat::Jsonpath => put_jsonpath(bytes, text),
         BinaryFormat::Lsn => put_lsn(bytes, text),
+        BinaryFormat::Macaddr => put_macaddr(bytes, text),
+        BinaryFormat::Macaddr8 => put_macaddr8(bytes, text),
         BinaryFormat::Numeric => put_numeric(bytes, text),
         BinaryFormat::Oid => put_numbered(type_oid, bytes, text),
         BinaryFormat::Text => put_text(bytes, text),
+        BinaryFormat::Tid => put_tid(bytes, text),
         BinaryFormat::Time => put_time(bytes, text),
         BinaryFormat::Timestamp => put_timestamp(type_oid, bytes, text),
         BinaryFormat::Timetz => put_timetz(bytes, text),
         BinaryFormat::Uuid => put_uuid(bytes, text),
+        BinaryFormat::Varbit => put_varbit(bytes, text),
         BinaryFormat::Xid8 => put_xid8(bytes, text),
         _ => Ok(false),
     }
@@ -73,10 +81,12 @@ fn put_in<A: Memory>(
 /// - `bytea` in hex, as `\x00ff`; `uuid` in lower case and groups; `jsonb` and `jsonpath` as the text after the version;
 /// - `"char"` as its character, if it is one of ASCII, and else as a backslash and three octal digits;
 /// - `date`, `time`, `timetz` (`10:20:30.5+05:30`), `timestamp`, `timestamptz` (`2026-11-27 10:20:30.5+00`) and `interval` (`P1Y2M3DT4H5M6.5S`);
+/// - `inet` with `/` and the bits of the network where these are fewer than the address has, `cidr` always; `macaddr` and `macaddr8` as `08:00:2b:01:02:03`;
+/// - `bit` and `varbit` as their bits; `tid` as `(block,row)`;
 /// - `float4` and `float8` as a text that reads back as the same number, though not always in a server's digits and layout (`1.0` for `1`), or as
 ///   `NaN`, `Infinity` or `-Infinity`.
 ///
-/// A day outside the years from -9999 to 9999 has none, nor has a time in a zone of 16 hours or more, nor have `money`, bits, shapes, addresses, arrays, ranges, records,
+/// A day outside the years from -9999 to 9999 has none, nor has a time in a zone of 16 hours or more, nor have `money`, shapes, arrays, ranges, records,
 /// the types of text search, and those that name an object (`regclass`).
 ///
 /// # Errors

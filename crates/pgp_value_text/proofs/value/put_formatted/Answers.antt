@@ -62,3 +62,21 @@ returns-in-Char g c = rw c.in-Char.is c.put_char.ensures
 
 pub returns-in-Timetz : goal.returns-in-Timetz
 returns-in-Timetz g c = rw c.in-Timetz.is c.put_timetz.ensures
+
+pub returns-in-Cidr : goal.returns-in-Cidr
+returns-in-Cidr g c = rw c.in-Cidr.is c.put_cidr.ensures
+
+pub returns-in-Inet : goal.returns-in-Inet
+returns-in-Inet g c = rw c.in-Inet.is c.put_inet.ensures
+
+pub returns-in-Macaddr : goal.returns-in-Macaddr
+returns-in-Macaddr g c = rw c.in-Macaddr.is c.put_macaddr.ensures
+
+pub returns-in-Macaddr8 : goal.returns-in-Macaddr8
+returns-in-Macaddr8 g c = rw c.in-Macaddr8.is c.put_macaddr8.ensures
+
+pub returns-in-Tid : goal.returns-in-Tid
+returns-in-Tid g c = rw c.in-Tid.is c.put_tid.ensures
+
+pub returns-in-Varbit : goal.returns-in-Varbit
+returns-in-Varbit g c = rw c.in-Varbit.is c.put_varbit.ensures

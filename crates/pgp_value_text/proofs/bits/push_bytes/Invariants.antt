@@ -1,0 +1,8 @@
+-- The bits so far were added.
+use Rattle.std.specs.Prelude.{◌≡◌, ◌++◌, take}
+use Rattle.std.specs.List.{flat_map}
+use Rattle.pgp_value_text.specs.Bits.{byte_bits}
+use Rattle.pgp_value_text.proofs.bits.push_bytes.Given as goal
+
+abbrev pub invariant-loop-byte : goal.invariant-loop-byte
+invariant-loop-byte g l = l.shown.items ≡ l.fn.shown.items ++ flat_map byte_bits (take l.byte-index l.bytes)
