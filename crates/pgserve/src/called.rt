@@ -15,7 +15,7 @@ use crate::answer::{Went, format_of, put_notices};
 use crate::asked::{Refusal, aborted, bad_format, not_supported, put_error, refuse};
 use crate::binary::{Unwritten, value_in};
 use crate::column::known_type;
-use crate::extended::{Binding, are_formats};
+use crate::extended::Binding;
 use crate::fault::Fault;
 use crate::input::{rejects_counts, rejects_values};
 use crate::outbox::Outbox;
@@ -44,9 +44,8 @@ pub(crate) fn result_of(line: &str, reader: &mut Reader) -> End {
 fn put_result(part: Field<'_>, out: &mut Outbox) -> Went
     ensures { Puts (frame 0x56 (joined (part_of part.entry ∷ []))) out.old.bytes.items out.new.bytes.items out.new.fault }
 {
-    match message(b'V', &[part], &mut out.bytes) {
-        Ok(()) => {}
-        Err(why) => out.fail(Fault::from(why)),
+    if let Err(why) = message(b'V', &[part], &mut out.bytes) {
+        out.fail(Fault::from(why));
     }
     Went::Well
 }
@@ -59,7 +58,7 @@ fn put_value(oid: Oid, value: &[u8], format: i16, out: &mut Outbox) -> Went
         return put_result(Field::Sized(value), out);
     }
     let refusal = match value_in(out.alloc, format, oid, value) {
-        _ if !are_formats(&[format]) => bad_format(),
+        _ if format != 1 => bad_format(),
         Ok(bytes) => return put_result(Field::Sized(&bytes), out),
         Err(Unwritten::Memory) => {
             out.lack();

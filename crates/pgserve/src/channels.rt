@@ -44,9 +44,9 @@ pub(crate) struct Channels {
 pub(crate) fn put_notification(process: i32, pair: &Pair, out: &mut Outbox)
     ensures { Puts (notification process pair.now.name.items pair.now.value.items) out.old.bytes.items out.new.bytes.items out.new.fault }
 {
-    match reply::notification_response(process, &pair.name, &pair.value, &mut out.bytes) {
-        Ok(()) => {}
-        Err(why) => out.fail(Fault::from(why)),
+    let (name, text) = (&pair.name, &pair.value);
+    if let Err(why) = reply::notification_response(process, name, text, &mut out.bytes) {
+        out.fail(Fault::from(why));
     }
 }
 

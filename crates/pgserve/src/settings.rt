@@ -23,13 +23,6 @@ pub(crate) struct Setting {
 }
 
 impl Setting {
-    /// Takes a value.
-    fn set(&mut self, value: &[u8], out: &mut Outbox)
-        ensures { out.new.bytes ≡ out.old.bytes }
-    {
-        self.value = out.copy(shown(&self.name, value));
-    }
-
     /// Whether it has a value of which the client has to be informed.
     fn is_news(&self) -> bool {
         match &self.told {
@@ -44,17 +37,9 @@ impl Setting {
         ensures { Puts (setting self.old.name.items self.old.value.items) out.old.bytes.items out.new.bytes.items out.new.fault }
     {
         self.told = Some(out.copy(&self.value));
-        match reply::parameter_status(&self.name, &self.value, &mut out.bytes) {
-            Ok(()) => {}
-            Err(why) => out.fail(Fault::from(why)),
+        if let Err(why) = reply::parameter_status(&self.name, &self.value, &mut out.bytes) {
+            out.fail(Fault::from(why));
         }
-    }
-
-    /// Has the value that it has as the one at first.
-    fn settle(&mut self, out: &mut Outbox)
-        ensures { out.new.bytes ≡ out.old.bytes }
-    {
-        self.first = out.copy(&self.value);
     }
 }
 
@@ -165,7 +150,7 @@ impl Settings {
     {
         self.set(name, value, Scope::Session, out);
         if let Some(setting) = self.find_mut(name) {
-            setting.settle(out);
+            setting.first = out.copy(&setting.value);
         }
     }
 
@@ -206,7 +191,7 @@ impl Settings {
         ensures { out.new.bytes ≡ out.old.bytes }
     {
         if let Some(setting) = self.list.get_mut(place) {
-            setting.set(value, out);
+            setting.value = out.copy(shown(&setting.name, value));
         }
     }
 
