@@ -2,7 +2,7 @@
 -- PostgreSQL manual, "Message Formats": NotificationResponse, ParameterStatus, FunctionCallResponse.
 use Rattle.std.specs.Prelude.{◌≡◌, ◌≢◌, ◌⊎◌, ℕ, ℤ, pos, List, [], ◌∷◌, ◌++◌, Option, Some, None}
 use Rattle.pgp_base.specs.Wire.{frame}
-use Rattle.pgp_frontend.specs.Payload.{joined, Int32, Text, Nullable}
+use Rattle.pgp_frontend.specs.Payload.{Part, joined, Int32, Text, Nullable}
 use Rattle.pgserve.specs.declared.script.End.{End}
 use Rattle.pgserve.specs.declared.script.End.TheVariants.{Result}
 
@@ -12,9 +12,9 @@ notification process channel text = frame 0x41 (joined (Int32 process ∷ Text c
 abbrev pub setting : List ℕ → List ℕ → List ℕ
 setting name value = frame 0x53 (joined (Text name ∷ Text value ∷ []))
 
--- the result of a function; None is a null
-abbrev pub returned : Option (List ℕ) → List ℕ
-returned value = frame 0x56 (joined (Nullable value ∷ []))
+-- a FunctionCallResponse
+abbrev pub returned : Part → List ℕ
+returned result = frame 0x56 (joined (result ∷ []))
 
 -- The message is appended; or nothing is, and the answer isn't sent, for a fault.
 abbrev pub Puts : {F : Type 0} → List ℕ → (old new : List ℕ) → (fault : Option F) → Type 0
@@ -28,6 +28,6 @@ pub data Informs (old : List ℕ) : (new : List ℕ) → Type 0 where
 
 -- A call's result that is asked for as a text is the script's; a null is one in each format.
 abbrev pub Returns : {F : Type 0} → End → (format : ℤ) → (old new : List ℕ) → (fault : Option F) → Type 0
-Returns (Result oid (Some value)) format old new fault = format ≡ pos 0 → Puts (returned (Some value.items)) old new fault
-Returns (Result oid None) format old new fault = Puts (returned None) old new fault
+Returns (Result oid (Some value)) format old new fault = format ≡ pos 0 → Puts (returned (Nullable (Some value.items))) old new fault
+Returns (Result oid None) format old new fault = Puts (returned (Nullable None)) old new fault
 Returns end format old new fault = Unit {0}

@@ -2,10 +2,9 @@
 //!
 //! PostgreSQL manual, "Message Flow", "Function Call".
 
-ghost use Rattle.std.specs.Prelude.{◌≡◌, ◌≢◌, ◌∷◌, [], IfNone, IfSome, Some, pos};
+ghost use Rattle.std.specs.Prelude.{◌≡◌, ◌≢◌, IfNone, IfSome, Some, pos};
 ghost use Rattle.std.specs.List.{All};
-ghost use Rattle.pgp_base.specs.Wire.{frame};
-ghost use Rattle.pgp_frontend.specs.Payload.{joined};
+ghost use Rattle.pgp_frontend.specs.Payload.{Nullable};
 ghost use Rattle.pgp_frontend.specs.View.{part_of};
 ghost use Rattle.pgserve.specs.Ready.{HasEnd};
 ghost use Rattle.pgserve.specs.Sent.{Puts, Returns, returned};
@@ -42,7 +41,7 @@ pub(crate) fn result_of(line: &str, reader: &mut Reader) -> End {
 /// Appends a FunctionCallResponse of this part.
 #[tactic(auto, unfolding(pgp_base::specs::Held::lengthened))]
 fn put_result(part: Field<'_>, out: &mut Outbox) -> Went
-    ensures { Puts (frame 0x56 (joined (part_of part.entry ∷ []))) out.old.bytes.items out.new.bytes.items out.new.fault }
+    ensures { Puts (returned (part_of part.entry)) out.old.bytes.items out.new.bytes.items out.new.fault }
 {
     if let Err(why) = message(b'V', &[part], &mut out.bytes) {
         out.fail(Fault::from(why));
@@ -52,7 +51,7 @@ fn put_result(part: Field<'_>, out: &mut Outbox) -> Went
 
 /// Appends a result of this type in this format, or the error that it can't be sent so.
 fn put_value(oid: Oid, value: &[u8], format: i16, out: &mut Outbox) -> Went
-    ensures { format ≡ pos 0 → Puts (returned (Some value.now)) out.old.bytes.items out.new.bytes.items out.new.fault }
+    ensures { format ≡ pos 0 → Puts (returned (Nullable (Some value.now))) out.old.bytes.items out.new.bytes.items out.new.fault }
 {
     if format == 0 {
         return put_result(Field::Sized(value), out);
