@@ -5,6 +5,7 @@ use Rattle.pgp_base.specs.Wire.{frame}
 use Rattle.pgp_session.specs.Transaction.{letter}
 use Rattle.pgp_session.specs.declared.transaction.Status.{Status}
 use Rattle.pgp_session.specs.declared.transaction.Status.TheVariants.{Idle}
+use Rattle.pgserve.specs.Sent.{Informs}
 
 -- a ReadyForQuery of this status is the last message
 abbrev pub IsReady : Status → List ℕ → Type 0
@@ -15,6 +16,10 @@ abbrev pub Says : {F : Type 0} → Status → (is_idle : Bool) → List ℕ → 
 Says status true bytes fault = (status ≡ Idle) × IsReady status bytes
 Says status false bytes fault = ((status ≢ Idle) × IsReady status bytes) ⊎ (fault ≢ None)
 
--- The answer has its end: a ReadyForQuery is its last message, or idle time began and all that waited for it was sent; or it isn't sent, for a fault.
+-- It is idle time, and nothing is sent in it but messages that come without a request.
+abbrev pub IsIdle : List ℕ → Type 0
+IsIdle bytes = (ready : List ℕ) × IsReady Idle ready × Informs ready bytes
+
+-- The answer has its end. In a transaction a ReadyForQuery is its last message; else one begins idle time, and all that waited for it was taken; or the answer isn't sent, for a fault.
 abbrev pub HasEnd : {L F : Type 0} → Status → (later : List L) → List ℕ → (fault : Option F) → Type 0
-HasEnd status later bytes fault = IsReady status bytes ⊎ (((status ≡ Idle) × (later ≡ [])) ⊎ (fault ≢ None))
+HasEnd status later bytes fault = ((status ≢ Idle) × IsReady status bytes) ⊎ (((status ≡ Idle) × (later ≡ []) × IsIdle bytes) ⊎ (fault ≢ None))

@@ -40,7 +40,7 @@ pub(crate) fn bad_format<'a>() -> Refusal<'a> {
     Refusal::new("22023", "a format is 0 (text) or 1 (binary)")
 }
 
-/// A value in a format that this server doesn't write, or a call of a function.
+/// A value in a format that this server doesn't write.
 pub(crate) fn not_supported<'a>() -> Refusal<'a> {
     Refusal::new("0A000", "this server doesn't do that")
 }

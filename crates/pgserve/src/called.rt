@@ -2,15 +2,20 @@
 //!
 //! PostgreSQL manual, "Message Flow", "Function Call".
 
-ghost use Rattle.std.specs.Prelude.{◌≡◌, IfSome};
+ghost use Rattle.std.specs.Prelude.{◌≡◌, ◌≢◌, IfNone, IfSome, Some, pos};
+ghost use Rattle.std.specs.List.{All};
+ghost use Rattle.pgp_frontend.specs.Payload.{Nullable};
+ghost use Rattle.pgp_frontend.specs.View.{part_of};
 ghost use Rattle.pgserve.specs.Ready.{HasEnd};
+ghost use Rattle.pgserve.specs.Sent.{Puts, Returns, returned};
 ghost use Rattle.pgserve.specs.declared.script.By.TheVariants.{Function};
 
 use crate::answer::{Went, format_of, put_notices};
 use crate::asked::{Refusal, aborted, bad_format, not_supported, put_error, refuse};
 use crate::binary::{Unwritten, value_in};
 use crate::column::known_type;
-use crate::extended::{Binding, are_formats};
+use crate::extended::Binding;
+use crate::fault::Fault;
 use crate::input::{rejects_counts, rejects_values};
 use crate::outbox::Outbox;
 use crate::reader::Reader;
@@ -34,16 +39,25 @@ pub(crate) fn result_of(line: &str, reader: &mut Reader) -> End {
 }
 
 /// Appends a FunctionCallResponse of this part.
-fn put_result(part: Field<'_>, out: &mut Outbox) -> Went {
-    let put = message(b'V', &[part], &mut out.bytes);
-    out.put(put);
+#[tactic(auto, unfolding(pgp_base::specs::Held::lengthened))]
+fn put_result(part: Field<'_>, out: &mut Outbox) -> Went
+    ensures { Puts (returned (part_of part.entry)) out.old.bytes.items out.new.bytes.items out.new.fault }
+{
+    if let Err(why) = message(b'V', &[part], &mut out.bytes) {
+        out.fail(Fault::from(why));
+    }
     Went::Well
 }
 
 /// Appends a result of this type in this format, or the error that it can't be sent so.
-fn put_value(oid: Oid, value: &[u8], format: i16, out: &mut Outbox) -> Went {
+fn put_value(oid: Oid, value: &[u8], format: i16, out: &mut Outbox) -> Went
+    ensures { format ≡ pos 0 → Puts (returned (Nullable (Some value.now))) out.old.bytes.items out.new.bytes.items out.new.fault }
+{
+    if format == 0 {
+        return put_result(Field::Sized(value), out);
+    }
     let refusal = match value_in(out.alloc, format, oid, value) {
-        _ if !are_formats(&[format]) => bad_format(),
+        _ if format != 1 => bad_format(),
         Ok(bytes) => return put_result(Field::Sized(&bytes), out),
         Err(Unwritten::Memory) => {
             out.lack();
@@ -56,7 +70,9 @@ fn put_value(oid: Oid, value: &[u8], format: i16, out: &mut Outbox) -> Went {
 }
 
 /// Appends how a call ends, whose result is asked for in this format. That of a null, -1 in the place of a length, isn't looked at.
-fn put_end(statement: &Statement, format: i16, out: &mut Outbox) -> Went {
+fn put_end(statement: &Statement, format: i16, out: &mut Outbox) -> Went
+    ensures { Returns statement.now.end format out.old.bytes.items out.new.bytes.items out.new.fault }
+{
     match &statement.end {
         End::Result(oid, Some(value)) => put_value(*oid, value, format, out),
         End::Error(report) => {
@@ -70,13 +86,16 @@ fn put_end(statement: &Statement, format: i16, out: &mut Outbox) -> Went {
 impl<'h> Session<'h> {
     /// The script's answer of this time to a call of this function.
     fn called(&self, function: Oid) -> Option<&'h Statement>
-        ensures { IfSome result (λ statement. statement.now.by ≡ Function function) }
+        ensures some { IfSome result (λ statement. statement.now.by ≡ Function function) }
+        ensures none { IfNone result (All (λ statement. statement.by ≢ Function function) self.now.script.now.statements.items) }
     {
-        let found = self.now(self.script.written(By::Function(function), b"")?);
-        if found.by == By::Function(function) {
+        let wanted = By::Function(function);
+        let first = self.script.statements.iter().find(|s| s.by == wanted)?;
+        let found = self.now(first);
+        if found.by == wanted {
             Some(found)
         } else {
-            None
+            Some(first)
         }
     }
 

@@ -2,6 +2,9 @@
 //!
 //! PostgreSQL manual, "LISTEN", "NOTIFY", "UNLISTEN".
 
+ghost use Rattle.pgserve.specs.Sent.{Puts, notification};
+
+use crate::fault::Fault;
 use crate::outbox::Outbox;
 use crate::script::Pair;
 use pgp_message_write as reply;
@@ -37,9 +40,14 @@ pub(crate) struct Channels {
 }
 
 /// Appends a notification of this process; the server's own is 1.
-pub(crate) fn put_notification(process: i32, pair: &Pair, out: &mut Outbox) {
-    let put = reply::notification_response(process, &pair.name, &pair.value, &mut out.bytes);
-    out.put(put);
+#[tactic(auto, unfolding(pgp_base::specs::Held::lengthened))]
+pub(crate) fn put_notification(process: i32, pair: &Pair, out: &mut Outbox)
+    ensures { Puts (notification process pair.now.name.items pair.now.value.items) out.old.bytes.items out.new.bytes.items out.new.fault }
+{
+    let (name, text) = (&pair.name, &pair.value);
+    if let Err(why) = reply::notification_response(process, name, text, &mut out.bytes) {
+        out.fail(Fault::from(why));
+    }
 }
 
 impl Channels {

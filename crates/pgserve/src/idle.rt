@@ -4,6 +4,7 @@
 
 ghost use Rattle.pgp_session.specs.declared.transaction.Status.TheVariants.{Idle};
 ghost use Rattle.pgserve.specs.Ready.{IsReady, Says};
+ghost use Rattle.pgserve.specs.Sent.{Informs};
 
 use crate::channels::put_notification;
 use crate::fault::Fault;
@@ -74,6 +75,7 @@ pub(crate) fn put_later(
     out: &mut Outbox,
 )
     requires { IsReady Idle out.old.bytes.items }
+    ensures { Informs out.old.bytes.items out.new.bytes.items }
 {
     for later in list {
         match later {

@@ -58,19 +58,25 @@ impl Outbox {
     }
 
     /// Takes note of what became of a thing for which memory was asked.
-    pub(crate) fn keep(&mut self, kept: Result<(), AllocError>) {
+    pub(crate) fn keep(&mut self, kept: Result<(), AllocError>)
+        ensures { self.new.bytes ≡ self.old.bytes }
+    {
         if kept.is_err() {
-            self.lack();
+            self.fail(Fault::Memory);
         }
     }
 
     /// Appends an item to a list.
-    pub(crate) fn add<T: Drop>(&mut self, list: &mut Vec<T>, item: T) {
+    pub(crate) fn add<T: Drop>(&mut self, list: &mut Vec<T>, item: T)
+        ensures { self.new.bytes ≡ self.old.bytes }
+    {
         self.keep(push(list, item));
     }
 
     /// The same items in memory of their own.
-    pub(crate) fn copy<T: Copy>(&mut self, items: &[T]) -> Vec<T> {
+    pub(crate) fn copy<T: Copy>(&mut self, items: &[T]) -> Vec<T>
+        ensures { self.new.bytes ≡ self.old.bytes }
+    {
         let mut list = Vec::new(self.alloc);
         self.keep(list.extend_from_slice(items));
         list

@@ -243,7 +243,8 @@ impl<'h> Session<'h> {
 
     /// Ends an extended query. Where a transaction was begun, portals live on.
     fn sync(&mut self, out: &mut Outbox)
-        ensures { ends_portals self.old.transaction.status ≡ false → self.new.portals ≡ self.old.portals }
+        ensures portals { ends_portals self.old.transaction.status ≡ false → self.new.portals ≡ self.old.portals }
+        ensures ends { HasEnd self.new.transaction.status self.new.later.items out.new.bytes.items out.new.fault }
     {
         self.is_skipping = false;
         self.end_portals();

@@ -2,6 +2,10 @@
 //!
 //! PostgreSQL manual, "SET", "SHOW", and "Asynchronous Operations" of the protocol.
 
+ghost use Rattle.std.specs.Prelude.{◌≡◌};
+ghost use Rattle.pgserve.specs.Sent.{Informs, Puts, setting};
+
+use crate::fault::Fault;
 use crate::outbox::Outbox;
 use pgp_message_write as reply;
 
@@ -19,11 +23,6 @@ pub(crate) struct Setting {
 }
 
 impl Setting {
-    /// Takes a value.
-    fn set(&mut self, value: &[u8], out: &mut Outbox) {
-        self.value = out.copy(shown(&self.name, value));
-    }
-
     /// Whether it has a value of which the client has to be informed.
     fn is_news(&self) -> bool {
         match &self.told {
@@ -32,9 +31,15 @@ impl Setting {
         }
     }
 
-    /// Has the value that it has as the one at first.
-    fn settle(&mut self, out: &mut Outbox) {
-        self.first = out.copy(&self.value);
+    /// Appends its value, of which the client is informed then.
+    #[tactic(auto, unfolding(pgp_base::specs::Held::lengthened))]
+    fn report(&mut self, out: &mut Outbox)
+        ensures { Puts (setting self.old.name.items self.old.value.items) out.old.bytes.items out.new.bytes.items out.new.fault }
+    {
+        self.told = Some(out.copy(&self.value));
+        if let Err(why) = reply::parameter_status(&self.name, &self.value, &mut out.bytes) {
+            out.fail(Fault::from(why));
+        }
     }
 }
 
@@ -108,7 +113,9 @@ impl Settings {
         }
     }
 
-    fn add(&mut self, name: &[u8], value: &[u8], is_reported: bool, out: &mut Outbox) {
+    fn add(&mut self, name: &[u8], value: &[u8], is_reported: bool, out: &mut Outbox)
+        ensures { out.new.bytes ≡ out.old.bytes }
+    {
         let setting = Setting {
             name: out.copy(name),
             value: out.copy(value),
@@ -138,15 +145,19 @@ impl Settings {
     }
 
     /// What a script or a startup packet says of a setting at first.
-    pub(crate) fn begin(&mut self, name: &[u8], value: &[u8], out: &mut Outbox) {
+    pub(crate) fn begin(&mut self, name: &[u8], value: &[u8], out: &mut Outbox)
+        ensures { out.new.bytes ≡ out.old.bytes }
+    {
         self.set(name, value, Scope::Session, out);
         if let Some(setting) = self.find_mut(name) {
-            setting.settle(out);
+            setting.first = out.copy(&setting.value);
         }
     }
 
     /// Keeps what the setting of this place is, where a transaction sets it.
-    fn note(&mut self, place: usize, scope: Scope, out: &mut Outbox) {
+    fn note(&mut self, place: usize, scope: Scope, out: &mut Outbox)
+        ensures { out.new.bytes ≡ out.old.bytes }
+    {
         let (depth, is_local) = match scope {
             Scope::Session => return,
             Scope::Kept(depth) => (depth, false),
@@ -164,7 +175,9 @@ impl Settings {
     }
 
     /// Sets a setting. One that isn't known is from then on.
-    pub(crate) fn set(&mut self, name: &[u8], value: &[u8], scope: Scope, out: &mut Outbox) {
+    pub(crate) fn set(&mut self, name: &[u8], value: &[u8], scope: Scope, out: &mut Outbox)
+        ensures { out.new.bytes ≡ out.old.bytes }
+    {
         if self.place(name).is_none() {
             self.add(name, b"", false, out);
         }
@@ -174,9 +187,11 @@ impl Settings {
         }
     }
 
-    fn put(&mut self, place: usize, value: &[u8], out: &mut Outbox) {
+    fn put(&mut self, place: usize, value: &[u8], out: &mut Outbox)
+        ensures { out.new.bytes ≡ out.old.bytes }
+    {
         if let Some(setting) = self.list.get_mut(place) {
-            setting.set(value, out);
+            setting.value = out.copy(shown(&setting.name, value));
         }
     }
 
@@ -259,12 +274,12 @@ impl Settings {
     }
 
     /// Appends a ParameterStatus for each value of which the client wasn't informed.
-    pub(crate) fn report(&mut self, out: &mut Outbox) {
+    pub(crate) fn report(&mut self, out: &mut Outbox)
+        ensures { Informs out.old.bytes.items out.new.bytes.items }
+    {
         for setting in self.list.iter_mut() {
             if setting.is_news() {
-                let put = reply::parameter_status(&setting.name, &setting.value, &mut out.bytes);
-                out.put(put);
-                setting.told = Some(out.copy(&setting.value));
+                setting.report(out);
             }
         }
     }
