@@ -72,26 +72,15 @@ struct Seen {
 pub extern "C" fn pgp_front(bytes: &[u8], message: &mut PgpMessage) -> u32
     ensures { Reported bytes.now message.new result }
 {
+    let mut messages = Messages::new(bytes);
     // Rows come by the thousand. By a way of their own no row goes through memory before it is
     // reported, and no register is saved for what the others need.
-    match bytes {
-        [b'D', ..] => row_front(bytes, message),
-        _ => any_front(bytes, message),
+    if let Some(row) = messages.next_row() {
+        let frame = bytes.len() - messages.rest().len();
+        let parts = counted(7, row.ranges().size_hint().0, frame);
+        return reported(frame, ROW, parts, 0, 0, tag_of(bytes, frame), message);
     }
-}
-
-/// The same of a row.
-#[inline(always)]
-fn row_front(bytes: &[u8], message: &mut PgpMessage) -> u32
-    ensures { Reported bytes.now message.new result }
-{
-    let mut messages = Messages::new(bytes);
-    let Some(row) = messages.next_row() else {
-        return any_front(bytes, message);
-    };
-    let frame = bytes.len() - messages.rest().len();
-    let parts = counted(7, row.ranges().size_hint().0, frame);
-    reported(frame, ROW, parts, 0, 0, tag_of(bytes, frame), message)
+    any_front(bytes, message)
 }
 
 /// The same of any message.
