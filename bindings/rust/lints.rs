@@ -11,7 +11,7 @@
 #![allow(clippy::should_implement_trait, clippy::len_without_is_empty, clippy::new_without_default, clippy::type_complexity)]
 #![allow(clippy::too_many_arguments)]
 // What Rust's std has a shorter call for is written out where Rattle's has none, or where a proof goes by the cases.
-#![allow(clippy::match_like_matches_macro, clippy::redundant_pattern_matching, clippy::question_mark, clippy::manual_ok_err)]
+#![allow(clippy::match_like_matches_macro, clippy::redundant_pattern_matching, clippy::question_mark, clippy::manual_ok_err, clippy::manual_map)]
 #![allow(clippy::manual_is_ascii_check, clippy::manual_range_contains, clippy::manual_find, clippy::manual_unwrap_or_default)]
 #![allow(clippy::mem_replace_with_default, clippy::needless_range_loop, clippy::nonminimal_bool, clippy::explicit_auto_deref)]
 // What Rattle has to drop by hand has nothing to drop here.
