@@ -1,5 +1,5 @@
 -- The parts of a message stand where they are reported to.
-use Rattle.pgp_c.proofs.Common.{◌≡◌, ℕ, ℤ, pos, ◌+◌, ◌-◌, ◌≤◌, List, [], ◌∷◌, ◌++◌, length, take, drop, Option, Some, None, Result, Ok, Err, refl, sym, ap, ◌∙◌, subst, arith, ◌≢◌, take-append_seam, drop-append_seam, append-nil, length-drop, length-take, uint16, uint32, int32, text, HasNoZero, string_at, Error, int32_number, uint16_number, string_front, AuthenticationOk, AuthenticationKerberosV5, AuthenticationCleartextPassword, AuthenticationMd5Password, AuthenticationScmCredential, AuthenticationGss, AuthenticationGssContinue, AuthenticationSspi, AuthenticationSasl, AuthenticationSaslContinue, AuthenticationSaslFinal, Message, NegotiateProtocolVersion, NotificationResponse, CommandComplete, DataRow, ErrorResponse, CopyInResponse, CopyOutResponse, BackendKeyData, NoticeResponse, Authentication, ParameterStatus, RowDescription, ReadyForQuery, ParameterDescription, payload_of, IsMissing, missing_from, IsInside, no_parts, part, stands}
+use Rattle.pgp_c.proofs.Common.{◌≡◌, ℕ, ℤ, pos, ◌+◌, ◌-◌, ◌≤◌, List, [], ◌∷◌, ◌++◌, length, take, drop, Option, Some, None, Result, Ok, Err, refl, sym, ap, ◌∙◌, subst, arith, ◌≢◌, take-append_seam, drop-append_seam, append-nil, length-drop, length-take, uint16, uint32, int32, text, Error, int32_number, uint16_number, AuthenticationOk, AuthenticationKerberosV5, AuthenticationCleartextPassword, AuthenticationMd5Password, AuthenticationScmCredential, AuthenticationGss, AuthenticationGssContinue, AuthenticationSspi, AuthenticationSasl, AuthenticationSaslContinue, AuthenticationSaslFinal, Message, NegotiateProtocolVersion, NotificationResponse, CommandComplete, DataRow, ErrorResponse, CopyInResponse, CopyOutResponse, BackendKeyData, NoticeResponse, Authentication, ParameterStatus, RowDescription, ReadyForQuery, ParameterDescription, payload_of, IsMissing, missing_from, IsInside, no_parts, part, stands}
 use Rattle.std.proofs.lemmas.List.{length-append, append_assoc}
 use Rattle.pgp_base.specs.declared.error.Error.TheVariants as errors
 use Rattle.pgp_message.specs.BackendMessage.{CopyData}
@@ -10,6 +10,10 @@ use Rattle.pgp_c.specs.Front.{CallResult, CopyBoth, CutShort, Misses, Reported, 
 use Rattle.pgp_c.proofs.Announced.{of_server}
 use Rattle.pgp_c.specs.Parts.{Shows, kind_of}
 use Rattle.pgp_c.specs.Places.{place, two_texts}
+
+-- both parts lie inside the frame
+abbrev AreInside : ℕ → PgpParts → Type 0
+AreInside frame p = IsInside frame p.first × IsInside frame p.second
 
 module _ (bytes new : List ℕ) (f : Frame) (whole : bytes ≡ frame_bytes f ++ new) where
   abbrev head : List ℕ
@@ -42,7 +46,7 @@ module _ (bytes new : List ℕ) (f : Frame) (whole : bytes ≡ frame_bytes f ++ 
       sits front rest [] n (frame - n) (pay ∙ ap (λ l. front ++ l) (sym (append-nil rest))) at (omega (arith, frame_length frame is, at, ap length pay, length-append front rest))
 
   module _ (front a b : List ℕ) (at frame : ℕ) (is : frame ≡ length bytes - length new) (pay : f.payload ≡ front ++ (text a ++ text b)) (place_is : at ≡ 5 + length front) where
-    texts : PgpParts
+    abbrev texts : PgpParts
     texts = two_texts at a b frame
 
     lengths : frame ≡ 5 + length front + length a + 1 + length b + 1
@@ -135,9 +139,6 @@ shows bytes new (Authentication AuthenticationSspi) frame is t = refl
 shows bytes new m frame is t = refl
 
 -- and lie inside the frame
-abbrev AreInside : ℕ → PgpParts → Type 0
-AreInside frame p = IsInside frame p.first × IsInside frame p.second
-
 inside : (bytes new : List ℕ) (m : Message) (frame : ℕ) → frame ≡ length bytes - length new → TakesFrame bytes (Ok m) new → AreInside frame (place m frame)
 inside bytes new (CommandComplete tag) frame is t = (omega (arith, frame_length bytes new t.first t.whole frame is), omega arith)
 inside bytes new (ErrorResponse b) frame is t = (rest_fits bytes new t.first t.whole frame is 5 (omega arith), omega arith)

@@ -1,7 +1,6 @@
 -- Private: where the code finds the parts of a message in a frame of so many bytes.
 use Rattle.std.specs.Prelude.{ℕ, ◌-◌, List, length}
 use Rattle.pgp_message.specs.BackendMessage.{Message, Authentication, NegotiateProtocolVersion, AuthenticationGssContinue, AuthenticationMd5Password, AuthenticationSasl, AuthenticationSaslContinue, AuthenticationSaslFinal, BackendKeyData, CommandComplete, CopyData, CopyInResponse, CopyOutResponse, DataRow, ErrorResponse, NoticeResponse, NotificationResponse, ParameterDescription, ParameterStatus, ReadyForQuery, RowDescription}
-use Rattle.pgp_c.specs.declared.front.PgpPart.{PgpPart}
 use Rattle.pgp_c.specs.declared.front.PgpParts.{PgpParts}
 use Rattle.pgp_c.specs.Parts.{part, no_parts}
 
