@@ -1,5 +1,5 @@
 -- A client's core and a server's core, turn by turn.
-use Rattle.pgp_uses.proofs.Common.{◌≡◌, ℕ, List, [], ◌∷◌, ◌++◌, length, Option, Some, None, Result, Ok, Err, refl, sym, ap, subst, ◌∙◌, arith, inl, inr, false, append_assoc, Contains, ◌⊎◌, ◌≢◌, encode_utf8, AllByRecursion, append-nil, Wants, WantsMemory, Held, ◌⊕◌, MarkedItems, HasNoZero, IsBytes, int32, Error, Client, Answers, UpdateRefused, message_of, refusal, Meeting, Server, Challenges, Admits, first_memory, finish_never_refused, last_is, message_is, signature_never_refused, text_is, update_memory_met, ClientMessage, SaslInitialResponse, joined, Message, tag_of, TextSpelled, TextRefused, Frames, TakesFrame, IsInRange, IsMechanism, IsReply, names_of, AreRead, Facing, IsClientsWant, IsServersWant, LogsIn, IsAdded, RefusesMessage, Offers, initial, mechanism_by, mechanism_of, observed, Comes, Outcome, Challenge, Denied, Signed, IsAdmitted, IsChallenged, IsNoFinal, IsNoFirst, admission, cause_of, challenge, due, final_message, first_message, kind_in, scram, scram_offer, signature, spelled, LoginPhase, Serving, ServingPhase, Lists, codes}
+use Rattle.pgp_uses.proofs.Common.{◌≡◌, ℕ, List, [], ◌∷◌, ◌++◌, length, Some, None, Result, Ok, Err, refl, sym, ap, subst, ◌∙◌, arith, inl, inr, false, append_assoc, Contains, ◌⊎◌, ◌≢◌, encode_utf8, AllByRecursion, append-nil, Wants, WantsMemory, Held, ◌⊕◌, MarkedItems, HasNoZero, IsBytes, int32, Error, Client, Answers, message_of, Meeting, Server, Challenges, Admits, first_memory, finish_never_refused, ClientMessage, SaslInitialResponse, joined, Message, tag_of, TextSpelled, TextRefused, Frames, TakesFrame, IsInRange, IsMechanism, IsReply, names_of, AreRead, Facing, IsServersWant, Offers, initial, mechanism_by, mechanism_of, Comes, Outcome, Challenge, Denied, Signed, IsAdmitted, IsChallenged, IsNoFinal, IsNoFirst, admission, cause_of, challenge, due, final_message, first_message, scram, scram_offer, signature, spelled, Serving, ServingPhase, Lists, codes}
 use Rattle.std.specs.Str.{IsUtf8}
 use Rattle.pgp_auth.specs.ScramClient.{first_text as text_of}
 use Rattle.pgp_auth.specs.ScramServing as server
