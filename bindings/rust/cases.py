@@ -1,11 +1,11 @@
-"""The tests of the crates of tests, as one crate over the generated modules: all but those that need an allocator of their own, a law or a generator of
-Rattle's kit, and what calls these."""
+"""The tests of tests/rust and of crates, as one crate over the generated modules: of the crates' all but those that need an allocator of their own, a law or
+a generator of Rattle's kit, and what calls these."""
 import os, re
 import generate
 from asking import answering
 from erase import Unknown, erase
 
-CRATES = ['pgp_test_alloc', 'pgp_uses', 'pgp_tests']
+CRATES = ['pgp_test_alloc', 'pgp_uses']
 # Programs that try tables and false bytes.
 TABLES = ['pgp_rows', 'pgp_hostile']
 # Where something stays that calls what doesn't: file, text, its substitute.
@@ -80,33 +80,45 @@ def lawful(used):
         yield f'{OF_CALLS}/{name.replace("laws", "lawful")[:-3]}.rs', text
 
 
-TEST = re.compile(r'#\[test\]\n(?:pub )?fn (\w+)\((rt: HostRuntime)?\)')
+TEST = re.compile(r'#\[test\]\n(?=fn (\w+)\(\))')
 
 
 def plain(text, crate):
-    """The tests as functions that a program of another module calls."""
-    text = TEST.sub(lambda m: f'pub fn {m[1]}({m[2]})', answering(text, crate))
-    return re.sub(r'^mod ', 'pub mod ', text, flags=re.M)
+    return re.sub(r'^mod ', 'pub mod ', answering(text, crate), flags=re.M)
 
 
 def crate_of(crates, out, what, used):
-    """Writes a crate of these; which tests it has, by their paths, and how many are left out."""
+    """Writes a crate of these, and returns how many tests are left out."""
     read = {(crate, name): without_laws(crate, name) for crate in crates for name in generate.sources(crate)}
     texts, lacks = apart(read)
-    tests = []
     for (crate, name), text in texts.items():
         path = 'mod.rs' if name in ('lib.rt', 'main.rt') else name[:-3] + '.rs'
-        found = [f'{crate}::{name[:-3].replace("/", "::")}::{m[1]}' for m in TEST.finditer(text)]
-        if len(found) != text.count('#[test]'):
-            raise Unknown(f'crates/{crate}/src/{name}: a test of another form')
-        tests += found
+        if '#[test]' in text:
+            raise Unknown(f'crates/{crate}/src/{name}: a test that could stand in tests/rust')
         generate.write(os.path.join(out, 'src/proved', crate, path), generate.checked(plain(text, crate), crate, name, used))
     generate.write(os.path.join(out, 'src/lib.rs'), LIB % (what, ''.join(f'    pub mod {crate};\n' for crate in crates)))
-    return tests, lacks
+    return lacks
 
 
-def program_of(tests, out):
-    """Writes the program that runs these tests."""
-    calls = ''.join(f'    ("{name}", || Ended::ended(tests::proved::{name}(HostRuntime))),\n' for name in tests)
-    with open(os.path.join(out, 'src/main.rs'), 'a') as program:
-        program.write(f'\nconst TESTS: [(&str, fn()); {len(tests)}] = [\n{calls}];\n')
+def files(top):
+    return sorted(os.path.relpath(os.path.join(folder, name), top) for folder, _, names in os.walk(top) for name in names)
+
+
+def program(out):
+    """Writes the program that runs the tests of tests/rust, and returns how many it has."""
+    top = os.path.join(generate.top, 'tests/rust')
+    tests = []
+    for name in files(top):
+        with open(os.path.join(top, name)) as file:
+            text = file.read()
+        path = name[:-3].replace('/', '::')
+        found = TEST.findall(text)
+        if len(found) != text.count('#[test]'):
+            raise Unknown(f'tests/rust/{name}: a test of another form')
+        tests += [f'{path}::{test}' for test in found]
+        text = re.sub(r'^mod ', 'pub mod ', TEST.sub('pub ', text), flags=re.M)
+        generate.write(os.path.join(out, 'src', name), text)
+    calls = ''.join(f'    ("{test}", || Ended::ended({test}())),\n' for test in tests)
+    with open(os.path.join(out, 'src/main.rs'), 'a') as file:
+        file.write(f'\nconst TESTS: [(&str, fn()); {len(tests)}] = [\n{calls}];\n')
+    return len(tests)

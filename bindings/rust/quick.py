@@ -38,28 +38,24 @@ def workspace(out):
     generate.write(os.path.join(out, 'c/src/lib.rs'), shim)
     for name in PROGRAMS:
         generate.write(os.path.join(out, f'programs/src/bin/{name}.rs'), MAIN % ('erased', name))
-    tests, lacks = cases.crate_of(cases.CRATES, os.path.join(out, 'tests'), 'Tests', used)
-    cases.program_of(tests, os.path.join(out, 'tests'))
+    lacks = cases.crate_of(cases.CRATES, os.path.join(out, 'tests'), 'Tests', used)
+    tests = cases.program(os.path.join(out, 'tests'))
     cases.crate_of(cases.TABLES, os.path.join(out, 'tables'), 'Tables', used)
     for name in cases.TABLES:
         generate.write(os.path.join(out, f'tables/src/bin/{name}.rs'), MAIN % ('tables', name))
     generate.all_used(used, crates + cases.CRATES + cases.TABLES)
-    return len(texts), sum(text.count('\n') for text in texts.values()), count, len(tests), lacks
-
-
-def files(top):
-    return {os.path.relpath(os.path.join(folder, name), top) for folder, _, names in os.walk(top) for name in names}
+    return len(texts), sum(text.count('\n') for text in texts.values()), count, tests, lacks
 
 
 def put(new, out):
     """Puts the files there, each only where it is another one, so that Cargo compiles no more than that."""
-    kept = {name for name in files(out) if name.split('/')[0] in os.listdir(new)}
-    for name in files(new):
+    kept = {name for name in cases.files(out) if name.split('/')[0] in os.listdir(new)}
+    for name in cases.files(new):
         place = os.path.join(out, name)
         if name not in kept or not filecmp.cmp(os.path.join(new, name), place, shallow=False):
             os.makedirs(os.path.dirname(place), exist_ok=True)
             shutil.copyfile(os.path.join(new, name), place)
-    for name in kept - files(new):
+    for name in kept.difference(cases.files(new)):
         os.remove(os.path.join(out, name))
 
 

@@ -26,11 +26,17 @@ mod message;
 #[cfg(test)]
 mod pieces;
 #[cfg(test)]
+mod process;
+#[cfg(test)]
+mod programs;
+#[cfg(test)]
 mod reads;
 #[cfg(test)]
 mod row_tables;
 #[cfg(test)]
 mod serializers;
+#[cfg(test)]
+mod statements;
 #[cfg(test)]
 mod turns;
 #[cfg(test)]
