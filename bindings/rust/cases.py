@@ -6,8 +6,8 @@ from asking import answering
 from erase import Unknown, erase
 
 CRATES = ['pgp_test_alloc', 'pgp_uses']
-# Programs that try tables and false bytes.
-TABLES = ['pgp_rows', 'pgp_hostile']
+# The program that tries tables.
+TABLES = ['pgp_rows']
 # Where something stays that calls what doesn't: file, text, its substitute.
 CALLS = {
     ('pgp_rows', 'codec.rt'): ('    grows::<C>(case, out)\n', '    Ok(())\n'),

@@ -64,7 +64,7 @@ def tests():
 
 def tables():
     build('tables')
-    return as_stored('pgp_rows') and as_stored('pgp_hostile')
+    return as_stored('pgp_rows')
 
 
 def programs():

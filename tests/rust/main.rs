@@ -8,6 +8,7 @@ mod calls;
 mod checks;
 mod client_pieces;
 mod days;
+mod hostile;
 mod programs;
 mod reads;
 mod session;

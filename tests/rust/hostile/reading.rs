@@ -1,12 +1,10 @@
 //! What was read of a stream, result by result.
 
-use crate::fault::Fault;
-use crate::parts::Parts;
-use crate::sum::Sum;
-use crate::text::Text;
-use pgp_base::Error;
-use pgp_message::{Message, Storage};
-use std::alloc::Global;
+use super::parts::Parts;
+use super::sum::Sum;
+use erased::proved::pgp_base::Error;
+use erased::proved::pgp_message::{Message, Storage};
+use std::fmt::{self, Display};
 
 /// What a frame was read as.
 #[derive(Clone, Copy)]
@@ -23,31 +21,26 @@ pub(crate) struct Entry {
     sum: u64,
 }
 
-impl Entry {
-    /// Shows the message's name and what is wrong inside, or the error.
-    pub(crate) fn show(&self, out: &mut Text) {
+/// The message's name and what is wrong inside, or the error.
+impl Display for Entry {
+    fn fmt(&self, f: &mut fmt::Formatter<'_>) -> fmt::Result {
         match self.kind {
-            Kind::Message(name, flaw) => {
-                out.push(name);
-                if let Some(flaw) = flaw {
-                    out.push(" with ");
-                    out.show(flaw);
-                }
-            }
-            Kind::Refused(e) => out.show(e),
+            Kind::Message(name, None) => f.write_str(name),
+            Kind::Message(name, Some(flaw)) => write!(f, "{name} with {flaw}"),
+            Kind::Refused(e) => e.fmt(f),
         }
     }
+}
 
-    /// Whether all that is held is the same, by its sum.
-    pub(crate) fn is_same(&self, other: &Entry) -> bool {
+/// Entries are the same where all that they hold is, by its sum.
+impl PartialEq for Entry {
+    fn eq(&self, other: &Entry) -> bool {
         self.sum == other.sum
     }
 }
 
 /// What was read of a stream.
-#[derive(Drop)]
 pub(crate) struct Reading {
-    alloc: Global,
     pub(crate) entries: Vec<Entry>,
     pub(crate) is_stopped: bool,
     /// How many bytes are left.
@@ -55,32 +48,22 @@ pub(crate) struct Reading {
     /// How many headers were read, where that is counted.
     pub(crate) headers: Option<u64>,
     sum: Sum,
-    /// Why something is missing, where it is.
-    pub(crate) fault: Option<Fault>,
 }
 
 impl Reading {
-    pub(crate) fn new(alloc: Global) -> Reading {
+    pub(crate) fn new() -> Reading {
         Reading {
-            alloc,
-            entries: Vec::new(alloc),
+            entries: Vec::new(),
             is_stopped: false,
             rest: 0,
             headers: None,
-            sum: Sum::new(alloc),
-            fault: None,
+            sum: Sum::new(),
         }
-    }
-
-    pub(crate) fn alloc(&self) -> Global {
-        self.alloc
     }
 
     fn add(&mut self, kind: Kind, sum: u64) {
         self.sum.plain(&sum.to_be_bytes());
-        if self.entries.push(Entry { kind, sum }).is_err() {
-            self.fault = Some(Fault::Memory);
-        }
+        self.entries.push(Entry { kind, sum });
     }
 
     fn add_message<S: Storage>(&mut self, message: &Message<S>)
@@ -88,14 +71,14 @@ impl Reading {
         Message<S>: Parts,
     {
         let name = message.name();
-        let mut sum = Sum::new(self.alloc);
+        let mut sum = Sum::new();
         sum.bytes(name.as_bytes());
         message.add_parts(&mut sum);
         self.add(Kind::Message(name, sum.flaw()), sum.value());
     }
 
     fn add_refusal(&mut self, refusal: Error) {
-        let mut sum = Sum::new(self.alloc);
+        let mut sum = Sum::new();
         sum.refusal(refusal);
         self.add(Kind::Refused(refusal), sum.value());
     }
@@ -141,31 +124,19 @@ impl Reading {
     pub(crate) fn value(&self) -> u64 {
         self.sum.value()
     }
+}
 
-    /// Shows the results by name, with a space after each.
-    fn show_entries(&self, out: &mut Text) {
+/// The results by name, whether a length fault stopped it, what is left, the sum and the headers, where they are counted.
+impl Display for Reading {
+    fn fmt(&self, f: &mut fmt::Formatter<'_>) -> fmt::Result {
         for entry in &self.entries {
-            entry.show(out);
-            out.push(" ");
+            write!(f, "{entry} ")?;
         }
-    }
-
-    /// Shows the results, whether a length fault stopped it, what is left, the sum and the headers, where they are counted.
-    pub(crate) fn show(&self, out: &mut Text) {
-        self.show_entries(out);
-        out.push(if self.is_stopped {
-            "stopped, rest "
-        } else {
-            "waits, rest "
-        });
-        out.show(self.rest);
-        out.push(", ");
-        out.hex(&self.value().to_be_bytes());
+        let ended = if self.is_stopped { "stopped" } else { "waits" };
+        write!(f, "{ended}, rest {}, {:016x}", self.rest, self.value())?;
         if let Some(headers) = self.headers {
-            out.push(", headers ");
-            out.show(headers);
+            write!(f, ", headers {headers}")?;
         }
-        out.push(":");
-        out.fail(self.fault);
+        f.write_str(":")
     }
 }

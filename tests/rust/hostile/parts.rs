@@ -1,9 +1,10 @@
 //! What the bodies of a server's messages hold, part by part.
 
-use crate::sum::{Sum, Summed, add_walk};
+use super::sum::{add_walk, Sum, Summed};
 use bytes::Bytes;
-use pgp_base::Error;
-use pgp_message::{ColumnFormats, DataRowRanges, ErrorField, Field, Message, RowIndex};
+use erased::kit::Global;
+use erased::proved::pgp_base::Error;
+use erased::proved::pgp_message::{ColumnFormats, DataRowRanges, ErrorField, Field, Message, RowIndex};
 use std::ops::Range;
 
 /// A message whose parts can be added to a sum, wherever it keeps them.
@@ -36,12 +37,7 @@ fn add_values(index: &RowIndex<'_>, sum: &mut Sum) {
 }
 
 /// The places of a row's values, its bytes, and the values by its table, or why there is no table.
-fn add_row(
-    ranges: DataRowRanges<'_>,
-    buffer: &[u8],
-    index: Result<RowIndex<'_>, Error>,
-    sum: &mut Sum,
-) {
+fn add_row(ranges: DataRowRanges<'_>, buffer: &[u8], index: Result<RowIndex<'_>, Error>, sum: &mut Sum) {
     add_walk(ranges, sum);
     sum.bytes(buffer);
     match index {
@@ -126,7 +122,7 @@ macro_rules! query_parts {
         match $message {
             Message::CommandComplete(body) => $sum.text(body.tag()),
             Message::DataRow(body) => {
-                add_row(body.ranges(), body.buffer(), body.index($sum.alloc()), $sum);
+                add_row(body.ranges(), body.buffer(), body.index(Global), $sum);
             }
             Message::ParameterDescription(body) => add_walk(body.parameters(), $sum),
             Message::RowDescription(body) => add_walk(body.fields(), $sum),

@@ -1,4 +1,4 @@
-"""What pgp_hostile has to print of its streams: `python3 expected/streams.py`, in crates/pgp_hostile.
+"""What the lines of streams have to be: `python3 expected/streams.py`, in tests/rust/hostile.
 
 Written from the PostgreSQL manual ("Message Formats"; keys that haven't four bytes and the message `v` from this project's profile
 of protocol 3.2) and from README.md of this crate, and not from the code of this repository. A part that doesn't fit is UnexpectedEof, bytes behind the last part are NotDrained, and the frame's own length

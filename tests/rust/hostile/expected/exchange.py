@@ -1,4 +1,4 @@
-"""What pgp_hostile has to print of its exchange: `python3 expected/exchange.py`, in crates/pgp_hostile.
+"""What the lines of an exchange have to be: `python3 expected/exchange.py`, in tests/rust/hostile.
 `python3 expected/exchange.py keys` makes data/keys.hex.
 
 Written from RFC 5802 and RFC 4648, and not from the code of this repository. The one thing that the RFC leaves open is what a

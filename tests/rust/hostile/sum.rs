@@ -1,28 +1,20 @@
 //! One number for all that was read, so that any change of it shows.
 
-use pgp_base::{Error, FallibleIterator};
-use std::alloc::Global;
+use erased::proved::pgp_base::{Error, FallibleIterator};
 
 /// The FNV-1a digest, of 64 bits, of what was added, and the first error among it.
 #[derive(Clone, Copy)]
 pub(crate) struct Sum {
-    alloc: Global,
     value: u64,
     flaw: Option<Error>,
 }
 
 impl Sum {
-    pub(crate) fn new(alloc: Global) -> Sum {
+    pub(crate) fn new() -> Sum {
         Sum {
-            alloc,
             value: 0xcbf2_9ce4_8422_2325,
             flaw: None,
         }
-    }
-
-    /// Where a row's table is kept while it is read.
-    pub(crate) fn alloc(&self) -> Global {
-        self.alloc
     }
 
     pub(crate) fn value(&self) -> u64 {
@@ -123,10 +115,7 @@ where
 }
 
 /// Adds what an iterator returns at its end.
-fn add_end<W: FallibleIterator>(walk: &mut W, sum: &mut Sum)
-where
-    W::Item: Drop,
-{
+fn add_end<W: FallibleIterator>(walk: &mut W, sum: &mut Sum) {
     match walk.next() {
         Ok(Some(_)) => sum.plain(&[1]),
         Ok(None) => sum.plain(&[0]),
@@ -146,9 +135,9 @@ fn add_announced<W: FallibleIterator>(walk: &W, sum: &mut Sum) {
 
 /// Adds an iterator: what it announces, its items, and its end, which is asked for three times
 /// more.
-pub(crate) fn add_walk<W: FallibleIterator + Drop>(mut walk: W, sum: &mut Sum)
+pub(crate) fn add_walk<W: FallibleIterator>(mut walk: W, sum: &mut Sum)
 where
-    W::Item: Summed + Drop,
+    W::Item: Summed,
 {
     add_announced(&walk, sum);
     add_items(&mut walk, sum);

@@ -1,4 +1,4 @@
-"""Makes the tables lengths.rows and server_lengths.rows of crates/pgp_rows: `python3 expected/lengths.py ../pgp_rows/data`, in crates/pgp_hostile.
+"""Makes the tables lengths.rows and server_lengths.rows of crates/pgp_rows: `python3 expected/lengths.py ../../../crates/pgp_rows/data`, in tests/rust/hostile.
 
 Written from the manual's "Message Formats" (the message `v` from this project's profile of protocol 3.2) and from what PostgreSQL's `array_send`, `hstore_send`, `path_send`, `range_send`,
 `varbit_send`, `network_send` (of `inet` and `cidr`), `record_send`, `multirange_send`, `poly_send`, `pg_snapshot_send`, `tsvectorsend`, `tsquerysend` and `numeric_send` write, and not from the code of this repository. Which refusal comes for what is the table of refusals in the
@@ -13,7 +13,7 @@ from streams import Parts, Refused
 
 HEAD = """# %s in which a length or a count is replaced: by the least and the greatest of its field, 0, 1, -1, the bytes that
 # are left behind it, and one more. How a row is written: README.md. Made by
-# crates/pgp_hostile/expected/lengths.py.
+# tests/rust/hostile/expected/lengths.py.
 """
 
 
