@@ -155,7 +155,7 @@ fn columns_of_42(buf: &mut BytesMut) -> Result<usize, Error> {
     let mut count = 0usize;
     for value in &row_int4(Global, &row)? {
         if *value == Some(Ok(42)) {
-            count = count.saturating_add(1);
+            count += 1;
         }
     }
     Ok(count)

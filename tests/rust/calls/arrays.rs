@@ -27,7 +27,7 @@ fn a_serializer_refuses() {
             23,
             1..6u32,
             |n: u32, buf: &mut BytesMut| -> Result<IsNull, u32> {
-                calls = calls.saturating_add(1);
+                calls += 1;
                 if buf.append(b"abc").is_err() || n == k {
                     return Err(n);
                 }

@@ -125,7 +125,7 @@ fn the_item_past_the_count_is_not_serialized() {
         let mut buf = BytesMut::new();
         let mut calls = 0u32;
         let item = |_: u32, buf: &mut BytesMut| -> Result<(), Error> {
-            calls = calls.saturating_add(1);
+            calls += 1;
             put_u8(buf, b'a')
         };
         let answer = write_counted(0..items, item, &mut buf);

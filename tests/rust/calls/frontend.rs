@@ -80,7 +80,7 @@ fn bind_counted(portal: &str, statement: &str, values: u32, buf: &mut BytesMut) 
         None::<i16>,
         0..values,
         |_: u32, buf: &mut BytesMut| -> Result<IsNull, Error> {
-            calls = calls.saturating_add(1);
+            calls += 1;
             if calls % 2 == 0 {
                 put_u32(buf, calls)?;
                 Ok(IsNull::No)

@@ -39,7 +39,7 @@ fn put_record(number: i32, buf: &mut BytesMut) -> Result<IsNull, BindError<Error
 
 // An array of two such records, of a number and the next, as a value that is never a null.
 fn put_records(first: i32, buf: &mut BytesMut) -> Result<IsNull, BindError<BindError<Error>>> {
-    let numbers = [first, first.saturating_add(1)];
+    let numbers = [first, first + 1];
     let answer = array_to_sql(
         Some(ArrayDimension { len: 2, lower_bound: 1 }),
         RECORD,
@@ -78,7 +78,7 @@ fn a_field_refuses() {
         let answer = record_values_to_sql(
             fields.iter().copied(),
             |n: u32, buf: &mut BytesMut| -> Result<IsNull, u32> {
-                calls = calls.saturating_add(1);
+                calls += 1;
                 if buf.append(b"abc").is_err() || n == k {
                     return Err(n);
                 }

@@ -19,7 +19,7 @@ fn weighed(mut walk: impl FallibleIterator<Item = u32>) -> (u32, u64) {
                 break;
             }
         };
-        items = items.saturating_add(1);
+        items += 1;
         sum = sum.saturating_add(item.into());
     }
     (items, sum)

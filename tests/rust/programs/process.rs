@@ -22,11 +22,8 @@ impl Words<'_> {
 
 impl Env for Words<'_> {
     fn arg(&self, i: usize, buf: &mut [u8]) -> Result<usize, FillError> {
-        let word = match self.word(i) {
-            Some(word) => word,
-            _ => {
-                return Err(FillError::NotPresent);
-            }
+        let Some(word) = self.word(i) else {
+            return Err(FillError::NotPresent);
         };
         let n = word.len();
         if buf.len() < n {

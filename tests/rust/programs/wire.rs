@@ -106,7 +106,7 @@ fn nothing_is_written_where_a_read_fails() {
 /// Where a writer fails, it took a front; behind the last byte comes the flush.
 fn writes_fronts(ran: &Ran) {
     let len = ran.output.len();
-    for left in 0..=len.saturating_add(1) {
+    for left in 0..=len + 1 {
         let mut input = ran.input;
         let mut output = FailingWriter {
             left,

@@ -141,7 +141,7 @@ fn text_of(name: u64, fails: bool) -> String {
 /// sent.
 fn ask(connection: &mut Connection<'_>, dice: &mut Dice, name: u64) -> Option<u64> {
     let text = text_of(name, dice.below(5) == 0);
-    let portal = text_of(name.saturating_add(2), dice.below(5) == 0);
+    let portal = text_of(name + 2, dice.below(5) == 0);
     send(connection, dice, &text, &portal)
 }
 
@@ -185,13 +185,13 @@ impl Tally {
     fn count(&mut self, event: Event, message: &Message<Bytes>) {
         match (event, message) {
             (Event::Part(name), Message::DataRow(row)) => {
-                self.rows = self.rows.saturating_add(1);
+                self.rows += 1;
                 let text = text_of(name, false);
                 if !has_text(row, text.as_bytes()) {
-                    self.astray = self.astray.saturating_add(1);
+                    self.astray += 1;
                 }
             }
-            (_, Message::ErrorResponse(_)) => self.failed = self.failed.saturating_add(1),
+            (_, Message::ErrorResponse(_)) => self.failed = self.failed + 1,
             _ => {}
         }
     }
@@ -230,7 +230,7 @@ fn delivered(connection: &mut Connection<'_>, bytes: &[u8], dice: &mut Dice, tal
         if rest.is_empty() {
             return true;
         }
-        let cut = dice.below(40).saturating_add(1);
+        let cut = dice.below(40) + 1;
         let (piece, more) = rest.split_at(rest.len().min(cut as usize));
         if connection.feed(piece).is_err() || !hears(connection, tally) {
             return false;
@@ -263,7 +263,7 @@ fn is_played(connection: &mut Connection<'_>, server: &mut Server, seed: u64, ta
     let mut name = 1_u64;
     for _ in 0..dice.below(12) {
         match ask(connection, &mut dice, name) {
-            Some(last) => name = last.saturating_add(1),
+            Some(last) => name = last + 1,
             None => met = false,
         }
         if dice.below(3) == 0 {

@@ -20,18 +20,12 @@ const ARRAYS: &[u8; 134] = b"D\x00\x00\x00\x85\x00\x05\
 
 #[test]
 fn arrays_are_lists() -> Result<(), Fail> {
-    let row = match front_row(ARRAYS) {
-        Some((row, _)) => row,
-        _ => {
-            return Err(Error::UnexpectedEof.into());
-        }
+    let Some((row, _)) = front_row(ARRAYS) else {
+        return Err(Error::UnexpectedEof.into());
     };
     let index = row.index(Global)?;
-    let list = match list_of::<i32>(Global, &index, 0) {
-        Ok(Some(list)) => list,
-        _ => {
-            return Err(Error::UnexpectedEof.into());
-        }
+    let Ok(Some(list)) = list_of::<i32>(Global, &index, 0) else {
+        return Err(Error::UnexpectedEof.into());
     };
     assert_eq!(list.as_slice(), [Some(7), None].as_slice());
     let size = size_of(&index, 1);

@@ -113,11 +113,8 @@ fn pieces_complete_frames() -> Result<(), Fail> {
 
 #[test]
 fn columns_of_a_row() -> Result<(), Fail> {
-    let (row, rest) = match front_row(ROW) {
-        Some((row, rest)) => (row, rest),
-        _ => {
-            return Err(Error::UnexpectedEof.into());
-        }
+    let Some((row, rest)) = front_row(ROW) else {
+        return Err(Error::UnexpectedEof.into());
     };
     assert_eq!(rest, b"Z\x00\x00\x00\x05I".as_slice());
     let index = row.index(Global)?;

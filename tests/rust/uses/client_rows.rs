@@ -29,7 +29,7 @@ fn rows_of(connection: &mut Connection<'_>, name: u64) -> (u64, bool) {
         match next_row(connection, name) {
             Ok(Received::Row(row)) => {
                 drop(row);
-                rows = rows.saturating_add(1);
+                rows += 1;
             }
             Ok(Received::Failed(_, error)) => drop(error),
             Ok(Received::Other(_)) => {}

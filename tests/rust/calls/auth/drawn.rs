@@ -72,10 +72,10 @@ fn a_thousand_exchanges_meet() {
     let mut refused = 0u32;
     for number in 0..500u32 {
         if meets(number, b"pencil", &mut rng) == Some(true) {
-            met = met.saturating_add(1);
+            met += 1;
         }
         if meets(number, b"pencils", &mut rng) == Some(false) {
-            refused = refused.saturating_add(1);
+            refused += 1;
         }
     }
     assert_eq!(met, 500);
