@@ -62,7 +62,7 @@ fn the_upper_side_is_not_asked_behind_a_refusal() {
     let mut calls = 0u32;
     let answer = range_to_sql(
         |_: &mut BytesMut| -> Result<RangeBound<IsNull>, u8> { Err(1) },
-        |buf: &mut BytesMut| -> Result<RangeBound<IsNull>, u8> {
+        |_: &mut BytesMut| -> Result<RangeBound<IsNull>, u8> {
             calls += 1;
             Ok(RangeBound::Unbounded)
         },
