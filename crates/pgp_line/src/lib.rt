@@ -1,5 +1,5 @@
 //! What the programs stand on: how a message stands in a line (its parts, quoted by characters that a terminal prints or as JSON, with secrets
-//! hidden), writers that tell what they took, the words that a process was started with, and how a run ends.
+//! hidden), readers and writers, the words that a process was started with, and how a run ends.
 #![tactic(auto)]
 
 pub mod characters;

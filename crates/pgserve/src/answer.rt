@@ -6,7 +6,7 @@ use crate::asked::{
 use crate::binary::{Unwritten, value_in};
 use crate::bound::{Bound, is_sent};
 use crate::copy::put_copy_out;
-use crate::extended::are_formats;
+use crate::input::are_formats;
 use crate::outbox::{Outbox, push};
 use crate::script::{Column, End, Statement};
 use crate::types::PLAIN_TEXT;

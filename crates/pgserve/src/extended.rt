@@ -47,16 +47,6 @@ fn types_of(named: &[Oid], scripted: &[Oid], out: &mut Outbox) -> Option<Vec<Oid
     Some(types)
 }
 
-/// Whether each is text or binary.
-pub(crate) fn are_formats(formats: &[i16]) -> bool {
-    for format in formats {
-        if *format != 0 && *format != 1 {
-            return false;
-        }
-    }
-    true
-}
-
 /// The portal that a binding of a statement opens, where so many savepoints are.
 fn portal_of(plan: &Plan, binding: &Binding<'_>, depth: usize, out: &mut Outbox) -> Portal {
     Portal {

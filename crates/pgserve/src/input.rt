@@ -5,7 +5,7 @@
 use crate::answer::format_of;
 use crate::asked::{Refusal, bad_format, not_utf8, violation};
 use crate::binary::{Unwritten, value_in};
-use crate::extended::{Binding, are_formats};
+use crate::extended::Binding;
 use crate::outbox::Outbox;
 use crate::types::{
     BOOL, BPCHAR, FLOAT4, FLOAT8, INT2, INT4, INT8, JSON, JSONB, NAME, NUMERIC, TEXT, UUID,
@@ -206,4 +206,14 @@ pub(crate) fn rejects_values<'m>(
         }
     }
     None
+}
+
+/// Whether each is text or binary.
+pub(crate) fn are_formats(formats: &[i16]) -> bool {
+    for format in formats {
+        if *format != 0 && *format != 1 {
+            return false;
+        }
+    }
+    true
 }
