@@ -89,6 +89,63 @@ pgp_status pgp_login_final(struct pgp_login *login, const void *server_final, si
 pgp_status pgp_login_ok(struct pgp_login *login, uint8_t ways);
 
 /*
+ * A client's connection: the log-in, which message answers which request, and what the server says of its session, in one struct of the
+ * caller's, all 0 at first but for its memory for requests:
+ *     struct pgp_slot slots[64] = {{0, 0}};
+ *     struct pgp_connection connection = {{slots, 64, 0, 0, 0, 0}, 0, 0, false, 0, {0, {0}}, {0}};
+ * The caller moves the bytes: what it sends is written by pgp_stream_* or the single writers, and asked; what came is taken a message at a time.
+ *   pgp_connection_ask   takes note of a request, in the order in which they are sent: the startup packet first, and others once the log-in is done.
+ *                        PGP_E_WRONG_PHASE where the request may not be sent: before that, after the end, and while the server awaits the data of a
+ *                        copy all but their end and Sync; a function call never. PGP_NO_ROOM where the array is full (move it to a longer one, and ask
+ *                        again), PGP_E_KIND for no request. Then nothing changes
+ *   pgp_connection_take  takes the message at the front of the bytes: `taken` says to which request it belongs, and how many bytes it has; what it
+ *                        says, pgp_front reads of the same bytes. In the log-in the reply stands in `out`, a whole message, if *written isn't 0
+ *   pgp_connection_is_idle     whether no request awaits an answer
+ *   pgp_connection_is_copying  whether data of a copy to the server may be sent
+ * On any status but PGP_OK *written is 0, and `out` and *taken are as they were. PGP_MORE: read more, and call again. PGP_NO_ROOM: malloc failed, or
+ * `out` is too small: call again with the same bytes and more room (PGP_CONNECTION_ROOM is enough). All others end the connection:
+ *   PGP_E_WRONG_PHASE                it was over
+ *   PGP_CONNECTION_TOO_LONG          a message is announced that is longer than `limit`, or before the log-in is done than 30,000 bytes
+ *   those of pgp_front               what came is no message. A FunctionCallResponse and a CopyBothResponse aren't read
+ *   PGP_E_UNEXPECTED, _UNCERTAIN     the message has no place there, as pgp_dialogue_take has it
+ *   PGP_LOGIN_UNDUE                  a setting, a notice or a notification came before the log-in is done, or an answer about versions that isn't due:
+ *                                    one is, right behind the startup packet, where the server speaks 3.0 and rejects no option
+ *   PGP_CONNECTION_NO_STATUS         a ReadyForQuery has another status than I, T and E
+ *   those of pgp_login_*             the log-in, by the ways that are admitted; PGP_LOGIN_NOT_ADMITTED also where the server offers to bind SCRAM to a channel
+ *                                    that isn't encrypted, unless the exchange is bound: encryption may have been taken away on the way
+ * A setting isn't kept, but for the caller to read of its message: it has the table of the names that it wants.
+ */
+struct pgp_ways {
+    struct pgp_bytes user, password;       /* of MD5; the password that is sent, or prepared by pgp_saslprep for SCRAM */
+    struct pgp_bytes certificate, nonce;   /* of SCRAM, as for the calls above; the same in each call */
+    uint32_t least_rounds;                 /* of SCRAM; 0 is taken for 1 */
+    uint32_t limit;                        /* how long a message may be, but for its tag; UINT32_MAX: any */
+    uint8_t ways;                          /* those that are admitted, PGP_WAY_.. */
+    uint8_t kind;                          /* of the channel binding */
+    bool is_encrypted;                     /* the connection has TLS */
+};
+struct pgp_connection {
+    struct pgp_dialogue dialogue;
+    size_t key_len;                        /* of the secret_key; 0 before it came */
+    int32_t process_id;                    /* for pgp_cancel_request */
+    bool is_over;                          /* the session has ended, or an error ended it; to be set where Terminate was sent */
+    uint8_t status;                        /* I, T or E, as the last ReadyForQuery says; 0 before the first */
+    struct pgp_login login;                /* login.phase is PGP_LOGIN_DONE once the server has let the client in */
+    uint8_t secret_key[256];
+};
+struct pgp_taken {
+    uint64_t name;                         /* of the request that is answered; 0 where there is none */
+    size_t frame;                          /* how many bytes the message has */
+    uint8_t what;                          /* PGP_PART, PGP_LAST, PGP_ASIDE or PGP_ENDED */
+};
+#define PGP_CONNECTION_ROOM(given, message_len) (2 * (given).certificate.len + (given).password.len + (given).nonce.len + (message_len) + 256)
+pgp_status pgp_connection_ask(struct pgp_connection *connection, uint8_t request, uint64_t name);
+pgp_status pgp_connection_take(struct pgp_connection *connection, const struct pgp_ways *ways, const void *bytes, size_t len,
+                               uint8_t *out, size_t room, size_t *written, struct pgp_taken *taken);
+pgp_status pgp_connection_is_idle(const struct pgp_connection *connection, bool *idle);
+bool pgp_connection_is_copying(const struct pgp_connection *connection);
+
+/*
  * The server's side, in two calls that keep nothing between them. The caller keeps the stored verifier (`SCRAM-SHA-256$4096:..`), its own part
  * of the nonce, new for each exchange, and the client's first text.
  *   pgp_scram_server_first  what to send in PGP_AUTHENTICATION_SASL_CONTINUE. PGP_SCRAM_UNSUPPORTED_BINDING, PGP_SCRAM_INVALID_FIRST: no first

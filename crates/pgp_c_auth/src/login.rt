@@ -22,38 +22,38 @@ pub struct PgpLogin {
     pub signature: [u8; 32],
 }
 
-const AWAITS_REQUEST: u8 = 0;
+pub(crate) const AWAITS_REQUEST: u8 = 0;
 
-const AWAITS_FIRST: u8 = 1;
+pub(crate) const AWAITS_FIRST: u8 = 1;
 
-const AWAITS_FINAL: u8 = 2;
+pub(crate) const AWAITS_FINAL: u8 = 2;
 
-const AWAITS_WELCOME: u8 = 3;
+pub(crate) const AWAITS_WELCOME: u8 = 3;
 
-const DONE: u8 = 4;
+pub(crate) const DONE: u8 = 4;
 
 const BY_NONE: u8 = 1;
 
-const BY_CLEARTEXT: u8 = 2;
+pub(crate) const BY_CLEARTEXT: u8 = 2;
 
-const BY_MD5: u8 = 4;
+pub(crate) const BY_MD5: u8 = 4;
 
-const BY_SCRAM: u8 = 8;
+pub(crate) const BY_SCRAM: u8 = 8;
 
 /// The answer where the message isn't due.
-const UNDUE: u32 = 89;
+pub(crate) const UNDUE: u32 = 89;
 
 /// The answer where the way isn't admitted.
-const NOT_ADMITTED: u32 = 90;
+pub(crate) const NOT_ADMITTED: u32 = 90;
 
 /// The answer where the mechanism is another.
 const NOT_OFFERED: u32 = 91;
 
 /// The answer where the exchange is of too few rounds.
-const TOO_FEW_ROUNDS: u32 = 92;
+pub(crate) const TOO_FEW_ROUNDS: u32 = 92;
 
 /// Whether a request for this way may be answered: 0, or why not.
-fn declined(login: &PgpLogin, ways: u8, way: u8) -> u32
+pub(crate) fn declined(login: &PgpLogin, ways: u8, way: u8) -> u32
     ensures due { result ≡ 0 → (login.now.phase ≡ awaits_request) × IsAdmitted ways way }
     ensures why { result ≢ 0 → Declined login.now.phase ways way result }
 {
