@@ -75,9 +75,10 @@ int main(int argc, char **argv)
     to.sin_port = htons((uint16_t)atoi(argv[1]));
     fd = socket(AF_INET, SOCK_STREAM, 0);
     if (fd < 0 || connect(fd, (struct sockaddr *)&to, sizeof to) != 0) return fail("no connection");
-    if (pgp_stream_startup(&s, PGP_PROTOCOL_3_0, &user, 1) != PGP_OK || !ask(&connection, PGP_REQUEST_STARTUP, LOG_IN)) return fail("no startup");
-    for (;;) {
-        pgp_status status = pgp_connection_take(&connection, &ways, in, have, reply, sizeof reply, &n, &taken); /* the first message of the bytes that were read */
+    if (pgp_stream_startup(&s, PGP_PROTOCOL_3_0, &user, 1) != PGP_OK) return fail("no startup");
+    if (!ask(&connection, PGP_REQUEST_STARTUP, LOG_IN)) return fail("no startup");
+    for (;;) { /* each turn takes the first message of the bytes that were read */
+        pgp_status status = pgp_connection_take(&connection, &ways, in, have, reply, sizeof reply, &n, &taken);
         if (status == PGP_MORE) {
             ssize_t got = have < sizeof in ? read(fd, in + have, sizeof in - have) : 0;
             if (got <= 0) return fail("the connection was closed, or a message is too long");
@@ -90,7 +91,7 @@ int main(int argc, char **argv)
         if (!send_all(reply, n)) return fail("the connection was closed"); /* what the log-in answers */
         if (taken.name == LOG_IN && taken.what == PGP_LAST) {
             status = pgp_stream_query(&s, argv[3], strlen(argv[3]));
-            if (status == PGP_OK && !ask(&connection, PGP_REQUEST_QUERY, ROWS)) return fail("the connection was closed");
+            if (status == PGP_OK && !ask(&connection, PGP_REQUEST_QUERY, ROWS)) return fail("no query");
         } else if (taken.name == ROWS && m.kind == PGP_DATA_ROW) {
             status = print_row(&m);
         } else if (taken.name == ROWS && taken.what == PGP_LAST) {

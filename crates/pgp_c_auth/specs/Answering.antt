@@ -1,6 +1,6 @@
 -- What a client's log-in answers to each message of a server.
 -- PostgreSQL manual, "Message Flow": "Start-up"; "SASL Authentication"; RFC 5802, RFC 7677.
-use Rattle.std.specs.Prelude.{◌≡◌, ◌≢◌, ◌⊎◌, ℕ, ◌<◌, Bool, false, List, length, Contains, codes, Option, Some, None, ◌==◌, if◌then◌else◌}
+use Rattle.std.specs.Prelude.{◌≡◌, ◌≢◌, ◌⊎◌, ℕ, ◌++◌, false, List, Contains, codes, Option, Some, None, ◌==◌, if◌then◌else◌}
 use Rattle.pgp_base.specs.Error.{number_of}
 use Rattle.pgp_base.specs.Items.{MarkedItems}
 use Rattle.pgp_base.specs.declared.error.Error.{Error}
@@ -10,7 +10,6 @@ use Rattle.pgp_frontend.specs.ClientMessage.{ClientMessage, PasswordMessage, Sas
 use Rattle.pgp_frontend.specs.Payload.{bytes_of, cause, IsInRange}
 use Rattle.pgp_message.specs.BackendMessage.{Message, Authentication, AuthenticationOk, AuthenticationCleartextPassword, AuthenticationMd5Password, AuthenticationSasl, AuthenticationSaslContinue, AuthenticationSaslFinal}
 use Rattle.pgp_message.specs.Items.{TextSpelled, TextRefused}
-use Rattle.pgp_c_auth.specs.Delivering.{Delivered}
 use Rattle.pgp_c_auth.specs.Login.{Asked, Came, Declined, IsAdmitted, MayWelcome, at_phase, awaits_final, awaits_first, awaits_request, awaits_welcome, by_cleartext, by_md5, by_none, by_scram, done}
 use Rattle.pgp_c_auth.specs.Scram.{AnswersWith, BeginRefused, FirstText, NotAnswered, ShownRefused, Start, start}
 use Rattle.pgp_c_auth.specs.declared.asking.Asking.{Asking as Reported}
@@ -85,47 +84,44 @@ pub data Answers (w : PgpWays) (old : PgpLogin) : Asking → Option ClientMessag
 
 -- ---- the reply
 
--- the message has a spelling, which is handed over
-pub record Sends (m : ClientMessage) (old new : List ℕ) (written : ℕ) : Type 0 where
+-- the message has a spelling, which was appended
+pub record Added (m : ClientMessage) (old new : List ℕ) : Type 0 where
   pub in_range : IsInRange m
   pub none : cause m ≡ None
-  pub delivered : Delivered (bytes_of m) old new written
+  pub bytes : new ≡ old ++ bytes_of m
 
--- no memory, no room, or the message's cause
-abbrev pub Unsent : Type 0 → ClientMessage → List ℕ → ℕ → Type 0
-Unsent lacks m old code = ((code ≡ 1) × (lacks ⊎ (length old < length (bytes_of m)))) ⊎ ((e : Error) × (cause m ≡ Some e) × (code ≡ number_of e))
+-- it wasn't, for want of memory or for its cause
+abbrev pub Unsent : Type 0 → ClientMessage → ℕ → Type 0
+Unsent lacks m code = ((code ≡ 1) × lacks) ⊎ ((e : Error) × (cause m ≡ Some e) × (code ≡ number_of e))
 
--- the reply is handed over, or there is none
-abbrev pub Replied : Option ClientMessage → List ℕ → List ℕ → ℕ → Type 0
-Replied None old new written = (written ≡ 0) × (new ≡ old)
-Replied (Some m) old new written = Sends m old new written
+-- the reply was appended, or there is none
+abbrev pub AddsReply : Option ClientMessage → List ℕ → List ℕ → Type 0
+AddsReply None old new = new ≡ old
+AddsReply (Some m) old new = Added m old new
 
--- What was asked is answered so, and the reply handed over.
-pub record HasAnswered (w : PgpWays) (asked : Asking) (old new : PgpLogin) (out after : List ℕ) (written : ℕ) : Type 0 where
+-- What was asked is answered so, and the reply appended.
+pub record HasAnswered (w : PgpWays) (asked : Asking) (old new : PgpLogin) (out grown : List ℕ) : Type 0 where
   pub reply : Option ClientMessage
   pub answers : Answers w old asked reply new
-  pub replied : Replied reply out after written
+  pub adds : AddsReply reply out grown
 
 -- ---- why there is none
 
 -- a text of this kind isn't sent in this message
-abbrev pub UnsentText : Type 0 → (List ℕ → Type 0) → (List ℕ → ClientMessage) → List ℕ → ℕ → Type 0
-UnsentText lacks Is message old code = (text : List ℕ) × Is text × Unsent lacks (message text) old code
+abbrev pub UnsentText : Type 0 → (List ℕ → Type 0) → (List ℕ → ClientMessage) → ℕ → Type 0
+UnsentText lacks Is message code = (text : List ℕ) × Is text × Unsent lacks (message text) code
 
-module _ (lacks : Type 0) (w : PgpWays) (old : PgpLogin) (out : List ℕ) (code : ℕ) where
-  -- the mechanisms that are offered aren't the exchange's, or it may be stripped of its channel binding
-  abbrev pub NotOffered : List ℕ → Type 0
-  NotOffered mechanisms = ((code ≡ 91) × ¬ Lists (mechanism w.kind) mechanisms) ⊎ ((code ≡ 90) × IsStripped w mechanisms)
-
-  -- Why what is asked isn't answered, as the code says.
+-- Why what is asked isn't answered, as the code says.
+module _ (lacks : Type 0) (w : PgpWays) (old : PgpLogin) (code : ℕ) where
   abbrev pub NotAnsweredFor : Asking → Type 0
   NotAnsweredFor Nothing = ⊥
-  NotAnsweredFor Cleartext = Declined old.phase w.ways by_cleartext code ⊎ Unsent lacks (PasswordMessage w.password.now) out code
-  NotAnsweredFor (Md5 salt) = Declined old.phase w.ways by_md5 code ⊎ (((code ≡ 1) × lacks) ⊎ Unsent lacks (PasswordMessage (md5_answer w.user.now w.password.now salt)) out code)
-  NotAnsweredFor (Sasl mechanisms) = Declined old.phase w.ways by_scram code ⊎ (NotOffered mechanisms
-      ⊎ (BeginRefused lacks (start_of w) code ⊎ UnsentText lacks (FirstText (start_of w)) (initial w.kind) out code))
+  NotAnsweredFor Cleartext = Declined old.phase w.ways by_cleartext code ⊎ Unsent lacks (PasswordMessage w.password.now) code
+  NotAnsweredFor (Md5 salt) = Declined old.phase w.ways by_md5 code ⊎ Unsent lacks (PasswordMessage (md5_answer w.user.now w.password.now salt)) code
+  -- the mechanisms that are offered aren't the exchange's, or it may be stripped of its channel binding
+  NotAnsweredFor (Sasl mechanisms) = Declined old.phase w.ways by_scram code ⊎ (((code ≡ 91) × ¬ Lists (mechanism w.kind) mechanisms) ⊎ (((code ≡ 90) × IsStripped w mechanisms)
+      ⊎ (BeginRefused lacks (start_of w) code ⊎ UnsentText lacks (FirstText (start_of w)) (initial w.kind) code)))
   NotAnsweredFor (First text) = ((code ≡ 89) × (old.phase ≢ awaits_first)) ⊎ (((code ≡ 92) × AsksFewer w.least_rounds text)
-      ⊎ (((place : ℕ) × NotAnswered lacks (start_of w) text code place) ⊎ UnsentText lacks (λ answer. (signature : List ℕ) × AnswersWith (start_of w) text signature answer) SaslResponse out code))
+      ⊎ (((place : ℕ) × NotAnswered lacks (start_of w) text code place) ⊎ UnsentText lacks (λ answer. (signature : List ℕ) × AnswersWith (start_of w) text signature answer) SaslResponse code))
   NotAnsweredFor (Final text) = ((code ≡ 89) × (old.phase ≢ awaits_final)) ⊎ ((place : ℕ) × ShownRefused lacks old.signature text code place)
   NotAnsweredFor Welcome = ((code ≡ 89) × (old.phase ≢ awaits_request) × (old.phase ≢ awaits_welcome)) ⊎ ((code ≡ 90) × (old.phase ≡ awaits_request) × ¬ IsAdmitted w.ways by_none)
   NotAnsweredFor Other = ((code ≡ 89) × (old.phase ≢ awaits_request)) ⊎ ((code ≡ 90) × (old.phase ≡ awaits_request))

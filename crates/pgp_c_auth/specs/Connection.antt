@@ -20,6 +20,7 @@ use Rattle.pgp_message.specs.Parts.{KeyData}
 use Rattle.pgp_message.specs.Remembered.{header_of}
 use Rattle.pgp_message.specs.Stream.{IsPartial, Step, TakesFrame}
 use Rattle.pgp_c_auth.specs.Answering.{HasAnswered, NotAnsweredFor, asking}
+use Rattle.pgp_c_auth.specs.Delivering.{Delivered}
 use Rattle.pgp_c_auth.specs.Login.{awaits_request, done}
 use Rattle.pgp_c_auth.specs.declared.asking.PgpWays.{PgpWays}
 use Rattle.pgp_c_auth.specs.declared.connection.PgpConnection.{PgpConnection}
@@ -96,6 +97,13 @@ abbrev pub lacks_status : Message → Bool
 lacks_status (ReadyForQuery s) = not (is_status s)
 lacks_status m = false
 
+-- it may come now, with a status that is one
+abbrev pub FitsAt : PgpLogin → Bool → Message → Type 0
+FitsAt l first m = IsTimely (is_done l) first m × (lacks_status m ≡ false)
+
+abbrev pub IsFit : Link → Message → Type 0
+IsFit c m = FitsAt c.login (is_between c.talk) m
+
 abbrev pub is_end : Event → Bool
 is_end Ended = true
 is_end e = false
@@ -123,14 +131,6 @@ refusal_at n = if n == 36 then Some Unexpected else (if n == 37 then Some Uncert
 abbrev pub noted : Message → Event → Link → Link
 noted m e c = record { is_over = is_end e; login = c.login; talk = c.talk; status = status_after m c.status; key = key_after m c.key }
 
--- The message was attributed so, the log-in answered it, and what it says was noted.
-pub record Took (w : PgpWays) (m : Message) (old new : Link) (e : Event) (out after : List ℕ) (written : ℕ) : Type 0 where
-  pub taken : taken old.talk (kind_of m) ≡ Ok (e, new.talk)
-  pub due : ComesInTime old m
-  pub sound : lacks_status m ≡ false
-  pub logged : HasAnswered w (asking m) old.login new.login out after written
-  pub is : new ≡ noted m e (record { is_over = old.is_over; login = new.login; talk = new.talk; status = old.status; key = old.key })
-
 -- the same with this dialogue; and over
 abbrev pub with_talk : Talk → Link → Link
 with_talk t c = record { is_over = c.is_over; login = c.login; talk = t; status = c.status; key = c.key }
@@ -141,22 +141,35 @@ ended c = record { is_over = true; login = c.login; talk = c.talk; status = c.st
 abbrev pub with_key : KeyData → Link → Link
 with_key k c = record { is_over = c.is_over; login = c.login; talk = c.talk; status = c.status; key = k }
 
--- lack of memory or room doesn't end it
-abbrev pub stopped : ℕ → Link → Link
-stopped code c = if code == 1 then c else ended c
+abbrev pub with_login : PgpLogin → Link → Link
+with_login l c = record { is_over = c.is_over; login = l; talk = c.talk; status = c.status; key = c.key }
 
--- Why a message isn't taken, and what is left: it isn't attributed, so that no message is any more; it comes before the log-in is done; its status is none; or the log-in
--- doesn't answer it. That ends the connection; but where memory or room was lacking for the reply, the message may be taken again.
-pub data Rejects (lacks : Type 0) (w : PgpWays) (m : Message) (out : List ℕ) (old : Link) : Link → ℕ → Type 0 where
-  Misplaced : (r : Refusal) (t : Talk) {new : Link} {code : ℕ} → taken old.talk (kind_of m) ≡ Err r → t.stage ≡ Over → refusal_at code ≡ Some r → new ≡ ended (with_talk t old) → Rejects lacks w m out old new code
-  Untimely : (e : Event) (t : Talk) {new : Link} {code : ℕ} → taken old.talk (kind_of m) ≡ Ok (e, t) → ¬ ComesInTime old m → code ≡ 89 → new ≡ ended (with_talk t old) → Rejects lacks w m out old new code
-  NoStatus : (e : Event) (t : Talk) {new : Link} {code : ℕ} → taken old.talk (kind_of m) ≡ Ok (e, t) → ComesInTime old m → lacks_status m ≡ true → code ≡ 93 → new ≡ ended (with_talk t old) → Rejects lacks w m out old new code
-  Unanswered : (e : Event) (t : Talk) {new : Link} {code : ℕ} → taken old.talk (kind_of m) ≡ Ok (e, t) → ComesInTime old m → lacks_status m ≡ false → NotAnsweredFor lacks w old.login out code (asking m)
-      → new ≡ stopped code (with_talk t old) → Rejects lacks w m out old new code
+-- The message was attributed so, the log-in answered it, and what it says was noted.
+pub record Took (w : PgpWays) (m : Message) (old new : Link) (e : Event) (reply : List ℕ) : Type 0 where
+  pub taken : taken old.talk (kind_of m) ≡ Ok (e, new.talk)
+  pub fit : IsFit old m
+  pub logged : HasAnswered w (asking m) old.login new.login [] reply
+  pub is : new ≡ noted m e (with_login new.login (with_talk new.talk old))
 
--- the same of a message of so many bytes, with what is reported of it
+-- why a message has no place before the dialogue is asked: it comes too early, its status is none, or the log-in doesn't answer it
+abbrev pub NotRepliedTo : Type 0 → PgpWays → PgpLogin → Bool → Message → ℕ → Type 0
+NotRepliedTo lacks w l first m code = ((code ≡ 89) × ¬ IsTimely (is_done l) first m) ⊎ (((code ≡ 93) × IsTimely (is_done l) first m × (lacks_status m ≡ true))
+    ⊎ (FitsAt l first m × NotAnsweredFor lacks w l code (asking m)))
+
+-- Why a message isn't taken, and what is left. Where memory or room was lacking for the reply, nothing changes. All others end the connection: it isn't attributed, so that no
+-- message is any more; it comes before the log-in is done; its status is none; or the log-in doesn't answer it.
+pub data Rejects (lacks : Type 0) (w : PgpWays) (m : Message) (room : ℕ) (old : Link) : Link → ℕ → Type 0 where
+  NoMemory : {new : Link} {code : ℕ} → IsFit old m → NotAnsweredFor lacks w old.login code (asking m) → code ≡ 1 → new ≡ old → Rejects lacks w m room old new code
+  NoRoom : (l : PgpLogin) (reply : List ℕ) {new : Link} {code : ℕ} → IsFit old m → HasAnswered w (asking m) old.login l [] reply → room < length reply → code ≡ 1 → new ≡ old → Rejects lacks w m room old new code
+  Misplaced : (r : Refusal) (t : Talk) {new : Link} {code : ℕ} → taken old.talk (kind_of m) ≡ Err r → t.stage ≡ Over → refusal_at code ≡ Some r → new ≡ ended (with_talk t old) → Rejects lacks w m room old new code
+  Untimely : (e : Event) (t : Talk) {new : Link} {code : ℕ} → taken old.talk (kind_of m) ≡ Ok (e, t) → ¬ ComesInTime old m → code ≡ 89 → new ≡ ended (with_talk t old) → Rejects lacks w m room old new code
+  NoStatus : (e : Event) (t : Talk) {new : Link} {code : ℕ} → taken old.talk (kind_of m) ≡ Ok (e, t) → ComesInTime old m → lacks_status m ≡ true → code ≡ 93 → new ≡ ended (with_talk t old) → Rejects lacks w m room old new code
+  Unanswered : (e : Event) (t : Talk) {new : Link} {code : ℕ} → taken old.talk (kind_of m) ≡ Ok (e, t) → IsFit old m → NotAnsweredFor lacks w old.login code (asking m) → code ≢ 1 → new ≡ ended (with_talk t old)
+      → Rejects lacks w m room old new code
+
+-- the same of a message of so many bytes, with what is reported of it, and the reply handed over
 abbrev pub TookSo : PgpWays → Message → Link → Link → PgpTaken → ℕ → List ℕ → List ℕ → ℕ → Type 0
-TookSo w m old new said frame out after written = (e : Event) × Took w m old new e out after written × (said ≡ reported_as e frame)
+TookSo w m old new said frame out after written = (e : Event) × (reply : List ℕ) × Took w m old new e reply × (said ≡ reported_as e frame) × Delivered reply out after written
 
 -- The message at the front of the bytes was taken, within the limit, and this is reported of it.
 pub record TookNext (w : PgpWays) (bytes : List ℕ) (old new : Link) (said : PgpTaken) (out after : List ℕ) (written : ℕ) : Type 0 where
@@ -179,7 +192,7 @@ pub data TookNone (lacks broken : Type 0) (w : PgpWays) (bytes out : List ℕ) (
   -- what came is no message
   IsNone : (e : Error) (rest : List ℕ) {new : Link} {code : ℕ} → old.is_over ≡ false → is_longer (limit_of w old.login) bytes ≡ false → Step ⊥ bytes (Err e) rest → new ≡ ended old → code ≡ number_of e
       → TookNone lacks broken w bytes out old new code
-  Comes : (m : Message) (rest : List ℕ) {new : Link} {code : ℕ} → old.is_over ≡ false → is_longer (limit_of w old.login) bytes ≡ false → TakesFrame bytes (Ok m) rest → Rejects lacks w m out old new code
+  Comes : (m : Message) (rest : List ℕ) {new : Link} {code : ℕ} → old.is_over ≡ false → is_longer (limit_of w old.login) bytes ≡ false → TakesFrame bytes (Ok m) rest → Rejects lacks w m (length out) old new code
       → TookNone lacks broken w bytes out old new code
 
 -- ---- what may be asked

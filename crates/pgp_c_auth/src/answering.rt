@@ -1,18 +1,16 @@
-//! What a client's log-in answers to each message of a server, as a whole message in the caller's memory.
+//! What a client's log-in answers to each message of a server, as a whole message.
 
 ghost use Rattle.std.specs.Prelude.{◌≡◌, ◌≢◌, ◌⊎◌, ℕ, List};
 ghost use Rattle.pgp_auth.specs.Md5Text.{md5_answer};
 ghost use Rattle.pgp_auth.specs.ScramRefusal.{Verifies};
 ghost use Rattle.pgp_frontend.specs.ClientMessage.{PasswordMessage, SaslResponse};
 ghost use Rattle.pgp_frontend_read.specs.Views.{view};
-ghost use Rattle.pgp_c_auth.specs.Answering.{Cleartext, First, HasAnswered, Md5, NotAnsweredFor, Sasl, Sends, Unsent, UnsentText, initial, reported, start_of};
-ghost use Rattle.pgp_c_auth.specs.Delivering.{NotDelivered};
+ghost use Rattle.pgp_c_auth.specs.Answering.{Added, Cleartext, First, HasAnswered, Md5, NotAnsweredFor, Sasl, Unsent, UnsentText, initial, reported, start_of};
 ghost use Rattle.pgp_c_auth.specs.Login.{Came, awaits_final, awaits_request, awaits_welcome};
 ghost use Rattle.pgp_c_auth.specs.Scram.{AnswersWith, BeginRefused, FirstText, NotAnswered, ShownRefused};
 
 use crate::asking::{Asking, PgpWays, mechanism, unoffered};
 use crate::client::{answered, begun};
-use crate::deliver::{deliver, refused};
 use crate::login::{
     AWAITS_FINAL, AWAITS_FIRST, AWAITS_REQUEST, AWAITS_WELCOME, BY_CLEARTEXT, BY_MD5, BY_SCRAM,
     NOT_ADMITTED, PgpLogin, TOO_FEW_ROUNDS, UNDUE, declined, ended, pgp_login_ok,
@@ -24,26 +22,23 @@ use pgp_base::Memory;
 use pgp_frontend_read::{ClientMessage, forward};
 use pgp_message::AuthenticationSaslBody;
 
-/// What is asked is answered: 0 where it is, and the reply, if there is one, stands in the memory.
+/// What is asked is answered: 0 where it is, and the reply, if there is one, is appended.
 pub(crate) fn answer<A: Memory>(
     alloc: A,
     login: &mut PgpLogin,
     ways: &PgpWays<'_>,
     asked: Asking<'_>,
-    out: &mut [u8],
-    written: &mut usize,
+    out: &mut BytesMut<A>,
 ) -> u32
-    ensures answered { result ≡ 0 → HasAnswered ways.now (reported asked.entry) login.old login.new out.old out.new written.new }
-    ensures kept { result ≢ 0 → (login.new ≡ login.old) × NotDelivered out.old out.new written.new }
-    ensures why { result ≢ 0 → NotAnsweredFor A.Lacks ways.now login.old out.old result (reported asked.entry) }
+    ensures answered { result ≡ 0 → HasAnswered ways.now (reported asked.entry) login.old login.new out.old.items out.new.items }
+    ensures why { result ≢ 0 → NotAnsweredFor A.Lacks ways.now login.old result (reported asked.entry) }
 {
-    *written = 0;
     match asked {
         Asking::Nothing => 0,
-        Asking::Cleartext => cleartext(alloc, login, ways, out, written),
-        Asking::Md5(salt) => md5(alloc, login, ways, salt, out, written),
-        Asking::Sasl(body) => begin(alloc, login, ways, body, out, written),
-        Asking::First(text) => go_on(alloc, login, ways, text, out, written),
+        Asking::Cleartext => cleartext(login, ways, out),
+        Asking::Md5(salt) => md5(alloc, login, ways, salt, out),
+        Asking::Sasl(body) => begin(alloc, login, ways, body, out),
+        Asking::First(text) => go_on(alloc, login, ways, text, out),
         Asking::Final(text) => end(alloc, login, text),
         Asking::Welcome => pgp_login_ok(login, ways.ways),
         Asking::Other => other(login),
@@ -51,23 +46,15 @@ pub(crate) fn answer<A: Memory>(
 }
 
 /// The password is asked for in clear text.
-fn cleartext<A: Memory>(
-    alloc: A,
-    login: &mut PgpLogin,
-    ways: &PgpWays<'_>,
-    out: &mut [u8],
-    written: &mut usize,
-) -> u32
-    ensures answered { result ≡ 0 → HasAnswered ways.now Cleartext login.old login.new out.old out.new written.new }
-    ensures kept { result ≢ 0 → (login.new ≡ login.old) × NotDelivered out.old out.new written.new }
-    ensures why { result ≢ 0 → NotAnsweredFor A.Lacks ways.now login.old out.old result Cleartext }
+fn cleartext<A: Memory>(login: &mut PgpLogin, ways: &PgpWays<'_>, out: &mut BytesMut<A>) -> u32
+    ensures answered { result ≡ 0 → HasAnswered ways.now Cleartext login.old login.new out.old.items out.new.items }
+    ensures why { result ≢ 0 → NotAnsweredFor A.Lacks ways.now login.old result Cleartext }
 {
-    *written = 0;
     let unmet = declined(login, ways.ways, BY_CLEARTEXT);
     if unmet != 0 {
         return unmet;
     }
-    let code = send_password(alloc, ways.password, out, written);
+    let code = send_password(ways.password, out);
     if code != 0 {
         return code;
     }
@@ -81,19 +68,16 @@ fn md5<A: Memory>(
     login: &mut PgpLogin,
     ways: &PgpWays<'_>,
     salt: [u8; 4],
-    out: &mut [u8],
-    written: &mut usize,
+    out: &mut BytesMut<A>,
 ) -> u32
-    ensures answered { result ≡ 0 → HasAnswered ways.now (Md5 salt) login.old login.new out.old out.new written.new }
-    ensures kept { result ≢ 0 → (login.new ≡ login.old) × NotDelivered out.old out.new written.new }
-    ensures why { result ≢ 0 → NotAnsweredFor A.Lacks ways.now login.old out.old result (Md5 salt) }
+    ensures answered { result ≡ 0 → HasAnswered ways.now (Md5 salt) login.old login.new out.old.items out.new.items }
+    ensures why { result ≢ 0 → NotAnsweredFor A.Lacks ways.now login.old result (Md5 salt) }
 {
-    *written = 0;
     let unmet = declined(login, ways.ways, BY_MD5);
     if unmet != 0 {
         return unmet;
     }
-    let code = send_hash(alloc, ways.user, ways.password, salt, out, written);
+    let code = send_hash(alloc, ways.user, ways.password, salt, out);
     if code != 0 {
         return code;
     }
@@ -107,16 +91,14 @@ fn send_hash<A: Memory>(
     user: &[u8],
     password: &[u8],
     salt: [u8; 4],
-    out: &mut [u8],
-    written: &mut usize,
+    out: &mut BytesMut<A>,
 ) -> u32
-    ensures sent { result ≡ 0 → Sends (PasswordMessage (md5_answer user.now password.now salt)) out.old out.new written.new }
-    ensures refused { result ≢ 0 → NotDelivered out.old out.new written.new }
-    ensures why { result ≢ 0 → ((result ≡ 1) × A.Lacks) ⊎ Unsent A.Lacks (PasswordMessage (md5_answer user.now password.now salt)) out.old result }
+    ensures sent { result ≡ 0 → Added (PasswordMessage (md5_answer user.now password.now salt)) out.old.items out.new.items }
+    ensures why { result ≢ 0 → Unsent A.Lacks (PasswordMessage (md5_answer user.now password.now salt)) result }
 {
     match md5_hash(alloc, user, password, salt) {
-        Ok(hash) => send_password(alloc, hash.as_bytes(), out, written),
-        Err(e) => refused(e, written),
+        Ok(hash) => send_password(hash.as_bytes(), out),
+        Err(e) => u32::from(e.number()),
     }
 }
 
@@ -126,14 +108,11 @@ fn begin<A: Memory>(
     login: &mut PgpLogin,
     ways: &PgpWays<'_>,
     body: &AuthenticationSaslBody<&[u8]>,
-    out: &mut [u8],
-    written: &mut usize,
+    out: &mut BytesMut<A>,
 ) -> u32
-    ensures answered { result ≡ 0 → HasAnswered ways.now (Sasl body.now) login.old login.new out.old out.new written.new }
-    ensures kept { result ≢ 0 → (login.new ≡ login.old) × NotDelivered out.old out.new written.new }
-    ensures why { result ≢ 0 → NotAnsweredFor A.Lacks ways.now login.old out.old result (Sasl body.now) }
+    ensures answered { result ≡ 0 → HasAnswered ways.now (Sasl body.now) login.old login.new out.old.items out.new.items }
+    ensures why { result ≢ 0 → NotAnsweredFor A.Lacks ways.now login.old result (Sasl body.now) }
 {
-    *written = 0;
     let unmet = declined(login, ways.ways, BY_SCRAM);
     if unmet != 0 {
         return unmet;
@@ -142,7 +121,7 @@ fn begin<A: Memory>(
     if unmet != 0 {
         return unmet;
     }
-    let code = send_first(alloc, ways, out, written);
+    let code = send_first(alloc, ways, out);
     if code != 0 {
         return code;
     }
@@ -151,12 +130,10 @@ fn begin<A: Memory>(
 }
 
 /// The exchange's first text is sent.
-fn send_first<A: Memory>(alloc: A, ways: &PgpWays<'_>, out: &mut [u8], written: &mut usize) -> u32
-    ensures sent { result ≡ 0 → (text : List ℕ) × FirstText (start_of ways.now) text × Sends (initial ways.now.kind text) out.old out.new written.new }
-    ensures refused { result ≢ 0 → NotDelivered out.old out.new written.new }
-    ensures why { result ≢ 0 → BeginRefused A.Lacks (start_of ways.now) result ⊎ UnsentText A.Lacks (FirstText (start_of ways.now)) (initial ways.now.kind) out.old result }
+fn send_first<A: Memory>(alloc: A, ways: &PgpWays<'_>, out: &mut BytesMut<A>) -> u32
+    ensures sent { result ≡ 0 → (text : List ℕ) × FirstText (start_of ways.now) text × Added (initial ways.now.kind text) out.old.items out.new.items }
+    ensures why { result ≢ 0 → BeginRefused A.Lacks (start_of ways.now) result ⊎ UnsentText A.Lacks (FirstText (start_of ways.now)) (initial ways.now.kind) result }
 {
-    *written = 0;
     let client = match begun(
         alloc,
         ways.password,
@@ -170,7 +147,7 @@ fn send_first<A: Memory>(alloc: A, ways: &PgpWays<'_>, out: &mut [u8], written: 
     let Some(text) = client.message() else {
         unreachable!()
     };
-    send_initial(alloc, ways.kind, text, out, written)
+    send_initial(ways.kind, text, out)
 }
 
 /// The server's first text came: the exchange goes on, unless it asks for too few rounds.
@@ -179,14 +156,11 @@ fn go_on<A: Memory>(
     login: &mut PgpLogin,
     ways: &PgpWays<'_>,
     text: &[u8],
-    out: &mut [u8],
-    written: &mut usize,
+    out: &mut BytesMut<A>,
 ) -> u32
-    ensures answered { result ≡ 0 → HasAnswered ways.now (First text.now) login.old login.new out.old out.new written.new }
-    ensures kept { result ≢ 0 → (login.new ≡ login.old) × NotDelivered out.old out.new written.new }
-    ensures why { result ≢ 0 → NotAnsweredFor A.Lacks ways.now login.old out.old result (First text.now) }
+    ensures answered { result ≡ 0 → HasAnswered ways.now (First text.now) login.old login.new out.old.items out.new.items }
+    ensures why { result ≢ 0 → NotAnsweredFor A.Lacks ways.now login.old result (First text.now) }
 {
-    *written = 0;
     if login.phase != AWAITS_FIRST {
         return UNDUE;
     }
@@ -194,7 +168,7 @@ fn go_on<A: Memory>(
         return TOO_FEW_ROUNDS;
     }
     let mut signature = login.signature;
-    let code = send_final(alloc, ways, text, &mut signature, out, written);
+    let code = send_final(alloc, ways, text, &mut signature, out);
     if code != 0 {
         return code;
     }
@@ -211,15 +185,12 @@ fn send_final<A: Memory>(
     ways: &PgpWays<'_>,
     text: &[u8],
     signature: &mut [u8; 32],
-    out: &mut [u8],
-    written: &mut usize,
+    out: &mut BytesMut<A>,
 ) -> u32
-    ensures sent { result ≡ 0 → (answer : List ℕ) × AnswersWith (start_of ways.now) text.now signature.new answer × Sends (SaslResponse answer) out.old out.new written.new }
-    ensures refused { result ≢ 0 → NotDelivered out.old out.new written.new }
+    ensures sent { result ≡ 0 → (answer : List ℕ) × AnswersWith (start_of ways.now) text.now signature.new answer × Added (SaslResponse answer) out.old.items out.new.items }
     ensures why { result ≢ 0 → ((place : ℕ) × NotAnswered A.Lacks (start_of ways.now) text.now result place)
-        ⊎ UnsentText A.Lacks (λ answer. (signature : List ℕ) × AnswersWith (start_of ways.now) text.now signature answer) SaslResponse out.old result }
+        ⊎ UnsentText A.Lacks (λ answer. (signature : List ℕ) × AnswersWith (start_of ways.now) text.now signature answer) SaslResponse result }
 {
-    *written = 0;
     let mut at = 0;
     let client = match answered(
         alloc,
@@ -233,11 +204,14 @@ fn send_final<A: Memory>(
         Ok(client) => client,
         Err(code) => return code,
     };
-    let (Some(answer), Some(awaited)) = (client.message(), client.signature()) else {
+    let Some(awaited) = client.signature() else {
         unreachable!()
     };
     *signature = awaited;
-    send_response(alloc, answer, out, written)
+    let Some(answer) = client.message() else {
+        unreachable!()
+    };
+    send_response(answer, out)
 }
 
 /// The server's final text came, which has to show its signature.
@@ -263,56 +237,40 @@ fn other(login: &PgpLogin) -> u32
 }
 
 /// A password, or what stands for one, is sent.
-fn send_password<A: Memory>(alloc: A, text: &[u8], out: &mut [u8], written: &mut usize) -> u32
-    ensures sent { result ≡ 0 → Sends (PasswordMessage text.now) out.old out.new written.new }
-    ensures refused { result ≢ 0 → NotDelivered out.old out.new written.new }
-    ensures why { result ≢ 0 → Unsent A.Lacks (PasswordMessage text.now) out.old result }
+fn send_password<A: Memory>(text: &[u8], out: &mut BytesMut<A>) -> u32
+    ensures sent { result ≡ 0 → Added (PasswordMessage text.now) out.old.items out.new.items }
+    ensures why { result ≢ 0 → Unsent A.Lacks (PasswordMessage text.now) result }
 {
-    send(alloc, &ClientMessage::PasswordMessage(text), out, written)
+    send(&ClientMessage::PasswordMessage(text), out)
 }
 
 /// The first text of an exchange with this kind of channel binding is sent.
-fn send_initial<A: Memory>(
-    alloc: A,
-    kind: u8,
-    text: &[u8],
-    out: &mut [u8],
-    written: &mut usize,
-) -> u32
-    ensures sent { result ≡ 0 → Sends (initial kind text.now) out.old out.new written.new }
-    ensures refused { result ≢ 0 → NotDelivered out.old out.new written.new }
-    ensures why { result ≢ 0 → Unsent A.Lacks (initial kind text.now) out.old result }
+fn send_initial<A: Memory>(kind: u8, text: &[u8], out: &mut BytesMut<A>) -> u32
+    ensures sent { result ≡ 0 → Added (initial kind text.now) out.old.items out.new.items }
+    ensures why { result ≢ 0 → Unsent A.Lacks (initial kind text.now) result }
 {
     let message = ClientMessage::SaslInitialResponse {
         mechanism: mechanism(kind).as_bytes(),
         response: Some(text),
     };
-    send(alloc, &message, out, written)
+    send(&message, out)
 }
 
 /// The final text of an exchange is sent.
-fn send_response<A: Memory>(alloc: A, text: &[u8], out: &mut [u8], written: &mut usize) -> u32
-    ensures sent { result ≡ 0 → Sends (SaslResponse text.now) out.old out.new written.new }
-    ensures refused { result ≢ 0 → NotDelivered out.old out.new written.new }
-    ensures why { result ≢ 0 → Unsent A.Lacks (SaslResponse text.now) out.old result }
+fn send_response<A: Memory>(text: &[u8], out: &mut BytesMut<A>) -> u32
+    ensures sent { result ≡ 0 → Added (SaslResponse text.now) out.old.items out.new.items }
+    ensures why { result ≢ 0 → Unsent A.Lacks (SaslResponse text.now) result }
 {
-    send(alloc, &ClientMessage::SaslResponse(text), out, written)
+    send(&ClientMessage::SaslResponse(text), out)
 }
 
-/// A message is written, and handed over.
-fn send<A: Memory>(
-    alloc: A,
-    message: &ClientMessage<'_>,
-    out: &mut [u8],
-    written: &mut usize,
-) -> u32
-    ensures sent { result ≡ 0 → Sends (view message.now) out.old out.new written.new }
-    ensures refused { result ≢ 0 → NotDelivered out.old out.new written.new }
-    ensures why { result ≢ 0 → Unsent A.Lacks (view message.now) out.old result }
+/// Appends a message.
+fn send<A: Memory>(message: &ClientMessage<'_>, out: &mut BytesMut<A>) -> u32
+    ensures sent { result ≡ 0 → Added (view message.now) out.old.items out.new.items }
+    ensures why { result ≢ 0 → Unsent A.Lacks (view message.now) result }
 {
-    let mut buffer = BytesMut::new(alloc);
-    match forward(message, &mut buffer) {
-        Ok(()) => deliver(buffer.as_slice(), out, written),
-        Err(e) => refused(e, written),
+    match forward(message, out) {
+        Ok(()) => 0,
+        Err(e) => u32::from(e.number()),
     }
 }

@@ -2,7 +2,7 @@
 
 ghost use Rattle.std.specs.Prelude.{◌≡◌, ◌≢◌, ◌⊎◌, true, false, Contains, None};
 ghost use Rattle.pgp_message.specs.Views.{view};
-ghost use Rattle.pgp_c_auth.specs.Answering.{IsStripped, Lists, NotOffered, asking, mechanism, reported};
+ghost use Rattle.pgp_c_auth.specs.Answering.{IsStripped, Lists, asking, mechanism, reported};
 
 use pgp_base::FallibleIterator;
 use pgp_message::{AuthenticationSaslBody, Message, SaslMechanisms};

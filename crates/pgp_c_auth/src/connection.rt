@@ -5,15 +5,18 @@ ghost use Rattle.pgp_client.specs.Codes.{request_at};
 ghost use Rattle.pgp_client.specs.Taking.{is_copying, is_idle};
 ghost use Rattle.pgp_message.specs.BackendMessage.{Fits};
 ghost use Rattle.pgp_message.specs.Views.{view};
-ghost use Rattle.pgp_c_auth.specs.Connection.{IsBroken, KeepsRoom, Rejects, TookNext, TookNone, TookSo, asked_of, link_of, may_ask, noted, stopped, with_key};
+ghost use Rattle.pgp_c_auth.specs.Answering.{HasAnswered, asking};
+ghost use Rattle.pgp_c_auth.specs.Connection.{IsBroken, KeepsRoom, Rejects, TookNext, TookNone, TookSo, FitsAt, NotRepliedTo, asked_of, link_of, may_ask, noted, with_key};
 
 use crate::answering::answer;
 use crate::asking::{PgpWays, asked_by};
 use crate::connection_parts::{
     attributed, is_end, is_too_long, limit, note, reported_as, status_after, unfit,
 };
+use crate::deliver::deliver;
 use crate::login::PgpLogin;
 use crate::talk::{PgpTalk, is_broken, put_back, resumed};
+use bytes::BytesMut;
 use pgp_base::Memory;
 use pgp_client::{Event, Request, Slots, Stage};
 use pgp_message::{BackendKeyDataBody, Message, Messages};
@@ -138,43 +141,51 @@ fn hear<A: Memory>(
     requires places { connection.old.dialogue.end ≤ length connection.old.dialogue.room.now }
     requires sized { Fits (view message.now) }
     ensures took { result ≡ 0 → TookSo ways.now (view message.now) (link_of connection.old) (link_of connection.new) taken.new frame out.old out.new written.new }
-    ensures none { result ≢ 0 → Rejects A.Lacks ways.now (view message.now) out.old (link_of connection.old) (link_of connection.new) result }
-    ensures left { result ≢ 0 → (written.new ≡ 0) × (out.new ≡ out.old) × (taken.new ≡ taken.old) }
+    ensures none { result ≢ 0 → Rejects A.Lacks ways.now (view message.now) (length out.old) (link_of connection.old) (link_of connection.new) result }
+    ensures left { result ≢ 0 → (written.new ≡ written.old) × (out.new ≡ out.old) × (taken.new ≡ taken.old) }
     ensures room { KeepsRoom connection.old.dialogue connection.new.dialogue }
 {
-    *written = 0;
     let first = Stage::of_code(connection.dialogue.stage) == Stage::Idle;
+    let mut login = connection.login;
+    let mut reply = BytesMut::new(alloc);
+    let code = replied(alloc, &mut login, ways, first, message, &mut reply);
+    if code == NO_ROOM || (code == 0 && out.len() < reply.len()) {
+        return NO_ROOM;
+    }
     let event = match attributed(&mut connection.dialogue, message) {
         Ok(event) => event,
-        Err(code) => {
+        Err(misplaced) => {
             connection.is_over = true;
-            return code;
+            return misplaced;
         }
     };
-    let code = unfit(&connection.login, first, message);
     if code != 0 {
         connection.is_over = true;
         return code;
     }
-    let asked = asked_by(message);
-    let code = answer(alloc, &mut connection.login, ways, asked, out, written);
-    if code != 0 {
-        stop(code, connection);
-        return code;
-    }
+    connection.login = login;
     note_said(message, event, connection);
     *taken = reported_as(event, frame);
-    0
+    deliver(reply.as_slice(), out, written)
 }
 
-/// Lack of memory or room doesn't end the connection.
-fn stop(code: u32, connection: &mut PgpConnection<'_>)
-    ensures link { link_of connection.new ≡ stopped code (link_of connection.old) }
-    ensures dialogue { connection.new.dialogue ≡ connection.old.dialogue }
+/// The log-in takes a message that may come now, and its reply is appended: 0 where it does.
+fn replied<A: Memory>(
+    alloc: A,
+    login: &mut PgpLogin,
+    ways: &PgpWays<'_>,
+    first: bool,
+    message: &Message<&[u8]>,
+    reply: &mut BytesMut<A>,
+) -> u32
+    ensures answered { result ≡ 0 → FitsAt login.old first (view message.now) × HasAnswered ways.now (asking (view message.now)) login.old login.new reply.old.items reply.new.items }
+    ensures why { result ≢ 0 → NotRepliedTo A.Lacks ways.now login.old first (view message.now) result }
 {
-    if code != NO_ROOM {
-        connection.is_over = true;
+    let code = unfit(login, first, message);
+    if code != 0 {
+        return code;
     }
+    answer(alloc, login, ways, asked_by(message), reply)
 }
 
 /// Takes note of what a message says of the session.
