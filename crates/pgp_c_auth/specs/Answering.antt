@@ -11,7 +11,7 @@ use Rattle.pgp_frontend.specs.Payload.{bytes_of, cause, IsInRange}
 use Rattle.pgp_message.specs.BackendMessage.{Message, Authentication, AuthenticationOk, AuthenticationCleartextPassword, AuthenticationMd5Password, AuthenticationSasl, AuthenticationSaslContinue, AuthenticationSaslFinal}
 use Rattle.pgp_message.specs.Items.{TextSpelled, TextRefused}
 use Rattle.pgp_c_auth.specs.Login.{Asked, Came, Declined, IsAdmitted, MayWelcome, at_phase, awaits_final, awaits_first, awaits_request, awaits_welcome, by_cleartext, by_md5, by_none, by_scram, done}
-use Rattle.pgp_c_auth.specs.Scram.{AnswersWith, BeginRefused, FirstText, NotAnswered, ShownRefused, Start, start}
+use Rattle.pgp_c_auth.specs.Scram.{AnswersIn, AnswersWith, BeginRefused, FirstText, NotAnswered, ShownRefused, Start, start}
 use Rattle.pgp_c_auth.specs.declared.asking.Asking.{Asking as Reported}
 use Rattle.pgp_c_auth.specs.declared.asking.Asking.TheVariants as code
 use Rattle.pgp_c_auth.specs.declared.asking.PgpWays.{PgpWays}
@@ -121,7 +121,7 @@ module _ (lacks : Type 0) (w : PgpWays) (old : PgpLogin) (code : ℕ) where
   NotAnsweredFor (Sasl mechanisms) = Declined old.phase w.ways by_scram code ⊎ (((code ≡ 91) × ¬ Lists (mechanism w.kind) mechanisms) ⊎ (((code ≡ 90) × IsStripped w mechanisms)
       ⊎ (BeginRefused lacks (start_of w) code ⊎ UnsentText lacks (FirstText (start_of w)) (initial w.kind) code)))
   NotAnsweredFor (First text) = ((code ≡ 89) × (old.phase ≢ awaits_first)) ⊎ (((code ≡ 92) × AsksFewer w.least_rounds text)
-      ⊎ (((place : ℕ) × NotAnswered lacks (start_of w) text code place) ⊎ UnsentText lacks (λ answer. (signature : List ℕ) × AnswersWith (start_of w) text signature answer) SaslResponse code))
+      ⊎ (((place : ℕ) × NotAnswered lacks (start_of w) text code place) ⊎ UnsentText lacks (AnswersIn (start_of w) text) SaslResponse code))
   NotAnsweredFor (Final text) = ((code ≡ 89) × (old.phase ≢ awaits_final)) ⊎ ((place : ℕ) × ShownRefused lacks old.signature text code place)
   NotAnsweredFor Welcome = ((code ≡ 89) × (old.phase ≢ awaits_request) × (old.phase ≢ awaits_welcome)) ⊎ ((code ≡ 90) × (old.phase ≡ awaits_request) × ¬ IsAdmitted w.ways by_none)
   NotAnsweredFor Other = ((code ≡ 89) × (old.phase ≢ awaits_request)) ⊎ ((code ≡ 90) × (old.phase ≡ awaits_request))

@@ -151,10 +151,12 @@ pub record Took (w : PgpWays) (m : Message) (old new : Link) (e : Event) (reply 
   pub logged : HasAnswered w (asking m) old.login new.login [] reply
   pub is : new ≡ noted m e (with_login new.login (with_talk new.talk old))
 
--- why a message has no place before the dialogue is asked: it comes too early, its status is none, or the log-in doesn't answer it
-abbrev pub NotRepliedTo : Type 0 → PgpWays → PgpLogin → Bool → Message → ℕ → Type 0
-NotRepliedTo lacks w l first m code = ((code ≡ 89) × ¬ IsTimely (is_done l) first m) ⊎ (((code ≡ 93) × IsTimely (is_done l) first m × (lacks_status m ≡ true))
-    ⊎ (FitsAt l first m × NotAnsweredFor lacks w l code (asking m)))
+-- Why a message has no reply, before the dialogue is asked: it comes too early, its status is none, or the log-in doesn't answer it; or the reply, behind what was there before,
+-- is longer than the room.
+abbrev pub NotRepliedTo : Type 0 → PgpWays → PgpLogin → Bool → Message → List ℕ → ℕ → ℕ → Type 0
+NotRepliedTo lacks w l first m before room code = ((code ≡ 89) × ¬ IsTimely (is_done l) first m) ⊎ (((code ≡ 93) × IsTimely (is_done l) first m × (lacks_status m ≡ true))
+    ⊎ ((FitsAt l first m × NotAnsweredFor lacks w l code (asking m))
+    ⊎ ((code ≡ 1) × FitsAt l first m × (next : PgpLogin) × (reply : List ℕ) × HasAnswered w (asking m) l next before reply × (room < length reply))))
 
 -- Why a message isn't taken, and what is left. Where memory or room was lacking for the reply, nothing changes. All others end the connection: it isn't attributed, so that no
 -- message is any more; it comes before the log-in is done; its status is none; or the log-in doesn't answer it.

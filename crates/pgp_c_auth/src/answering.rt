@@ -7,7 +7,7 @@ ghost use Rattle.pgp_frontend.specs.ClientMessage.{PasswordMessage, SaslResponse
 ghost use Rattle.pgp_frontend_read.specs.Views.{view};
 ghost use Rattle.pgp_c_auth.specs.Answering.{Added, Cleartext, First, HasAnswered, Md5, NotAnsweredFor, Sasl, Unsent, UnsentText, initial, reported, start_of};
 ghost use Rattle.pgp_c_auth.specs.Login.{Came, awaits_final, awaits_request, awaits_welcome};
-ghost use Rattle.pgp_c_auth.specs.Scram.{AnswersWith, BeginRefused, FirstText, NotAnswered, ShownRefused};
+ghost use Rattle.pgp_c_auth.specs.Scram.{AnswersIn, AnswersWith, BeginRefused, FirstText, NotAnswered, ShownRefused};
 
 use crate::asking::{Asking, PgpWays, mechanism, unoffered};
 use crate::client::{answered, begun};
@@ -189,7 +189,7 @@ fn send_final<A: Memory>(
 ) -> u32
     ensures sent { result ≡ 0 → (answer : List ℕ) × AnswersWith (start_of ways.now) text.now signature.new answer × Added (SaslResponse answer) out.old.items out.new.items }
     ensures why { result ≢ 0 → ((place : ℕ) × NotAnswered A.Lacks (start_of ways.now) text.now result place)
-        ⊎ UnsentText A.Lacks (λ answer. (signature : List ℕ) × AnswersWith (start_of ways.now) text.now signature answer) SaslResponse result }
+        ⊎ UnsentText A.Lacks (AnswersIn (start_of ways.now) text.now) SaslResponse result }
 {
     let mut at = 0;
     let client = match answered(

@@ -15,7 +15,7 @@ use crate::connection_parts::{
 };
 use crate::deliver::deliver;
 use crate::login::PgpLogin;
-use crate::talk::{PgpTalk, is_broken, put_back, resumed};
+use crate::talk::{PgpTalk, is_between, is_broken, put_back, resumed};
 use bytes::BytesMut;
 use pgp_base::Memory;
 use pgp_client::{Event, Request, Slots, Stage};
@@ -145,11 +145,19 @@ fn hear<A: Memory>(
     ensures left { result ≢ 0 → (written.new ≡ written.old) × (out.new ≡ out.old) × (taken.new ≡ taken.old) }
     ensures room { KeepsRoom connection.old.dialogue connection.new.dialogue }
 {
-    let first = Stage::of_code(connection.dialogue.stage) == Stage::Idle;
+    let first = is_between(&connection.dialogue);
     let mut login = connection.login;
     let mut reply = BytesMut::new(alloc);
-    let code = replied(alloc, &mut login, ways, first, message, &mut reply);
-    if code == NO_ROOM || (code == 0 && out.len() < reply.len()) {
+    let code = replied(
+        alloc,
+        &mut login,
+        ways,
+        first,
+        message,
+        out.len(),
+        &mut reply,
+    );
+    if code == NO_ROOM {
         return NO_ROOM;
     }
     let event = match attributed(&mut connection.dialogue, message) {
@@ -169,23 +177,33 @@ fn hear<A: Memory>(
     deliver(reply.as_slice(), out, written)
 }
 
-/// The log-in takes a message that may come now, and its reply is appended: 0 where it does.
+/// The log-in takes a message that may come now, and its reply is appended, for which there is so much room: 0 where it does.
 fn replied<A: Memory>(
     alloc: A,
     login: &mut PgpLogin,
     ways: &PgpWays<'_>,
     first: bool,
     message: &Message<&[u8]>,
+    room: usize,
     reply: &mut BytesMut<A>,
 ) -> u32
-    ensures answered { result ≡ 0 → FitsAt login.old first (view message.now) × HasAnswered ways.now (asking (view message.now)) login.old login.new reply.old.items reply.new.items }
-    ensures why { result ≢ 0 → NotRepliedTo A.Lacks ways.now login.old first (view message.now) result }
+    ensures fit { result ≡ 0 → FitsAt login.old first (view message.now) }
+    ensures answered { result ≡ 0 → HasAnswered ways.now (asking (view message.now)) login.old login.new reply.old.items reply.new.items }
+    ensures room { result ≡ 0 → length reply.new.items ≤ room }
+    ensures why { result ≢ 0 → NotRepliedTo A.Lacks ways.now login.old first (view message.now) reply.old.items room result }
 {
     let code = unfit(login, first, message);
     if code != 0 {
         return code;
     }
-    answer(alloc, login, ways, asked_by(message), reply)
+    let code = answer(alloc, login, ways, asked_by(message), reply);
+    if code != 0 {
+        return code;
+    }
+    if room < reply.len() {
+        return NO_ROOM;
+    }
+    0
 }
 
 /// Takes note of what a message says of the session.

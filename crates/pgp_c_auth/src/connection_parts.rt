@@ -17,7 +17,7 @@ use crate::connection::{NO_ROOM, PgpTaken, WRONG_PHASE};
 use crate::login::{AWAITS_REQUEST, DONE, PgpLogin, UNDUE};
 use crate::talk::{PgpTalk, put_back, resumed};
 use pgp_base::FallibleIterator;
-use pgp_client::{Dialogue, Event, Refusal, Request, Slots};
+use pgp_client::{Dialogue, Event, Kind, Refusal, Request, Slots};
 use pgp_message::{BackendKeyDataBody, Message};
 
 /// How long a message may be of a server that has proved nothing yet, as libpq has it.
@@ -62,12 +62,22 @@ pub(crate) fn attributed(dialogue: &mut PgpTalk<'_>, message: &Message<&[u8]>) -
     ensures room { KeepsRoom dialogue.old dialogue.new }
 {
     let mut kept = resumed(dialogue);
-    let taken = kept.take_message(message);
+    let taken = kept.take(Kind::of(message));
     put_back(kept, dialogue);
     match taken {
         Ok(event) => Ok(event),
-        Err(Refusal::Unexpected) => Err(36),
-        Err(Refusal::Uncertain) => Err(37),
+        Err(e) => Err(rejected(e)),
+    }
+}
+
+/// The result where a message isn't taken.
+fn rejected(refusal: Refusal) -> u32
+    ensures refusal { refusal_at result ≡ Some refusal }
+    ensures some { result ≢ 0 }
+{
+    match refusal {
+        Refusal::Unexpected => 36,
+        Refusal::Uncertain => 37,
     }
 }
 
