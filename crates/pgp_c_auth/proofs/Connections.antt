@@ -1,5 +1,5 @@
 -- What a message comes to in a connection.
-use Rattle.std.proofs.Common.{◌≡◌, ◌≢◌, ℕ, ◌<◌, ◌+◌, Bool, List, [], Some, None, Ok, Err, Option, Result, ap, arith, inl, inr, length, length-append, refl, subst, sym, ◌-◌, ◌∙◌}
+use Rattle.std.proofs.Common.{◌≡◌, ◌≢◌, ℕ, ◌+◌, Bool, List, [], Some, None, Ok, Err, Option, Result, ap, arith, inl, inr, length, length-append, refl, subst, sym, ◌-◌, ◌∙◌}
 use Rattle.pgp_client.specs.Kinds.{kind_of}
 use Rattle.pgp_client.specs.Taking.{Takes, is_between, taken}
 use Rattle.pgp_client.specs.Talk.{Talk}

@@ -1,5 +1,5 @@
 -- What a log-in answers: a message that was appended, or why it wasn't.
-use Rattle.std.proofs.Common.{◌≡◌, ℕ, List, Ok, Err, Some, None, Result, ap, inl, inr, sym, subst, refl, ◌<◌, ◌∙◌, ◌⊎◌, ◌++◌, length}
+use Rattle.std.proofs.Common.{◌≡◌, ℕ, List, Ok, Err, Some, None, Result, ap, inl, inr, sym, subst, ◌<◌, ◌∙◌, ◌⊎◌, ◌++◌, length}
 use Rattle.pgp_base.specs.Cause.{Wants}
 use Rattle.pgp_base.specs.Error.{number_of}
 use Rattle.pgp_base.specs.Held.{Held, ◌⊕◌, items_held, lengthened}

@@ -1,6 +1,6 @@
 -- A client's connection in memory of the caller's: what each message of the server comes to, and what may be asked.
 -- PostgreSQL manual, "Message Flow".
-use Rattle.std.specs.Prelude.{◌≡◌, ◌≢◌, ◌⊎◌, ℕ, ◌+◌, ◌<◌, nat_lt, Bool, true, false, not, List, [], ◌∷◌, length, take, Option, Some, None, Ok, Err, if◌then◌else◌, ◌==◌, ◌&&◌, ◌||◌, min, pos}
+use Rattle.std.specs.Prelude.{◌≡◌, ◌≢◌, ◌⊎◌, ℕ, ◌+◌, ◌<◌, nat_lt, Bool, true, false, not, List, [], length, take, Option, Some, None, Ok, Err, if◌then◌else◌, ◌==◌, ◌&&◌, ◌||◌, min, pos}
 use Rattle.pgp_base.specs.Error.{number_of}
 use Rattle.pgp_base.specs.declared.error.Error.{Error}
 use Rattle.pgp_client.specs.Codes.{stage_at}

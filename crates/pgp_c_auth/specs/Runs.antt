@@ -1,8 +1,7 @@
 -- Whole sessions of a client's connection: what it was asked and took, a call at a time.
-use Rattle.std.specs.Prelude.{◌≡◌, ◌≢◌, ℕ, Bool, true, false, List, [], ◌∷◌, ◌++◌, Contains, Option, Some, None}
-use Rattle.pgp_client.specs.InTurns.{BelongInTurns}
+use Rattle.std.specs.Prelude.{◌≡◌, ◌≢◌, ℕ, Bool, true, false, List, [], ◌∷◌, ◌++◌, Contains, Option, Some}
 use Rattle.pgp_client.specs.Kinds.{kind_of}
-use Rattle.pgp_client.specs.Telling.{Asks, Hears, Turn, reported_in, start}
+use Rattle.pgp_client.specs.Telling.{Asks, Hears, Turn, start}
 use Rattle.pgp_client.specs.declared.event.Event.{Event}
 use Rattle.pgp_client.specs.declared.event.Event.TheVariants.{Ended}
 use Rattle.pgp_client.specs.declared.request.Request.{Request}
@@ -11,7 +10,7 @@ use Rattle.pgp_message.specs.BackendMessage.{Message, Authentication, Authentica
 use Rattle.pgp_auth.specs.ScramRefusal.{Verifies}
 use Rattle.pgp_c_auth.specs.Answering.{start_of}
 use Rattle.pgp_c_auth.specs.Connection.{Link, Took, asked_of, may_ask}
-use Rattle.pgp_c_auth.specs.Login.{IsAdmitted, awaits_request, by_cleartext, by_md5, by_none, by_scram, done}
+use Rattle.pgp_c_auth.specs.Login.{IsAdmitted, awaits_request, by_cleartext, by_md5, by_none, by_scram}
 use Rattle.pgp_c_auth.specs.Scram.{AnswersWith}
 use Rattle.pgp_c_auth.specs.declared.asking.PgpWays.{PgpWays}
 

@@ -1,5 +1,5 @@
 use Rattle.pgp_frontend_read.specs.Views.{view}
-use Rattle.pgp_c_auth.proofs.Replies.{added, unsent}
+use Rattle.pgp_c_auth.proofs.Replies.{added}
 use Rattle.pgp_c_auth.proofs.answering.send.Goals as goal
 
 pub returns-in-Ok-clause-sent : goal.returns-in-Ok-clause-sent

@@ -1,5 +1,4 @@
 use Rattle.pgp_client.specs.Kinds.{kind_of}
-use Rattle.pgp_client.specs.Taking.{taken}
 use Rattle.pgp_message.specs.Views.{view}
 use Rattle.pgp_c_auth.proofs.Common.{rules}
 use Rattle.pgp_c_auth.proofs.Connections.{misplaced}
