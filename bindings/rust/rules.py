@@ -71,7 +71,9 @@ PLACES = [
     ('pgp_message_write/row', 1, '        ];\n        put_fields(&fields, buf)\n', '        ], buf)\n'),
     # What C hands over is taken out and put back.
     ('pgp_c/dialogue', 1, 'mem::replace(&mut dialogue.room, &mut [])', 'dialogue.room.take()'),
+    ('pgp_c_auth/talk', 1, 'mem::replace(&mut dialogue.room, &mut [])', 'dialogue.room.take()'),
     ('pgp_c/dialogue', 1, 'dialogue.room = room;', 'dialogue.room.put_back(room);'),
+    ('pgp_c_auth/talk', 1, 'dialogue.room = room;', 'dialogue.room.put_back(room);'),
     # Room for structs that hold nothing yet.
     ('pgp_c/cursor', 1, '    type Item: Copy;\n', '    type Item: Copy + Default;\n'),
     ('pgp_c/cursor', 1, 'let code = next_counted::<L>(bytes, &mut here, &mut items[at]);',

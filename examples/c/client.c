@@ -7,15 +7,10 @@
 #include <stdlib.h>
 #include <unistd.h>
 
-#define NO_BINDING PGP_BINDING_UNSUPPORTED, NULL, 0
-
 enum { LOG_IN = 1, ROWS = 2 }; /* names of requests */
-enum { WAYS = PGP_WAY_NONE | PGP_WAY_SCRAM, LEAST_ROUNDS = 4096 };
 
-static uint8_t in[1 << 16], out[1 << 12], text[1 << 10], prepared[1 << 10], nonce[24];
+static uint8_t in[1 << 16], out[1 << 12], reply[1 << 12], prepared[1 << 10], nonce[24];
 static struct pgp_stream s = {out, sizeof out, 0, false};
-static struct pgp_login login;
-static struct pgp_bytes password;
 static int fd;
 
 static int fail(const char *why)
@@ -24,36 +19,20 @@ static int fail(const char *why)
     return 1;
 }
 
-static int send_all(void)
+static int send_all(const uint8_t *bytes, size_t len)
 {
     ssize_t n;
-    for (size_t at = 0; at < s.len; at += (size_t)n)
-        if ((n = write(fd, out + at, s.len - at)) <= 0) return 0;
-    s.len = 0;
+    for (; len > 0; bytes += n, len -= (size_t)n)
+        if ((n = write(fd, bytes, len)) <= 0) return 0;
     return 1;
 }
 
-/* What is to be sent for a request of the log-in is added to the stream. */
-static pgp_status log_in(const struct pgp_message *m)
+/* What the stream holds is sent, and the request of it is noted. */
+static int ask(struct pgp_connection *connection, uint8_t request, uint64_t name)
 {
-    const uint8_t *first = in + m->parts.first.at;
-    struct pgp_cursor c = pgp_walk(m);
-    struct pgp_part name;
-    pgp_status status = PGP_LOGIN_OTHER_MECHANISM;
-    size_t n, at;
-    switch (m->kind) {
-    case PGP_AUTHENTICATION_SASL:
-        while (status == PGP_LOGIN_OTHER_MECHANISM && pgp_mechanism_next(in, m->frame, &c, &name) == PGP_OK)
-            status = pgp_login_sasl(&login, WAYS, in + name.at, name.len, NO_BINDING, nonce, sizeof nonce, text, sizeof text, &n);
-        return status != PGP_OK ? status : pgp_stream_sasl_initial_response(&s, in + name.at, name.len, text, n);
-    case PGP_AUTHENTICATION_SASL_CONTINUE:
-        status = pgp_login_continue(&login, LEAST_ROUNDS, password.bytes, password.len, NO_BINDING, nonce, sizeof nonce,
-                                    first, m->parts.first.len, text, sizeof text, &n, &at);
-        return status != PGP_OK ? status : pgp_stream_sasl_response(&s, text, n);
-    case PGP_AUTHENTICATION_SASL_FINAL: return pgp_login_final(&login, first, m->parts.first.len, &at);
-    case PGP_AUTHENTICATION_OK: return pgp_login_ok(&login, WAYS);
-    default: return PGP_LOGIN_NOT_ADMITTED;
-    }
+    size_t len = s.len;
+    s.len = 0;
+    return pgp_connection_ask(connection, request, name) == PGP_OK && send_all(out, len);
 }
 
 static pgp_status print_row(const struct pgp_message *m)
@@ -76,9 +55,10 @@ int main(int argc, char **argv)
 {
     struct sockaddr_in to = {.sin_family = AF_INET, .sin_addr.s_addr = htonl(INADDR_LOOPBACK)};
     struct pgp_slot slots[2] = {{0, 0}};
-    struct pgp_dialogue dialogue = {slots, 2, 0, 0, 0, 0};
+    struct pgp_connection connection = {.dialogue = {.room = slots, .room_len = 2}};
+    struct pgp_ways ways = {.ways = PGP_WAY_NONE | PGP_WAY_SCRAM, .least_rounds = 4096, .limit = sizeof in};
     struct pgp_message m;
-    struct pgp_event event;
+    struct pgp_taken taken;
     struct pgp_pair user = {.name = {PGP_TEXT("user")}};
     uint8_t random[18];
     size_t have = 0, n;
@@ -89,38 +69,37 @@ int main(int argc, char **argv)
     fclose(source);
     pgp_nonce(random, nonce);
     if (pgp_saslprep(given, strlen(given), prepared, sizeof prepared, &n) != PGP_OK) return fail("the password is too long");
-    password = pgp_bytes_of(prepared, n);
+    ways.password = pgp_bytes_of(prepared, n);
+    ways.nonce = pgp_bytes_of(nonce, sizeof nonce);
     user.value = pgp_text(argv[2]);
     to.sin_port = htons((uint16_t)atoi(argv[1]));
     fd = socket(AF_INET, SOCK_STREAM, 0);
     if (fd < 0 || connect(fd, (struct sockaddr *)&to, sizeof to) != 0) return fail("no connection");
     if (pgp_stream_startup(&s, PGP_PROTOCOL_3_0, &user, 1) != PGP_OK) return fail("no startup");
-    if (pgp_dialogue_ask(&dialogue, PGP_REQUEST_STARTUP, LOG_IN) != PGP_OK || !send_all()) return fail("no startup");
-    for (;;) {
-        pgp_status status = pgp_front(in, have, &m); /* the first message of the bytes that were read */
+    if (!ask(&connection, PGP_REQUEST_STARTUP, LOG_IN)) return fail("no startup");
+    for (;;) { /* each turn takes the first message of the bytes that were read */
+        pgp_status status = pgp_connection_take(&connection, &ways, in, have, reply, sizeof reply, &n, &taken);
         if (status == PGP_MORE) {
             ssize_t got = have < sizeof in ? read(fd, in + have, sizeof in - have) : 0;
             if (got <= 0) return fail("the connection was closed, or a message is too long");
             have += (size_t)got;
             continue;
         }
-        if (status == PGP_OK) status = pgp_dialogue_take(&dialogue, m.kind, &event); /* which request it belongs to */
+        if (status == PGP_OK) status = pgp_front(in, taken.frame, &m); /* what it says */
         if (status != PGP_OK) return fail(pgp_status_name(status));
         if (m.kind == PGP_ERROR_RESPONSE) return fail("refused");
-        if (m.kind <= PGP_AUTHENTICATION_SSPI) {
-            status = log_in(&m); /* appends to `out` what the server asks for */
-        } else if (event.name == LOG_IN && event.what == PGP_LAST) {
+        if (!send_all(reply, n)) return fail("the connection was closed"); /* what the log-in answers */
+        if (taken.name == LOG_IN && taken.what == PGP_LAST) {
             status = pgp_stream_query(&s, argv[3], strlen(argv[3]));
-            if (status == PGP_OK) status = pgp_dialogue_ask(&dialogue, PGP_REQUEST_QUERY, ROWS);
-        } else if (event.name == ROWS && m.kind == PGP_DATA_ROW) {
+            if (status == PGP_OK && !ask(&connection, PGP_REQUEST_QUERY, ROWS)) return fail("no query");
+        } else if (taken.name == ROWS && m.kind == PGP_DATA_ROW) {
             status = print_row(&m);
-        } else if (event.name == ROWS && event.what == PGP_LAST) {
+        } else if (taken.name == ROWS && taken.what == PGP_LAST) {
             status = pgp_stream_terminate(&s);
-            return status == PGP_OK && send_all() ? 0 : fail("no end");
+            return status == PGP_OK && send_all(out, s.len) ? 0 : fail("no end");
         }
         if (status != PGP_OK) return fail(pgp_status_name(status));
-        if (!send_all()) return fail("the connection was closed");
-        have -= m.frame; /* the message's end is where the next one begins */
-        memmove(in, in + m.frame, have);
+        have -= taken.frame; /* the message's end is where the next one begins */
+        memmove(in, in + taken.frame, have);
     }
 }

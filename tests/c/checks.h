@@ -13,6 +13,7 @@
 
 extern int fails, passed;
 void further(void);
+void connections(void);
 void logins(void);
 void server(void);
 void shapes(void);

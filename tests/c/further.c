@@ -251,7 +251,7 @@ static void names(void)
     is("status", T(pgp_status_name(PGP_FULL)), T("PGP_FULL")); is("none", T(pgp_status_name(26)), T("?")); is("status", T(pgp_status_name(PGP_E_UNKNOWN_PACKET)), T("PGP_E_UNKNOWN_PACKET")); is("status", T(pgp_status_name(PGP_E_FRACTION)), T("PGP_E_FRACTION")); is("none", T(pgp_status_name(42)), T("?"));
     is("status", T(pgp_status_name(PGP_SCRAM_WRONG_STATE)), T("PGP_SCRAM_WRONG_STATE")); is("status", T(pgp_status_name(PGP_SCRAM_VERIFICATION)), T("PGP_SCRAM_VERIFICATION")); is("none", T(pgp_status_name(77)), T("?"));
     is("status", T(pgp_status_name(PGP_BAD_NONCE)), T("PGP_BAD_NONCE")); is("status", T(pgp_status_name(PGP_SCRAM_INVALID_PROOF)), T("PGP_SCRAM_INVALID_PROOF")); is("status", T(pgp_status_name(PGP_LOGIN_OTHER_MECHANISM)), T("PGP_LOGIN_OTHER_MECHANISM"));
-    is("none", T(pgp_status_name(65)), T("?")); is("status", T(pgp_status_name(PGP_LOGIN_TOO_FEW_ROUNDS)), T("PGP_LOGIN_TOO_FEW_ROUNDS")); is("none", T(pgp_status_name(93)), T("?")); is("none", T(pgp_status_name(-1)), T("?"));
+    is("none", T(pgp_status_name(65)), T("?")); is("status", T(pgp_status_name(PGP_LOGIN_TOO_FEW_ROUNDS)), T("PGP_LOGIN_TOO_FEW_ROUNDS")); is("status", T(pgp_status_name(PGP_CONNECTION_TOO_LONG)), T("PGP_CONNECTION_TOO_LONG")); is("none", T(pgp_status_name(95)), T("?")); is("none", T(pgp_status_name(-1)), T("?"));
     is("kind", T(pgp_kind_name(PGP_DATA_ROW)), T("DataRow")); is("kind", T(pgp_kind_name(PGP_FUNCTION_CALL_RESPONSE)), T("FunctionCallResponse")); is("none", T(pgp_kind_name(35)), T("?"));
 }
 

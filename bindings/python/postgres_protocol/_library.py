@@ -32,9 +32,9 @@ STATUSES: Dict[int, str] = {
     71: 'ScramInvalidNumber', 72: 'ScramInvalidNonce', 73: 'ScramTooManyIterations', 74: 'ScramInvalidBase64', 75: 'ScramServer',
     76: 'ScramVerification', 80: 'BadNonce', 81: 'BadBinding', 82: 'NotAVerifier', 83: 'WrongPassword', 84: 'ScramUnsupportedBinding',
     85: 'ScramInvalidFirst', 86: 'ScramOtherExchange', 87: 'ScramInvalidEncoding', 88: 'ScramInvalidProof',
-    89: 'LoginUndue', 90: 'LoginNotAdmitted', 91: 'LoginOtherMechanism', 92: 'LoginTooFewRounds',
+    89: 'LoginUndue', 90: 'LoginNotAdmitted', 91: 'LoginOtherMechanism', 92: 'LoginTooFewRounds', 93: 'ConnectionNoStatus', 94: 'ConnectionTooLong',
 }
-OK, NO_ROOM, INVALID_LENGTH, MORE, DONE = 0, 1, 4, 100, 101
+OK, NO_ROOM, INVALID_LENGTH, WRONG_PHASE, MORE, DONE = 0, 1, 4, 32, 100, 101
 
 
 class ProtocolError(ValueError):

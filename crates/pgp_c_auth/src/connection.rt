@@ -1,0 +1,292 @@
+//! A client's connection, in memory of the caller's: the log-in, which message answers which request, and what the server says of its session.
+
+ghost use Rattle.std.specs.Prelude.{◌≡◌, ◌≢◌, ◌<◌, ◌≤◌, ◌⊎◌, ◌&&◌, length, not, true, false};
+ghost use Rattle.pgp_client.specs.Codes.{request_at};
+ghost use Rattle.pgp_client.specs.Taking.{is_copying, is_idle};
+ghost use Rattle.pgp_message.specs.BackendMessage.{Fits};
+ghost use Rattle.pgp_message.specs.Views.{view};
+ghost use Rattle.pgp_c_auth.specs.Answering.{HasAnswered, asking};
+ghost use Rattle.pgp_c_auth.specs.Connection.{IsBroken, KeepsRoom, Rejects, TookNext, TookNone, TookSo, FitsAt, NotRepliedTo, asked_of, link_of, may_ask, noted, with_key};
+
+use crate::answering::answer;
+use crate::asking::{PgpWays, asked_by};
+use crate::connection_parts::{
+    attributed, is_end, is_too_long, limit, note, reported_as, status_after, unfit,
+};
+use crate::deliver::deliver;
+use crate::login::PgpLogin;
+use crate::talk::{PgpTalk, is_between, is_broken, put_back, resumed};
+use bytes::BytesMut;
+use pgp_base::Memory;
+use pgp_client::{Event, Request, Slots, Stage};
+use pgp_message::{BackendKeyDataBody, Message, Messages};
+use std::alloc::Global;
+
+/// The result where there is no room, or the dialogue's places are none of its room.
+pub(crate) const NO_ROOM: u32 = 1;
+
+/// The result where the connection is over, or the request may not be asked now.
+pub(crate) const WRONG_PHASE: u32 = 32;
+
+/// The result where a number names no request.
+const NO_KIND: u32 = 35;
+
+/// The result where a message is announced that is too long.
+const TOO_LONG: u32 = 94;
+
+/// The result where bytes are missing.
+const MORE: u32 = 100;
+
+/// A connection. With all numbers 0 it is one of which nothing was asked.
+#[repr(C)]
+pub struct PgpConnection<'a> {
+    pub dialogue: PgpTalk<'a>,
+    pub key_len: usize,
+    pub process_id: i32,
+    /// Whether the session has ended, or an error ended it.
+    pub is_over: bool,
+    /// The status of the last ReadyForQuery: `I`, `T` or `E`; 0 before the first.
+    pub status: u8,
+    pub login: PgpLogin,
+    /// The key of a cancel request, of which so many bytes are.
+    pub secret_key: [u8; 256],
+}
+
+/// What a message is to the requests: 1 a part of an answer, 2 its last message, 3 no part of any, 4 the end of the session.
+#[repr(C)]
+#[derive(Clone, Copy)]
+pub struct PgpTaken {
+    /// The name of the request that is answered; 0 where there is none.
+    pub name: u64,
+    /// How many bytes the message has.
+    pub frame: usize,
+    pub what: u8,
+}
+
+/// Takes the message at the front of the bytes: says to which request it belongs, and writes the reply that the log-in wants.
+#[unsafe(no_mangle)]
+pub extern "C" fn pgp_connection_take(
+    alloc: Global,
+    connection: &mut PgpConnection<'_>,
+    ways: &PgpWays<'_>,
+    bytes: &[u8],
+    out: &mut [u8],
+    written: &mut usize,
+    taken: &mut PgpTaken,
+) -> u32
+    ensures took { result ≡ 0 → TookNext ways.now bytes.now (link_of connection.old) (link_of connection.new) taken.new out.old out.new written.new }
+    ensures none { result ≢ 0 → TookNone (Unit {0}) (IsBroken connection.old.dialogue) ways.now bytes.now out.old (link_of connection.old) (link_of connection.new) result }
+    ensures left { result ≢ 0 → (written.new ≡ 0) × (out.new ≡ out.old) × (taken.new ≡ taken.old) }
+    ensures room { KeepsRoom connection.old.dialogue connection.new.dialogue }
+{
+    take(alloc, connection, ways, bytes, out, written, taken)
+}
+
+/// `pgp_connection_take` with any allocator.
+pub fn take<A: Memory>(
+    alloc: A,
+    connection: &mut PgpConnection<'_>,
+    ways: &PgpWays<'_>,
+    bytes: &[u8],
+    out: &mut [u8],
+    written: &mut usize,
+    taken: &mut PgpTaken,
+) -> u32
+    ensures took { result ≡ 0 → TookNext ways.now bytes.now (link_of connection.old) (link_of connection.new) taken.new out.old out.new written.new }
+    ensures none { result ≢ 0 → TookNone A.Lacks (IsBroken connection.old.dialogue) ways.now bytes.now out.old (link_of connection.old) (link_of connection.new) result }
+    ensures left { result ≢ 0 → (written.new ≡ 0) × (out.new ≡ out.old) × (taken.new ≡ taken.old) }
+    ensures room { KeepsRoom connection.old.dialogue connection.new.dialogue }
+{
+    *written = 0;
+    if connection.is_over {
+        return WRONG_PHASE;
+    }
+    if is_broken(&connection.dialogue) {
+        return NO_ROOM;
+    }
+    if is_too_long(bytes, limit(ways, &connection.login)) {
+        connection.is_over = true;
+        return TOO_LONG;
+    }
+    let mut messages = Messages::new(bytes);
+    match messages.next() {
+        Ok(None) => MORE,
+        Ok(Some(message)) => {
+            let frame = bytes.len() - messages.rest().len();
+            let code = hear(
+                alloc, connection, ways, &message, frame, out, written, taken,
+            );
+            drop(message);
+            code
+        }
+        Err(e) => {
+            connection.is_over = true;
+            u32::from(e.number())
+        }
+    }
+}
+
+/// What a message comes to, of so many bytes.
+fn hear<A: Memory>(
+    alloc: A,
+    connection: &mut PgpConnection<'_>,
+    ways: &PgpWays<'_>,
+    message: &Message<&[u8]>,
+    frame: usize,
+    out: &mut [u8],
+    written: &mut usize,
+    taken: &mut PgpTaken,
+) -> u32
+    requires ordered { connection.old.dialogue.start ≤ connection.old.dialogue.end }
+    requires places { connection.old.dialogue.end ≤ length connection.old.dialogue.room.now }
+    requires sized { Fits (view message.now) }
+    ensures took { result ≡ 0 → TookSo ways.now (view message.now) (link_of connection.old) (link_of connection.new) taken.new frame out.old out.new written.new }
+    ensures none { result ≢ 0 → Rejects A.Lacks ways.now (view message.now) (length out.old) (link_of connection.old) (link_of connection.new) result }
+    ensures left { result ≢ 0 → (written.new ≡ written.old) × (out.new ≡ out.old) × (taken.new ≡ taken.old) }
+    ensures room { KeepsRoom connection.old.dialogue connection.new.dialogue }
+{
+    let first = is_between(&connection.dialogue);
+    let mut login = connection.login;
+    let mut reply = BytesMut::new(alloc);
+    let code = replied(
+        alloc,
+        &mut login,
+        ways,
+        first,
+        message,
+        out.len(),
+        &mut reply,
+    );
+    if code == NO_ROOM {
+        return NO_ROOM;
+    }
+    let event = match attributed(&mut connection.dialogue, message) {
+        Ok(event) => event,
+        Err(misplaced) => {
+            connection.is_over = true;
+            return misplaced;
+        }
+    };
+    if code != 0 {
+        connection.is_over = true;
+        return code;
+    }
+    connection.login = login;
+    note_said(message, event, connection);
+    *taken = reported_as(event, frame);
+    deliver(reply.as_slice(), out, written)
+}
+
+/// The log-in takes a message that may come now, and its reply is appended, for which there is so much room: 0 where it does.
+fn replied<A: Memory>(
+    alloc: A,
+    login: &mut PgpLogin,
+    ways: &PgpWays<'_>,
+    first: bool,
+    message: &Message<&[u8]>,
+    room: usize,
+    reply: &mut BytesMut<A>,
+) -> u32
+    ensures fit { result ≡ 0 → FitsAt login.old first (view message.now) }
+    ensures answered { result ≡ 0 → HasAnswered ways.now (asking (view message.now)) login.old login.new reply.old.items reply.new.items }
+    ensures room { result ≡ 0 → length reply.new.items ≤ room }
+    ensures why { result ≢ 0 → NotRepliedTo A.Lacks ways.now login.old first (view message.now) reply.old.items room result }
+{
+    let code = unfit(login, first, message);
+    if code != 0 {
+        return code;
+    }
+    let code = answer(alloc, login, ways, asked_by(message), reply);
+    if code != 0 {
+        return code;
+    }
+    if room < reply.len() {
+        return NO_ROOM;
+    }
+    0
+}
+
+/// Takes note of what a message says of the session.
+fn note_said(message: &Message<&[u8]>, event: Event, connection: &mut PgpConnection<'_>)
+    requires { Fits (view message.now) }
+    ensures link { link_of connection.new ≡ noted (view message.now) event (link_of connection.old) }
+    ensures dialogue { connection.new.dialogue ≡ connection.old.dialogue }
+{
+    connection.is_over = is_end(event);
+    connection.status = status_after(message, connection.status);
+    if let Message::BackendKeyData(body) = message {
+        note_key(body, connection);
+    }
+}
+
+/// Takes note of a key.
+fn note_key(body: &BackendKeyDataBody<&[u8]>, connection: &mut PgpConnection<'_>)
+    requires { length body.now.secret_key ≤ 256 }
+    ensures link { link_of connection.new ≡ with_key body.now (link_of connection.old) }
+    ensures dialogue { connection.new.dialogue ≡ connection.old.dialogue }
+{
+    let key = body.secret_key_bytes();
+    connection.process_id = body.process_id();
+    connection.key_len = key.len();
+    connection.secret_key[..key.len()].copy_from_slice(key);
+}
+
+/// Takes note of a request, in the order in which they are sent.
+#[unsafe(no_mangle)]
+pub extern "C" fn pgp_connection_ask(
+    connection: &mut PgpConnection<'_>,
+    request: u8,
+    name: u64,
+) -> u32
+    ensures asked { result ≡ 0 → (may_ask (link_of connection.old) (request_at request) ≡ true) × (link_of connection.new ≡ asked_of (request_at request) name (link_of connection.old)) }
+    ensures known { result ≡ 0 → request ≤ 11 }
+    ensures unknown { 11 < request → result ≡ 35 }
+    ensures why { result ≢ 0 → request ≤ 11 → ((result ≡ 1) × (IsBroken connection.old.dialogue ⊎ (length (link_of connection.old).talk.pending ≡ length connection.old.dialogue.room.now)))
+        ⊎ ((result ≡ 32) × (may_ask (link_of connection.old) (request_at request) ≡ false)) }
+    ensures kept { result ≢ 0 → link_of connection.new ≡ link_of connection.old }
+    ensures room { KeepsRoom connection.old.dialogue connection.new.dialogue }
+{
+    if request > 11 {
+        return NO_KIND;
+    }
+    if is_broken(&connection.dialogue) {
+        return NO_ROOM;
+    }
+    let request = Request::of_code(request);
+    let mut kept = resumed(&mut connection.dialogue);
+    let code = note(
+        connection.is_over,
+        &connection.login,
+        &mut kept,
+        request,
+        name,
+    );
+    put_back(kept, &mut connection.dialogue);
+    code
+}
+
+/// Whether no request awaits an answer.
+#[unsafe(no_mangle)]
+pub extern "C" fn pgp_connection_is_idle(connection: &PgpConnection<'_>, idle: &mut bool) -> u32
+    ensures idle { result ≡ 0 → idle.new ≡ is_idle (link_of connection.now).talk }
+    ensures broken { result ≢ 0 → (result ≡ 1) × IsBroken connection.now.dialogue × (idle.new ≡ idle.old) }
+{
+    let dialogue = &connection.dialogue;
+    if is_broken(dialogue) {
+        return NO_ROOM;
+    }
+    *idle = Stage::of_code(dialogue.stage) == Stage::Idle
+        && Slots::await_none(&*dialogue.room, dialogue.start, dialogue.end);
+    0
+}
+
+/// Whether a copy to the server is under way, so that its data may be sent.
+#[unsafe(no_mangle)]
+pub extern "C" fn pgp_connection_is_copying(connection: &PgpConnection<'_>) -> bool
+    ensures { result ≡ (not (link_of connection.now).is_over && is_copying (link_of connection.now).talk) }
+{
+    match Stage::of_code(connection.dialogue.stage) {
+        Stage::CopyingIn | Stage::TakingCopy => !connection.is_over,
+        _ => false,
+    }
+}

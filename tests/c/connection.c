@@ -1,0 +1,267 @@
+/* connection: a whole connection, a message at a time: each call and each status, cut messages, and rooms that are too small. The exchange is that of
+   login.c, and the messages are spelled by hand after the manual. */
+#include "checks.h"
+
+#define NONCE "9IZ2O01zb9IgiIZ1WJ/zgpJB"
+#define BOTH "r=9IZ2O01zb9IgiIZ1WJ/zgpJBjx/oIRLs02gGSHcw1KEty3eY"
+#define OFFER "R\0\0\0\x17\0\0\0\x0aSCRAM-SHA-256\0\0"
+#define CONTINUE "R\0\0\0\x54\0\0\0\x0b" BOTH ",s=fs3IXBy7U7+IvVjZ,i=4096"
+#define FINAL "R\0\0\0\x36\0\0\0\x0cv=U+ppxD5XUKtradnv8e2MkeupiA8FU87Sg8CXzXHDAzw="
+#define WELCOME "R\0\0\0\x08\0\0\0\0"
+#define READY "Z\0\0\0\x05I"
+#define FIRST_SENT "p\0\0\0\x36SCRAM-SHA-256\0\0\0\0\x20n,,n=,r=" NONCE
+#define FINAL_SENT "p\0\0\0\x6c" "c=biws," BOTH ",p=AmNKosjJzS31NTlQYNs5BTeQjdHdk7lOflDo5re2an8="
+
+enum { SLOTS = 3, STARTUP = 7 };
+
+struct held {
+    struct pgp_slot slots[SLOTS];
+    struct pgp_connection c;
+};
+
+static struct pgp_ways by(uint8_t ways)
+{
+    struct pgp_ways w;
+    memset(&w, 0, sizeof w);
+    w.user = pgp_text("md5_user"); w.password = pgp_text("foobar"); w.nonce = pgp_text(NONCE);
+    w.limit = 100; w.ways = ways;
+    return w;
+}
+
+static void begin(struct held *h)
+{
+    memset(h, 0, sizeof *h);
+    h->c.dialogue.room = h->slots; h->c.dialogue.room_len = SLOTS;
+    same("startup", pgp_connection_ask(&h->c, PGP_REQUEST_STARTUP, STARTUP), PGP_OK);
+}
+
+/* Takes one message, and at first each front of it; what comes back is compared. */
+static void takes(struct held *h, const struct pgp_ways *w, const void *message, size_t len, pgp_status status, uint8_t what, uint64_t name,
+                  const void *reply, size_t reply_len)
+{
+    struct held was = *h;
+    struct pgp_taken t = {99, 98, 97};
+    uint8_t *bytes = (uint8_t *)malloc(len + 1), out[256];
+    size_t cut, n;
+    for (cut = 0; cut < len && status != PGP_CONNECTION_TOO_LONG; cut++) {
+        n = 77;
+        memcpy(bytes, message, cut);
+        same("cut", pgp_connection_take(&h->c, w, bytes, cut, out, sizeof out, &n, &t), PGP_MORE);
+        same("nothing", n, 0); same("as it was", memcmp(h, &was, sizeof was), 0); same("no name", t.name, 99);
+    }
+    n = 77;
+    memset(out, 0xaa, sizeof out);
+    memcpy(bytes, message, len);
+    bytes[len] = 'Z';
+    same("status", pgp_connection_take(&h->c, w, bytes, len + 1, out, sizeof out, &n, &t), status);
+    is("reply", out, n, reply, reply_len);
+    same("behind it", out[n], 0xaa);
+    if (status == PGP_OK) { same("name", t.name, name); same("frame", t.frame, len); same("what", t.what, what); }
+    else { same("name", t.name, 99); same("frame", t.frame, 98); same("what", t.what, 97); same("over", h->c.is_over, true); }
+    free(bytes);
+}
+
+#define NONE NULL, 0
+#define TAKES(message, what, name, reply) takes(&h, &w, B(message), PGP_OK, what, name, reply)
+#define ENDS(message, status) takes(&h, &w, B(message), status, 0, 0, NONE)
+
+/* Logged in without a password, and ready. */
+static void ready(struct held *h)
+{
+    struct pgp_ways w = by(PGP_WAY_NONE);
+    begin(h);
+    takes(h, &w, B(WELCOME), PGP_OK, PGP_PART, STARTUP, NONE);
+    takes(h, &w, B(READY), PGP_OK, PGP_LAST, STARTUP, NONE);
+}
+
+static void log_ins(void)
+{
+    struct pgp_ways w = by(PGP_WAY_SCRAM);
+    struct held h;
+    begin(&h);
+    TAKES(OFFER, PGP_PART, STARTUP, B(FIRST_SENT));
+    TAKES(CONTINUE, PGP_PART, STARTUP, B(FINAL_SENT));
+    TAKES(FINAL, PGP_PART, STARTUP, NONE);
+    same("not yet", h.c.login.phase == PGP_LOGIN_DONE, false);
+    same("not yet", pgp_connection_ask(&h.c, PGP_REQUEST_QUERY, 8), PGP_E_WRONG_PHASE);
+    TAKES(WELCOME, PGP_PART, STARTUP, NONE);
+    same("done", h.c.login.phase, PGP_LOGIN_DONE);
+    TAKES("S\0\0\0\x08" "a\0b\0", PGP_ASIDE, 0, NONE);
+}
+
+static void more_log_ins(void)
+{
+    struct pgp_ways w = by(PGP_WAY_PASSWORD | PGP_WAY_MD5);
+    struct held h;
+    begin(&h);
+    TAKES("R\0\0\0\x08\0\0\0\x03", PGP_PART, STARTUP, B("p\0\0\0\x0b" "foobar\0"));
+    TAKES(WELCOME, PGP_PART, STARTUP, NONE);
+    begin(&h);
+    w.password = pgp_text("password");
+    TAKES("R\0\0\0\x0c\0\0\0\x05\x2a\x3d\x8f\xe0", PGP_PART, STARTUP, B("p\0\0\0\x28md562af4dd09bbb41884907a838a3233294\0"));
+    TAKES(WELCOME, PGP_PART, STARTUP, NONE);
+    TAKES("K\0\0\0\x0c\0\0\0\x01" "keys", PGP_PART, STARTUP, NONE);
+    is("key", h.c.secret_key, h.c.key_len, "keys", 4); same("process", (unsigned long)h.c.process_id, 1); same("status", h.c.status, 0);
+    TAKES("N\0\0\0\x05\0", PGP_ASIDE, 0, NONE);
+    TAKES("Z\0\0\0\x05T", PGP_LAST, STARTUP, NONE);
+    same("status", h.c.status, 'T');
+}
+
+/* What a server may not send in a log-in, and what it may. */
+static void early(void)
+{
+    static const struct { struct pgp_bytes message; pgp_status status; } rows[] = {
+        {{PGP_TEXT("S\0\0\0\x09" "a\0b\0\0")}, PGP_E_NOT_DRAINED}, {{PGP_TEXT("S\0\0\0\x08" "a\0b\0")}, PGP_LOGIN_UNDUE},
+        {{PGP_TEXT("N\0\0\0\x05\0")}, PGP_LOGIN_UNDUE}, {{PGP_TEXT("A\0\0\0\x0c\0\0\0\x01" "a\0b\0")}, PGP_LOGIN_UNDUE},
+        {{PGP_TEXT("v\0\0\0\x0c\0\3\0\2\0\0\0\0")}, PGP_LOGIN_UNDUE}, {{PGP_TEXT("v\0\0\0\x0e\0\3\0\0\0\0\0\1a\0")}, PGP_LOGIN_UNDUE},
+        {{PGP_TEXT(FINAL)}, PGP_LOGIN_UNDUE}, {{PGP_TEXT(CONTINUE)}, PGP_LOGIN_UNDUE},
+        {{PGP_TEXT("R\0\0\0\x08\0\0\0\x02")}, PGP_LOGIN_NOT_ADMITTED}, {{PGP_TEXT("R\0\0\0\x08\0\0\0\x03")}, PGP_LOGIN_NOT_ADMITTED},
+        {{PGP_TEXT("R\0\0\0\x0c\0\0\0\x05salt")}, PGP_LOGIN_NOT_ADMITTED}, {{PGP_TEXT(WELCOME)}, PGP_LOGIN_NOT_ADMITTED},
+        {{PGP_TEXT("R\0\0\0\x15\0\0\0\x0aSCRAM-SHA-1\0\0")}, PGP_LOGIN_OTHER_MECHANISM},
+        {{PGP_TEXT("R\0\0\0\x16\0\0\0\x0aSCRAM-SHA-256\0")}, PGP_LOGIN_OTHER_MECHANISM},
+        {{PGP_TEXT("R\0\0\0\x2a\0\0\0\x0aSCRAM-SHA-256-PLUS\0SCRAM-SHA-256\0\0")}, PGP_LOGIN_NOT_ADMITTED},
+        {{PGP_TEXT("R\0\0\0\x08\0\0\0\x63")}, PGP_E_UNKNOWN_AUTHENTICATION}, {{PGP_TEXT("W\0\0\0\x04")}, PGP_E_UNKNOWN_TAG},
+        {{PGP_TEXT("R\0\0\0\x04")}, PGP_E_UNEXPECTED_EOF}, {{PGP_TEXT("Z\0\0\0\x03")}, PGP_E_INVALID_LENGTH},
+        {{PGP_TEXT("Z\0\0\0\x05I")}, PGP_E_UNEXPECTED}, {{PGP_TEXT("D\0\0\0\x06\0\0")}, PGP_E_UNEXPECTED}};
+    struct pgp_ways w = by(PGP_WAY_SCRAM);
+    struct held h;
+    size_t i;
+    for (i = 0; i < sizeof rows / sizeof *rows; i++) {
+        struct pgp_taken t = {99, 98, 97};
+        uint8_t out[256];
+        size_t n = 77;
+        begin(&h);
+        same("early", pgp_connection_take(&h.c, &w, rows[i].message.bytes, rows[i].message.len, out, sizeof out, &n, &t), rows[i].status);
+        same("nothing", n, 0); same("over", h.c.is_over, true); same("phase", h.c.login.phase, 0); same("no name", t.name, 99);
+        same("once", pgp_connection_take(&h.c, &w, B(OFFER), out, sizeof out, &n, &t), PGP_E_WRONG_PHASE);
+        same("nothing is asked", pgp_connection_ask(&h.c, PGP_REQUEST_STARTUP, 1), PGP_E_WRONG_PHASE);
+    }
+    begin(&h);
+    TAKES("v\0\0\0\x0c\0\3\0\0\0\0\0\0", PGP_PART, STARTUP, NONE);
+    ENDS("v\0\0\0\x0c\0\3\0\0\0\0\0\0", PGP_LOGIN_UNDUE);
+    begin(&h);
+    TAKES("E\0\0\0\x05\0", PGP_ENDED, 0, NONE);
+    same("over", h.c.is_over, true);
+    begin(&h);
+    w.is_encrypted = true;
+    TAKES("R\0\0\0\x2a\0\0\0\x0aSCRAM-SHA-256-PLUS\0SCRAM-SHA-256\0\0", PGP_PART, STARTUP, B(FIRST_SENT));
+    w.least_rounds = 4097;
+    ENDS(CONTINUE, PGP_LOGIN_TOO_FEW_ROUNDS);
+    begin(&h);
+    w.least_rounds = 1;
+    TAKES(OFFER, PGP_PART, STARTUP, B(FIRST_SENT));
+    ENDS("R\0\0\0\x14\0\0\0\x0br=abc,s=,i=1", PGP_SCRAM_INVALID_NONCE);
+    begin(&h);
+    w.least_rounds = 0;
+    TAKES(OFFER, PGP_PART, STARTUP, B(FIRST_SENT));
+    TAKES(CONTINUE, PGP_PART, STARTUP, B(FINAL_SENT));
+    ENDS("R\0\0\0\x0a\0\0\0\x0cv=", PGP_SCRAM_VERIFICATION);
+    begin(&h);
+    w.nonce = pgp_text("a,b");
+    ENDS(OFFER, PGP_BAD_NONCE);
+    begin(&h);
+    w.nonce = pgp_text(NONCE); w.kind = 3;
+    ENDS(OFFER, PGP_BAD_BINDING);
+    begin(&h);
+    w = by(PGP_WAY_PASSWORD);
+    w.password = pgp_bytes_of("a\0b", 3);
+    ENDS("R\0\0\0\x08\0\0\0\x03", PGP_E_EMBEDDED_NULL);
+}
+
+/* Each reply at each room: below its size the same bytes are taken again, with more room. */
+static void rooms(void)
+{
+    static const struct pgp_bytes messages[2] = {{PGP_TEXT(OFFER)}, {PGP_TEXT(CONTINUE)}}, replies[2] = {{PGP_TEXT(FIRST_SENT)}, {PGP_TEXT(FINAL_SENT)}};
+    struct pgp_ways w = by(PGP_WAY_SCRAM);
+    struct held h;
+    int i;
+    begin(&h);
+    for (i = 0; i < 2; i++) {
+        struct pgp_taken t = {99, 98, 97};
+        size_t room, n = 77;
+        for (room = 0; room <= replies[i].len; room += room + 16 < replies[i].len ? 16 : 1) {
+            uint8_t *out = (uint8_t *)malloc(room + 1);
+            pgp_status want = room < replies[i].len ? PGP_NO_ROOM : PGP_OK;
+            memset(out, 0xaa, room + 1);
+            same("room", pgp_connection_take(&h.c, &w, messages[i].bytes, messages[i].len, out, room, &n, &t), want);
+            is("reply", out, n, replies[i].bytes, want == PGP_OK ? replies[i].len : 0);
+            same("behind", out[n], 0xaa); same("over", h.c.is_over, false); same("phase", h.c.login.phase, (unsigned long)i + (want == PGP_OK));
+            free(out);
+        }
+        same("enough", PGP_CONNECTION_ROOM(w, messages[i].len) >= replies[i].len, true);
+    }
+}
+
+/* Requests, a copy, errors, and the end. */
+static void requests(void)
+{
+    struct pgp_ways w = by(PGP_WAY_NONE);
+    struct held h;
+    bool idle = true;
+    uint8_t r;
+    ready(&h);
+    for (r = 0; r < 12; r++)
+        same("asked", pgp_connection_ask(&h.c, r, r), r == PGP_REQUEST_STARTUP || r == PGP_REQUEST_FUNCTION_CALL || r >= PGP_REQUEST_COPY_DONE ? PGP_E_WRONG_PHASE : h.c.dialogue.end - h.c.dialogue.start < SLOTS || r < 4 ? PGP_OK : PGP_NO_ROOM);
+    same("no request", pgp_connection_ask(&h.c, 12, 1), PGP_E_KIND);
+    ready(&h);
+    same("idle", pgp_connection_is_idle(&h.c, &idle), PGP_OK); same("idle", idle, true);
+    same("query", pgp_connection_ask(&h.c, PGP_REQUEST_QUERY, 8), PGP_OK);
+    same("idle", pgp_connection_is_idle(&h.c, &idle), PGP_OK); same("idle", idle, false);
+    TAKES("T\0\0\0\x06\0\0", PGP_PART, 8, NONE);
+    TAKES("D\0\0\0\x06\0\0", PGP_PART, 8, NONE);
+    TAKES("C\0\0\0\x0dSELECT 1\0", PGP_PART, 8, NONE);
+    TAKES("Z\0\0\0\x05" "E", PGP_LAST, 8, NONE);
+    same("status", h.c.status, 'E');
+    same("copy", pgp_connection_ask(&h.c, PGP_REQUEST_QUERY, 9), PGP_OK);
+    same("no copy", pgp_connection_is_copying(&h.c), false);
+    TAKES("G\0\0\0\x07\0\0\0", PGP_PART, 9, NONE);
+    same("copy", pgp_connection_is_copying(&h.c), true);
+    same("data are awaited", pgp_connection_ask(&h.c, PGP_REQUEST_QUERY, 10), PGP_E_WRONG_PHASE);
+    same("their end", pgp_connection_ask(&h.c, PGP_REQUEST_COPY_DONE, 10), PGP_OK);
+    same("more", pgp_connection_ask(&h.c, PGP_REQUEST_QUERY, 11), PGP_OK);
+    TAKES("C\0\0\0\x0b" "COPY 0\0", PGP_PART, 9, NONE);
+    TAKES(READY, PGP_LAST, 9, NONE);
+    ENDS("Z\0\0\0\x05x", PGP_E_UNEXPECTED);
+    same("no copy", pgp_connection_is_copying(&h.c), false);
+    ready(&h);
+    same("early sync", pgp_connection_ask(&h.c, PGP_REQUEST_EXECUTE, 8), PGP_OK);
+    TAKES("G\0\0\0\x07\0\0\0", PGP_PART, 8, NONE);
+    same("early sync", pgp_connection_ask(&h.c, PGP_REQUEST_SYNC, 9), PGP_OK);
+    ENDS("E\0\0\0\x05\0", PGP_E_UNCERTAIN);
+    ready(&h);
+    same("sync", pgp_connection_ask(&h.c, PGP_REQUEST_SYNC, 8), PGP_OK);
+    ENDS("Z\0\0\0\x05x", PGP_CONNECTION_NO_STATUS);
+    ready(&h);
+    ENDS("d\0\0\0\x65", PGP_CONNECTION_TOO_LONG);
+    ready(&h);
+    TAKES("E\0\0\0\x05\0", PGP_ENDED, 0, NONE);
+    same("over", h.c.is_over, true);
+}
+
+/* A limit, before the log-in is done and after; and numbers that are none. */
+static void limits(void)
+{
+    struct pgp_ways w = by(PGP_WAY_NONE);
+    struct pgp_taken t = {99, 98, 97};
+    struct held h;
+    uint8_t out[8];
+    size_t n;
+    bool idle = true;
+    w.limit = UINT32_MAX;
+    begin(&h);
+    same("30,000", pgp_connection_take(&h.c, &w, B("E\0\0\x75\x30"), out, sizeof out, &n, &t), PGP_MORE);
+    same("30,001", pgp_connection_take(&h.c, &w, B("E\0\0\x75\x31"), out, sizeof out, &n, &t), PGP_CONNECTION_TOO_LONG);
+    ready(&h);
+    same("any", pgp_connection_take(&h.c, &w, B("E\xff\xff\xff\xff"), out, sizeof out, &n, &t), PGP_MORE);
+    h.c.dialogue.start = 1; h.c.dialogue.end = 0;
+    same("no places", pgp_connection_take(&h.c, &w, B(READY), out, sizeof out, &n, &t), PGP_NO_ROOM);
+    same("no places", pgp_connection_ask(&h.c, PGP_REQUEST_SYNC, 1), PGP_NO_ROOM);
+    same("no places", pgp_connection_is_idle(&h.c, &idle), PGP_NO_ROOM); same("as it was", idle, true);
+    h.c.dialogue.end = SLOTS + 1;
+    same("no places", pgp_connection_take(&h.c, &w, B(READY), out, sizeof out, &n, &t), PGP_NO_ROOM); same("not over", h.c.is_over, false);
+}
+
+void connections(void)
+{
+    log_ins(); more_log_ins(); early(); rooms(); requests(); limits();
+}
