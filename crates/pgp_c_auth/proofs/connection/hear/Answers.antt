@@ -22,7 +22,7 @@ returns-clause-took g c z =
     let replied : c.replied-code.result ≡ 0 = omega (arith, c) in
     let reply = c.replied-code.new.reply.items in
     let is = took g.A.Memory.Lacks c.args.ways.now (view c.args.message.now) (length c.args.out.now) (link_of c.args.connection.now) c.is_between-first.result c.is_between-first.ensures c.new-reply.result.items c.new-reply.ensures.items c.in-Ok.event (talk_of c.attributed.new.dialogue) c.in-Ok.ensures.ok
-        c.replied-code.new.login reply (link_of c.note_said.new.connection) (c.replied-code.ensures.fit replied) (c.replied-code.ensures.answered replied) c.note_said.ensures.link in
+    c.replied-code.new.login reply (link_of c.note_said.new.connection) (c.replied-code.ensures.fit replied) (c.replied-code.ensures.answered replied) c.note_said.ensures.link in
     (c.in-Ok.event, reply, is, c.reported_as.ensures, subst (λ b. Delivered b c.args.out.now c.deliver.new.out c.deliver.new.written) c.as_slice.ensures (c.deliver.ensures.sent z))
 
 pub returns-clause-none : goal.returns-clause-none
