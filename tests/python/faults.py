@@ -193,7 +193,7 @@ def check_files(same, home):
     def of(**given):
         kept = settings.Options(given)
         core = kept.core(kept.places[0], False)
-        return [(p.host, p.address, p.port) for p in kept.places], kept.user, kept.dbname, core._log_in._password and core._log_in._password.decode()
+        return [(p.host, p.address, p.port) for p in kept.places], kept.user, kept.dbname, core._state._password.decode() or None
     same('nothing', of(host='h'), ([('h', 'h', 5432)], 'me', 'me', None))
     same('a service', of(service='two'), ([('two.example', 'two.example', 5432)], 'service', 'service', 's:e\\cret'))
     same('the caller first', of(host='service=two user=text port=1', user='given'), ([('two.example', 'two.example', 1)], 'given', 'given', 'last'))

@@ -101,22 +101,33 @@ def check_log_in_order(same, raises):
             ('sasl first first', undue % 'AuthenticationSaslContinue', {}), ('clear clear', undue % 'AuthenticationCleartextPassword', {}), ('clear sasl', undue % 'AuthenticationSasl', {}),
             ('clear', 'the server asks for password, which', {'require_auth': ['none']}), ('md5', 'the server asks for md5, which', {'require_auth': ['none']}),
             ('sasl', 'the server asks for scram-sha-256, which', {'require_auth': ['none']}), ('sasl', 'the server asks for scram-sha-256, which', {'require_auth': ['password', 'md5', 'none']}),
-            ('other', 'the server sent AuthenticationSasl, which is rejected: NotUtf8', {})):
+            ('other', 'the server offers what is no text, of which none is supported', {})):
         played, last = LogIn(**given), names.split()[-1]
         for name in names.split()[:-1]:
             same(names + ': no event', played.play(name), None)
         raises(names, LogInError, text, lambda: played.play(last))
         same(names + ': nothing is sent', played.sent[-1], b'')
-        if names.startswith('sasl ') and 'signed' not in names:
-            if last != 'ok':
-                raises(names + ': nor is a welcome taken after it', LogInError, unsigned, lambda: played.play('ok'))
-            raises(names + ': for good', LogInError, 'the log-in is not done', lambda: played.play('ready'))
+        for name in ('ok', 'ready'):
+            raises(names + ': for good', LogInError, text, lambda: played.play(name))
+    for names in ('ready', 'sasl ready', 'sasl first ready', 'sasl first signed ready', 'clear ready'):
+        played, steps = LogIn(), names.split()
+        same(names + ': no log-in', ([played.play(name) for name in steps[:-1]], _rejected(lambda: played.play('ready'))), ([None] * (len(steps) - 1), True))
     played = LogIn()
     same('a whole log-in', ([played.play(name) for name in ('sasl', 'first', 'signed', 'ok', 'ready')], played.right), ([None] * 4 + [events.LoggedIn(1)], True))
     for name, answer in (('clear', pg.password_message(b'pencil')), ('md5', pg.password_message(pg.md5_answer(b'alice', b'pencil', b'abcd')))):
         played = LogIn()
         same(name, ([played.play(step) for step in (name, 'ok', 'ready')], played.sent), ([None, None, events.LoggedIn(1)], [answer, b'', b'']))
     raises('a password that no message holds', LogInError, 'the server sent AuthenticationCleartextPassword, which is rejected: EmbeddedNull', lambda: _asked(Connection('alice', 'a\0b')))
+
+
+def _rejected(call):
+    """Whether it raises, and for good."""
+    for _ in range(2):
+        try:
+            return call() is None and 'nothing'
+        except (LogInError, pg.ProtocolError):
+            pass
+    return True
 
 
 def _asked(connection):
@@ -176,7 +187,24 @@ def check_requests(same, raises):
     same('a long row in pieces', [type(e).__name__ for e in got], ['Columns', 'Rows', 'CommandCompleted', 'Ready'])
     connection = connected(max_message=100)
     connection.receive_data(b'D\0\0\1\0')
-    raises('a message past the limit', pg.ProtocolError, 'TooLarge', connection.next_event)
+    raises('a message past the limit', pg.ProtocolError, 'ConnectionTooLong', connection.next_event)
+    connection = connected()
+    for what, call in (('data', lambda: connection.copy_data(b'x')), ('its end', connection.copy_done), ('its failure', lambda: connection.copy_fail('x'))):
+        raises('no copy awaits ' + what, pg.ProtocolError, 'WrongPhase', call)
+        same('no copy awaits %s: nothing is sent' % what, connection.data_to_send(), b'')
+    copied = connection.query('COPY t FROM STDIN')
+    connection.data_to_send()
+    connection.receive_data(frame(b'G', b'\0\0\0'))
+    same('a copy begins', events_of(connection), [events.CopyStarted(copied, 'CopyInResponse', [])])
+    raises('a query in a copy', pg.ProtocolError, 'WrongPhase', lambda: connection.query('SELECT 1'))
+    raises('a series in a copy', pg.ProtocolError, 'WrongPhase', lambda: connection.run(b'', b's', b'', [], b'', 0, (), True))
+    connection.copy_data(b'1\n')
+    connection.copy_done()
+    same('what is sent in a copy', connection.data_to_send(), pg.copy_data(b'1\n') + pg.copy_done())
+    connection.receive_data(frame(b'C', b'COPY 1\0') + frame(b'Z', b'X'))
+    same('the end of a copy', connection.next_event(), events.CommandCompleted(copied, 'COPY 1'))
+    raises('a status that is none', pg.ProtocolError, 'ConnectionNoStatus', connection.next_event)
+    raises('nothing is asked after that', pg.ProtocolError, 'WrongPhase', lambda: connection.query('SELECT 1'))
 
 
 def check_runs(same, raises):

@@ -1,12 +1,12 @@
 /*
  * Python objects of a server's answers, and what asks for them, many messages a call. What stands in the bytes, what is sent, and which message
- * answers which request is found by the proved library (pgp_front, pgp_row_next, pgp_get_*, pgp_stream_*, pgp_dialogue_*); this file makes
+ * answers which request is found by the proved library (pgp_front, pgp_row_next, pgp_get_*, pgp_stream_*, pgp_connection_*); this file makes
  * objects of it. It is written for the stable ABI, so one build serves each Python from 3.8 on.
  */
 #define Py_LIMITED_API 0x03080000
 #define PY_SSIZE_T_CLEAN
 #include <Python.h>
-#include "postgres_protocol.h"
+#include "postgres_protocol_auth.h"
 
 /* What a column's bytes become. The names stand in DECODERS of registry.py too. */
 enum { AS_BYTES, AS_TEXT, AS_BOOL, AS_INT2, AS_INT4, AS_INT8, AS_OID, AS_FLOAT4, AS_FLOAT8, AS_TIMESTAMP, AS_TIMESTAMPTZ, AS_DATE, AS_COUNT };
@@ -227,6 +227,24 @@ static PyObject *message(const uint8_t *frame, size_t at, const struct pgp_messa
                                  (int)p->number, p->byte, (Py_ssize_t)p->first.at);
 }
 
+/* The message at the front, what it says, and which request it answers. What `pgp_connection_take` doesn't read goes to the connection's dialogue. */
+static pgp_status next_message(struct pgp_connection *connection, const struct pgp_ways *ways, const uint8_t *bytes, size_t len, struct pgp_message *m, struct pgp_event *event)
+{
+    struct pgp_taken taken;
+    uint8_t reply[1];
+    size_t written;
+    pgp_status status;
+    if (len > 0 && (bytes[0] == 'W' || bytes[0] == 'V')) {
+        status = pgp_front(bytes, len, m);
+        return status == PGP_OK ? pgp_dialogue_take(&connection->dialogue, m->kind, event) : status;
+    }
+    status = pgp_connection_take(connection, ways, bytes, len, reply, 0, &written, &taken);
+    if (status != PGP_OK) return status;
+    event->name = taken.name;
+    event->what = taken.what;
+    return pgp_front(bytes, taken.frame, m);
+}
+
 /* The item of the message at the front, and of the rows behind it: the request that it answers, whether it is the last of the answer, and what it is. */
 static PyObject *item(struct pgp_dialogue *dialogue, const uint8_t *bytes, size_t len, size_t *at, const struct pgp_message *m, struct pgp_event *event, PyObject *decoders)
 {
@@ -246,26 +264,27 @@ static PyObject *item(struct pgp_dialogue *dialogue, const uint8_t *bytes, size_
 
 static PyObject *take(PyObject *self, PyObject *arguments)
 {
-    unsigned long long place;
+    unsigned long long first, second;
     PyObject *data, *decoders, *items;
     Py_ssize_t start, size;
     size_t at, len;
     char *bytes;
+    struct pgp_connection *connection;
     struct pgp_message m;
     struct pgp_event event;
     pgp_status status;
     (void)self;
-    if (!PyArg_ParseTuple(arguments, "KSnO!:take", &place, &data, &start, &PyDict_Type, &decoders)) return NULL;
+    if (!PyArg_ParseTuple(arguments, "KKSnO!:take", &first, &second, &data, &start, &PyDict_Type, &decoders)) return NULL;
     if (PyBytes_AsStringAndSize(data, &bytes, &size) != 0 || (items = PyList_New(0)) == NULL) return NULL;
+    connection = (struct pgp_connection *)(uintptr_t)first;
     at = (size_t)start;
     len = (size_t)size;
-    while ((status = pgp_front((const uint8_t *)bytes + at, len - at, &m)) == PGP_OK) {
+    while ((status = next_message(connection, (const struct pgp_ways *)(uintptr_t)second, (const uint8_t *)bytes + at, len - at, &m, &event)) == PGP_OK) {
         PyObject *next;
         int failed, stops;
-        if ((status = pgp_dialogue_take((struct pgp_dialogue *)(uintptr_t)place, m.kind, &event)) != PGP_OK) break;
         /* (what follows these depends on what the caller makes of them) */
         stops = m.kind == PGP_COPY_IN_RESPONSE || (m.kind == PGP_ROW_DESCRIPTION && event.what == PGP_PART);
-        next = item((struct pgp_dialogue *)(uintptr_t)place, (const uint8_t *)bytes, len, &at, &m, &event, decoders);
+        next = item(&connection->dialogue, (const uint8_t *)bytes, len, &at, &m, &event, decoders);
         failed = next == NULL || PyList_Append(items, next) != 0;
         Py_XDECREF(next);
         if (failed) {
@@ -303,7 +322,8 @@ static PyObject *ask(PyObject *self, PyObject *arguments)
     PyObject *list;
     int max_rows, syncs;
     struct pgp_stream *stream, kept;
-    struct pgp_dialogue *dialogue;
+    struct pgp_connection *connection;
+    struct pgp_dialogue before;
     struct pgp_value *values;
     size_t count;
     pgp_status status;
@@ -311,20 +331,24 @@ static PyObject *ask(PyObject *self, PyObject *arguments)
     if (!PyArg_ParseTuple(arguments, "KKy#y#y#O!y#iKp:ask", &first, &second, &portal, &portal_len, &statement, &statement_len, &formats, &formats_len, &PyList_Type, &list,
                           &results, &results_len, &max_rows, &number, &syncs)) return NULL;
     stream = (struct pgp_stream *)(uintptr_t)first;
-    dialogue = (struct pgp_dialogue *)(uintptr_t)second;
-    if (dialogue->room_len - dialogue->end < 3) return PyLong_FromLong(-1);
+    connection = (struct pgp_connection *)(uintptr_t)second;
+    if (connection->dialogue.room_len - connection->dialogue.end < 3) return PyLong_FromLong(-1);
     count = (size_t)PyList_Size(list);
     if ((values = values_of(list, count)) == NULL) return PyErr_Occurred() ? NULL : PyErr_NoMemory();
     kept = *stream;
+    before = connection->dialogue;
     status = pgp_stream_bind(stream, (const uint8_t *)portal, (size_t)portal_len, (const uint8_t *)statement, (size_t)statement_len, (const int16_t *)formats,
                              (size_t)formats_len / 2, values, count, (const int16_t *)results, (size_t)results_len / 2);
     if (status == PGP_OK) status = pgp_stream_execute(stream, (const uint8_t *)portal, (size_t)portal_len, max_rows);
     if (status == PGP_OK && syncs) status = pgp_stream_sync(stream);
     PyMem_Free(values);
-    if (status == PGP_OK) status = pgp_dialogue_ask(dialogue, PGP_REQUEST_BIND, number);
-    if (status == PGP_OK) status = pgp_dialogue_ask(dialogue, PGP_REQUEST_EXECUTE, number + 1);
-    if (status == PGP_OK && syncs) status = pgp_dialogue_ask(dialogue, PGP_REQUEST_SYNC, number + 2);
-    if (status != PGP_OK) *stream = kept;
+    if (status == PGP_OK) status = pgp_connection_ask(connection, PGP_REQUEST_BIND, number);
+    if (status == PGP_OK) status = pgp_connection_ask(connection, PGP_REQUEST_EXECUTE, number + 1);
+    if (status == PGP_OK && syncs) status = pgp_connection_ask(connection, PGP_REQUEST_SYNC, number + 2);
+    if (status != PGP_OK) {
+        *stream = kept;
+        connection->dialogue = before;
+    }
     return PyLong_FromUnsignedLong(status);
 }
 
@@ -379,11 +403,11 @@ static PyMethodDef methods[] = {
      "`decoders` is a tuple with one entry for each column: a number of `postgres_protocol.registry`, or a function that is called with the value's\n"
      "bytes. A null is None. Reading stops at the first message that isn't a DataRow of so many values or isn't complete."},
     {"take", take, METH_VARARGS,
-     "take(dialogue, data, at, decoders): the messages from a place on, taken by the dialogue at an address, each with the number of its request and\n"
+     "take(connection, ways, data, at, decoders): the messages from a place on, taken by the connection at an address, each with the number of its request and\n"
      "whether it is the answer's last; rows are lists, by the decoders of their request. Then the place behind them, and the status of what ends them."},
     {"ask", ask, METH_VARARGS,
-     "ask(stream, dialogue, portal, statement, formats, values, result_formats, max_rows, number, syncs): a Bind, an Execute and perhaps a Sync, sent and\n"
-     "asked with numbers from this one on. The status: -1 where the dialogue lacks room; nothing is changed then, nor by any other error."},
+     "ask(stream, connection, portal, statement, formats, values, result_formats, max_rows, number, syncs): a Bind, an Execute and perhaps a Sync, sent and\n"
+     "asked with numbers from this one on. The status: -1 where the connection lacks room; nothing is changed then, nor by any other error."},
     {"put", put, METH_VARARGS, "put(kind, otherwise, value): a value of a type of one number; where it is none, what the function `otherwise` returns or raises."},
     {"setup", setup, METH_VARARGS, NULL},
     {NULL, NULL, 0, NULL},

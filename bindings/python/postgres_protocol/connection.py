@@ -10,12 +10,11 @@ Each request returns a number, and each event says the number of the request tha
 from typing import Any, Callable, Dict, List, Mapping, Optional, Sequence, Tuple
 
 from . import _rows, events
-from ._library import NO_ROOM, OK, ProtocolError
-from .auth import METHODS, LogIn, LogInError
-from .dialogue import Dialogue
-from .reading import Message, error_fields, fields, formats, types
-from .stream import Stream
+from ._library import MORE, NO_ROOM, OK, WRONG_PHASE, ProtocolError
+from .reading import Message, error_fields, fields, formats, mechanisms, messages, types
 from .registry import DECODERS, Decoder
+from .state import METHODS, LogInError, State
+from .stream import Stream
 
 __all__ = ['Connection', 'DecodeError', 'LogInError', 'METHODS']
 
@@ -33,6 +32,14 @@ def _words(message: Message) -> Dict[str, str]:
     return {letter: value.decode(errors='replace') for letter, value in error_fields(message)}
 
 
+def _mechanisms(message: Message) -> List[str]:
+    """What the server offers, as far as it is text."""
+    try:
+        return mechanisms(message)
+    except ProtocolError:
+        return ['what is no text']
+
+
 class Connection:
     """A client's end of a connection. `require_auth` names the ways of logging in that are admitted (`METHODS`), so that a server can't ask for
     the password in clear text where SCRAM is expected. `certificate` is the hash of the server's certificate (RFC 5929), with which SCRAM is
@@ -42,23 +49,22 @@ class Connection:
     def __init__(self, user: str, password: Optional[str] = None, database: Optional[str] = None, parameters: Optional[Mapping[str, str]] = None,
                  require_auth: Sequence[str] = METHODS, max_message: int = 2 ** 30, encrypt: bool = False,
                  must_bind: bool = False, least_rounds: int = 1) -> None:
-        self._log_in = LogIn(user, password, require_auth, must_bind, least_rounds)
+        self._state = State(user, password, require_auth, must_bind, least_rounds, max_message)
         self._startup = [(b'user', user.encode()), (b'database', (database or user).encode())]
         self._startup += [(name.encode(), value.encode()) for name, value in {'client_encoding': 'UTF8', **(parameters or {})}.items()]
-        self._stream, self._dialogue, self._max = Stream(), Dialogue(), max_message
+        self._stream, self._max = Stream(), max_message
         self._out: List[bytes] = []
         self._data, self._at, self._size = b'', 0, 0
         self._more: List[bytes] = []
         self._decoders: Dict[int, Tuple[Decoder, ...]] = {}
-        #: What was taken and isn't reported yet, the last of it first; and the status that ended it.
+        #: What was taken and isn't reported yet, the last of it first; and what ended it.
         self._taken: List[Tuple[Optional[int], bool, Any]] = []
-        self._fault = OK
+        self._fault: Optional[Exception] = None
         self._last, self._encrypting = 0, encrypt
-        self._is_open = self._is_over = False
         #: Whether a series of extended queries waits for its Sync; whether values of rows are passed over.
         self.needs_sync = self.skips_values = False
-        #: `I`, `T` or `E`, as the last Ready said; the settings that the server reported; the number and the key for a cancel request.
-        self.status, self.process_id, self.secret_key = '', 0, b''
+        #: `I`, `T` or `E`, as the last Ready said; the settings that the server reported.
+        self.status = ''
         self.settings: Dict[str, str] = {}
         if encrypt:
             self._stream.ssl_request()
@@ -66,13 +72,12 @@ class Connection:
             self._open()
 
     def _open(self) -> None:
-        self._stream.startup(self._startup)
-        self._dialogue.ask('Startup', self._number())
+        self._ask('Startup', self._stream.startup, self._startup)
 
     def encrypted(self, certificate: Optional[bytes] = None) -> None:
         """The channel is encrypted now: the session is opened. `certificate` is the hash for the channel's binding, if the server's certificate
         has one."""
-        self._log_in.certificate = certificate
+        self._state.encrypted(certificate)
         self._open()
 
     def not_encrypted(self) -> None:
@@ -84,19 +89,18 @@ class Connection:
         """The number of the next request."""
         return self._last + 1
 
-    def _number(self) -> int:
-        self._last += 1
-        return self._last
-
     def _ask(self, request: str, send: Callable[..., None], *arguments: Any) -> int:
-        """Sends a request: where it can't be sent, nothing is asked."""
-        if not self._is_open:
-            raise ProtocolError(32)
+        """Sends a request: where it can't be sent, or isn't taken, nothing is."""
+        length = self._stream.length
         send(*arguments)
-        number = self._number()
-        self._dialogue.ask(request, number)
+        try:
+            self._state.ask(request, self._last + 1)
+        except ProtocolError:
+            self._stream.cut(length)
+            raise
+        self._last += 1
         self.needs_sync = request in _SERIES
-        return number
+        return self._last
 
     def query(self, sql: str) -> int:
         """A simple query of any number of statements; its rows are texts."""
@@ -125,10 +129,8 @@ class Connection:
     def run(self, portal: bytes, statement: bytes, formats: bytes, values: List[Optional[bytes]], result_formats: bytes, max_rows: int, decoders: Tuple[Decoder, ...],
             syncs: bool) -> int:
         """`bind`, `execute` and perhaps `sync` in one call; the number is that of the Execute. The formats are arrays of 16 bits each."""
-        if not self._is_open:
-            raise ProtocolError(32)
         while True:
-            status = _rows.ask(self._stream.address, self._dialogue.address, portal, statement, formats, values, result_formats, max_rows, self._last + 1, syncs)
+            status = _rows.ask(self._stream.address, self._state.address, portal, statement, formats, values, result_formats, max_rows, self._last + 1, syncs)
             if status == OK:
                 break
             if status not in (NO_ROOM, -1):
@@ -136,7 +138,7 @@ class Connection:
             if status == NO_ROOM:
                 self._stream.widen()
             else:
-                self._dialogue.widen()
+                self._state.widen()
         number = self._last + 2
         self._last, self.needs_sync = number + syncs, not syncs
         self._decoders[number] = decoders
@@ -160,7 +162,9 @@ class Connection:
         self._stream.flush()
 
     def copy_data(self, data: bytes) -> None:
-        """Data of a copy, which are sent as they are."""
+        """Data of a copy, which are sent as they are. Raises ProtocolError where the server awaits none."""
+        if not self._state.is_copying:
+            raise ProtocolError(WRONG_PHASE)
         self._stream.copy_data_head(len(data))
         self._out += [self._stream.drain(), data]
 
@@ -175,7 +179,7 @@ class Connection:
     def terminate(self) -> None:
         """Ends the session."""
         self._stream.terminate()
-        self._is_over = True
+        self._state.end()
 
     def data_to_send(self) -> bytes:
         """The bytes that are to be sent now."""
@@ -188,7 +192,17 @@ class Connection:
     @property
     def is_idle(self) -> bool:
         """Whether no request awaits an answer."""
-        return self._dialogue.is_idle and all(request is None for request, _, _ in self._taken)
+        return self._state.is_idle and all(request is None for request, _, _ in self._taken)
+
+    @property
+    def process_id(self) -> int:
+        """The number of the server's process, for a cancel request."""
+        return self._state.key[0]
+
+    @property
+    def secret_key(self) -> bytes:
+        """The key for a cancel request."""
+        return self._state.key[1]
 
     def receive_data(self, data: bytes) -> None:
         """Takes bytes that came."""
@@ -206,10 +220,8 @@ class Connection:
         head = self._data[self._at:self._at + 5]
         if len(head) < 5:
             return 1
-        length = 1 + int.from_bytes(head[1:], 'big')
-        if length > self._max:
-            raise ProtocolError(3)
-        return length
+        length = int.from_bytes(head[1:], 'big')
+        return 1 if length > self._max else 1 + length  # (what is too long is rejected)
 
     def next_event(self) -> Optional[events.Event]:
         """The next event; None where more bytes are needed.
@@ -226,19 +238,43 @@ class Connection:
 
     def _take_more(self) -> bool:
         """Takes the messages that are there; False where there is none."""
-        if not self._more and self._at == len(self._data) and self._fault == OK:
+        if self._fault is not None:
+            raise self._fault
+        if not self._more and self._at == len(self._data):
             return False
         self._gather()
         if self._encrypting:
             return bool(self._data)
-        if self._fault == OK:
-            taken, self._at, self._fault = _rows.take(self._dialogue.address, self._data, self._at, {} if self.skips_values else self._decoders)
-            self._taken = taken[::-1]
-        if not self._taken:
-            if self._fault != OK:
-                raise ProtocolError(self._fault, self._at)
-            self._needed()
-        return bool(self._taken)
+        if not self._state.is_logged_in:
+            return self._take_first()
+        taken, self._at, status = _rows.take(self._state.address, self._state.ways_address, self._data, self._at, {} if self.skips_values else self._decoders)
+        self._taken = taken[::-1]
+        if status != OK:
+            self._fault = ProtocolError(status, self._at)
+            if not taken:
+                raise self._fault
+        return bool(taken)
+
+    def _take_first(self) -> bool:
+        """Takes the message at the front, of a server that hasn't let the client in, and sends what answers it."""
+        try:
+            message = next(messages(self._data, self._at), None)
+        except ProtocolError:
+            message = None  # (what is none is rejected below)
+        kind = '' if message is None else message.kind
+        if message is not None and kind == 'AuthenticationSasl':
+            self._state.offered(_mechanisms(message))
+        step = self._state.take(self._data, self._at)
+        if step.status == MORE:
+            return False
+        if step.status != OK:
+            why = self._state.why(kind, step.status)
+            self._fault = LogInError(why) if kind.startswith('Authentication') else ProtocolError(step.status, self._at)
+            raise self._fault
+        self._out += [self._stream.drain(), step.reply]
+        self._at += step.frame
+        self._taken = [(step.request, step.is_last, message)]
+        return True
 
     def _encryption(self) -> events.Event:
         """The one byte that answers the request for encryption. Bytes after an `S` were sent before the channel was encrypted: they are rejected."""
@@ -257,8 +293,7 @@ class Connection:
                 return None
             raise DecodeError('a value in the rows of request %s: %s' % (request, what)) from what
         message: Message = what
-        if not self._is_open and message.kind.startswith('Authentication'):
-            self._log_in.take(message, self._stream)
+        if message.kind.startswith('Authentication'):
             return None
         return self._aside(message) if message.kind in _ASIDE else self._answer(message, request, is_last)
 
@@ -278,7 +313,6 @@ class Connection:
         if kind == 'ReadyForQuery':
             return self._ready(message, request)
         if kind == 'ErrorResponse':
-            self._is_over = self._is_over or request is None
             return events.Failed(request, _words(message))
         if kind == 'RowDescription':
             columns = fields(message)
@@ -293,16 +327,8 @@ class Connection:
             return events.CopyStarted(request, kind, formats(message))
         if kind == 'ParameterDescription':
             return events.Parameters(request, types(message))
-        if kind == 'BackendKeyData':
-            self.process_id, self.secret_key = message.number, message.first
-            return None
-        return None if kind == 'NegotiateProtocolVersion' else events.Completed(request, kind)
+        return None if kind in ('BackendKeyData', 'NegotiateProtocolVersion') else events.Completed(request, kind)
 
     def _ready(self, message: Message, request: Optional[int]) -> events.Event:
-        self.status = chr(message.byte)
-        if not self._is_open:
-            if not self._log_in.is_done:
-                raise LogInError('the log-in is not done')
-            self._is_open = True
-            return events.LoggedIn(request)
-        return events.Ready(request, self.status)
+        is_first, self.status = not self.status, chr(message.byte)
+        return events.LoggedIn(request) if is_first else events.Ready(request, self.status)

@@ -1,7 +1,7 @@
 """Which of a server's messages answers which of a client's requests."""
 import ctypes
 from ctypes import POINTER, Structure, byref, c_bool, c_size_t, c_uint8, c_uint64
-from typing import NamedTuple, Optional
+from typing import Callable, NamedTuple, Optional
 
 from ._library import NO_ROOM, OK, ProtocolError, as_integer, declare
 from .reading import KINDS
@@ -16,7 +16,8 @@ class _Slot(Structure):
     _fields_ = [('name', c_uint64), ('request', c_uint8)]
 
 
-class _Dialogue(Structure):
+class DialogueState(Structure):
+    """What the library keeps of a dialogue."""
     _fields_ = [('room', POINTER(_Slot)), ('room_len', c_size_t), ('start', c_size_t), ('end', c_size_t), ('name', c_uint64), ('stage', c_uint8)]
 
 
@@ -24,9 +25,9 @@ class _Event(Structure):
     _fields_ = [('name', c_uint64), ('what', c_uint8)]
 
 
-_ask = declare('dialogue_ask', POINTER(_Dialogue), c_uint8, c_uint64)
-_take = declare('dialogue_take', POINTER(_Dialogue), c_uint8, POINTER(_Event))
-_is_idle = declare('dialogue_is_idle', POINTER(_Dialogue), POINTER(c_bool))
+_ask = declare('dialogue_ask', POINTER(DialogueState), c_uint8, c_uint64)
+_take = declare('dialogue_take', POINTER(DialogueState), c_uint8, POINTER(_Event))
+_is_idle = declare('dialogue_is_idle', POINTER(DialogueState), POINTER(c_bool))
 _PART, _LAST, _ASIDE = 1, 2, 3
 
 
@@ -37,25 +38,26 @@ class Taken(NamedTuple):
     is_last: bool
 
 
-class Dialogue:
-    """Requests are asked in the order in which they are sent, and each message of the server is taken as it comes: `take` says which
-    request it answers. No answer is attributed to another request; a message that has no place raises ProtocolError `Unexpected`, and
-    the error of a copy where a Sync was sent before its data's end `Uncertain`: the connection is to be closed then."""
+class Requests:
+    """The requests whose answers are to come, in memory that grows."""
 
-    def __init__(self, room: int = 64) -> None:
+    def __init__(self, dialogue: DialogueState, room: int = 64) -> None:
         self._room = (_Slot * max(room, 1))()
-        self._dialogue = _Dialogue(self._room, len(self._room), 0, 0, 0, 0)
-        self._event = _Event()
+        self._dialogue = dialogue
+        dialogue.room, dialogue.room_len = self._room, len(self._room)
+
+    def _asked(self, request: int, name: int) -> int:
+        return _ask(byref(self._dialogue), request, name)
 
     def ask(self, request: str, name: int) -> None:
         """Takes note of a request (one of `REQUESTS`) with the asker's own number."""
         if request not in _ASKED:
             raise ValueError('request: one of %s is expected, not %r' % (', '.join(REQUESTS), request))
         number = as_integer(name, 'name', 0, 2 ** 64 - 1)
-        status = _ask(byref(self._dialogue), _ASKED[request], number)
+        status = self._asked(_ASKED[request], number)
         if status == NO_ROOM:
             self.widen()
-            status = _ask(byref(self._dialogue), _ASKED[request], number)
+            status = self._asked(_ASKED[request], number)
         if status != OK:
             raise ProtocolError(status)
 
@@ -70,6 +72,25 @@ class Dialogue:
         ctypes.memmove(wider, self._room, ctypes.sizeof(self._room))
         self._room, self._dialogue.room, self._dialogue.room_len = wider, wider, len(wider)
 
+    @staticmethod
+    def _told(call: Callable[..., int], state: Structure) -> bool:
+        """What a call tells of the state."""
+        told = c_bool()
+        status = call(byref(state), byref(told))
+        if status != OK:
+            raise ProtocolError(status)
+        return told.value
+
+
+class Dialogue(Requests):
+    """Requests are asked in the order in which they are sent, and each message of the server is taken as it comes: `take` says which
+    request it answers. No answer is attributed to another request; a message that has no place raises ProtocolError `Unexpected`, and
+    the error of a copy where a Sync was sent before its data's end `Uncertain`: the connection is to be closed then."""
+
+    def __init__(self, room: int = 64) -> None:
+        super().__init__(DialogueState(), room)
+        self._event = _Event()
+
     def take(self, kind: str) -> Taken:
         """Takes the server's next message, by its kind."""
         if kind not in _KINDS:
@@ -83,8 +104,4 @@ class Dialogue:
     @property
     def is_idle(self) -> bool:
         """Whether no request awaits an answer."""
-        idle = c_bool()
-        status = _is_idle(byref(self._dialogue), byref(idle))
-        if status != OK:
-            raise ProtocolError(status)
-        return idle.value
+        return self._told(_is_idle, self._dialogue)

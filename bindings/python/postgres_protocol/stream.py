@@ -60,6 +60,15 @@ class Stream:
         """Whether the startup packet was sent."""
         return bool(self._stream.is_open)
 
+    @property
+    def length(self) -> int:
+        """How many bytes were appended since the last `drain`."""
+        return int(self._stream.len)
+
+    def cut(self, length: int) -> None:
+        """Takes back what was appended after so many bytes."""
+        self._stream.len = length
+
     def drain(self) -> bytes:
         """What was appended since the last call, to be sent now."""
         sent = ctypes.string_at(self._room, self._stream.len)
