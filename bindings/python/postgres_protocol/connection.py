@@ -195,6 +195,11 @@ class Connection:
         return self._state.is_idle and all(request is None for request, _, _ in self._taken)
 
     @property
+    def is_copying(self) -> bool:
+        """Whether the server awaits the data of a copy."""
+        return self._state.is_copying
+
+    @property
     def process_id(self) -> int:
         """The number of the server's process, for a cancel request."""
         return self._state.key[0]

@@ -49,7 +49,6 @@ class Session:
         self._statements: Dict[str, Statement] = {}
         self._dropped: List[str] = []
         self._named = 0
-        self._is_copying = False
 
     @property
     def _begins(self) -> bool:
@@ -70,13 +69,12 @@ class Session:
         connection = self.connection
         connection.skips_values = True
         try:
-            if self._is_copying:
-                self._give_up('the call was broken off')
+            self._give_up('the call was broken off')
             if connection.needs_sync:
                 connection.sync()
             while not connection.is_idle:
                 event = yield None
-                if isinstance(event, events.CopyStarted) and event.kind != 'CopyOutResponse':
+                if isinstance(event, events.CopyStarted):
                     self._give_up('the call was broken off')
                 elif isinstance(event, events.Failed) and errors.is_end(event.fields, event.request):
                     raise errors.of_fields(event.fields)
@@ -84,8 +82,9 @@ class Session:
             connection.skips_values = False
 
     def _give_up(self, why: str) -> None:
-        self._is_copying = False
-        self.connection.copy_fail(why)
+        """Ends a copy whose data the server awaits."""
+        if self.connection.is_copying:
+            self.connection.copy_fail(why)
 
     def _until_ready(self, last: int) -> Found:
         """The events up to the Ready of a request; a server's error is raised then. A copy that isn't expected ends there."""
@@ -103,8 +102,7 @@ class Session:
                 return found
             elif isinstance(event, events.CopyStarted):
                 failed = errors.ProgrammingError(_OTHER_CALL)
-                if event.kind != 'CopyOutResponse':
-                    self._give_up(_OTHER_CALL)
+                self._give_up(_OTHER_CALL)
             elif failed is None:
                 found.append(event)
 
@@ -272,14 +270,12 @@ class Session:
         if not isinstance(event, events.CopyStarted):
             raise errors.ProgrammingError('the statement has run, and copies no data through the connection')
         if event.kind != kind:
-            self._is_copying = event.kind == 'CopyInResponse'
             raise errors.ProgrammingError('the statement copies in the other direction')
         return number
 
     def copy_in(self, sql: str) -> Flow:
         """Sends data to a `COPY .. FROM STDIN`."""
         number = yield from self._copy(sql, 'CopyInResponse')
-        self._is_copying = True
         held: List[bytes] = []
         size = 0
         while True:
@@ -293,7 +289,6 @@ class Session:
                 yield SEND
             if chunk is None:
                 break
-        self._is_copying = False
         self.connection.copy_done()
         return _results((yield from self._until_ready(number)))[-1]
 
