@@ -329,11 +329,12 @@ class Connection:
         if kind == 'CopyData':
             return events.CopyBytes(request, message.first)
         if kind in ('CopyInResponse', 'CopyOutResponse', 'CopyBothResponse'):
+            self._state.is_streaming = kind == 'CopyBothResponse'
             return events.CopyStarted(request, kind, formats(message))
         if kind == 'ParameterDescription':
             return events.Parameters(request, types(message))
         return None if kind in ('BackendKeyData', 'NegotiateProtocolVersion') else events.Completed(request, kind)
 
     def _ready(self, message: Message, request: Optional[int]) -> events.Event:
-        is_first, self.status = not self.status, chr(message.byte)
+        is_first, self.status, self._state.is_streaming = not self.status, chr(message.byte), False
         return events.LoggedIn(request) if is_first else events.Ready(request, self.status)

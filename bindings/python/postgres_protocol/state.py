@@ -6,7 +6,7 @@ from typing import Dict, List, NamedTuple, Optional, Sequence, Tuple
 
 from ._library import OK, OUT, UINT32, ProtocolError, as_integer, declare, text
 from .auth import saslprep
-from .dialogue import DialogueState, Requests
+from .dialogue import REQUESTS, DialogueState, Requests
 
 
 class LogInError(Exception):
@@ -45,7 +45,7 @@ METHODS = ('scram-sha-256', 'md5', 'password', 'none')
 _BITS = {'none': 1, 'password': 2, 'md5': 4, 'scram-sha-256': 8}
 _ASKED = {'AuthenticationOk': 'none', 'AuthenticationCleartextPassword': 'password', 'AuthenticationMd5Password': 'md5', 'AuthenticationSasl': 'scram-sha-256'}
 _DONE, _UNDUE, _NOT_ADMITTED, _OTHER_MECHANISM, _TOO_FEW_ROUNDS, _VERIFICATION, _LAST = 4, 89, 90, 91, 92, 76, 2
-_BOUND = 'SCRAM-SHA-256-PLUS'
+_BOUND, _ENDS = 'SCRAM-SHA-256-PLUS', (REQUESTS.index('CopyDone'), REQUESTS.index('CopyFail'))
 
 
 class Step(NamedTuple):
@@ -67,6 +67,8 @@ class State(Requests):
             if way not in METHODS:
                 raise ValueError('require_auth: one of %s is expected, not %r' % (', '.join(METHODS), way))
         self._connection = _Connection()
+        #: Whether a stream both ways is under way, of which the connection's calls know nothing: its end is asked of the dialogue alone.
+        self.is_streaming = False
         super().__init__(self._connection.dialogue)
         self._admitted, self._must_bind, self._offered = ('scram-sha-256',) if must_bind else tuple(ways), must_bind, ''
         self._password = b'' if password is None else password.encode(errors='surrogateescape')
@@ -100,6 +102,10 @@ class State(Requests):
         self._give(password=saslprep(self._password))
 
     def _asked(self, request: int, name: int) -> int:
+        if self.is_streaming and request in _ENDS:
+            status = super()._asked(request, name)
+            self.is_streaming = status != OK
+            return status
         return _ask(byref(self._connection), request, name)
 
     def take(self, data: bytes, at: int) -> Step:
@@ -125,7 +131,7 @@ class State(Requests):
     @property
     def is_copying(self) -> bool:
         """Whether data of a copy may be sent."""
-        return bool(_is_copying(byref(self._connection)))
+        return self.is_streaming or bool(_is_copying(byref(self._connection)))
 
     @property
     def is_over(self) -> bool:
