@@ -1,4 +1,4 @@
-/* Logs in with SCRAM-SHA-256, by the calls for the exchange alone (client.c uses struct pgp_login): login PORT USER PASSWORD. */
+/* Logs in with SCRAM-SHA-256, by the calls for the exchange alone (client.c uses struct pgp_connection): login PORT USER PASSWORD. */
 #include "postgres_protocol.h"
 #include "postgres_protocol_auth.h"
 #include <arpa/inet.h>

@@ -54,39 +54,13 @@ static inline void pgp_nonce(const uint8_t random[18], uint8_t nonce[24])
     }
 }
 
-/*
- * A client's log-in: what each authentication request of the server comes to, and what to send for it. A struct pgp_login, all 0 at first, stands
- * between the calls; `ways` are those that are admitted, as libpq's require_auth has them, the same in each call. The password, the user, the
- * nonce and the channel binding are those of the calls above.
- *   pgp_login_cleartext  PGP_AUTHENTICATION_CLEARTEXT_PASSWORD: PGP_OK where the password is to be sent, by pgp_password_message
- *   pgp_login_md5        PGP_AUTHENTICATION_MD5_PASSWORD, with its salt: what to send by pgp_password_message
- *   pgp_login_sasl       PGP_AUTHENTICATION_SASL, once for each mechanism that pgp_mechanism_next gives, until the answer isn't
- *                        PGP_LOGIN_OTHER_MECHANISM: what to send in pgp_sasl_initial_response, with this mechanism. SCRAM-SHA-256-PLUS is
- *                        the mechanism of PGP_BINDING_TLS_SERVER_END_POINT, SCRAM-SHA-256 that of the others
- *   pgp_login_continue   PGP_AUTHENTICATION_SASL_CONTINUE: what to send by pgp_sasl_response. PGP_LOGIN_TOO_FEW_ROUNDS where the server asks for fewer rounds
- *                        than `least_rounds` (0 is taken for 1; servers have 4096 unless configured otherwise)
- *   pgp_login_final      PGP_AUTHENTICATION_SASL_FINAL: PGP_OK only if it shows the server's signature
- *   pgp_login_ok         PGP_AUTHENTICATION_OK: PGP_OK where the log-in is done. After an exchange has begun that is so only after
- *                        pgp_login_final returned PGP_OK, and with no request before it only where PGP_WAY_NONE is admitted
- * A status other than PGP_OK leaves the struct, `out` and 0 in `written`; but for PGP_NO_ROOM the connection is best closed then. Other
- * requests (GSSAPI, SSPI, Kerberos) are answered by no way here. What the statuses mean stands in postgres_protocol.h.
- */
+/* The ways of logging in, as libpq's require_auth has them, and how far a log-in is. */
 enum { PGP_WAY_NONE = 1, PGP_WAY_PASSWORD = 2, PGP_WAY_MD5 = 4, PGP_WAY_SCRAM = 8 };
 enum { PGP_LOGIN_DONE = 4 };
 struct pgp_login {
     uint8_t phase;                  /* PGP_LOGIN_DONE at the end of the log-in */
     uint8_t signature[32];
 };
-pgp_status pgp_login_cleartext(struct pgp_login *login, uint8_t ways);
-pgp_status pgp_login_md5(struct pgp_login *login, uint8_t ways, const void *user, size_t user_len,
-                         const void *password, size_t password_len, const void *salt, size_t salt_len, uint8_t *out, size_t room, size_t *written);
-pgp_status pgp_login_sasl(struct pgp_login *login, uint8_t ways, const void *mechanism, size_t mechanism_len,
-                          uint8_t kind, const void *certificate, size_t certificate_len, const void *nonce, size_t nonce_len, uint8_t *out, size_t room, size_t *written);
-pgp_status pgp_login_continue(struct pgp_login *login, uint32_t least_rounds, const void *password, size_t password_len,
-                              uint8_t kind, const void *certificate, size_t certificate_len, const void *nonce, size_t nonce_len,
-                              const void *server_first, size_t server_first_len, uint8_t *out, size_t room, size_t *written, size_t *at);
-pgp_status pgp_login_final(struct pgp_login *login, const void *server_final, size_t server_final_len, size_t *at);
-pgp_status pgp_login_ok(struct pgp_login *login, uint8_t ways);
 
 /*
  * A client's connection: the log-in, which message answers which request, and what the server says of its session, in one struct of the
@@ -111,8 +85,13 @@ pgp_status pgp_login_ok(struct pgp_login *login, uint8_t ways);
  *   PGP_LOGIN_UNDUE                  a setting, a notice or a notification came before the log-in is done, or an answer about versions that isn't due:
  *                                    one is, right behind the startup packet, where the server speaks 3.0 and rejects no option
  *   PGP_CONNECTION_NO_STATUS         a ReadyForQuery has another status than I, T and E
- *   those of pgp_login_*             the log-in, by the ways that are admitted; PGP_LOGIN_NOT_ADMITTED also where the server offers to bind SCRAM to a channel
- *                                    that isn't encrypted, unless the exchange is bound: encryption may have been taken away on the way
+ *   PGP_LOGIN_UNDUE                  a request of the log-in isn't due, as AuthenticationOk in an exchange before the server has shown its signature
+ *   PGP_LOGIN_NOT_ADMITTED           `ways` hasn't the way that the server asks for (GSSAPI, SSPI and Kerberos are none here); also where the server offers
+ *                                    to bind SCRAM to a channel that isn't encrypted, unless the exchange is bound: encryption may have been taken away
+ *   PGP_LOGIN_OTHER_MECHANISM        the mechanism isn't offered: SCRAM-SHA-256-PLUS of PGP_BINDING_TLS_SERVER_END_POINT, SCRAM-SHA-256 of the others. What
+ *                                    is offered pgp_front and pgp_mechanism_next tell before, to choose `kind` by
+ *   PGP_LOGIN_TOO_FEW_ROUNDS         the server asks for fewer rounds than `least_rounds` (0 is taken for 1; servers have 4096 unless configured otherwise)
+ *   those of pgp_scram_update and pgp_scram_finish
  * A setting isn't kept, but for the caller to read of its message: it has the table of the names that it wants.
  */
 struct pgp_ways {

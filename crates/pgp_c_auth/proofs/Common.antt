@@ -3,5 +3,4 @@ pub use Rattle.std.proofs.Common.{◌≡◌, ℕ, Bool, true, false, List, inl, 
 pub use Rattle.std.specs.Prelude.{◌↔◌, Contains, string_bytes}
 pub use Rattle.pgp_c_auth.specs.Delivering.{Delivered, Delivers, IsLonger}
 pub use Rattle.pgp_c_auth.specs.Escaping.{IsLiteral}
-pub use Rattle.pgp_c_auth.specs.Login.{Step, Cleartext, Md5, Offer, First, Final, Welcome, Comes, Begins, Goes, LetIn, ByNone, ByCleartext, ByMd5, BySignature, IsAdmitted, at_phase, by_scram, now_begun}
 pub use Rattle.pgp_c_auth.specs.Scram.{Start, AnswersWith, AnswersIn, FirstText, HasAnswered, NoRoom}

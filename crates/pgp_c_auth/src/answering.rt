@@ -13,7 +13,7 @@ use crate::asking::{Asking, PgpWays, mechanism, unoffered};
 use crate::client::{answered, begun};
 use crate::login::{
     AWAITS_FINAL, AWAITS_FIRST, AWAITS_REQUEST, AWAITS_WELCOME, BY_CLEARTEXT, BY_MD5, BY_SCRAM,
-    NOT_ADMITTED, PgpLogin, TOO_FEW_ROUNDS, UNDUE, declined, ended, pgp_login_ok,
+    NOT_ADMITTED, PgpLogin, TOO_FEW_ROUNDS, UNDUE, declined, ended, welcome,
 };
 use bytes::BytesMut;
 use pgp_auth::authentication::md5_hash;
@@ -40,7 +40,7 @@ pub(crate) fn answer<A: Memory>(
         Asking::Sasl(body) => begin(alloc, login, ways, body, out),
         Asking::First(text) => go_on(alloc, login, ways, text, out),
         Asking::Final(text) => end(alloc, login, text),
-        Asking::Welcome => pgp_login_ok(login, ways.ways),
+        Asking::Welcome => welcome(login, ways.ways),
         Asking::Other => other(login),
     }
 }

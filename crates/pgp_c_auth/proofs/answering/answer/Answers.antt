@@ -12,5 +12,5 @@ returns-in-Final-clause-answered g c z =
 
 pub returns-in-Welcome-clause-answered : goal.returns-in-Welcome-clause-answered
 returns-in-Welcome-clause-answered g c z =
-    let so_far = c.pgp_login_ok.ensures.so_far z in
+    let so_far = c.welcome.ensures.so_far z in
     welcomes_so c.args.ways.now c.args.asked c.args.login.now _ c.args.out.now.items _ (search rules) so_far.0 so_far.1 refl
