@@ -87,7 +87,7 @@ static void exchanges(void)
     after(&p, PGP_WAY_SCRAM, NULL, 0);
     p.ways.kind = PGP_BINDING_TLS_SERVER_END_POINT; p.ways.certificate = pgp_text("hash"); p.ways.nonce = pgp_text("abc");
     same("bound", hear_bytes(&p, B("R\0\0\0\x2a\0\0\0\x0aSCRAM-SHA-256-PLUS\0SCRAM-SHA-256\0\0")), PGP_OK);
-    is("bound", p.out, p.n, B("p\0\0\0\x39SCRAM-SHA-256-PLUS\0\0\0\0\x1ep=tls-server-end-point,,n=,r=abc"));
+    is("bound", p.out, p.n, B("p\0\0\0\x3bSCRAM-SHA-256-PLUS\0\0\0\0\x20p=tls-server-end-point,,n=,r=abc"));
     after(&p, PGP_WAY_SCRAM, NULL, 0);
     p.ways.kind = PGP_BINDING_TLS_SERVER_END_POINT; p.ways.certificate = pgp_text("hash");
     same("the binding isn't offered", hear(&p, SASL), PGP_LOGIN_OTHER_MECHANISM);

@@ -8,9 +8,8 @@ ghost use Rattle.pgp_client.specs.Taking.{asked, awaits_data, is_copying, is_idl
 ghost use Rattle.pgp_client.specs.Talk.{shown};
 ghost use Rattle.pgp_client.specs.declared.event.Refusal.{Refusal as Refused};
 ghost use Rattle.pgp_client.specs.declared.stage.Stage.TheVariants.{Over};
-ghost use Rattle.pgp_message.specs.BackendMessage.{Fits};
 ghost use Rattle.pgp_message.specs.Views.{view};
-ghost use Rattle.pgp_c_auth.specs.Connection.{KeepsRoom, IsTimely, is_done, is_end, is_longer, is_status, lacks_status, limit_of, may_ask_at, may_follow, key_after, refusal_at, reported_as, status_after, talk_of};
+ghost use Rattle.pgp_c_auth.specs.Connection.{KeepsRoom, IsTimely, is_done, is_end, is_longer, is_status, lacks_status, limit_of, may_ask_at, may_follow, refusal_at, reported_as, status_after, talk_of};
 
 use crate::asking::PgpWays;
 use crate::connection::{NO_ROOM, PgpTaken, WRONG_PHASE};
@@ -18,7 +17,7 @@ use crate::login::{AWAITS_REQUEST, DONE, PgpLogin, UNDUE};
 use crate::talk::{PgpTalk, put_back, resumed};
 use pgp_base::FallibleIterator;
 use pgp_client::{Dialogue, Event, Kind, Refusal, Request, Slots};
-use pgp_message::{BackendKeyDataBody, Message};
+use pgp_message::Message;
 
 /// How long a message may be of a server that has proved nothing yet, as libpq has it.
 const EARLY_LIMIT: u32 = 30_000;
