@@ -1,4 +1,4 @@
-/* connection: a whole connection, a message at a time: each call and each status, cut messages, and rooms that are too small. The exchange is that of
+/* connection: a whole connection, a message at a time: each call and each status, cut messages, rooms that are too small, and any bytes. The exchange is that of
    login.c, and the messages are spelled by hand after the manual. */
 #include "checks.h"
 
@@ -261,7 +261,33 @@ static void limits(void)
     same("no places", pgp_connection_take(&h.c, &w, B(READY), out, sizeof out, &n, &t), PGP_NO_ROOM); same("not over", h.c.is_over, false);
 }
 
+/* Any bytes in any state: what is taken lies inside, what isn't leaves no reply, and a connection that is over stays so. */
+static void anything(void)
+{
+    struct pgp_ways w = by(15);
+    uint32_t x = 1;
+    int i, k, bad = 0;
+    for (i = 0; i < 20000; i++) {
+        struct held h;
+        struct pgp_taken t;
+        uint8_t bytes[40], out[16], over;
+        size_t n, len = x >> 8 & 31;
+        pgp_status status;
+        memset(&h, 0, sizeof h);
+        for (k = 0; k < (int)sizeof bytes; k++) { x = x * 1664525 + 1013904223; bytes[k] = (uint8_t)(x >> 24); }
+        bytes[0] = (uint8_t)"RZSKNAEDCGTv12"[bytes[0] % 14]; bytes[1] = bytes[2] = bytes[3] = 0; bytes[4] = bytes[4] & 31;
+        if (bytes[0] == 'R') { bytes[5] = bytes[6] = bytes[7] = 0; bytes[8] &= 15; }
+        h.c.dialogue.room = h.slots; h.c.dialogue.room_len = SLOTS;
+        h.c.dialogue.start = bytes[39] & 3; h.c.dialogue.end = bytes[38] & 3; h.c.dialogue.stage = bytes[37] % 28; h.slots[0].request = h.slots[1].request = bytes[36] % 12;
+        h.c.login.phase = bytes[35] % 6; h.c.key_len = bytes[34]; over = bytes[33] % 8 == 0; h.c.is_over = over != 0; w.is_encrypted = (bytes[32] & 1) != 0;
+        status = pgp_connection_take(&h.c, &w, bytes, len, i & 1 ? out : NULL, i & 1 ? sizeof out : 0, &n, &t);
+        bad += status == PGP_OK ? t.frame > len || t.frame < 5 || n > sizeof out || over : n != 0 || (over && (status != PGP_E_WRONG_PHASE || !h.c.is_over));
+        bad += h.c.key_len > 256 || (status != PGP_OK && status != PGP_MORE && status != PGP_NO_ROOM && !h.c.is_over);
+    }
+    same("anything", (unsigned long)bad, 0);
+}
+
 void connections(void)
 {
-    log_ins(); more_log_ins(); early(); rooms(); requests(); limits();
+    log_ins(); more_log_ins(); early(); rooms(); requests(); limits(); anything();
 }

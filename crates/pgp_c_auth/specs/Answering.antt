@@ -111,17 +111,27 @@ pub record HasAnswered (w : PgpWays) (asked : Asking) (old new : PgpLogin) (out 
 abbrev pub UnsentText : Type 0 → (List ℕ → Type 0) → (List ℕ → ClientMessage) → ℕ → Type 0
 UnsentText lacks Is message code = (text : List ℕ) × Is text × Unsent lacks (message text) code
 
--- Why what is asked isn't answered, as the code says.
+-- a request for this way is due, and the way is admitted
+abbrev pub IsMet : ℕ → ℕ → ℕ → Type 0
+IsMet phase ways way = (phase ≡ awaits_request) × IsAdmitted ways way
+
+-- Why what is asked isn't answered, as the code says: the first cause, from the left.
 module _ (lacks : Type 0) (w : PgpWays) (old : PgpLogin) (code : ℕ) where
+  -- the mechanisms that are offered aren't the exchange's, or it may be stripped of its channel binding
+  abbrev pub NotBegun : List ℕ → Type 0
+  NotBegun mechanisms = ((code ≡ 91) × ¬ Lists (mechanism w.kind) mechanisms) ⊎ (Lists (mechanism w.kind) mechanisms × (((code ≡ 90) × IsStripped w mechanisms)
+      ⊎ (¬ IsStripped w mechanisms × (BeginRefused lacks (start_of w) code ⊎ UnsentText lacks (FirstText (start_of w)) (initial w.kind) code))))
+
+  abbrev pub NotGoneOn : List ℕ → Type 0
+  NotGoneOn text = ((code ≡ 92) × AsksFewer w.least_rounds text)
+      ⊎ (¬ AsksFewer w.least_rounds text × (((place : ℕ) × NotAnswered lacks (start_of w) text code place) ⊎ UnsentText lacks (AnswersIn (start_of w) text) SaslResponse code))
+
   abbrev pub NotAnsweredFor : Asking → Type 0
   NotAnsweredFor Nothing = ⊥
-  NotAnsweredFor Cleartext = Declined old.phase w.ways by_cleartext code ⊎ Unsent lacks (PasswordMessage w.password.now) code
-  NotAnsweredFor (Md5 salt) = Declined old.phase w.ways by_md5 code ⊎ Unsent lacks (PasswordMessage (md5_answer w.user.now w.password.now salt)) code
-  -- the mechanisms that are offered aren't the exchange's, or it may be stripped of its channel binding
-  NotAnsweredFor (Sasl mechanisms) = Declined old.phase w.ways by_scram code ⊎ (((code ≡ 91) × ¬ Lists (mechanism w.kind) mechanisms) ⊎ (((code ≡ 90) × IsStripped w mechanisms)
-      ⊎ (BeginRefused lacks (start_of w) code ⊎ UnsentText lacks (FirstText (start_of w)) (initial w.kind) code)))
-  NotAnsweredFor (First text) = ((code ≡ 89) × (old.phase ≢ awaits_first)) ⊎ (((code ≡ 92) × AsksFewer w.least_rounds text)
-      ⊎ (((place : ℕ) × NotAnswered lacks (start_of w) text code place) ⊎ UnsentText lacks (AnswersIn (start_of w) text) SaslResponse code))
-  NotAnsweredFor (Final text) = ((code ≡ 89) × (old.phase ≢ awaits_final)) ⊎ ((place : ℕ) × ShownRefused lacks old.signature text code place)
+  NotAnsweredFor Cleartext = Declined old.phase w.ways by_cleartext code ⊎ (IsMet old.phase w.ways by_cleartext × Unsent lacks (PasswordMessage w.password.now) code)
+  NotAnsweredFor (Md5 salt) = Declined old.phase w.ways by_md5 code ⊎ (IsMet old.phase w.ways by_md5 × Unsent lacks (PasswordMessage (md5_answer w.user.now w.password.now salt)) code)
+  NotAnsweredFor (Sasl mechanisms) = Declined old.phase w.ways by_scram code ⊎ (IsMet old.phase w.ways by_scram × NotBegun mechanisms)
+  NotAnsweredFor (First text) = ((code ≡ 89) × (old.phase ≢ awaits_first)) ⊎ ((old.phase ≡ awaits_first) × NotGoneOn text)
+  NotAnsweredFor (Final text) = ((code ≡ 89) × (old.phase ≢ awaits_final)) ⊎ ((old.phase ≡ awaits_final) × ((place : ℕ) × ShownRefused lacks old.signature text code place))
   NotAnsweredFor Welcome = ((code ≡ 89) × (old.phase ≢ awaits_request) × (old.phase ≢ awaits_welcome)) ⊎ ((code ≡ 90) × (old.phase ≡ awaits_request) × ¬ IsAdmitted w.ways by_none)
   NotAnsweredFor Other = ((code ≡ 89) × (old.phase ≢ awaits_request)) ⊎ ((code ≡ 90) × (old.phase ≡ awaits_request))

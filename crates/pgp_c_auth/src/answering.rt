@@ -219,8 +219,11 @@ fn end<A: Memory>(alloc: A, login: &mut PgpLogin, text: &[u8]) -> u32
     ensures verified { result ≡ 0 → Verifies login.old.signature text.now }
     ensures so_far { result ≡ 0 → Came awaits_final awaits_welcome login.old login.new × (login.new.signature ≡ login.old.signature) }
     ensures kept { result ≢ 0 → login.new ≡ login.old }
-    ensures why { result ≢ 0 → ((result ≡ 89) × (login.old.phase ≢ awaits_final)) ⊎ ((place : ℕ) × ShownRefused A.Lacks login.old.signature text.now result place) }
+    ensures why { result ≢ 0 → ((result ≡ 89) × (login.old.phase ≢ awaits_final)) ⊎ ((login.old.phase ≡ awaits_final) × ((place : ℕ) × ShownRefused A.Lacks login.old.signature text.now result place)) }
 {
+    if login.phase != AWAITS_FINAL {
+        return UNDUE;
+    }
     let mut at = 0;
     ended(alloc, login, text, &mut at)
 }

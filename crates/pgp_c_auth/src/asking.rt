@@ -74,7 +74,7 @@ pub(crate) fn mechanism(kind: u8) -> &'static str
 /// Whether an exchange may begin: 0, or why not.
 pub(crate) fn unoffered(ways: &PgpWays<'_>, body: &AuthenticationSaslBody<&[u8]>) -> u32
     ensures offered { result ≡ 0 → Lists (mechanism ways.now.kind) body.now × ¬ IsStripped ways.now body.now }
-    ensures why { result ≢ 0 → ((result ≡ 91) × ¬ Lists (mechanism ways.now.kind) body.now) ⊎ ((result ≡ 90) × IsStripped ways.now body.now) }
+    ensures why { result ≢ 0 → ((result ≡ 91) × ¬ Lists (mechanism ways.now.kind) body.now) ⊎ ((result ≡ 90) × Lists (mechanism ways.now.kind) body.now × IsStripped ways.now body.now) }
 {
     if !lists(body, mechanism(ways.kind)) {
         return 91;
