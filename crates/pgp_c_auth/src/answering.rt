@@ -2,18 +2,17 @@
 
 ghost use Rattle.std.specs.Prelude.{◌≡◌, ◌≢◌, ◌⊎◌, ℕ, List};
 ghost use Rattle.pgp_auth.specs.Md5Text.{md5_answer};
-ghost use Rattle.pgp_auth.specs.ScramRefusal.{Verifies};
 ghost use Rattle.pgp_frontend.specs.ClientMessage.{PasswordMessage, SaslResponse};
 ghost use Rattle.pgp_frontend_read.specs.Views.{view};
 ghost use Rattle.pgp_c_auth.specs.Answering.{Added, Cleartext, First, HasAnswered, Md5, NotAnsweredFor, Sasl, Unsent, UnsentText, initial, reported, start_of};
-ghost use Rattle.pgp_c_auth.specs.Login.{Came, awaits_final, awaits_request, awaits_welcome};
-ghost use Rattle.pgp_c_auth.specs.Scram.{AnswersIn, AnswersWith, BeginRefused, FirstText, NotAnswered, ShownRefused};
+ghost use Rattle.pgp_c_auth.specs.Login.{awaits_request};
+ghost use Rattle.pgp_c_auth.specs.Scram.{AnswersIn, AnswersWith, BeginRefused, FirstText, NotAnswered};
 
 use crate::asking::{Asking, PgpWays, mechanism, unoffered};
 use crate::client::{answered, begun};
 use crate::login::{
     AWAITS_FINAL, AWAITS_FIRST, AWAITS_REQUEST, AWAITS_WELCOME, BY_CLEARTEXT, BY_MD5, BY_SCRAM,
-    NOT_ADMITTED, PgpLogin, TOO_FEW_ROUNDS, UNDUE, declined, ended, welcome,
+    NOT_ADMITTED, PgpLogin, TOO_FEW_ROUNDS, UNDUE, declined, end, welcome,
 };
 use bytes::BytesMut;
 use pgp_auth::authentication::md5_hash;
@@ -212,20 +211,6 @@ fn send_final<A: Memory>(
         unreachable!()
     };
     send_response(answer, out)
-}
-
-/// The server's final text came, which has to show its signature.
-fn end<A: Memory>(alloc: A, login: &mut PgpLogin, text: &[u8]) -> u32
-    ensures verified { result ≡ 0 → Verifies login.old.signature text.now }
-    ensures so_far { result ≡ 0 → Came awaits_final awaits_welcome login.old login.new × (login.new.signature ≡ login.old.signature) }
-    ensures kept { result ≢ 0 → login.new ≡ login.old }
-    ensures why { result ≢ 0 → ((result ≡ 89) × (login.old.phase ≢ awaits_final)) ⊎ ((login.old.phase ≡ awaits_final) × ((place : ℕ) × ShownRefused A.Lacks login.old.signature text.now result place)) }
-{
-    if login.phase != AWAITS_FINAL {
-        return UNDUE;
-    }
-    let mut at = 0;
-    ended(alloc, login, text, &mut at)
 }
 
 /// A way is asked for that no client here has.

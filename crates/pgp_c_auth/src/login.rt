@@ -1,6 +1,6 @@
 //! How far the log-in of a client's connection is, in memory of the caller's, and what may come of it.
 
-ghost use Rattle.std.specs.Prelude.{◌≡◌, ◌≢◌, ◌⊎◌};
+ghost use Rattle.std.specs.Prelude.{◌≡◌, ◌≢◌, ◌⊎◌, ℕ};
 ghost use Rattle.pgp_auth.specs.ScramRefusal.{Verifies};
 ghost use Rattle.pgp_c_auth.specs.Login.{Came, Declined, IsAdmitted, MayWelcome, at_phase, awaits_final, awaits_request, awaits_welcome, by_none, done};
 ghost use Rattle.pgp_c_auth.specs.Scram.{ShownRefused};
@@ -58,25 +58,20 @@ pub(crate) fn declined(login: &PgpLogin, ways: u8, way: u8) -> u32
 }
 
 /// The server's final text of the exchange: 0 where it shows the signature that is awaited.
-pub(crate) fn ended<A: Memory>(
-    alloc: A,
-    login: &mut PgpLogin,
-    server_final: &[u8],
-    at: &mut usize,
-) -> u32
-    ensures verified { result ≡ 0 → Verifies login.old.signature server_final.now × (at.new ≡ 0) }
+pub(crate) fn end<A: Memory>(alloc: A, login: &mut PgpLogin, text: &[u8]) -> u32
+    ensures verified { result ≡ 0 → Verifies login.old.signature text.now }
     ensures so_far { result ≡ 0 → Came awaits_final awaits_welcome login.old login.new × (login.new.signature ≡ login.old.signature) }
     ensures kept { result ≢ 0 → login.new ≡ login.old }
-    ensures why { result ≢ 0 → ((result ≡ 89) × (at.new ≡ 0) × (login.old.phase ≢ awaits_final)) ⊎ ShownRefused A.Lacks login.old.signature server_final.now result at.new }
+    ensures why { result ≢ 0 → ((result ≡ 89) × (login.old.phase ≢ awaits_final)) ⊎ ((login.old.phase ≡ awaits_final) × ((place : ℕ) × ShownRefused A.Lacks login.old.signature text.now result place)) }
 {
-    *at = 0;
     if login.phase != AWAITS_FINAL {
         return UNDUE;
     }
     let kept = PgpScram {
         signature: login.signature,
     };
-    let code = finished(alloc, &kept, server_final, at);
+    let mut at = 0;
+    let code = finished(alloc, &kept, text, &mut at);
     if code != 0 {
         return code;
     }
