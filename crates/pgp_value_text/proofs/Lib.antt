@@ -3,6 +3,8 @@ pub mod Texts
 pub mod Written
 pub mod Zones
 pub mod Floats
+pub mod Rounding
+pub mod Sizes
 pub mod Forms
 pub mod TextLemmas
 pub mod Uniqueness

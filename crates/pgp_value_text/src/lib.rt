@@ -19,6 +19,7 @@ mod number;
 mod object;
 mod plain;
 mod put;
+mod rounded;
 mod span;
 mod value;
 mod zone;

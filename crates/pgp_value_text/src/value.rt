@@ -83,10 +83,11 @@ fn put_in<A: Memory>(
 /// - `date`, `time`, `timetz` (`10:20:30.5+05:30`), `timestamp`, `timestamptz` (`2026-11-27 10:20:30.5+00`) and `interval` (`P1Y2M3DT4H5M6.5S`);
 /// - `inet` with `/` and the bits of the network where these are fewer than the address has, `cidr` always; `macaddr` and `macaddr8` as `08:00:2b:01:02:03`;
 /// - `bit` and `varbit` as their bits; `tid` as `(block,row)`;
-/// - `float4` and `float8` as a text that reads back as the same number, though not always in a server's digits and layout (`1.0` for `1`), or as
-///   `NaN`, `Infinity` or `-Infinity`.
+/// - `float4` and `float8` rounded to 6 and 15 decimal digits, without zeros at the end (`1.5`, `100`, `-0`), with `~` before a text that isn't read
+///   as the number itself (`~0.333333333333333`), or as `NaN`, `Infinity` or `-Infinity`.
 ///
-/// A day outside the years from -9999 to 9999 has none, nor has a time in a zone of 16 hours or more, nor have `money`, shapes, arrays, ranges, records,
+/// A floating-point number other than 0 has none below 0.0001, and where more digits would stand before the point; nor has a day outside the years from
+/// -9999 to 9999, a time in a zone of 16 hours or more, nor have `money`, shapes, arrays, ranges, records,
 /// the types of text search, and those that name an object (`regclass`).
 ///
 /// # Errors
