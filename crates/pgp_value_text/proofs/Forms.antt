@@ -1,5 +1,5 @@
 -- A value of each format has one text.
-use Rattle.pgp_value_text.proofs.Common.{◌≡◌, ℕ, ℤ, true, List, Option, Some, None, Ok, Err, refl, sym, ap, ◌∙◌, subst, IfOk, IsErr, false≢true, decimal, signed_decimal, hyphenated_text, lower, bool, bytea, char, int2, int4, int8, float4, float8, from_bits, binary32, binary64, ShowsFloat, oid, lsn, time, fixed_sound, int8_spelling, int16_spelling, int32_spelling, int64_spelling, uint32_spelling, uint64_spelling, numeric_text, date_value, timestamp_value, xid8, interval, timetz, Moment, PosInfinity, NegInfinity, Value, interval_sound, timetz_sound, date_value_sound, timestamp_value_sound, span_text, ShowsDay, ShowsInstant, ShowsMoment, ShowsTime, bool_text, char_text, hex_text, lsn_text, zone_of, As, IsShown, IsShownIn, ShowsNumeric, ShowsTimeTz}
+use Rattle.pgp_value_text.proofs.Common.{◌≡◌, ℕ, ℤ, true, List, Option, Some, None, Ok, Err, refl, sym, ap, ◌∙◌, subst, IfOk, IsErr, false≢true, decimal, signed_decimal, hyphenated_text, lower, bool, bytea, char, int2, int4, int8, float4, float8, from_bits, binary32, binary64, ShowsFloat, oid, lsn, time, fixed_sound, int8_spelling, int16_spelling, int32_spelling, int64_spelling, uint32_spelling, uint64_spelling, numeric_text, date_value, timestamp_value, xid8, interval, timetz, Moment, PosInfinity, NegInfinity, Value, interval_sound, timetz_sound, date_value_sound, timestamp_value_sound, span_text, ShowsDay, ShowsInstant, ShowsMoment, ShowsTime, bool_text, char_text, hex_text, lsn_text, zone_of, As, IsPlainText, IsShown, IsShownIn, ShowsNumeric, ShowsTimeTz}
 use Rattle.pgp_value_text.proofs.Uniqueness.{one_date, one_instant, one_time}
 use Rattle.std.specs.Int.{w8, cast_unsigned}
 use Rattle.pgp_types.specs.Format.{IsSound}
@@ -17,6 +17,8 @@ use Rattle.pgp_types.proofs.Readings.{all_sound, bool_sound, label_sound, text_s
 use Rattle.pgp_values.specs.declared.formats.BinaryFormat.{BinaryFormat}
 use Rattle.pgp_values.specs.declared.formats.BinaryFormat.TheVariants.{Bool as BoolFormat, Bytea as BytesFormat, Char as CharFormat, Cidr, Date, Float4, Float8, Inet, Int2, Int4, Int8, Interval, Jsonb, Jsonpath, Lsn, Macaddr, Macaddr8, Numeric, Oid, Text as TextFormat, Tid, Time, Timestamp, Timetz, Uuid, Varbit, Xid8}
 use Rattle.pgp_values.specs.Decimal.{NumericReads}
+use Rattle.pgp_values.specs.Formats.{formats}
+use Rattle.pgp_values.specs.FormatTable.{format_in}
 use Rattle.pgp_values.specs.Text.{jsonb, jsonpath}
 use Rattle.pgp_values.specs.declared.error.NumericError.{NumericError}
 use Rattle.pgp_values.proofs.DecimalLemmas.{one_numeric}
@@ -71,6 +73,9 @@ one_formatted Varbit n = one_shown varbit varbit_sound (As bits_text) (one_as bi
 one_formatted Xid8 n = one_shown xid8 (fixed_sound uint64_spelling) (As decimal) (one_as decimal)
 one_formatted _ n = λ bytes a b s t. absurd s
 
-pub one_in : (f : Option BinaryFormat) (type_oid : ℕ) (bytes a b : List ℕ) → IsShownIn f type_oid bytes a → IsShownIn f type_oid bytes b → a ≡ b
+one_in : (f : Option BinaryFormat) (type_oid : ℕ) (bytes a b : List ℕ) → IsShownIn f type_oid bytes a → IsShownIn f type_oid bytes b → a ≡ b
 one_in (Some f) n = one_formatted f n
 one_in None n = λ bytes a b s t. absurd s
+
+pub one_plain : (type_oid : ℕ) (bytes a b : List ℕ) → IsPlainText type_oid bytes a → IsPlainText type_oid bytes b → a ≡ b
+one_plain type_oid = one_in (format_in formats type_oid) type_oid

@@ -6,5 +6,7 @@ pub mod Floats
 pub mod Rounding
 pub mod Sizes
 pub mod Forms
+pub mod Elements
+pub mod Any
 pub mod TextLemmas
 pub mod Uniqueness

@@ -1,4 +1,4 @@
--- The text of a value whose bytes in binary format are given, by the number (OID) of its type: as a server shows it in UTF-8 with the settings
+-- The text of a value, of a type that isn't made of others, whose bytes in binary format are given, by the number (OID) of its type: as a server shows it in UTF-8 with the settings
 -- `DateStyle` `ISO`, `IntervalStyle` `iso_8601` and `TimeZone` `UTC`. Of a floating-point number: rounded, and marked where that isn't the number itself.
 -- PostgreSQL manual, "Data Types": "Numeric Types", "Character Types", "Binary Data Types", "Date/Time Types", "Boolean Type", "UUID Type", "JSON Types",
 -- "Object Identifier Types", "pg_lsn Type", "Network Address Types", "Bit String Types".
@@ -8,7 +8,7 @@ use Rattle.std.specs.Float.{binary32, binary64}
 use Rattle.std.specs.Fmt.{decimal, digits, signed_decimal}
 use Rattle.hex.specs.Hex.{encode_lower}
 use Rattle.uuid.specs.Text.{hyphenated_text, lower}
-use Rattle.pgp_types.specs.Format.{Plain}
+use Rattle.pgp_types.specs.Format.{Format}
 use Rattle.pgp_types.specs.Network.{inet, macaddr, uuid}
 use Rattle.pgp_types.specs.Scalar.{bool, bytea, char, int2, int4, int8, oid, lsn, float4, float8}
 use Rattle.pgp_types.specs.Text.{text}
@@ -33,7 +33,7 @@ use Rattle.pgp_value_text.specs.Float.{ShowsFloat}
 use Rattle.pgp_value_text.specs.Zone.{ShowsTimeTz}
 
 -- the bytes are read as a value that is shown so
-abbrev pub Shows : {V : Type 0} → Plain V → (V → List ℕ → Type 0) → List ℕ → List ℕ → Type 0
+abbrev pub Shows : {W V : Type 0} → Format W V → (V → List ℕ → Type 0) → List ℕ → List ℕ → Type 0
 Shows f shown bytes text = (v : _) × f.Reads bytes (Ok v) × shown v text
 
 -- by this text alone
@@ -104,8 +104,9 @@ abbrev pub IsShownIn : Option BinaryFormat → ℕ → List ℕ → List ℕ →
 IsShownIn (Some format) type_oid = IsShown format type_oid
 IsShownIn None type_oid = λ bytes text. ⊥
 
-abbrev pub IsTextOf : ℕ → List ℕ → List ℕ → Type 0
-IsTextOf type_oid = IsShownIn (format_in formats type_oid) type_oid
+-- of a type that isn't made of others
+abbrev pub IsPlainText : ℕ → List ℕ → List ℕ → Type 0
+IsPlainText type_oid = IsShownIn (format_in formats type_oid) type_oid
 
 -- What a writer of such a text returns: that it appended one, or that there is none. Then the buffer is unchanged, as where an allocation failed.
 abbrev pub Tells : {E : Type 0} → (List ℕ → Type 0) → Type 0 → List ℕ → List ℕ → Result Bool E → Type 0

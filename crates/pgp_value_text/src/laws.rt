@@ -2,12 +2,16 @@
 
 ghost use Rattle.std.specs.Prelude.{◌≡◌, ℕ, ℤ, List};
 ghost use Rattle.pgp_value_text.specs.Calendar.{ShowsDay, ShowsInstant, ShowsTime};
-ghost use Rattle.pgp_value_text.specs.ValueText.{IsTextOf};
+ghost use Rattle.pgp_value_text.specs.TextOf.{IsTextOf};
+
+use pgp_types::laws::arrays;
 
 /// A value has one text.
 pub fn one_text()
     ensures { (type_oid : ℕ) (bytes a b : List ℕ) → IsTextOf type_oid bytes a → IsTextOf type_oid bytes b → a ≡ b }
-{}
+{
+    arrays();
+}
 
 /// A day, an instant and a time have one text.
 pub fn texts_are_unique()
