@@ -51,7 +51,7 @@ NAMES = [
 ]
 
 # Crates of the kit whose names stand for modules of the shim.
-SHIMS = re.compile(r'(?<![\w:])(clap|indexmap|jiff|jiff_core|jiff_fmt|json|rand_core|regex|ryu|ucd_category)::')
+SHIMS = re.compile(r'(?<![\w:])(clap|indexmap|jiff|jiff_core|jiff_fmt|json|rand_core|regex|ucd_category)::')
 
 # Single places: file, how often, text, its substitute.
 PLACES = [

@@ -2,9 +2,7 @@
 use Rattle.pgp_conversation.proofs.Common.{◌≡◌, ℕ, ℤ, Bool, true, false, List, [], ◌∷◌, drop, length, Option, Some, None, Ok, inl, inr, sym, ap, subst, ◌∙◌, map, codes, Range, Message, DataRow, ParameterDescription, RowDescription, FieldSpelled, FieldRefused, RangeSpelled, RangeRefused, TypeSpelled, TypeRefused, CountedBytes, value_at, ClientMessage, Bind, Part, ListEnds, Value, closing, followed, Style, counted, signed_part, ending, Column, Told, Gives, Heard, Hears, IsBindLine, IsRowLine, Learns, Lists, Said, Sent, ShowsBound, ShowsBytes, ShowsFitting, ShowsHeard, ShowsRow, ShowsSent, ShowsTyped, ShowsValue, ShowsValues, bind_front, column_first, columns_of, fits, has_binary, parameters_in, row_front, Awaited, Types, described, first, reached, rows_of, tells}
 use Rattle.std.specs.Prelude.{◌++◌}
 use Rattle.pgp_trace.proofs.OneListing.{columns, ranges, types}
-use Rattle.pgp_values.specs.Formats.{formats as known_formats}
-use Rattle.pgp_values.specs.FormatTable.{format_in}
-use Rattle.pgp_value_text.specs.ValueText.{IsTextOf, is_float}
+use Rattle.pgp_value_text.specs.TextOf.{IsTextOf}
 use Rattle.pgp_conversation.specs.declared.placement.Told.TheVariants as told
 
 -- ---- what is told
@@ -32,14 +30,14 @@ learns_one told said old x y p q = p ∙ sym q
 
 -- ---- what is shown
 
--- a value has one text, but of a floating-point number
+-- a value has one text
 abbrev pub OneText : Type 0
-OneText = (type_oid : ℕ) → is_float (format_in known_formats type_oid) ≡ false → (bytes a b : List ℕ) → IsTextOf type_oid bytes a → IsTextOf type_oid bytes b → a ≡ b
+OneText = (type_oid : ℕ) (bytes a b : List ℕ) → IsTextOf type_oid bytes a → IsTextOf type_oid bytes b → a ≡ b
 
 module _ (one_text : OneText) where
   bytes_one : (binary : Bool) (oid : ℕ) (bytes : List ℕ) (x y : Part) → ShowsBytes binary oid bytes x → ShowsBytes binary oid bytes y → x ≡ y
   bytes_one false oid bytes x y a b = a ∙ sym b
-  bytes_one true oid bytes x y (inl a) (inl b) = a.2 ∙ ap (λ t. Value (Some t)) (one_text oid a.1.0 bytes a.0 b.0 a.1.1 b.1.1) ∙ sym b.2
+  bytes_one true oid bytes x y (inl a) (inl b) = a.2 ∙ ap (λ t. Value (Some t)) (one_text oid bytes a.0 b.0 a.1 b.1) ∙ sym b.2
   bytes_one true oid bytes x y (inl a) (inr b) = absurd (b.0 a.0 a.1)
   bytes_one true oid bytes x y (inr a) (inl b) = absurd (a.0 b.0 b.1)
   bytes_one true oid bytes x y (inr a) (inr b) = a.1 ∙ sym b.1

@@ -43,8 +43,7 @@ pub use Rattle.pgp_trace.specs.Sides.{answered, Ends, expected, first_phase, is_
 pub use Rattle.pgp_trace.specs.View.{color_of, has_word, is_listed, painted, shown, View}
 pub use Rattle.pgp_trace.specs.declared.marking.Marking.{Marking}
 pub use Rattle.pgp_trace.specs.declared.side.Phase.TheVariants.{Beginning, Encrypted, Messages, Replicating}
-pub use Rattle.pgp_value_text.specs.ValueText.{is_float, IsTextOf}
-pub use Rattle.pgp_values.specs.FormatTable.{format_in}
+pub use Rattle.pgp_value_text.specs.TextOf.{IsTextOf}
 pub use Rattle.std.specs.Io.KnownBytes.{Appends, Consumes, IsAtEnd, Keeps}
 pub use Rattle.std.specs.List.{AllByRecursion, flat_map, list_all}
 pub use Rattle.std.specs.Option.{option_map}

@@ -3,13 +3,12 @@
 use Rattle.std.specs.Prelude.{◌≡◌, ◌⊎◌, ℕ, ℤ, Bool, true, false, ◌==◌, ◌&&◌, ◌||◌, if◌then◌else◌, List, [], ◌∷◌, ◌++◌, drop, length, map, Option, None, Some, Result, Ok, codes}
 use mathlib.Core.Logic.{inl, inr}
 use Rattle.std.specs.declared.ops.Range.{Range}
-use Rattle.pgp_conversation.specs.Common.{Error, Message, BindComplete, CloseComplete, DataRow, NoData, ParameterDescription, ParseComplete, ReadyForQuery, RowDescription, HasPlaces, value_at, ClientMessage, Bind, Close, Describe, Execute, Parse, Query, Sync, ClientError, Part, Binary, Count, Length, ListEnds, Name, Tag, Text, Value, closing, followed, key, opening, Style, LineOf, ending, Side, Beginning, Messages, Replicating, Encrypted, format_in, IsTextOf, is_float, Object, Statement, Portal, Simple, Column, Told}
+use Rattle.pgp_conversation.specs.Common.{Error, Message, BindComplete, CloseComplete, DataRow, NoData, ParameterDescription, ParseComplete, ReadyForQuery, RowDescription, HasPlaces, value_at, ClientMessage, Bind, Close, Describe, Execute, Parse, Query, Sync, ClientError, Part, Binary, Count, Length, ListEnds, Name, Tag, Text, Value, closing, followed, key, opening, Style, LineOf, ending, Side, Beginning, Messages, Replicating, Encrypted, IsTextOf, Object, Statement, Portal, Simple, Column, Told}
 use Rattle.pgp_base.specs.Items.{CountedItems}
 use Rattle.pgp_message.specs.Items.{FieldPart, FieldRefused, FieldSpelled, TypeRefused, TypeSpelled}
 use Rattle.pgp_message.specs.Parts.{CountedBytes}
 use Rattle.pgp_trace.specs.Client.{counted, signed_part}
 use Rattle.pgp_trace.specs.Sides as side
-use Rattle.pgp_values.specs.Formats.{formats as known_formats}
 use Rattle.pgp_conversation.specs.declared.placement.Told.TheVariants as told
 use Rattle.pgp_conversation.specs.Shelves.{formatted, is_binary}
 use Rattle.pgp_conversation.specs.Types.{Awaited, Types, binds, bound, closed, described, ended, first, no_types, parameters_of, parsed, parses, reached, rows_of, syncs, tells, waits}
@@ -122,16 +121,12 @@ Learns told said old new = new ≡ old
 
 -- ---- lines
 
--- The text of a value in binary format. A floating-point number has none here, since it may have several.
-abbrev pub IsOneText : ℕ → List ℕ → List ℕ → Type 0
-IsOneText oid bytes text = (is_float (format_in known_formats oid) ≡ false) × IsTextOf oid bytes text
-
 -- A value of this type in this format: where that is the binary one, its text, if it has one, or hex digits.
 abbrev pub ShowsBytes : (binary : Bool) (oid : ℕ) (bytes : List ℕ) (shown : Part) → Type 0
 ShowsBytes false oid bytes shown = shown ≡ Value (Some bytes)
 ShowsBytes true oid bytes shown =
-    ((text : List ℕ) × IsOneText oid bytes text × (shown ≡ Value (Some text)))
-    ⊎ (((text : List ℕ) → IsOneText oid bytes text → ⊥) × (shown ≡ Binary bytes))
+    ((text : List ℕ) × IsTextOf oid bytes text × (shown ≡ Value (Some text)))
+    ⊎ (((text : List ℕ) → IsTextOf oid bytes text → ⊥) × (shown ≡ Binary bytes))
 
 abbrev pub ShowsValue : Column → (value : Option (List ℕ)) (shown : Part) → Type 0
 ShowsValue c None shown = shown ≡ Value None

@@ -1,9 +1,7 @@
 //! A value whose type and format are known.
 
-ghost use Rattle.std.specs.Prelude.{◌≡◌, false, true, OnErr, OnOk, string_bytes};
+ghost use Rattle.std.specs.Prelude.{true, OnErr, OnOk, string_bytes};
 ghost use Rattle.pgp_frontend_read.specs.Whole.{shown};
-ghost use Rattle.pgp_values.specs.Formats.{formats};
-ghost use Rattle.pgp_conversation.specs.Common.{format_in, is_float};
 ghost use Rattle.pgp_conversation.specs.TypedLines.{AddsBytes, AddsValue};
 
 use crate::column::Column;
@@ -13,7 +11,6 @@ use pgp_line::line::{put_null, put_some, put_unread};
 use pgp_line::style::Style;
 use pgp_names::MapMemory;
 use pgp_value_text::put_value;
-use pgp_values::{BinaryFormat, binary_format_of};
 use std::alloc::AllocError;
 
 /// Adds a value under its column, by way of a buffer for its text; or that it is a null.
@@ -50,7 +47,7 @@ fn put_bytes<A: MapMemory>(
     }
 }
 
-/// Adds the text of bytes in binary format, or their hex digits. A floating-point number may have several texts, so its bytes are added.
+/// Adds the text of bytes in binary format, or their hex digits.
 fn put_binary<A: MapMemory>(
     style: Style,
     oid: u32,
@@ -58,36 +55,6 @@ fn put_binary<A: MapMemory>(
     text: &mut BytesMut<A>,
     line: &mut String<A>,
 ) -> Result<(), AllocError>
-    ensures adds { OnOk result (AddsBytes style true oid bytes.now (string_bytes line.old) (string_bytes line.new)) }
-    ensures lacks { OnErr result A.Lacks }
-{
-    if is_float(oid) {
-        put_unread(style, bytes, line)
-    } else {
-        put_shown(style, oid, bytes, text, line)
-    }
-}
-
-/// Whether a type is one of floating-point numbers.
-fn is_float(oid: u32) -> bool
-    ensures { result ≡ is_float (format_in formats oid) }
-{
-    match binary_format_of(oid) {
-        Some(BinaryFormat::Float4) => true,
-        Some(BinaryFormat::Float8) => true,
-        _ => false,
-    }
-}
-
-/// The same of a type whose values have one text.
-fn put_shown<A: MapMemory>(
-    style: Style,
-    oid: u32,
-    bytes: &[u8],
-    text: &mut BytesMut<A>,
-    line: &mut String<A>,
-) -> Result<(), AllocError>
-    requires { is_float (format_in formats oid) ≡ false }
     ensures adds { OnOk result (AddsBytes style true oid bytes.now (string_bytes line.old) (string_bytes line.new)) }
     ensures lacks { OnErr result A.Lacks }
 {

@@ -25,6 +25,6 @@ pub use Rattle.pgp_values.specs.declared.moment.Moment.{Moment}
 pub use Rattle.pgp_values.specs.declared.moment.Moment.TheVariants.{PosInfinity, NegInfinity, Value}
 pub use Rattle.uuid.specs.Text.{hyphenated_text, lower}
 pub use lib.Ieee.Bits.{nan_bits_is, nan_bits_above}
-pub use Rattle.pgp_value_text.specs.Float.{ShowsFloat, ShowsDouble, ShowsSingle}
-pub use Rattle.pgp_value_text.specs.ValueText.{bool_text, char_text, hex_text, lsn_text, zone_of, As, is_float, IsShown, IsShownIn, ShowsNumeric, Shows, Tells, is_numbered}
+pub use Rattle.pgp_value_text.specs.Float.{ShowsFloat}
+pub use Rattle.pgp_value_text.specs.ValueText.{bool_text, char_text, hex_text, lsn_text, zone_of, As, IsPlainText, IsShown, IsShownIn, ShowsNumeric, Shows, Tells, is_numbered}
 pub use Rattle.pgp_value_text.specs.Zone.{ShowsTimeTz, zone_text}

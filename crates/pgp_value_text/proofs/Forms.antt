@@ -1,5 +1,5 @@
 -- A value of each format has one text.
-use Rattle.pgp_value_text.proofs.Common.{◌≡◌, ℕ, ℤ, true, false, List, Option, Some, None, Ok, Err, refl, sym, ap, ◌∙◌, subst, IfOk, IsErr, false≢true, decimal, signed_decimal, hyphenated_text, lower, bool, bytea, char, int2, int4, int8, oid, lsn, time, fixed_sound, int8_spelling, int16_spelling, int32_spelling, int64_spelling, uint32_spelling, uint64_spelling, numeric_text, date_value, timestamp_value, xid8, interval, timetz, Moment, PosInfinity, NegInfinity, Value, interval_sound, timetz_sound, date_value_sound, timestamp_value_sound, span_text, ShowsDay, ShowsInstant, ShowsMoment, ShowsTime, bool_text, char_text, hex_text, lsn_text, zone_of, As, is_float, IsShown, IsShownIn, ShowsNumeric, ShowsTimeTz}
+use Rattle.pgp_value_text.proofs.Common.{◌≡◌, ℕ, ℤ, true, List, Option, Some, None, Ok, Err, refl, sym, ap, ◌∙◌, subst, IfOk, IsErr, false≢true, decimal, signed_decimal, hyphenated_text, lower, bool, bytea, char, int2, int4, int8, float4, float8, from_bits, binary32, binary64, ShowsFloat, oid, lsn, time, fixed_sound, int8_spelling, int16_spelling, int32_spelling, int64_spelling, uint32_spelling, uint64_spelling, numeric_text, date_value, timestamp_value, xid8, interval, timetz, Moment, PosInfinity, NegInfinity, Value, interval_sound, timetz_sound, date_value_sound, timestamp_value_sound, span_text, ShowsDay, ShowsInstant, ShowsMoment, ShowsTime, bool_text, char_text, hex_text, lsn_text, zone_of, As, IsPlainText, IsShown, IsShownIn, ShowsNumeric, ShowsTimeTz}
 use Rattle.pgp_value_text.proofs.Uniqueness.{one_date, one_instant, one_time}
 use Rattle.std.specs.Int.{w8, cast_unsigned}
 use Rattle.pgp_types.specs.Format.{IsSound}
@@ -17,9 +17,12 @@ use Rattle.pgp_types.proofs.Readings.{all_sound, bool_sound, label_sound, text_s
 use Rattle.pgp_values.specs.declared.formats.BinaryFormat.{BinaryFormat}
 use Rattle.pgp_values.specs.declared.formats.BinaryFormat.TheVariants.{Bool as BoolFormat, Bytea as BytesFormat, Char as CharFormat, Cidr, Date, Float4, Float8, Inet, Int2, Int4, Int8, Interval, Jsonb, Jsonpath, Lsn, Macaddr, Macaddr8, Numeric, Oid, Text as TextFormat, Tid, Time, Timestamp, Timetz, Uuid, Varbit, Xid8}
 use Rattle.pgp_values.specs.Decimal.{NumericReads}
+use Rattle.pgp_values.specs.Formats.{formats}
+use Rattle.pgp_values.specs.FormatTable.{format_in}
 use Rattle.pgp_values.specs.Text.{jsonb, jsonpath}
 use Rattle.pgp_values.specs.declared.error.NumericError.{NumericError}
 use Rattle.pgp_values.proofs.DecimalLemmas.{one_numeric}
+use Rattle.pgp_value_text.proofs.Floats.{one_float}
 use Rattle.pgp_value_text.proofs.Texts.{one_as, one_shown}
 use Rattle.pgp_value_text.proofs.Zones.{one_zoned}
 
@@ -40,36 +43,39 @@ one_number bytes a b s t =
 pub number_refused : (bytes : List ℕ) (e : NumericError) → NumericReads bytes (Err e) → (t : List ℕ) → ShowsNumeric bytes t → ⊥
 number_refused bytes e r t s = false≢true (subst IsErr (one_numeric bytes (Err e) (Ok s.0) r s.1) refl)
 
-pub one_formatted : (f : BinaryFormat) (type_oid : ℕ) → is_float (Some f) ≡ false → (bytes a b : List ℕ) → IsShown f type_oid bytes a → IsShown f type_oid bytes b → a ≡ b
-one_formatted BoolFormat n h = one_shown bool bool_sound (As bool_text) (one_as bool_text)
-one_formatted BytesFormat n h = λ bytes a b s t. one_shown bytea all_sound (As hex_text) (one_as hex_text) bytes a b s.1 t.1
-one_formatted CharFormat n h = one_shown char (fixed_sound int8_spelling) (As (λ z. char_text (cast_unsigned w8 z))) (one_as (λ z. char_text (cast_unsigned w8 z)))
-one_formatted Cidr n h = one_shown inet inet_sound (As (network_text true)) (one_as (network_text true))
-one_formatted Date n h = one_shown date_value date_value_sound (ShowsMoment ShowsDay) (one_moment ShowsDay one_date)
-one_formatted Float4 n h = absurd (false≢true (sym h))
-one_formatted Float8 n h = absurd (false≢true (sym h))
-one_formatted Inet n h = one_shown inet inet_sound (As (λ v. network_text (has_netmask v) v)) (one_as (λ v. network_text (has_netmask v) v))
-one_formatted Int2 n h = one_shown int2 (fixed_sound int16_spelling) (As signed_decimal) (one_as signed_decimal)
-one_formatted Int4 n h = one_shown int4 (fixed_sound int32_spelling) (As signed_decimal) (one_as signed_decimal)
-one_formatted Int8 n h = one_shown int8 (fixed_sound int64_spelling) (As signed_decimal) (one_as signed_decimal)
-one_formatted Interval n h = one_shown interval interval_sound (As span_text) (one_as span_text)
-one_formatted Jsonb n h = one_shown jsonb (label_sound 1) (As (λ text. text)) (one_as (λ text. text))
-one_formatted Jsonpath n h = one_shown jsonpath (label_sound 1) (As (λ text. text)) (one_as (λ text. text))
-one_formatted Lsn n h = one_shown lsn (fixed_sound uint64_spelling) (As lsn_text) (one_as lsn_text)
-one_formatted Macaddr n h = one_shown macaddr (whole_sound 6) (As octets_text) (one_as octets_text)
-one_formatted Macaddr8 n h = one_shown macaddr8 macaddr8_sound (As octets_text) (one_as octets_text)
-one_formatted Numeric n h = one_number
-one_formatted Oid n h = λ bytes a b s t. one_shown oid (fixed_sound uint32_spelling) (As decimal) (one_as decimal) bytes a b s.1 t.1
-one_formatted TextFormat n h = one_shown text text_sound (As (λ text. text)) (one_as (λ text. text))
-one_formatted Tid n h = one_shown tid tid_sound (As tid_text) (one_as tid_text)
-one_formatted Time n h = one_shown time (fixed_sound int64_spelling) ShowsTime one_time
-one_formatted Timestamp n h = one_shown timestamp_value timestamp_value_sound (ShowsMoment (ShowsInstant (zone_of n))) (one_moment (ShowsInstant (zone_of n)) (one_instant (zone_of n)))
-one_formatted Timetz n h = one_shown timetz timetz_sound ShowsTimeTz one_zoned
-one_formatted Uuid n h = one_shown uuid (whole_sound 16) (As (hyphenated_text lower)) (one_as (hyphenated_text lower))
-one_formatted Varbit n h = one_shown varbit varbit_sound (As bits_text) (one_as bits_text)
-one_formatted Xid8 n h = one_shown xid8 (fixed_sound uint64_spelling) (As decimal) (one_as decimal)
-one_formatted _ n h = λ bytes a b s t. absurd s
+pub one_formatted : (f : BinaryFormat) (type_oid : ℕ) (bytes a b : List ℕ) → IsShown f type_oid bytes a → IsShown f type_oid bytes b → a ≡ b
+one_formatted BoolFormat n = one_shown bool bool_sound (As bool_text) (one_as bool_text)
+one_formatted BytesFormat n = λ bytes a b s t. one_shown bytea all_sound (As hex_text) (one_as hex_text) bytes a b s.1 t.1
+one_formatted CharFormat n = one_shown char (fixed_sound int8_spelling) (As (λ z. char_text (cast_unsigned w8 z))) (one_as (λ z. char_text (cast_unsigned w8 z)))
+one_formatted Cidr n = one_shown inet inet_sound (As (network_text true)) (one_as (network_text true))
+one_formatted Date n = one_shown date_value date_value_sound (ShowsMoment ShowsDay) (one_moment ShowsDay one_date)
+one_formatted Float4 n = one_shown float4 (fixed_sound uint32_spelling) (λ bits. ShowsFloat binary32 (from_bits binary32 bits)) (λ bits. one_float binary32 (from_bits binary32 bits))
+one_formatted Float8 n = one_shown float8 (fixed_sound uint64_spelling) (λ bits. ShowsFloat binary64 (from_bits binary64 bits)) (λ bits. one_float binary64 (from_bits binary64 bits))
+one_formatted Inet n = one_shown inet inet_sound (As (λ v. network_text (has_netmask v) v)) (one_as (λ v. network_text (has_netmask v) v))
+one_formatted Int2 n = one_shown int2 (fixed_sound int16_spelling) (As signed_decimal) (one_as signed_decimal)
+one_formatted Int4 n = one_shown int4 (fixed_sound int32_spelling) (As signed_decimal) (one_as signed_decimal)
+one_formatted Int8 n = one_shown int8 (fixed_sound int64_spelling) (As signed_decimal) (one_as signed_decimal)
+one_formatted Interval n = one_shown interval interval_sound (As span_text) (one_as span_text)
+one_formatted Jsonb n = one_shown jsonb (label_sound 1) (As (λ text. text)) (one_as (λ text. text))
+one_formatted Jsonpath n = one_shown jsonpath (label_sound 1) (As (λ text. text)) (one_as (λ text. text))
+one_formatted Lsn n = one_shown lsn (fixed_sound uint64_spelling) (As lsn_text) (one_as lsn_text)
+one_formatted Macaddr n = one_shown macaddr (whole_sound 6) (As octets_text) (one_as octets_text)
+one_formatted Macaddr8 n = one_shown macaddr8 macaddr8_sound (As octets_text) (one_as octets_text)
+one_formatted Numeric n = one_number
+one_formatted Oid n = λ bytes a b s t. one_shown oid (fixed_sound uint32_spelling) (As decimal) (one_as decimal) bytes a b s.1 t.1
+one_formatted TextFormat n = one_shown text text_sound (As (λ text. text)) (one_as (λ text. text))
+one_formatted Tid n = one_shown tid tid_sound (As tid_text) (one_as tid_text)
+one_formatted Time n = one_shown time (fixed_sound int64_spelling) ShowsTime one_time
+one_formatted Timestamp n = one_shown timestamp_value timestamp_value_sound (ShowsMoment (ShowsInstant (zone_of n))) (one_moment (ShowsInstant (zone_of n)) (one_instant (zone_of n)))
+one_formatted Timetz n = one_shown timetz timetz_sound ShowsTimeTz one_zoned
+one_formatted Uuid n = one_shown uuid (whole_sound 16) (As (hyphenated_text lower)) (one_as (hyphenated_text lower))
+one_formatted Varbit n = one_shown varbit varbit_sound (As bits_text) (one_as bits_text)
+one_formatted Xid8 n = one_shown xid8 (fixed_sound uint64_spelling) (As decimal) (one_as decimal)
+one_formatted _ n = λ bytes a b s t. absurd s
 
-pub one_in : (f : Option BinaryFormat) (type_oid : ℕ) → is_float f ≡ false → (bytes a b : List ℕ) → IsShownIn f type_oid bytes a → IsShownIn f type_oid bytes b → a ≡ b
-one_in (Some f) n h = one_formatted f n h
-one_in None n h = λ bytes a b s t. absurd s
+one_in : (f : Option BinaryFormat) (type_oid : ℕ) (bytes a b : List ℕ) → IsShownIn f type_oid bytes a → IsShownIn f type_oid bytes b → a ≡ b
+one_in (Some f) n = one_formatted f n
+one_in None n = λ bytes a b s t. absurd s
+
+pub one_plain : (type_oid : ℕ) (bytes a b : List ℕ) → IsPlainText type_oid bytes a → IsPlainText type_oid bytes b → a ≡ b
+one_plain type_oid = one_in (format_in formats type_oid) type_oid

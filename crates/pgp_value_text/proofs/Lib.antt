@@ -3,6 +3,10 @@ pub mod Texts
 pub mod Written
 pub mod Zones
 pub mod Floats
+pub mod Rounding
+pub mod Sizes
 pub mod Forms
+pub mod Elements
+pub mod Any
 pub mod TextLemmas
 pub mod Uniqueness

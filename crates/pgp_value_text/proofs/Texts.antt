@@ -1,9 +1,9 @@
 -- What is read is shown as its value, and what isn't read isn't shown.
 use Rattle.pgp_value_text.proofs.Common.{◌≡◌, ℕ, List, Bool, true, false, Result, Ok, Err, refl, sym, ◌∙◌, subst, IsErr, IfOk, false≢true, Shows, As, Tells}
 use Rattle.pgp_base.specs.declared.error.Error.{Error}
-use Rattle.pgp_types.specs.Format.{Plain, IsSound}
+use Rattle.pgp_types.specs.Format.{Format, IsSound}
 
-module _ {V : Type 0} (f : Plain V) (sound : IsSound f) (shown : V → List ℕ → Type 0) where
+module _ {W V : Type 0} (f : Format W V) (sound : IsSound f) (shown : V → List ℕ → Type 0) where
   same_value : (bytes : List ℕ) (v w : V) → f.Reads bytes (Ok v) → f.Reads bytes (Ok w) → v ≡ w
   same_value bytes v w r s = subst (λ r. IfOk r (λ x. v ≡ x)) (sound.one bytes (Ok v) (Ok w) r s) refl
 

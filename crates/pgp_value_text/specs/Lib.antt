@@ -1,9 +1,12 @@
+pub mod ArrayText
 pub mod Bits
 pub mod Calendar
 pub mod Float
 pub mod Network
 pub mod Numbers
+pub mod Quoting
 pub mod Span
+pub mod TextOf
 pub mod Told
 pub mod ValueText
 pub mod Zone

@@ -1,5 +1,5 @@
--- The text of a value whose bytes in binary format are given, by the number (OID) of its type: as a server shows it in UTF-8 with the settings
--- `DateStyle` `ISO`, `IntervalStyle` `iso_8601` and `TimeZone` `UTC`. Of a floating-point number: a text that reads back as the same.
+-- The text of a value, of a type that isn't made of others, whose bytes in binary format are given, by the number (OID) of its type: as a server shows it in UTF-8 with the settings
+-- `DateStyle` `ISO`, `IntervalStyle` `iso_8601` and `TimeZone` `UTC`. Of a floating-point number: rounded, and marked where that isn't the number itself.
 -- PostgreSQL manual, "Data Types": "Numeric Types", "Character Types", "Binary Data Types", "Date/Time Types", "Boolean Type", "UUID Type", "JSON Types",
 -- "Object Identifier Types", "pg_lsn Type", "Network Address Types", "Bit String Types".
 use Rattle.std.specs.Prelude.{◌≡◌, ℕ, from_bits, ◌+◌, ◌/◌, ◌%◌, ◌^◌, nat_eq, nat_lt, ◌==◌, ◌||◌, if◌then◌else◌, Bool, true, false, IsTrue, List, [], ◌∷◌, ◌++◌, codes, Option, Some, None, Result, Ok, Err}
@@ -8,7 +8,7 @@ use Rattle.std.specs.Float.{binary32, binary64}
 use Rattle.std.specs.Fmt.{decimal, digits, signed_decimal}
 use Rattle.hex.specs.Hex.{encode_lower}
 use Rattle.uuid.specs.Text.{hyphenated_text, lower}
-use Rattle.pgp_types.specs.Format.{Plain}
+use Rattle.pgp_types.specs.Format.{Format}
 use Rattle.pgp_types.specs.Network.{inet, macaddr, uuid}
 use Rattle.pgp_types.specs.Scalar.{bool, bytea, char, int2, int4, int8, oid, lsn, float4, float8}
 use Rattle.pgp_types.specs.Text.{text}
@@ -29,11 +29,11 @@ use Rattle.pgp_value_text.specs.Bits.{bits_text, tid_text}
 use Rattle.pgp_value_text.specs.Network.{has_netmask, network_text, octets_text}
 use Rattle.pgp_value_text.specs.Span.{span_text}
 use Rattle.pgp_value_text.specs.Calendar.{ShowsDay, ShowsInstant, ShowsMoment, ShowsTime}
-use Rattle.pgp_value_text.specs.Float.{ShowsDouble, ShowsSingle}
+use Rattle.pgp_value_text.specs.Float.{ShowsFloat}
 use Rattle.pgp_value_text.specs.Zone.{ShowsTimeTz}
 
 -- the bytes are read as a value that is shown so
-abbrev pub Shows : {V : Type 0} → Plain V → (V → List ℕ → Type 0) → List ℕ → List ℕ → Type 0
+abbrev pub Shows : {W V : Type 0} → Format W V → (V → List ℕ → Type 0) → List ℕ → List ℕ → Type 0
 Shows f shown bytes text = (v : _) × f.Reads bytes (Ok v) × shown v text
 
 -- by this text alone
@@ -75,8 +75,8 @@ IsShown BytesFormat type_oid = λ bytes text. (type_oid ≡ 17) × Shows bytea (
 IsShown CharFormat type_oid = Shows char (As (λ z. char_text (cast_unsigned w8 z)))
 IsShown Cidr type_oid = Shows cidr (As (network_text true))
 IsShown Date type_oid = Shows date_value (ShowsMoment ShowsDay)
-IsShown Float4 type_oid = Shows float4 (λ bits. ShowsSingle (from_bits binary32 bits))
-IsShown Float8 type_oid = Shows float8 (λ bits. ShowsDouble (from_bits binary64 bits))
+IsShown Float4 type_oid = Shows float4 (λ bits. ShowsFloat binary32 (from_bits binary32 bits))
+IsShown Float8 type_oid = Shows float8 (λ bits. ShowsFloat binary64 (from_bits binary64 bits))
 IsShown Inet type_oid = Shows inet (As (λ v. network_text (has_netmask v) v))
 IsShown Int2 type_oid = Shows int2 (As signed_decimal)
 IsShown Int4 type_oid = Shows int4 (As signed_decimal)
@@ -104,14 +104,9 @@ abbrev pub IsShownIn : Option BinaryFormat → ℕ → List ℕ → List ℕ →
 IsShownIn (Some format) type_oid = IsShown format type_oid
 IsShownIn None type_oid = λ bytes text. ⊥
 
-abbrev pub IsTextOf : ℕ → List ℕ → List ℕ → Type 0
-IsTextOf type_oid = IsShownIn (format_in formats type_oid) type_oid
-
--- a floating-point number may have several texts
-abbrev pub is_float : Option BinaryFormat → Bool
-is_float (Some Float4) = true
-is_float (Some Float8) = true
-is_float _ = false
+-- of a type that isn't made of others
+abbrev pub IsPlainText : ℕ → List ℕ → List ℕ → Type 0
+IsPlainText type_oid = IsShownIn (format_in formats type_oid) type_oid
 
 -- What a writer of such a text returns: that it appended one, or that there is none. Then the buffer is unchanged, as where an allocation failed.
 abbrev pub Tells : {E : Type 0} → (List ℕ → Type 0) → Type 0 → List ℕ → List ℕ → Result Bool E → Type 0

@@ -1,15 +1,17 @@
 //! Laws on the texts of values.
 
-ghost use Rattle.std.specs.Prelude.{◌≡◌, ℕ, ℤ, false, List};
-ghost use Rattle.pgp_values.specs.Formats.{formats};
-ghost use Rattle.pgp_values.specs.FormatTable.{format_in};
+ghost use Rattle.std.specs.Prelude.{◌≡◌, ℕ, ℤ, List};
 ghost use Rattle.pgp_value_text.specs.Calendar.{ShowsDay, ShowsInstant, ShowsTime};
-ghost use Rattle.pgp_value_text.specs.ValueText.{is_float, IsTextOf};
+ghost use Rattle.pgp_value_text.specs.TextOf.{IsTextOf};
 
-/// A value has one text, but of a floating-point number.
+use pgp_types::laws::arrays;
+
+/// A value has one text.
 pub fn one_text()
-    ensures { (type_oid : ℕ) → is_float (format_in formats type_oid) ≡ false → (bytes a b : List ℕ) → IsTextOf type_oid bytes a → IsTextOf type_oid bytes b → a ≡ b }
-{}
+    ensures { (type_oid : ℕ) (bytes a b : List ℕ) → IsTextOf type_oid bytes a → IsTextOf type_oid bytes b → a ≡ b }
+{
+    arrays();
+}
 
 /// A day, an instant and a time have one text.
 pub fn texts_are_unique()

@@ -6,12 +6,14 @@
 //! no value of it.
 #![tactic(auto)]
 
+mod array;
 mod bits;
 mod calendar;
 mod civil;
 mod digits;
 mod error;
 mod float;
+mod format;
 pub mod laws;
 mod moment;
 mod network;
@@ -19,6 +21,9 @@ mod number;
 mod object;
 mod plain;
 mod put;
+mod quoting;
+mod rounded;
+mod rows;
 mod span;
 mod value;
 mod zone;

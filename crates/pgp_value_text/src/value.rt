@@ -1,72 +1,41 @@
 //! The text of a value, by its type.
 
-ghost use Rattle.pgp_value_text.specs.ValueText.{IsShown, IsShownIn, IsTextOf, Tells};
+ghost use Rattle.pgp_value_text.specs.TextOf.{IsTextBy, IsTextIn, IsTextOf};
+ghost use Rattle.pgp_value_text.specs.ValueText.{Tells};
 
-use crate::bits::{put_tid, put_varbit};
-use crate::float::{put_float4, put_float8};
-use crate::moment::{put_date, put_interval, put_time, put_timestamp};
-use crate::network::{put_cidr, put_inet, put_macaddr, put_macaddr8};
-use crate::number::{put_bool, put_int2, put_int4, put_int8, put_numbered, put_numeric, put_xid8};
-use crate::object::{put_lsn, put_uuid};
-use crate::plain::{put_bytea, put_char, put_jsonb, put_jsonpath, put_text};
-use crate::zone::put_timetz;
+use crate::array::put_array;
+use crate::format::put_formatted;
 use bytes::BytesMut;
 use pgp_base::{Memory, Oid};
 use pgp_values::{BinaryFormat, binary_format_of};
 use std::alloc::AllocError;
 
 // Adds the text of a value in this format.
-fn put_formatted<A: Memory>(
+fn put_by<A: Memory>(
     format: BinaryFormat,
     type_oid: Oid,
     bytes: &[u8],
     text: &mut BytesMut<A>,
 ) -> Result<bool, AllocError>
-    ensures { Tells (IsShown format type_oid bytes.now) A.Lacks text.old.items text.new.items result }
+    ensures { Tells (IsTextBy format type_oid bytes.now) A.Lacks text.old.items text.new.items result }
 {
     match format {
-        BinaryFormat::Bool => put_bool(bytes, text),
-        BinaryFormat::Bytea => put_bytea(type_oid, bytes, text),
-        BinaryFormat::Char => put_char(bytes, text),
-        BinaryFormat::Cidr => put_cidr(bytes, text),
-        BinaryFormat::Date => put_date(bytes, text),
-        BinaryFormat::Float4 => put_float4(bytes, text),
-        BinaryFormat::Float8 => put_float8(bytes, text),
-        BinaryFormat::Inet => put_inet(bytes, text),
-        BinaryFormat::Int2 => put_int2(bytes, text),
-        BinaryFormat::Int4 => put_int4(bytes, text),
-        BinaryFormat::Int8 => put_int8(bytes, text),
-        BinaryFormat::Interval => put_interval(bytes, text),
-        BinaryFormat::Jsonb => put_jsonb(bytes, text),
-        BinaryFormat::Jsonpath => put_jsonpath(bytes, text),
-        BinaryFormat::Lsn => put_lsn(bytes, text),
-        BinaryFormat::Macaddr => put_macaddr(bytes, text),
-        BinaryFormat::Macaddr8 => put_macaddr8(bytes, text),
-        BinaryFormat::Numeric => put_numeric(bytes, text),
-        BinaryFormat::Oid => put_numbered(type_oid, bytes, text),
-        BinaryFormat::Text => put_text(bytes, text),
-        BinaryFormat::Tid => put_tid(bytes, text),
-        BinaryFormat::Time => put_time(bytes, text),
-        BinaryFormat::Timestamp => put_timestamp(type_oid, bytes, text),
-        BinaryFormat::Timetz => put_timetz(bytes, text),
-        BinaryFormat::Uuid => put_uuid(bytes, text),
-        BinaryFormat::Varbit => put_varbit(bytes, text),
-        BinaryFormat::Xid8 => put_xid8(bytes, text),
-        _ => Ok(false),
+        BinaryFormat::Array => put_array(type_oid, bytes, text),
+        _ => put_formatted(format, type_oid, bytes, text),
     }
 }
 
 // Adds the text of a value, if its type has a format.
-fn put_in<A: Memory>(
+fn put_known<A: Memory>(
     format: Option<BinaryFormat>,
     type_oid: Oid,
     bytes: &[u8],
     text: &mut BytesMut<A>,
 ) -> Result<bool, AllocError>
-    ensures { Tells (IsShownIn format type_oid bytes.now) A.Lacks text.old.items text.new.items result }
+    ensures { Tells (IsTextIn format type_oid bytes.now) A.Lacks text.old.items text.new.items result }
 {
     match format {
-        Some(format) => put_formatted(format, type_oid, bytes, text),
+        Some(format) => put_by(format, type_oid, bytes, text),
         None => Ok(false),
     }
 }
@@ -83,11 +52,13 @@ fn put_in<A: Memory>(
 /// - `date`, `time`, `timetz` (`10:20:30.5+05:30`), `timestamp`, `timestamptz` (`2026-11-27 10:20:30.5+00`) and `interval` (`P1Y2M3DT4H5M6.5S`);
 /// - `inet` with `/` and the bits of the network where these are fewer than the address has, `cidr` always; `macaddr` and `macaddr8` as `08:00:2b:01:02:03`;
 /// - `bit` and `varbit` as their bits; `tid` as `(block,row)`;
-/// - `float4` and `float8` as a text that reads back as the same number, though not always in a server's digits and layout (`1.0` for `1`), or as
-///   `NaN`, `Infinity` or `-Infinity`.
+/// - `float4` and `float8` rounded to 6 and 15 decimal digits, without zeros at the end (`1.5`, `100`, `-0`), with `~` before a text that isn't read
+///   as the number itself (`~0.333333333333333`), or as `NaN`, `Infinity` or `-Infinity`;
+/// - an array of such values, of any dimensions, as `{1,NULL}`, `{{"a b",""},{c,d}}` or `[0:1]={t,f}`.
 ///
-/// A day outside the years from -9999 to 9999 has none, nor has a time in a zone of 16 hours or more, nor have `money`, shapes, arrays, ranges, records,
-/// the types of text search, and those that name an object (`regclass`).
+/// A floating-point number other than 0 has none below 0.0001, and where more digits would stand before the point; nor has a day outside the years from
+/// -9999 to 9999, a time in a zone of 16 hours or more, nor have `money`, shapes, ranges, records, the types of text search, those that name an object
+/// (`regclass`), and `int2vector` and `oidvector`.
 ///
 /// # Errors
 ///
@@ -99,5 +70,5 @@ pub fn put_value<A: Memory>(
 ) -> Result<bool, AllocError>
     ensures { Tells (IsTextOf type_oid bytes.now) A.Lacks text.old.items text.new.items result }
 {
-    put_in(binary_format_of(type_oid), type_oid, bytes, text)
+    put_known(binary_format_of(type_oid), type_oid, bytes, text)
 }

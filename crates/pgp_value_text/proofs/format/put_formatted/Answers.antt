@@ -1,4 +1,4 @@
-use Rattle.pgp_value_text.proofs.value.put_formatted.Goals as goal
+use Rattle.pgp_value_text.proofs.format.put_formatted.Goals as goal
 
 pub returns-in-Bool : goal.returns-in-Bool
 returns-in-Bool g c = rw c.in-Bool.is c.put_bool.ensures

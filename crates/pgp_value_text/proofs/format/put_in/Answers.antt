@@ -1,4 +1,4 @@
-use Rattle.pgp_value_text.proofs.value.put_in.Goals as goal
+use Rattle.pgp_value_text.proofs.format.put_in.Goals as goal
 
 pub returns-in-Some : goal.returns-in-Some
 returns-in-Some g c = rw c.in-Some.is c.put_formatted.ensures

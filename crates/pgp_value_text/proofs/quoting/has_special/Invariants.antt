@@ -1,0 +1,8 @@
+-- None so far.
+use Rattle.std.specs.Prelude.{◌≡◌, false, take}
+use Rattle.std.specs.List.{list_any}
+use Rattle.pgp_value_text.specs.Quoting.{is_special}
+use Rattle.pgp_value_text.proofs.quoting.has_special.Given as goal
+
+abbrev pub invariant-loop-byte : goal.invariant-loop-byte
+invariant-loop-byte l = list_any (is_special l.fn.delimiter) (take l.byte-index l.text) ≡ false

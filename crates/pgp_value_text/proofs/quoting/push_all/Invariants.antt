@@ -1,0 +1,8 @@
+-- The bytes so far were added.
+use Rattle.std.specs.Prelude.{◌≡◌, ◌++◌, take}
+use Rattle.std.specs.List.{flat_map}
+use Rattle.pgp_value_text.specs.Quoting.{escaped_byte}
+use Rattle.pgp_value_text.proofs.quoting.push_all.Given as goal
+
+abbrev pub invariant-loop-byte : goal.invariant-loop-byte
+invariant-loop-byte g l = l.out.items ≡ l.fn.out.items ++ flat_map escaped_byte (take l.byte-index l.bytes)
