@@ -224,6 +224,8 @@ def in_one_crate(text, crate):
     if not re.search(r'\blaws::', text):
         text = re.sub(r'^(use [^;]*?)(?:\blaws, |, laws\b)', r'\1', text, flags=re.M)
     text = re.sub(r'^use (?:crate|pgp_\w+)::laws;\n', '', text, flags=re.M)
+    for law in re.findall(r'^use (?:crate|pgp_\w+)::laws::(\w+);\n', text, flags=re.M):
+        text = re.sub(rf'^use (?:crate|pgp_\w+)::laws::{law};\n|^ *{law}\(\);\n', '', text, flags=re.M)
     text = re.sub(r'^(?:pub )?mod (?:laws|memory|scanning|tests);\n|^#\[cfg\(test\)\]\n|^pub use memory::.*\n', '', text, flags=re.M)
     text = re.sub(r'\bcrate::(?!kit\b)', f'crate::proved::{crate}::', text)
     text = re.sub(r'(?<![\w:])(pgp_\w+|postgres_protocol)::', r'crate::proved::\1::', text)
