@@ -1,11 +1,10 @@
 //! What a server's message asks of a client that logs in, and whether it offers the client's mechanism.
 
-ghost use Rattle.std.specs.Prelude.{◌≡◌, ◌≢◌, ◌⊎◌, true, false, Contains, None};
+ghost use Rattle.std.specs.Prelude.{◌≡◌, ◌≢◌, ◌⊎◌, true, false};
 ghost use Rattle.pgp_message.specs.Views.{view};
 ghost use Rattle.pgp_c_auth.specs.Answering.{IsStripped, Lists, asking, mechanism, reported};
 
-use pgp_base::FallibleIterator;
-use pgp_message::{AuthenticationSaslBody, Message, SaslMechanisms};
+use pgp_message::{AuthenticationSaslBody, Message};
 
 /// By which ways a client lets itself be asked, and what each needs.
 #[repr(C)]
@@ -91,20 +90,5 @@ fn lists(body: &AuthenticationSaslBody<&[u8]>, sought: &str) -> bool
     ensures no { result ≡ false → ¬ Lists sought.now body.now }
 {
     pgp_message::laws::one_list_of_mechanisms();
-    has_name(body.mechanisms(), sought)
-}
-
-/// Whether this name is one of the names, and the iterator isn't rejected.
-fn has_name(mut names: SaslMechanisms<'_>, sought: &str) -> bool
-    ensures yes { result ≡ true → (names.entry.end ≡ None) × Contains names.entry.items sought.now }
-    ensures no { result ≡ false → names.entry.end ≡ None → Contains names.entry.items sought.now → ⊥ }
-{
-    let mut found = false;
-    'names: loop {
-        match names.next() {
-            Ok(Some(name)) => found |= name == sought,
-            Ok(None) => return found,
-            Err(_) => return false,
-        }
-    }
+    body.mechanisms().offer(sought)
 }

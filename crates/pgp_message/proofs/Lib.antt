@@ -15,6 +15,7 @@ pub mod TableLemmas
 pub mod ColumnLemmas
 pub mod FieldLemmas
 pub mod RawLemmas
+pub mod Mechanisms
 pub mod ErrorFieldLemmas
 pub mod Headers
 pub mod FindLemmas

@@ -44,5 +44,5 @@ pub use tag::{
 };
 pub use walk::{
     ColumnFormats, DataRowRanges, ErrorField, ErrorFields, Field, Fields, Parameters,
-    ProtocolOptions, RawField, RawFields, RawMechanisms, RawOptions, SaslMechanisms,
+    ProtocolOptions, RawField, RawFields, RawMechanisms, RawOptions, SaslMechanisms, range_at,
 };

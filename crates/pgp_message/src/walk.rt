@@ -12,7 +12,7 @@ mod raw_options;
 mod sasl_mechanisms;
 
 pub use column_formats::ColumnFormats;
-pub use data_row_ranges::DataRowRanges;
+pub use data_row_ranges::{DataRowRanges, range_at};
 pub use error_fields::{ErrorField, ErrorFields};
 pub use fields::{Field, Fields};
 pub use parameters::Parameters;

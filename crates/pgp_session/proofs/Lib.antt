@@ -1,7 +1,6 @@
 mod Common
 pub mod Lent
 pub mod Listed
-pub mod Mechanisms
 pub mod Naming
 pub mod Proxied
 pub mod Replies

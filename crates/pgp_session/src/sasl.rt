@@ -1,12 +1,11 @@
 //! Which mechanism an exchange of SCRAM-SHA-256 has, bound to the channel or not, and whether a server offers it.
 
-ghost use Rattle.std.specs.Prelude.{◌≡◌, true, false, Contains, None};
+ghost use Rattle.std.specs.Prelude.{◌≡◌, true, false};
 ghost use Rattle.pgp_session.specs.Mechanisms.{IsStripped, Lists, Offers, mechanism, mechanism_of};
 
 use crate::session_storage::SessionStorage;
 use pgp_auth::authentication::sasl::{SCRAM_SHA_256, SCRAM_SHA_256_PLUS, ScramSha256};
-use pgp_base::FallibleIterator;
-use pgp_message::{AuthenticationSaslBody, SaslMechanisms};
+use pgp_message::AuthenticationSaslBody;
 use std::alloc::Allocator;
 
 /// The mechanism of an exchange with this first text, which begins with `p` where the exchange is bound to the channel (RFC 5802, section 6).
@@ -61,20 +60,5 @@ fn lists<S: SessionStorage>(body: &AuthenticationSaslBody<S>, sought: &str) -> b
     ensures no { result ≡ false → Lists sought.now body.now → ⊥ }
 {
     pgp_message::laws::one_list_of_mechanisms();
-    has_name(S::mechanisms(body), sought)
-}
-
-/// Whether this name is one of the names, and the iterator isn't rejected.
-fn has_name(mut names: SaslMechanisms<'_>, sought: &str) -> bool
-    ensures yes { result ≡ true → (names.entry.end ≡ None) × Contains names.entry.items sought.now }
-    ensures no { result ≡ false → names.entry.end ≡ None → Contains names.entry.items sought.now → ⊥ }
-{
-    let mut found = false;
-    'names: loop {
-        match names.next() {
-            Ok(Some(name)) => found |= name == sought,
-            Ok(None) => return found,
-            Err(_) => return false,
-        }
-    }
+    S::mechanisms(body).offer(sought)
 }

@@ -8,7 +8,7 @@ use Rattle.pgp_base.specs.OneList.{HasOneMarkedList}
 use Rattle.pgp_frontend_read.proofs.Items.{bytes_behind}
 use Rattle.pgp_frontend_read.proofs.Steps.{frame_payload}
 use Rattle.pgp_message_write.specs.Reply.{bytes_of, cause, parts}
-use Rattle.pgp_session.proofs.Mechanisms.{only_it}
+use Rattle.pgp_message.proofs.Mechanisms.{only_it}
 use Rattle.pgp_session.specs.Serving as serving
 use Rattle.pgp_session.specs.declared.serving.Denial.TheVariants.{WrongPassword, Violation}
 use Rattle.pgp_session.specs.declared.serving.Method.{Method}

@@ -68,9 +68,13 @@ impl FallibleIterator for DataRowRanges<'_> {
     }
 }
 
-/// The value at the front, which begins at this place of the buffer.
+/// The place of the value at the front of these bytes, which begin at this place of a buffer, `None` where it is null; and what stands behind it.
+///
+/// # Errors
+///
+/// `UnexpectedEof` where the length or the value is cut short.
 #[tactic(auto, unfolding(crate::specs::ItemReading::range_at))]
-fn range_at(place: usize, bytes: &[u8]) -> Result<(Option<Range<usize>>, &[u8]), Error>
+pub fn range_at(place: usize, bytes: &[u8]) -> Result<(Option<Range<usize>>, &[u8]), Error>
     requires { place + length bytes.now < 2 ^ 64 }
     ensures value { Answers (λ x. (x.0, x.1.now)) result (range_at place bytes.now) }
     ensures shorter { IfOk result (λ x. length x.1.now ≤ length bytes.now) }

@@ -1,6 +1,6 @@
 //! The SASL mechanisms that a server offers.
 
-ghost use Rattle.std.specs.Prelude.{◌≡◌, ◌≤◌, ℕ, List, length, None};
+ghost use Rattle.std.specs.Prelude.{◌≡◌, ◌≤◌, ℕ, List, length, None, Contains, true, false};
 ghost use Rattle.pgp_base.specs.Items.{MarkedItems};
 ghost use Rattle.pgp_message.specs.Items.{TextSpelled, TextRefused};
 
@@ -30,6 +30,21 @@ impl<'a> SaslMechanisms<'a> {
         ensures few { length result.items ≤ length buf.now }
     {
         SaslMechanisms(buf)
+    }
+
+    /// Whether this name is one of those to come, and their list ends well.
+    pub fn offer(mut self, sought: &str) -> bool
+        ensures yes { result ≡ true → (self.entry.end ≡ None) × Contains self.entry.items sought.now }
+        ensures no { result ≡ false → self.entry.end ≡ None → ¬ Contains self.entry.items sought.now }
+    {
+        let mut found = false;
+        'names: loop {
+            match self.next() {
+                Ok(Some(name)) => found |= name == sought,
+                Ok(None) => return found,
+                Err(_) => return false,
+            }
+        }
     }
 }
 

@@ -19,7 +19,7 @@ nothing_in x c = absurd (let below = c.1 in omega (arith, below))
 at_front : {X : Type 0} (x : X) → Contains (x ∷ []) x
 at_front x = (0, omega arith, refl)
 
-only_it : {X : Type 0} (x y : X) → Contains (x ∷ []) y → x ≡ y
+pub only_it : {X : Type 0} (x y : X) → Contains (x ∷ []) y → x ≡ y
 only_it x y (zero, below, is) = is
 only_it x y (suc k, below, is) = absurd (omega (arith, below))
 
