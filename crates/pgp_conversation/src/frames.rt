@@ -19,7 +19,7 @@ use pgp_line::style::Style;
 use pgp_names::MapMemory;
 use pgp_trace::client::expected;
 use pgp_trace::frame::{Next, begin_line, front_of};
-use pgp_trace::view::{View, add_shown};
+use pgp_trace::view::{View, add_shown, is_listed};
 use std::alloc::AllocError;
 
 /// Memory for the texts of a listing.
@@ -149,6 +149,10 @@ fn list_line<A: MapMemory>(
     if waited(told) < view.slower {
         return Ok(());
     }
+    let shown = called(requests, name);
+    if !is_listed(view, shown) {
+        return Ok(());
+    }
     reline(view.style, place, requests, name, &mut texts.line)?;
     put_stamp(
         view.style.form,
@@ -163,12 +167,7 @@ fn list_line<A: MapMemory>(
         texts.line.as_str(),
         &mut texts.marked,
     )?;
-    add_shown(
-        view,
-        called(requests, name),
-        texts.marked.as_str(),
-        &mut texts.lines,
-    )
+    add_shown(view, shown, texts.marked.as_str(), &mut texts.lines)
 }
 
 /// The name of a message, where these requests for encryption aren't answered.

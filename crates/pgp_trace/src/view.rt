@@ -94,7 +94,7 @@ fn add_painted<A: Memory>(color: &str, line: &str, lines: &mut String<A>) -> Res
 }
 
 /// Whether messages of this name are listed.
-fn is_listed(view: View<'_>, name: &str) -> bool
+pub fn is_listed(view: View<'_>, name: &str) -> bool
     ensures { result ≡ is_listed (view_of view.entry) name.now }
 {
     (view.only.is_empty() || has_word(view.only, name)) && !has_word(view.except, name)
