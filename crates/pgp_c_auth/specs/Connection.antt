@@ -151,6 +151,10 @@ pub record Took (w : PgpWays) (m : Message) (old new : Link) (e : Event) (reply 
   pub logged : HasAnswered w (asking m) old.login new.login [] reply
   pub is : new ≡ noted m e (with_login new.login (with_talk new.talk old))
 
+-- The dialogue has no place for the message, and the connection is over.
+abbrev pub IsMisplaced : Message → Link → Link → ℕ → Type 0
+IsMisplaced m old new code = (r : Refusal) × (t : Talk) × (taken old.talk (kind_of m) ≡ Err r) × (t.stage ≡ Over) × (refusal_at code ≡ Some r) × (new ≡ ended (with_talk t old))
+
 -- Why a message has no reply, before the dialogue is asked: it comes too early, its status is none, or the log-in doesn't answer it; or the reply, behind what was there before,
 -- is longer than the room.
 abbrev pub NotRepliedTo : Type 0 → PgpWays → PgpLogin → Bool → Message → List ℕ → ℕ → ℕ → Type 0
@@ -163,7 +167,7 @@ NotRepliedTo lacks w l first m before room code = ((code ≡ 89) × ¬ IsTimely 
 pub data Rejects (lacks : Type 0) (w : PgpWays) (m : Message) (room : ℕ) (old : Link) : Link → ℕ → Type 0 where
   NoMemory : {new : Link} {code : ℕ} → IsFit old m → NotAnsweredFor lacks w old.login code (asking m) → code ≡ 1 → new ≡ old → Rejects lacks w m room old new code
   NoRoom : (l : PgpLogin) (reply : List ℕ) {new : Link} {code : ℕ} → IsFit old m → HasAnswered w (asking m) old.login l [] reply → room < length reply → code ≡ 1 → new ≡ old → Rejects lacks w m room old new code
-  Misplaced : (r : Refusal) (t : Talk) {new : Link} {code : ℕ} → taken old.talk (kind_of m) ≡ Err r → t.stage ≡ Over → refusal_at code ≡ Some r → new ≡ ended (with_talk t old) → Rejects lacks w m room old new code
+  Misplaced : {new : Link} {code : ℕ} → IsMisplaced m old new code → Rejects lacks w m room old new code
   Untimely : (e : Event) (t : Talk) {new : Link} {code : ℕ} → taken old.talk (kind_of m) ≡ Ok (e, t) → ¬ ComesInTime old m → code ≡ 89 → new ≡ ended (with_talk t old) → Rejects lacks w m room old new code
   NoStatus : (e : Event) (t : Talk) {new : Link} {code : ℕ} → taken old.talk (kind_of m) ≡ Ok (e, t) → ComesInTime old m → lacks_status m ≡ true → code ≡ 93 → new ≡ ended (with_talk t old) → Rejects lacks w m room old new code
   Unanswered : (e : Event) (t : Talk) {new : Link} {code : ℕ} → taken old.talk (kind_of m) ≡ Ok (e, t) → IsFit old m → NotAnsweredFor lacks w old.login code (asking m) → code ≢ 1 → new ≡ ended (with_talk t old)

@@ -1,12 +1,13 @@
 //! A client's connection, in memory of the caller's: the log-in, which message answers which request, and what the server says of its session.
 
-ghost use Rattle.std.specs.Prelude.{◌≡◌, ◌≢◌, ◌<◌, ◌≤◌, ◌⊎◌, ◌&&◌, length, not, true, false};
+ghost use Rattle.std.specs.Prelude.{◌≡◌, ◌≢◌, ◌<◌, ◌≤◌, ◌⊎◌, ◌&&◌, ℕ, List, length, not, true, false};
 ghost use Rattle.pgp_client.specs.Codes.{request_at};
 ghost use Rattle.pgp_client.specs.Taking.{is_copying, is_idle};
-ghost use Rattle.pgp_message.specs.BackendMessage.{Fits};
+ghost use Rattle.pgp_message.specs.BackendMessage.{DataRow, Fits};
 ghost use Rattle.pgp_message.specs.Views.{view};
 ghost use Rattle.pgp_c_auth.specs.Answering.{HasAnswered, asking};
-ghost use Rattle.pgp_c_auth.specs.Connection.{IsBroken, KeepsRoom, Rejects, TookNext, TookNone, TookSo, FitsAt, NotRepliedTo, asked_of, link_of, may_ask, noted, with_key};
+ghost use Rattle.pgp_c_auth.specs.Connection.{IsBroken, IsMisplaced, KeepsRoom, Rejects, TookNext, TookNone, TookSo, FitsAt, NotRepliedTo, asked_of, link_of, may_ask, noted, with_key};
+ghost use Rattle.pgp_c_auth.specs.declared.asking.PgpWays.{PgpWays as Ways};
 
 use crate::answering::answer;
 use crate::asking::{PgpWays, asked_by};
@@ -18,8 +19,8 @@ use crate::login::PgpLogin;
 use crate::talk::{PgpTalk, is_between, is_broken, put_back, resumed};
 use bytes::BytesMut;
 use pgp_base::Memory;
-use pgp_client::{Event, Request, Slots, Stage};
-use pgp_message::{BackendKeyDataBody, Message, Messages};
+use pgp_client::{Event, Kind, Request, Slots, Stage};
+use pgp_message::{BackendKeyDataBody, DataRowBody, Message, Messages};
 use std::alloc::Global;
 
 /// The result where there is no room, or the dialogue's places are none of its room.
@@ -108,6 +109,12 @@ pub fn take<A: Memory>(
         connection.is_over = true;
         return TOO_LONG;
     }
+    let mut rows = Messages::new(bytes);
+    // Rows come by the thousand, and the log-in has no part in them.
+    if let Some(row) = rows.next_row() {
+        let frame = bytes.len() - rows.rest().len();
+        return hear_row(connection, &row, frame, taken);
+    }
     let mut messages = Messages::new(bytes);
     match messages.next() {
         Ok(None) => MORE,
@@ -126,7 +133,35 @@ pub fn take<A: Memory>(
     }
 }
 
+/// What a row comes to, of so many bytes: no way of logging in replies to it.
+fn hear_row(
+    connection: &mut PgpConnection<'_>,
+    row: &DataRowBody<&[u8]>,
+    frame: usize,
+    taken: &mut PgpTaken,
+) -> u32
+    requires ordered { connection.old.dialogue.start ≤ connection.old.dialogue.end }
+    requires places { connection.old.dialogue.end ≤ length connection.old.dialogue.room.now }
+    ensures took { result ≡ 0 → (w : Ways) (out : List ℕ) → TookSo w (DataRow row.now) (link_of connection.old) (link_of connection.new) taken.new frame out out 0 }
+    ensures none { result ≢ 0 → IsMisplaced (DataRow row.now) (link_of connection.old) (link_of connection.new) result }
+    ensures left { result ≢ 0 → taken.new ≡ taken.old }
+    ensures room { KeepsRoom connection.old.dialogue connection.new.dialogue }
+{
+    match attributed(&mut connection.dialogue, Kind::DataRow) {
+        Ok(event) => {
+            connection.is_over = is_end(event);
+            *taken = reported_as(event, frame);
+            0
+        }
+        Err(misplaced) => {
+            connection.is_over = true;
+            misplaced
+        }
+    }
+}
+
 /// What a message comes to, of so many bytes.
+#[inline(never)]
 fn hear<A: Memory>(
     alloc: A,
     connection: &mut PgpConnection<'_>,
@@ -160,7 +195,7 @@ fn hear<A: Memory>(
     if code == NO_ROOM {
         return NO_ROOM;
     }
-    let event = match attributed(&mut connection.dialogue, message) {
+    let event = match attributed(&mut connection.dialogue, Kind::of(message)) {
         Ok(event) => event,
         Err(misplaced) => {
             connection.is_over = true;
