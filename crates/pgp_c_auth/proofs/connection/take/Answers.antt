@@ -26,7 +26,7 @@ returns-in-Some-clause-took g c z =
       stands = stands;
       frame = length c.args.bytes.now - length c.rest.result.now;
       length_is = framed c.args.bytes.now c.next_row.new.self c.rest.result.now (DataRow c.in-Some.row) stands c.rest.ensures;
-      took = c.hear_row.ensures.took z c.args.ways.now c.args.out.now;
+      took = c.hear_row.ensures.took z c.args.ways.now (length c.args.connection.now.settings.room.now) c.args.out.now;
     }
 
 pub returns-in-Some-clause-none : goal.returns-in-Some-clause-none
