@@ -261,6 +261,55 @@ static void limits(void)
     same("no places", pgp_connection_take(&h.c, &w, B(READY), out, sizeof out, &n, &t), PGP_NO_ROOM); same("not over", h.c.is_over, false);
 }
 
+#define ZONE(value, len) "S\0\0\0" len "TimeZone\0" value "\0"
+
+/* The value that is kept under a name; NULL where there is none. */
+static void has(const struct held *h, const char *name, const char *value)
+{
+    struct pgp_part part = {99, 98};
+    pgp_status status = pgp_connection_setting(&h->c, name, strlen(name), &part);
+    same("a setting", status, value ? PGP_OK : PGP_DONE);
+    if (value) is(name, h->c.settings.room + part.at, part.len, value, strlen(value));
+    else { same("as it was", part.at, 99); same("as it was", part.len, 98); }
+}
+
+/* Settings, each with the value that was reported last, in room that is just enough and in less; and bytes that are none. */
+static void settings(void)
+{
+    struct pgp_ways w = by(PGP_WAY_NONE);
+    struct pgp_taken t = {99, 98, 97};
+    struct held h, was;
+    uint8_t room[23], out[8];
+    size_t n = 77;
+    ready(&h);
+    TAKES(ZONE("UTC", "\x11"), PGP_ASIDE, 0, NONE);
+    has(&h, "TimeZone", NULL);
+    h.c.settings.room = room; h.c.settings.room_len = 12;
+    was = h;
+    same("no room", pgp_connection_take(&h.c, &w, B(ZONE("UTC", "\x11")), out, sizeof out, &n, &t), PGP_NO_ROOM);
+    same("nothing", n, 0); same("as it was", memcmp(&h, &was, sizeof was), 0); same("no name", t.name, 99);
+    h.c.settings.room_len = 13;
+    TAKES(ZONE("UTC", "\x11"), PGP_ASIDE, 0, NONE);
+    is("settings", room, h.c.settings.len, B("TimeZone\0UTC\0"));
+    has(&h, "TimeZone", "UTC"); has(&h, "TimeZon", NULL); has(&h, "TimeZone1", NULL); has(&h, "timezone", NULL); has(&h, "", NULL);
+    TAKES(ZONE("WET", "\x11"), PGP_ASIDE, 0, NONE);
+    has(&h, "TimeZone", "WET");
+    h.c.settings.room_len = sizeof room;
+    TAKES("S\0\0\0\x08" "a\0b\0", PGP_ASIDE, 0, NONE);
+    TAKES("S\0\0\0\x0a" "is\0on\0", PGP_ASIDE, 0, NONE);
+    is("settings", room, h.c.settings.len, B("is\0on\0" "a\0b\0" "TimeZone\0WET\0"));
+    was = h;
+    same("no room", pgp_connection_take(&h.c, &w, B("S\0\0\0\x09" "a\0bc\0"), out, sizeof out, &n, &t), PGP_NO_ROOM); same("as it was", memcmp(&h, &was, sizeof was), 0);
+    TAKES("S\0\0\0\x07" "a\0\0", PGP_ASIDE, 0, NONE);
+    is("settings", room, h.c.settings.len, B("a\0\0" "is\0on\0" "TimeZone\0WET\0"));
+    has(&h, "a", ""); has(&h, "is", "on"); has(&h, "on", NULL); has(&h, "TimeZone", "WET");
+    h.c.settings.len = sizeof room + 9;
+    memcpy(room, "a\0b\0name without a value", sizeof room);
+    has(&h, "a", "b"); has(&h, "name without a value", NULL);
+    h.c.settings.len = 3;
+    has(&h, "a", NULL);
+}
+
 /* Any bytes in any state: what is taken lies inside, what isn't leaves no reply, and a connection that is over stays so. */
 static void anything(void)
 {
@@ -270,7 +319,7 @@ static void anything(void)
     for (i = 0; i < 20000; i++) {
         struct held h;
         struct pgp_taken t;
-        uint8_t bytes[40], out[16], over;
+        uint8_t bytes[40], out[16], room[24], over;
         size_t n, len = x >> 8 & 31;
         pgp_status status;
         memset(&h, 0, sizeof h);
@@ -279,6 +328,7 @@ static void anything(void)
         if (bytes[0] == 'R') { bytes[5] = bytes[6] = bytes[7] = 0; bytes[8] &= 15; }
         h.c.dialogue.room = h.slots; h.c.dialogue.room_len = SLOTS;
         h.c.dialogue.start = bytes[39] & 3; h.c.dialogue.end = bytes[38] & 3; h.c.dialogue.stage = bytes[37] % 28; h.slots[0].request = h.slots[1].request = bytes[36] % 12;
+        memcpy(room, bytes + 5, sizeof room); h.c.settings.room = room; h.c.settings.room_len = bytes[31] & 31 & (x >> 3) % 25; h.c.settings.len = bytes[30] & 31;
         h.c.login.phase = bytes[35] % 6; h.c.key_len = bytes[34]; over = bytes[33] % 8 == 0; h.c.is_over = over != 0; w.is_encrypted = (bytes[32] & 1) != 0;
         status = pgp_connection_take(&h.c, &w, bytes, len, i & 1 ? out : NULL, i & 1 ? sizeof out : 0, &n, &t);
         bad += status == PGP_OK ? t.frame > len || t.frame < 5 || n > sizeof out || over : n != 0 || (over && (status != PGP_E_WRONG_PHASE || !h.c.is_over));
@@ -289,5 +339,5 @@ static void anything(void)
 
 void connections(void)
 {
-    log_ins(); more_log_ins(); early(); rooms(); requests(); limits(); anything();
+    log_ins(); more_log_ins(); early(); rooms(); requests(); limits(); settings(); anything();
 }

@@ -27,8 +27,8 @@ class _LogIn(Structure):
 
 
 class _Connection(Structure):
-    _fields_ = [('dialogue', DialogueState), ('key_len', c_size_t), ('process_id', c_int32), ('is_over', c_bool), ('status', c_uint8), ('login', _LogIn),
-                ('secret_key', c_uint8 * 256)]
+    _fields_ = [('dialogue', DialogueState), ('settings', c_size_t * 3), ('key_len', c_size_t), ('process_id', c_int32), ('is_over', c_bool), ('status', c_uint8),
+                ('login', _LogIn), ('secret_key', c_uint8 * 256)]
 
 
 class _Taken(Structure):

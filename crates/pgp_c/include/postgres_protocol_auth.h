@@ -64,9 +64,10 @@ struct pgp_login {
 
 /*
  * A client's connection: the log-in, which message answers which request, and what the server says of its session, in one struct of the
- * caller's, all 0 at first but for its memory for requests:
+ * caller's, all 0 at first but for its memory for requests, and for settings:
  *     struct pgp_slot slots[64] = {{0, 0}};
- *     struct pgp_connection connection = {{slots, 64, 0, 0, 0, 0}, 0, 0, false, 0, {0, {0}}, {0}};
+ *     uint8_t settings[4096];
+ *     struct pgp_connection connection = {{slots, 64, 0, 0, 0, 0}, {settings, sizeof settings, 0}, 0, 0, false, 0, {0, {0}}, {0}};
  * The caller moves the bytes: what it sends is written by pgp_stream_* or the single writers, and asked; what came is taken a message at a time.
  *   pgp_connection_ask   takes note of a request, in the order in which they are sent: the startup packet first, and others once the log-in is done.
  *                        PGP_E_WRONG_PHASE where the request may not be sent: before that, after the end, and while the server awaits the data of a
@@ -74,10 +75,13 @@ struct pgp_login {
  *                        again), PGP_E_KIND for no request. Then nothing changes
  *   pgp_connection_take  takes the message at the front of the bytes: `taken` says to which request it belongs, and how many bytes it has; what it
  *                        says, pgp_front reads of the same bytes. In the log-in the reply stands in `out`, a whole message, if *written isn't 0
+ *   pgp_connection_setting     the value of a setting that the server reported last under a name, where it stands in connection->settings.room; PGP_DONE
+ *                              where none is kept. Names are compared byte by byte
  *   pgp_connection_is_idle     whether no request awaits an answer
  *   pgp_connection_is_copying  whether data of a copy to the server may be sent
  * On any status but PGP_OK *written is 0, and `out` and *taken are as they were. PGP_MORE: read more, and call again. PGP_NO_ROOM: malloc failed, or
- * `out` is too small: call again with the same bytes and more room (PGP_CONNECTION_ROOM is enough). All others end the connection:
+ * `out` is too small: call again with the same bytes and more room (PGP_CONNECTION_ROOM is enough); or the room for settings has none for the message's:
+ * move them to a larger one, and call again. All others end the connection:
  *   PGP_E_WRONG_PHASE                it was over
  *   PGP_CONNECTION_TOO_LONG          a message is announced that is longer than `limit`, or before the log-in is done than 30,000 bytes
  *   those of pgp_front               what came is no message. A FunctionCallResponse and a CopyBothResponse aren't read
@@ -92,7 +96,8 @@ struct pgp_login {
  *                                    is offered pgp_front and pgp_mechanism_next tell before, to choose `kind` by
  *   PGP_LOGIN_TOO_FEW_ROUNDS         the server asks for fewer rounds than `least_rounds` (0 is taken for 1; servers have 4096 unless configured otherwise)
  *   those of pgp_scram_update and pgp_scram_finish
- * A setting isn't kept, but for the caller to read of its message: it has the table of the names that it wants.
+ * Each setting that the server reports (a PARAMETER_STATUS: a server of PostgreSQL 15 reports 14, of some 400 bytes) is kept in the room for settings, with
+ * the value that was reported last. Where the room has no byte none is kept, and the caller reads them of their messages.
  */
 struct pgp_ways {
     struct pgp_bytes user, password;       /* of MD5; the password that is sent, or prepared by pgp_saslprep for SCRAM */
@@ -103,8 +108,14 @@ struct pgp_ways {
     uint8_t kind;                          /* of the channel binding */
     bool is_encrypted;                     /* the connection has TLS */
 };
+/* The settings: a name and a value at a time, each with a 0 behind it, in `len` bytes at the front of the room; the setting that was reported last first. */
+struct pgp_settings {
+    uint8_t *room;
+    size_t room_len, len;
+};
 struct pgp_connection {
     struct pgp_dialogue dialogue;
+    struct pgp_settings settings;
     size_t key_len;                        /* of the secret_key; 0 before it came */
     int32_t process_id;                    /* for pgp_cancel_request */
     bool is_over;                          /* the session has ended, or an error ended it; to be set where Terminate was sent */
@@ -121,6 +132,7 @@ struct pgp_taken {
 pgp_status pgp_connection_ask(struct pgp_connection *connection, uint8_t request, uint64_t name);
 pgp_status pgp_connection_take(struct pgp_connection *connection, const struct pgp_ways *ways, const void *bytes, size_t len,
                                uint8_t *out, size_t room, size_t *written, struct pgp_taken *taken);
+pgp_status pgp_connection_setting(const struct pgp_connection *connection, const void *name, size_t len, struct pgp_part *value);
 pgp_status pgp_connection_is_idle(const struct pgp_connection *connection, bool *idle);
 bool pgp_connection_is_copying(const struct pgp_connection *connection);
 

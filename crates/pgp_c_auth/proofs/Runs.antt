@@ -123,7 +123,7 @@ module _ (w : PgpWays) where
   known : {begun : Bool} {heard : List Message} {turns : List Turn} {now : Link} → Runs w begun heard turns now → Known begun heard now.login.signature now.login.phase
   known (Begins c phase talk) = subst (Known false [] c.login.signature) (sym phase) (AtRequest refl)
   known (Asked r name run may) = known run
-  known (Heard {heard = heard} {old = old} {new = new} m e reply run t goes_on) = stepped heard m old.login (known run) refl t.logged.answers
+  known (Heard {heard = heard} {old = old} {new = new} given m e reply run t goes_on) = stepped heard m old.login (known run) refl t.logged.answers
 
   at_end : {begun : Bool} {heard : List Message} {signature : List ℕ} → Known begun heard signature 4 → LetIn w heard begun
   at_end (AtDone by) = by
@@ -137,7 +137,7 @@ module _ (w : PgpWays) where
   follows_on (Begins c phase talk) rest f = subst (λ (t : Talk). Follows t rest) talk f
   follows_on (Asked {turns = turns} r name run may) rest f =
       subst (λ ts. Follows start ts) (sym (append_assoc turns (Asks (record { request = r; name = name }) ∷ []) rest)) (follows_on run (Asks (record { request = r; name = name }) ∷ rest) f)
-  follows_on (Heard {turns = turns} {new = new} m e reply run t goes_on) rest f =
+  follows_on (Heard {turns = turns} {new = new} given m e reply run t goes_on) rest f =
       subst (λ ts. Follows start ts) (sym (append_assoc turns (Hears (kind_of m) e ∷ []) rest)) (follows_on run (Hears (kind_of m) e ∷ rest) (new.talk, t.taken, goes_on, f))
 
   pub follows : (begun : Bool) (heard : List Message) (turns : List Turn) (now : Link) → Runs w begun heard turns now → Follows start turns

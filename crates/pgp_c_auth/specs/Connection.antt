@@ -16,12 +16,13 @@ use Rattle.pgp_client.specs.declared.request.Request.{Request}
 use Rattle.pgp_client.specs.declared.request.Request.TheVariants as requests
 use Rattle.pgp_client.specs.declared.stage.Stage.TheVariants.{Over}
 use Rattle.pgp_message.specs.BackendMessage.{Message, BackendKeyData, NegotiateProtocolVersion, NoticeResponse, NotificationResponse, ParameterStatus, ReadyForQuery}
-use Rattle.pgp_message.specs.Parts.{KeyData}
+use Rattle.pgp_message.specs.Parts.{KeyData, Setting}
 use Rattle.pgp_message.specs.Remembered.{header_of}
 use Rattle.pgp_message.specs.Stream.{IsPartial, Step, TakesFrame}
 use Rattle.pgp_c_auth.specs.Answering.{HasAnswered, NotAnsweredFor, asking}
 use Rattle.pgp_c_auth.specs.Delivering.{Delivered}
 use Rattle.pgp_c_auth.specs.Login.{awaits_request, done}
+use Rattle.pgp_c_auth.specs.Settings.{kept_in, settled}
 use Rattle.pgp_c_auth.specs.declared.asking.PgpWays.{PgpWays}
 use Rattle.pgp_c_auth.specs.declared.connection.PgpConnection.{PgpConnection}
 use Rattle.pgp_c_auth.specs.declared.connection.PgpTaken.{PgpTaken}
@@ -41,12 +42,13 @@ pub record KeepsRoom (old new : PgpTalk) : Type 0 where
   pub room : length new.room.now ≡ length old.room.now
   pub whole : ¬ IsBroken old → ¬ IsBroken new
 
--- A connection as a value: whether it is over, the log-in, the dialogue, and what the server said last of its session: the status of the last ReadyForQuery, 0 before the
--- first, and the key of a cancel request, which has no byte before it came.
+-- A connection as a value: whether it is over, the log-in, the dialogue, and what the server said last of its session: the settings that are kept, the status of the last
+-- ReadyForQuery, 0 before the first, and the key of a cancel request, which has no byte before it came.
 pub record Link : Type 0 where
   pub is_over : Bool
   pub login : PgpLogin
   pub talk : Talk
+  pub settings : List Setting
   pub status : ℕ
   pub key : KeyData
 
@@ -55,6 +57,7 @@ link_of c = record {
   is_over = c.is_over;
   login = c.login;
   talk = talk_of c.dialogue;
+  settings = kept_in c.settings;
   status = c.status;
   key = record { process_id = c.process_id; secret_key = take c.key_len c.secret_key };
 }
@@ -127,54 +130,60 @@ reported_as Ended frame = record { name = 0; frame = frame; what = 4 }
 abbrev pub refusal_at : ℕ → Option Refusal
 refusal_at n = if n == 36 then Some Unexpected else (if n == 37 then Some Uncertain else None)
 
--- after what a message says
-abbrev pub noted : Message → Event → Link → Link
-noted m e c = record { is_over = is_end e; login = c.login; talk = c.talk; status = status_after m c.status; key = key_after m c.key }
+-- after what a message says, where so many bytes are given for settings
+abbrev pub noted : ℕ → Message → Event → Link → Link
+noted given m e c = record { is_over = is_end e; login = c.login; talk = c.talk; settings = settled given m c.settings; status = status_after m c.status; key = key_after m c.key }
 
 -- the same with this dialogue; and over
 abbrev pub with_talk : Talk → Link → Link
-with_talk t c = record { is_over = c.is_over; login = c.login; talk = t; status = c.status; key = c.key }
+with_talk t c = record c { talk = t }
 
 abbrev pub ended : Link → Link
-ended c = record { is_over = true; login = c.login; talk = c.talk; status = c.status; key = c.key }
+ended c = record c { is_over = true }
 
 abbrev pub with_key : KeyData → Link → Link
-with_key k c = record { is_over = c.is_over; login = c.login; talk = c.talk; status = c.status; key = k }
+with_key k c = record c { key = k }
 
 abbrev pub with_login : PgpLogin → Link → Link
-with_login l c = record { is_over = c.is_over; login = l; talk = c.talk; status = c.status; key = c.key }
+with_login l c = record c { login = l }
 
 -- The message was attributed so, the log-in answered it, and what it says was noted.
-pub record Took (w : PgpWays) (m : Message) (old new : Link) (e : Event) (reply : List ℕ) : Type 0 where
+pub record Took (w : PgpWays) (given : ℕ) (m : Message) (old new : Link) (e : Event) (reply : List ℕ) : Type 0 where
   pub taken : taken old.talk (kind_of m) ≡ Ok (e, new.talk)
   pub fit : IsFit old m
   pub logged : HasAnswered w (asking m) old.login new.login [] reply
-  pub is : new ≡ noted m e (with_login new.login (with_talk new.talk old))
+  pub is : new ≡ noted given m e (with_login new.login (with_talk new.talk old))
+
+-- The dialogue has no place for the message, and the connection is over.
+abbrev pub IsMisplaced : Message → Link → Link → ℕ → Type 0
+IsMisplaced m old new code = (r : Refusal) × (t : Talk) × (taken old.talk (kind_of m) ≡ Err r) × (t.stage ≡ Over) × (refusal_at code ≡ Some r) × (new ≡ ended (with_talk t old))
 
 -- Why a message has no reply, before the dialogue is asked: it comes too early, its status is none, or the log-in doesn't answer it; or the reply, behind what was there before,
--- is longer than the room.
-abbrev pub NotRepliedTo : Type 0 → PgpWays → PgpLogin → Bool → Message → List ℕ → ℕ → ℕ → Type 0
-NotRepliedTo lacks w l first m before room code = ((code ≡ 89) × ¬ IsTimely (is_done l) first m) ⊎ (((code ≡ 93) × IsTimely (is_done l) first m × (lacks_status m ≡ true))
+-- is longer than the room, or a setting lacks room (`full`).
+abbrev pub NotRepliedTo : Type 0 → (Message → Type 0) → PgpWays → PgpLogin → Bool → Message → List ℕ → ℕ → ℕ → Type 0
+NotRepliedTo lacks full w l first m before room code = ((code ≡ 89) × ¬ IsTimely (is_done l) first m) ⊎ (((code ≡ 93) × IsTimely (is_done l) first m × (lacks_status m ≡ true))
     ⊎ ((FitsAt l first m × NotAnsweredFor lacks w l code (asking m))
-    ⊎ ((code ≡ 1) × FitsAt l first m × (next : PgpLogin) × (reply : List ℕ) × HasAnswered w (asking m) l next before reply × (room < length reply))))
+    ⊎ (((code ≡ 1) × FitsAt l first m × (next : PgpLogin) × (reply : List ℕ) × HasAnswered w (asking m) l next before reply × (room < length reply))
+    ⊎ ((code ≡ 1) × FitsAt l first m × full m))))
 
--- Why a message isn't taken, and what is left. Where memory or room was lacking for the reply, nothing changes. All others end the connection: it isn't attributed, so that no
--- message is any more; it comes before the log-in is done; its status is none; or the log-in doesn't answer it.
-pub data Rejects (lacks : Type 0) (w : PgpWays) (m : Message) (room : ℕ) (old : Link) : Link → ℕ → Type 0 where
-  NoMemory : {new : Link} {code : ℕ} → IsFit old m → NotAnsweredFor lacks w old.login code (asking m) → code ≡ 1 → new ≡ old → Rejects lacks w m room old new code
-  NoRoom : (l : PgpLogin) (reply : List ℕ) {new : Link} {code : ℕ} → IsFit old m → HasAnswered w (asking m) old.login l [] reply → room < length reply → code ≡ 1 → new ≡ old → Rejects lacks w m room old new code
-  Misplaced : (r : Refusal) (t : Talk) {new : Link} {code : ℕ} → taken old.talk (kind_of m) ≡ Err r → t.stage ≡ Over → refusal_at code ≡ Some r → new ≡ ended (with_talk t old) → Rejects lacks w m room old new code
-  Untimely : (e : Event) (t : Talk) {new : Link} {code : ℕ} → taken old.talk (kind_of m) ≡ Ok (e, t) → ¬ ComesInTime old m → code ≡ 89 → new ≡ ended (with_talk t old) → Rejects lacks w m room old new code
-  NoStatus : (e : Event) (t : Talk) {new : Link} {code : ℕ} → taken old.talk (kind_of m) ≡ Ok (e, t) → ComesInTime old m → lacks_status m ≡ true → code ≡ 93 → new ≡ ended (with_talk t old) → Rejects lacks w m room old new code
+-- Why a message isn't taken, and what is left. Where memory or room was lacking for the reply, or room for a setting (`full`), nothing changes. All others end the connection:
+-- it isn't attributed, so that no message is any more; it comes before the log-in is done; its status is none; or the log-in doesn't answer it.
+pub data Rejects (lacks : Type 0) (full : Message → Type 0) (w : PgpWays) (m : Message) (room : ℕ) (old : Link) : Link → ℕ → Type 0 where
+  NoMemory : {new : Link} {code : ℕ} → IsFit old m → NotAnsweredFor lacks w old.login code (asking m) → code ≡ 1 → new ≡ old → Rejects lacks full w m room old new code
+  NoRoom : (l : PgpLogin) (reply : List ℕ) {new : Link} {code : ℕ} → IsFit old m → HasAnswered w (asking m) old.login l [] reply → room < length reply → code ≡ 1 → new ≡ old → Rejects lacks full w m room old new code
+  NoSettingRoom : {new : Link} {code : ℕ} → IsFit old m → full m → code ≡ 1 → new ≡ old → Rejects lacks full w m room old new code
+  Misplaced : {new : Link} {code : ℕ} → IsMisplaced m old new code → Rejects lacks full w m room old new code
+  Untimely : (e : Event) (t : Talk) {new : Link} {code : ℕ} → taken old.talk (kind_of m) ≡ Ok (e, t) → ¬ ComesInTime old m → code ≡ 89 → new ≡ ended (with_talk t old) → Rejects lacks full w m room old new code
+  NoStatus : (e : Event) (t : Talk) {new : Link} {code : ℕ} → taken old.talk (kind_of m) ≡ Ok (e, t) → ComesInTime old m → lacks_status m ≡ true → code ≡ 93 → new ≡ ended (with_talk t old) → Rejects lacks full w m room old new code
   Unanswered : (e : Event) (t : Talk) {new : Link} {code : ℕ} → taken old.talk (kind_of m) ≡ Ok (e, t) → IsFit old m → NotAnsweredFor lacks w old.login code (asking m) → code ≢ 1 → new ≡ ended (with_talk t old)
-      → Rejects lacks w m room old new code
+      → Rejects lacks full w m room old new code
 
 -- the same of a message of so many bytes, with what is reported of it, and the reply handed over
-abbrev pub TookSo : PgpWays → Message → Link → Link → PgpTaken → ℕ → List ℕ → List ℕ → ℕ → Type 0
-TookSo w m old new said frame out after written = (e : Event) × (reply : List ℕ) × Took w m old new e reply × (said ≡ reported_as e frame) × Delivered reply out after written
+abbrev pub TookSo : PgpWays → ℕ → Message → Link → Link → PgpTaken → ℕ → List ℕ → List ℕ → ℕ → Type 0
+TookSo w given m old new said frame out after written = (e : Event) × (reply : List ℕ) × Took w given m old new e reply × (said ≡ reported_as e frame) × Delivered reply out after written
 
 -- The message at the front of the bytes was taken, within the limit, and this is reported of it.
-pub record TookNext (w : PgpWays) (bytes : List ℕ) (old new : Link) (said : PgpTaken) (out after : List ℕ) (written : ℕ) : Type 0 where
+pub record TookNext (w : PgpWays) (given : ℕ) (bytes : List ℕ) (old new : Link) (said : PgpTaken) (out after : List ℕ) (written : ℕ) : Type 0 where
   pub goes_on : old.is_over ≡ false
   pub short : is_longer (limit_of w old.login) bytes ≡ false
   pub message : Message
@@ -182,20 +191,20 @@ pub record TookNext (w : PgpWays) (bytes : List ℕ) (old new : Link) (said : Pg
   pub stands : TakesFrame bytes (Ok message) rest
   pub frame : ℕ
   pub length_is : frame + length rest ≡ length bytes
-  pub took : TookSo w message old new said frame out after written
+  pub took : TookSo w given message old new said frame out after written
 
 -- What a call for the next message comes to that takes none.
-pub data TookNone (lacks broken : Type 0) (w : PgpWays) (bytes out : List ℕ) (old : Link) : Link → ℕ → Type 0 where
-  WasOver : {new : Link} {code : ℕ} → old.is_over ≡ true → new ≡ old → code ≡ 32 → TookNone lacks broken w bytes out old new code
-  HasNoPlaces : {new : Link} {code : ℕ} → broken → new ≡ old → code ≡ 1 → TookNone lacks broken w bytes out old new code
-  IsLonger : {new : Link} {code : ℕ} → old.is_over ≡ false → is_longer (limit_of w old.login) bytes ≡ true → new ≡ ended old → code ≡ 94 → TookNone lacks broken w bytes out old new code
+pub data TookNone (lacks broken : Type 0) (full : Message → Type 0) (w : PgpWays) (bytes out : List ℕ) (old : Link) : Link → ℕ → Type 0 where
+  WasOver : {new : Link} {code : ℕ} → old.is_over ≡ true → new ≡ old → code ≡ 32 → TookNone lacks broken full w bytes out old new code
+  HasNoPlaces : {new : Link} {code : ℕ} → broken → new ≡ old → code ≡ 1 → TookNone lacks broken full w bytes out old new code
+  IsLonger : {new : Link} {code : ℕ} → old.is_over ≡ false → is_longer (limit_of w old.login) bytes ≡ true → new ≡ ended old → code ≡ 94 → TookNone lacks broken full w bytes out old new code
   -- bytes are missing, of a message within the limit
-  IsCut : {new : Link} {code : ℕ} → old.is_over ≡ false → is_longer (limit_of w old.login) bytes ≡ false → IsPartial bytes → new ≡ old → code ≡ 100 → TookNone lacks broken w bytes out old new code
+  IsCut : {new : Link} {code : ℕ} → old.is_over ≡ false → is_longer (limit_of w old.login) bytes ≡ false → IsPartial bytes → new ≡ old → code ≡ 100 → TookNone lacks broken full w bytes out old new code
   -- what came is no message
   IsNone : (e : Error) (rest : List ℕ) {new : Link} {code : ℕ} → old.is_over ≡ false → is_longer (limit_of w old.login) bytes ≡ false → Step ⊥ bytes (Err e) rest → new ≡ ended old → code ≡ number_of e
-      → TookNone lacks broken w bytes out old new code
-  Comes : (m : Message) (rest : List ℕ) {new : Link} {code : ℕ} → old.is_over ≡ false → is_longer (limit_of w old.login) bytes ≡ false → TakesFrame bytes (Ok m) rest → Rejects lacks w m (length out) old new code
-      → TookNone lacks broken w bytes out old new code
+      → TookNone lacks broken full w bytes out old new code
+  Comes : (m : Message) (rest : List ℕ) {new : Link} {code : ℕ} → old.is_over ≡ false → is_longer (limit_of w old.login) bytes ≡ false → TakesFrame bytes (Ok m) rest → Rejects lacks full w m (length out) old new code
+      → TookNone lacks broken full w bytes out old new code
 
 -- ---- what may be asked
 

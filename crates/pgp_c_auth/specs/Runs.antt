@@ -25,7 +25,7 @@ pub data Runs (w : PgpWays) : (begun : Bool) → List Message → List Turn → 
   Begins : (c : Link) → c.login.phase ≡ awaits_request → c.talk ≡ start → Runs w false [] [] c
   Asked : {begun : Bool} {heard : List Message} {turns : List Turn} {old : Link} (r : Request) (name : ℕ) → Runs w begun heard turns old → may_ask old r ≡ true
       → Runs w begun heard (turns ++ Asks (record { request = r; name = name }) ∷ []) (asked_of r name old)
-  Heard : {begun : Bool} {heard : List Message} {turns : List Turn} {old new : Link} (m : Message) (e : Event) (reply : List ℕ) → Runs w begun heard turns old → (t : Took w m old new e reply) → e ≢ Ended
+  Heard : {begun : Bool} {heard : List Message} {turns : List Turn} {old new : Link} (given : ℕ) (m : Message) (e : Event) (reply : List ℕ) → Runs w begun heard turns old → (t : Took w given m old new e reply) → e ≢ Ended
       → Runs w (now_begun begun t.logged.reply) (heard ++ m ∷ []) (turns ++ Hears (kind_of m) e ∷ []) new
 
 -- The server showed the signature of the verifier of this password, in messages that it sent: the client answered its first text, and its final text shows what a server that

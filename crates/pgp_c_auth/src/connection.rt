@@ -1,12 +1,14 @@
 //! A client's connection, in memory of the caller's: the log-in, which message answers which request, and what the server says of its session.
 
-ghost use Rattle.std.specs.Prelude.{◌≡◌, ◌≢◌, ◌<◌, ◌≤◌, ◌⊎◌, ◌&&◌, length, not, true, false};
+ghost use Rattle.std.specs.Prelude.{◌≡◌, ◌≢◌, ◌<◌, ◌≤◌, ◌⊎◌, ◌&&◌, ◌+◌, ℕ, List, None, Some, drop, length, not, take, true, false};
 ghost use Rattle.pgp_client.specs.Codes.{request_at};
 ghost use Rattle.pgp_client.specs.Taking.{is_copying, is_idle};
-ghost use Rattle.pgp_message.specs.BackendMessage.{Fits};
+ghost use Rattle.pgp_message.specs.BackendMessage.{DataRow, Fits};
 ghost use Rattle.pgp_message.specs.Views.{view};
 ghost use Rattle.pgp_c_auth.specs.Answering.{HasAnswered, asking};
-ghost use Rattle.pgp_c_auth.specs.Connection.{IsBroken, KeepsRoom, Rejects, TookNext, TookNone, TookSo, FitsAt, NotRepliedTo, asked_of, link_of, may_ask, noted, with_key};
+ghost use Rattle.pgp_c_auth.specs.Connection.{IsBroken, IsMisplaced, KeepsRoom, Rejects, TookNext, TookNone, TookSo, FitsAt, NotRepliedTo, asked_of, link_of, may_ask, noted, with_key};
+ghost use Rattle.pgp_c_auth.specs.Settings.{IsFull, value_of};
+ghost use Rattle.pgp_c_auth.specs.declared.asking.PgpWays.{PgpWays as Ways};
 
 use crate::answering::answer;
 use crate::asking::{PgpWays, asked_by};
@@ -15,11 +17,12 @@ use crate::connection_parts::{
 };
 use crate::deliver::deliver;
 use crate::login::PgpLogin;
+use crate::settings::{PgpSettings, PgpSpan, is_full, keep, value_at};
 use crate::talk::{PgpTalk, is_between, is_broken, put_back, resumed};
 use bytes::BytesMut;
 use pgp_base::Memory;
-use pgp_client::{Event, Request, Slots, Stage};
-use pgp_message::{BackendKeyDataBody, Message, Messages};
+use pgp_client::{Event, Kind, Request, Slots, Stage};
+use pgp_message::{BackendKeyDataBody, DataRowBody, Message, Messages};
 use std::alloc::Global;
 
 /// The result where there is no room, or the dialogue's places are none of its room.
@@ -41,6 +44,7 @@ const MORE: u32 = 100;
 #[repr(C)]
 pub struct PgpConnection<'a> {
     pub dialogue: PgpTalk<'a>,
+    pub settings: PgpSettings<'a>,
     pub key_len: usize,
     pub process_id: i32,
     /// Whether the session has ended, or an error ended it.
@@ -74,10 +78,10 @@ pub extern "C" fn pgp_connection_take(
     written: &mut usize,
     taken: &mut PgpTaken,
 ) -> u32
-    ensures took { result ≡ 0 → TookNext ways.now bytes.now (link_of connection.old) (link_of connection.new) taken.new out.old out.new written.new }
-    ensures none { result ≢ 0 → TookNone (Unit {0}) (IsBroken connection.old.dialogue) ways.now bytes.now out.old (link_of connection.old) (link_of connection.new) result }
+    ensures took { result ≡ 0 → TookNext ways.now (length connection.old.settings.room.now) bytes.now (link_of connection.old) (link_of connection.new) taken.new out.old out.new written.new }
+    ensures none { result ≢ 0 → TookNone (Unit {0}) (IsBroken connection.old.dialogue) (IsFull connection.old.settings) ways.now bytes.now out.old (link_of connection.old) (link_of connection.new) result }
     ensures left { result ≢ 0 → (written.new ≡ 0) × (out.new ≡ out.old) × (taken.new ≡ taken.old) }
-    ensures room { KeepsRoom connection.old.dialogue connection.new.dialogue }
+    ensures room { KeepsRoom connection.old.dialogue connection.new.dialogue × (length connection.new.settings.room.now ≡ length connection.old.settings.room.now) }
 {
     take(alloc, connection, ways, bytes, out, written, taken)
 }
@@ -92,10 +96,10 @@ pub fn take<A: Memory>(
     written: &mut usize,
     taken: &mut PgpTaken,
 ) -> u32
-    ensures took { result ≡ 0 → TookNext ways.now bytes.now (link_of connection.old) (link_of connection.new) taken.new out.old out.new written.new }
-    ensures none { result ≢ 0 → TookNone A.Lacks (IsBroken connection.old.dialogue) ways.now bytes.now out.old (link_of connection.old) (link_of connection.new) result }
+    ensures took { result ≡ 0 → TookNext ways.now (length connection.old.settings.room.now) bytes.now (link_of connection.old) (link_of connection.new) taken.new out.old out.new written.new }
+    ensures none { result ≢ 0 → TookNone A.Lacks (IsBroken connection.old.dialogue) (IsFull connection.old.settings) ways.now bytes.now out.old (link_of connection.old) (link_of connection.new) result }
     ensures left { result ≢ 0 → (written.new ≡ 0) × (out.new ≡ out.old) × (taken.new ≡ taken.old) }
-    ensures room { KeepsRoom connection.old.dialogue connection.new.dialogue }
+    ensures room { KeepsRoom connection.old.dialogue connection.new.dialogue × (length connection.new.settings.room.now ≡ length connection.old.settings.room.now) }
 {
     *written = 0;
     if connection.is_over {
@@ -107,6 +111,12 @@ pub fn take<A: Memory>(
     if is_too_long(bytes, limit(ways, &connection.login)) {
         connection.is_over = true;
         return TOO_LONG;
+    }
+    let mut rows = Messages::new(bytes);
+    // Rows come by the thousand, and the log-in has no part in them.
+    if let Some(row) = rows.next_row() {
+        let frame = bytes.len() - rows.rest().len();
+        return hear_row(connection, &row, frame, taken);
     }
     let mut messages = Messages::new(bytes);
     match messages.next() {
@@ -126,7 +136,35 @@ pub fn take<A: Memory>(
     }
 }
 
+/// What a row comes to, of so many bytes: no way of logging in replies to it.
+fn hear_row(
+    connection: &mut PgpConnection<'_>,
+    row: &DataRowBody<&[u8]>,
+    frame: usize,
+    taken: &mut PgpTaken,
+) -> u32
+    requires ordered { connection.old.dialogue.start ≤ connection.old.dialogue.end }
+    requires places { connection.old.dialogue.end ≤ length connection.old.dialogue.room.now }
+    ensures took { result ≡ 0 → (w : Ways) (given : ℕ) (out : List ℕ) → TookSo w given (DataRow row.now) (link_of connection.old) (link_of connection.new) taken.new frame out out 0 }
+    ensures none { result ≢ 0 → IsMisplaced (DataRow row.now) (link_of connection.old) (link_of connection.new) result }
+    ensures left { result ≢ 0 → taken.new ≡ taken.old }
+    ensures room { KeepsRoom connection.old.dialogue connection.new.dialogue × (length connection.new.settings.room.now ≡ length connection.old.settings.room.now) }
+{
+    match attributed(&mut connection.dialogue, Kind::DataRow) {
+        Ok(event) => {
+            connection.is_over = is_end(event);
+            *taken = reported_as(event, frame);
+            0
+        }
+        Err(misplaced) => {
+            connection.is_over = true;
+            misplaced
+        }
+    }
+}
+
 /// What a message comes to, of so many bytes.
+#[inline(never)]
 fn hear<A: Memory>(
     alloc: A,
     connection: &mut PgpConnection<'_>,
@@ -140,10 +178,10 @@ fn hear<A: Memory>(
     requires ordered { connection.old.dialogue.start ≤ connection.old.dialogue.end }
     requires places { connection.old.dialogue.end ≤ length connection.old.dialogue.room.now }
     requires sized { Fits (view message.now) }
-    ensures took { result ≡ 0 → TookSo ways.now (view message.now) (link_of connection.old) (link_of connection.new) taken.new frame out.old out.new written.new }
-    ensures none { result ≢ 0 → Rejects A.Lacks ways.now (view message.now) (length out.old) (link_of connection.old) (link_of connection.new) result }
+    ensures took { result ≡ 0 → TookSo ways.now (length connection.old.settings.room.now) (view message.now) (link_of connection.old) (link_of connection.new) taken.new frame out.old out.new written.new }
+    ensures none { result ≢ 0 → Rejects A.Lacks (IsFull connection.old.settings) ways.now (view message.now) (length out.old) (link_of connection.old) (link_of connection.new) result }
     ensures left { result ≢ 0 → (written.new ≡ written.old) × (out.new ≡ out.old) × (taken.new ≡ taken.old) }
-    ensures room { KeepsRoom connection.old.dialogue connection.new.dialogue }
+    ensures room { KeepsRoom connection.old.dialogue connection.new.dialogue × (length connection.new.settings.room.now ≡ length connection.old.settings.room.now) }
 {
     let first = is_between(&connection.dialogue);
     let mut login = connection.login;
@@ -155,12 +193,13 @@ fn hear<A: Memory>(
         first,
         message,
         out.len(),
+        &connection.settings,
         &mut reply,
     );
     if code == NO_ROOM {
         return NO_ROOM;
     }
-    let event = match attributed(&mut connection.dialogue, message) {
+    let event = match attributed(&mut connection.dialogue, Kind::of(message)) {
         Ok(event) => event,
         Err(misplaced) => {
             connection.is_over = true;
@@ -177,7 +216,7 @@ fn hear<A: Memory>(
     deliver(reply.as_slice(), out, written)
 }
 
-/// The log-in takes a message that may come now, and its reply is appended, for which there is so much room: 0 where it does.
+/// The log-in takes a message that may come now, its reply is appended, for which there is so much room, and a setting that it reports has room: 0 where it does.
 fn replied<A: Memory>(
     alloc: A,
     login: &mut PgpLogin,
@@ -185,12 +224,14 @@ fn replied<A: Memory>(
     first: bool,
     message: &Message<&[u8]>,
     room: usize,
+    settings: &PgpSettings<'_>,
     reply: &mut BytesMut<A>,
 ) -> u32
     ensures fit { result ≡ 0 → FitsAt login.old first (view message.now) }
     ensures answered { result ≡ 0 → HasAnswered ways.now (asking (view message.now)) login.old login.new reply.old.items reply.new.items }
     ensures room { result ≡ 0 → length reply.new.items ≤ room }
-    ensures why { result ≢ 0 → NotRepliedTo A.Lacks ways.now login.old first (view message.now) reply.old.items room result }
+    ensures settings { result ≡ 0 → ¬ IsFull settings.now (view message.now) }
+    ensures why { result ≢ 0 → NotRepliedTo A.Lacks (IsFull settings.now) ways.now login.old first (view message.now) reply.old.items room result }
 {
     let code = unfit(login, first, message);
     if code != 0 {
@@ -200,7 +241,7 @@ fn replied<A: Memory>(
     if code != 0 {
         return code;
     }
-    if room < reply.len() {
+    if room < reply.len() || is_full(settings, message) {
         return NO_ROOM;
     }
     0
@@ -208,14 +249,24 @@ fn replied<A: Memory>(
 
 /// Takes note of what a message says of the session.
 fn note_said(message: &Message<&[u8]>, event: Event, connection: &mut PgpConnection<'_>)
-    requires { Fits (view message.now) }
-    ensures link { link_of connection.new ≡ noted (view message.now) event (link_of connection.old) }
+    requires sized { Fits (view message.now) }
+    requires room { ¬ IsFull connection.old.settings (view message.now) }
+    ensures link { link_of connection.new ≡ noted (length connection.old.settings.room.now) (view message.now) event (link_of connection.old) }
     ensures dialogue { connection.new.dialogue ≡ connection.old.dialogue }
+    ensures room { length connection.new.settings.room.now ≡ length connection.old.settings.room.now }
 {
     connection.is_over = is_end(event);
     connection.status = status_after(message, connection.status);
-    if let Message::BackendKeyData(body) = message {
-        note_key(body, connection);
+    match message {
+        Message::BackendKeyData(body) => note_key(body, connection),
+        Message::ParameterStatus(body) => {
+            keep(
+                &mut connection.settings,
+                body.name_bytes(),
+                body.value_bytes(),
+            );
+        }
+        _ => {}
     }
 }
 
@@ -224,6 +275,7 @@ fn note_key(body: &BackendKeyDataBody<&[u8]>, connection: &mut PgpConnection<'_>
     requires { length body.now.secret_key ≤ 256 }
     ensures link { link_of connection.new ≡ with_key body.now (link_of connection.old) }
     ensures dialogue { connection.new.dialogue ≡ connection.old.dialogue }
+    ensures settings { connection.new.settings ≡ connection.old.settings }
 {
     let key = body.secret_key_bytes();
     connection.process_id = body.process_id();
@@ -244,7 +296,7 @@ pub extern "C" fn pgp_connection_ask(
     ensures why { result ≢ 0 → request ≤ 11 → ((result ≡ 1) × (IsBroken connection.old.dialogue ⊎ (length (link_of connection.old).talk.pending ≡ length connection.old.dialogue.room.now)))
         ⊎ ((result ≡ 32) × (may_ask (link_of connection.old) (request_at request) ≡ false)) }
     ensures kept { result ≢ 0 → link_of connection.new ≡ link_of connection.old }
-    ensures room { KeepsRoom connection.old.dialogue connection.new.dialogue }
+    ensures room { KeepsRoom connection.old.dialogue connection.new.dialogue × (length connection.new.settings.room.now ≡ length connection.old.settings.room.now) }
 {
     if request > 11 {
         return NO_KIND;
@@ -263,6 +315,20 @@ pub extern "C" fn pgp_connection_ask(
     );
     put_back(kept, &mut connection.dialogue);
     code
+}
+
+/// The value that the server reported last under a name, by its place in the memory for settings.
+#[unsafe(no_mangle)]
+pub extern "C" fn pgp_connection_setting(
+    connection: &PgpConnection<'_>,
+    name: &[u8],
+    value: &mut PgpSpan,
+) -> u32
+    ensures value { result ≡ 0 → value_of name.now (link_of connection.now).settings ≡ Some (take value.new.len (drop value.new.at connection.now.settings.room.now)) }
+    ensures inside { result ≡ 0 → value.new.at + value.new.len ≤ length connection.now.settings.room.now }
+    ensures none { result ≢ 0 → (result ≡ 101) × (value_of name.now (link_of connection.now).settings ≡ None) × (value.new ≡ value.old) }
+{
+    value_at(&connection.settings, name, value)
 }
 
 /// Whether no request awaits an answer.

@@ -2,7 +2,6 @@
 
 ghost use Rattle.std.specs.Prelude.{◌≡◌, ◌≢◌, ◌⊎◌, ◌≤◌, length, true, false, Some, Ok, Err, IfOk, IfErr};
 ghost use Rattle.std.specs.Bool.{Decides};
-ghost use Rattle.pgp_client.specs.Kinds.{kind_of};
 ghost use Rattle.pgp_client.specs.Slots.{capacity, is_full, slots_items};
 ghost use Rattle.pgp_client.specs.Taking.{asked, awaits_data, is_copying, is_idle, taken};
 ghost use Rattle.pgp_client.specs.Talk.{shown};
@@ -52,16 +51,18 @@ pub(crate) fn is_too_long(bytes: &[u8], limit: u32) -> bool
     limit < u32::from_be_bytes([bytes[1], bytes[2], bytes[3], bytes[4]])
 }
 
-/// To which request a message belongs; or why it isn't taken.
-pub(crate) fn attributed(dialogue: &mut PgpTalk<'_>, message: &Message<&[u8]>) -> Result<Event, u32>
+/// To which request a message of this kind belongs; or why it isn't taken.
+// The hint carries the speed of rows: else what the dialogue keeps goes through memory.
+#[inline(always)]
+pub(crate) fn attributed(dialogue: &mut PgpTalk<'_>, kind: Kind) -> Result<Event, u32>
     requires ordered { dialogue.old.start ≤ dialogue.old.end }
     requires fits { dialogue.old.end ≤ length dialogue.old.room.now }
-    ensures ok { IfOk result (λ e. taken (talk_of dialogue.old) (kind_of (view message.now)) ≡ Ok (e, talk_of dialogue.new)) }
-    ensures err { IfErr result (λ code. (r : Refused) × (taken (talk_of dialogue.old) (kind_of (view message.now)) ≡ Err r) × (refusal_at code ≡ Some r) × (code ≢ 0) × ((talk_of dialogue.new).stage ≡ Over)) }
+    ensures ok { IfOk result (λ e. taken (talk_of dialogue.old) kind ≡ Ok (e, talk_of dialogue.new)) }
+    ensures err { IfErr result (λ code. (r : Refused) × (taken (talk_of dialogue.old) kind ≡ Err r) × (refusal_at code ≡ Some r) × (code ≢ 0) × ((talk_of dialogue.new).stage ≡ Over)) }
     ensures room { KeepsRoom dialogue.old dialogue.new }
 {
     let mut kept = resumed(dialogue);
-    let taken = kept.take(Kind::of(message));
+    let taken = kept.take(kind);
     put_back(kept, dialogue);
     match taken {
         Ok(event) => Ok(event),
