@@ -6,6 +6,8 @@ pub mod Floats
 pub mod Rounding
 pub mod Sizes
 pub mod Forms
+pub mod Parts
+pub mod Ranges
 pub mod Elements
 pub mod Any
 pub mod TextLemmas

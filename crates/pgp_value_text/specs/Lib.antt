@@ -2,9 +2,12 @@ pub mod ArrayText
 pub mod Bits
 pub mod Calendar
 pub mod Float
+pub mod Money
 pub mod Network
 pub mod Numbers
+pub mod Parts
 pub mod Quoting
+pub mod RangeText
 pub mod Span
 pub mod TextOf
 pub mod Told

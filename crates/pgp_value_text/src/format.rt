@@ -1,12 +1,13 @@
 //! The text of a value of a type that isn't made of others, by its format.
 
-ghost use Rattle.pgp_value_text.specs.ValueText.{IsPlainText, IsShown, IsShownIn, Tells};
+ghost use Rattle.pgp_value_text.specs.ValueText.{In, IsPlainText, IsShown, Tells};
 
 use crate::bits::{put_tid, put_varbit};
 use crate::float::{put_float4, put_float8};
 use crate::moment::{put_date, put_interval, put_time, put_timestamp};
+use crate::money::put_money;
 use crate::network::{put_cidr, put_inet, put_macaddr, put_macaddr8};
-use crate::number::{put_bool, put_int2, put_int4, put_int8, put_numbered, put_numeric, put_xid8};
+use crate::number::{put_bool, put_int2, put_int4, put_int8, put_numeric, put_oid, put_xid8};
 use crate::object::{put_lsn, put_uuid};
 use crate::plain::{put_bytea, put_char, put_jsonb, put_jsonpath, put_text};
 use crate::zone::put_timetz;
@@ -42,8 +43,9 @@ pub(crate) fn put_formatted<A: Memory>(
         BinaryFormat::Lsn => put_lsn(bytes, text),
         BinaryFormat::Macaddr => put_macaddr(bytes, text),
         BinaryFormat::Macaddr8 => put_macaddr8(bytes, text),
+        BinaryFormat::Money => put_money(bytes, text),
         BinaryFormat::Numeric => put_numeric(bytes, text),
-        BinaryFormat::Oid => put_numbered(type_oid, bytes, text),
+        BinaryFormat::Oid => put_oid(bytes, text),
         BinaryFormat::Text => put_text(bytes, text),
         BinaryFormat::Tid => put_tid(bytes, text),
         BinaryFormat::Time => put_time(bytes, text),
@@ -63,7 +65,7 @@ fn put_in<A: Memory>(
     bytes: &[u8],
     text: &mut BytesMut<A>,
 ) -> Result<bool, AllocError>
-    ensures { Tells (IsShownIn format type_oid bytes.now) A.Lacks text.old.items text.new.items result }
+    ensures { Tells (In IsShown format type_oid bytes.now) A.Lacks text.old.items text.new.items result }
 {
     match format {
         Some(format) => put_formatted(format, type_oid, bytes, text),

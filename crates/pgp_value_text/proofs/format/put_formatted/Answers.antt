@@ -34,7 +34,7 @@ pub returns-in-Numeric : goal.returns-in-Numeric
 returns-in-Numeric g c = rw c.in-Numeric.is c.put_numeric.ensures
 
 pub returns-in-Oid : goal.returns-in-Oid
-returns-in-Oid g c = rw c.in-Oid.is c.put_numbered.ensures
+returns-in-Oid g c = rw c.in-Oid.is c.put_oid.ensures
 
 pub returns-in-Text : goal.returns-in-Text
 returns-in-Text g c = rw c.in-Text.is c.put_text.ensures
@@ -80,3 +80,6 @@ returns-in-Tid g c = rw c.in-Tid.is c.put_tid.ensures
 
 pub returns-in-Varbit : goal.returns-in-Varbit
 returns-in-Varbit g c = rw c.in-Varbit.is c.put_varbit.ensures
+
+pub returns-in-Money : goal.returns-in-Money
+returns-in-Money g c = rw c.in-Money.is c.put_money.ensures
