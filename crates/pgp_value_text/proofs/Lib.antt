@@ -3,6 +3,7 @@ pub mod Texts
 pub mod Written
 pub mod Zones
 pub mod Floats
+pub mod Figures
 pub mod Rounding
 pub mod Sizes
 pub mod Forms

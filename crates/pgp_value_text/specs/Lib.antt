@@ -1,6 +1,7 @@
 pub mod ArrayText
 pub mod Bits
 pub mod Calendar
+pub mod Figure
 pub mod Float
 pub mod Money
 pub mod Network

@@ -1,7 +1,7 @@
 //! Arrays.
 
 ghost use Rattle.pgp_types.specs.Array.{array};
-ghost use Rattle.pgp_value_text.specs.TextOf.{is_vector};
+ghost use Rattle.pgp_value_text.specs.TextOf.{is_apart};
 ghost use Rattle.std.specs.Prelude.{◌≡◌, ◌<◌, false, Some};
 ghost use Rattle.pgp_base.specs.Walk.{hint_of};
 ghost use Rattle.pgp_types.specs.Part.{shown};
@@ -129,11 +129,11 @@ fn put_elements<A: Memory>(array: &Array<'_>, text: &mut BytesMut<A>) -> Result<
     }
 }
 
-// Whether the type is shown without braces.
-fn is_vector(type_oid: Oid) -> bool
-    ensures { result ≡ is_vector type_oid }
+// Whether the type is shown in another way.
+fn is_apart(type_oid: Oid) -> bool
+    ensures { result ≡ is_apart type_oid }
 {
-    type_oid == 22 || type_oid == 30
+    type_oid == 22 || type_oid == 30 || type_oid == 1020
 }
 
 // Adds the text of bytes that are an array's.
@@ -153,9 +153,9 @@ pub(crate) fn put_array<A: Memory>(
     bytes: &[u8],
     text: &mut BytesMut<A>,
 ) -> Result<bool, AllocError>
-    ensures { Tells (λ t. (is_vector type_oid ≡ false) × Shows array ShowsArray bytes.now t) A.Lacks text.old.items text.new.items result }
+    ensures { Tells (λ t. (is_apart type_oid ≡ false) × Shows array ShowsArray bytes.now t) A.Lacks text.old.items text.new.items result }
 {
-    if is_vector(type_oid) {
+    if is_apart(type_oid) {
         Ok(false)
     } else {
         put_read(bytes, text)

@@ -56,10 +56,12 @@ fn put_known<A: Memory>(
 /// - `float4` and `float8` rounded to 6 and 15 decimal digits, without zeros at the end (`1.5`, `100`, `-0`), with `~` before a text that isn't read
 ///   as the number itself (`~0.333333333333333`), or as `NaN`, `Infinity` or `-Infinity`;
 /// - a range as `empty`, `[1,5)` or `(,"2026-11-27 10:20:30"]`, a multirange as `{[1,5),[7,8)}`;
+/// - figures by their coordinates, each rounded and marked as a `float8`: `(1,2)`, `[(1,2),(3,4)]`, `(3,4),(1,2)`, `{1,2,3}`, `<(1,2),3>`, `((1,2),(3,4))`;
 /// - an array of such values, of any dimensions, as `{1,NULL}`, `{{"a b",""},{c,d}}` or `[0:1]={t,f}`.
 ///
 /// A floating-point number other than 0 has none below 0.0001, and where more digits would stand before the point; nor has a day before the
-/// year -9999, a time in a zone of 16 hours or more, nor have shapes, records, the types of text search, and `int2vector` and `oidvector`.
+/// year -9999, a time in a zone of 16 hours or more, nor have records, the types of text search, and `int2vector`, `oidvector` and
+/// arrays of boxes.
 ///
 /// # Errors
 ///
