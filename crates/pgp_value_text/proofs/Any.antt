@@ -1,5 +1,5 @@
 -- A value of each type has one text.
-use Rattle.pgp_value_text.proofs.Common.{◌≡◌, ℕ, List, Option, Some, None, refl, IsShown}
+use Rattle.pgp_value_text.proofs.Common.{◌≡◌, ℕ, List, refl}
 use Rattle.pgp_types.specs.Array.{array}
 use Rattle.pgp_types.specs.Format.{IsSound}
 use Rattle.pgp_values.specs.declared.formats.BinaryFormat.{BinaryFormat}
@@ -7,24 +7,22 @@ use Rattle.pgp_values.specs.declared.formats.BinaryFormat.TheVariants.{Array}
 use Rattle.pgp_values.specs.Formats.{formats}
 use Rattle.pgp_values.specs.FormatTable.{format_in}
 use Rattle.pgp_value_text.specs.ArrayText.{ShowsArray}
-use Rattle.pgp_value_text.specs.TextOf.{IsTextBy, IsTextIn, IsTextOf}
+use Rattle.pgp_value_text.specs.RangeText.{IsElementBy}
+use Rattle.pgp_value_text.specs.TextOf.{IsTextBy, IsTextOf}
 use Rattle.pgp_value_text.proofs.Elements.{one_array}
-use Rattle.pgp_value_text.proofs.Forms.{one_formatted}
+use Rattle.pgp_value_text.proofs.Forms.{one_in}
+use Rattle.pgp_value_text.proofs.Ranges.{one_by as one_element}
 use Rattle.pgp_value_text.proofs.Texts.{one_shown}
 
 module _ (array_sound : IsSound array) where
   one_by : (f : BinaryFormat) (type_oid : ℕ) (bytes a b : List ℕ) → IsTextBy f type_oid bytes a → IsTextBy f type_oid bytes b → a ≡ b
   one_by Array n = λ bytes a b s t. one_shown array array_sound ShowsArray one_array bytes a b s.1 t.1
-  one_by f n = one_formatted f n
-
-  one_in : (f : Option BinaryFormat) (type_oid : ℕ) (bytes a b : List ℕ) → IsTextIn f type_oid bytes a → IsTextIn f type_oid bytes b → a ≡ b
-  one_in (Some f) n = one_by f n
-  one_in None n = λ bytes a b s t. absurd s
+  one_by f n = one_element f n
 
   pub one_text : (type_oid : ℕ) (bytes a b : List ℕ) → IsTextOf type_oid bytes a → IsTextOf type_oid bytes b → a ≡ b
-  one_text type_oid = one_in (format_in formats type_oid) type_oid
+  one_text type_oid = one_in IsTextBy one_by (format_in formats type_oid) type_oid
 
 -- a format other than that of arrays
-pub plain_by : (f : BinaryFormat) (type_oid : ℕ) → (f ≡ Array → ⊥) → IsTextBy f type_oid ≡ IsShown f type_oid
+pub plain_by : (f : BinaryFormat) (type_oid : ℕ) → (f ≡ Array → ⊥) → IsTextBy f type_oid ≡ IsElementBy f type_oid
 plain_by Array n h = absurd (h refl)
 plain_by f n h = refl

@@ -1,27 +1,36 @@
 -- A value of each format has one text.
-use Rattle.pgp_value_text.proofs.Common.{◌≡◌, ℕ, ℤ, true, List, Option, Some, None, Ok, Err, refl, sym, ap, ◌∙◌, subst, IfOk, IsErr, false≢true, decimal, signed_decimal, hyphenated_text, lower, bool, bytea, char, int2, int4, int8, float4, float8, from_bits, binary32, binary64, ShowsFloat, oid, lsn, time, fixed_sound, int8_spelling, int16_spelling, int32_spelling, int64_spelling, uint32_spelling, uint64_spelling, numeric_text, date_value, timestamp_value, xid8, interval, timetz, Moment, PosInfinity, NegInfinity, Value, interval_sound, timetz_sound, date_value_sound, timestamp_value_sound, span_text, ShowsDay, ShowsInstant, ShowsMoment, ShowsTime, bool_text, char_text, hex_text, lsn_text, zone_of, As, IsPlainText, IsShown, IsShownIn, ShowsNumeric, ShowsTimeTz}
+use Rattle.pgp_value_text.proofs.Common.{◌≡◌, ℕ, ℤ, true, List, Option, Some, None, Ok, Err, refl, sym, ap, ◌∙◌, subst, IfOk, IsErr, false≢true, decimal, signed_decimal, hyphenated_text, lower, bool, bytea, char, int2, int4, int8, float4, float8, from_bits, binary32, binary64, ShowsFloat, oid, lsn, time, fixed_sound, int8_spelling, int16_spelling, int32_spelling, int64_spelling, uint32_spelling, uint64_spelling, numeric_text, date_value, timestamp_value, xid8, interval, timetz, Moment, PosInfinity, NegInfinity, Value, interval_sound, timetz_sound, date_value_sound, timestamp_value_sound, span_text, ShowsDay, ShowsInstant, ShowsMoment, ShowsTime, bool_text, char_text, hex_text, lsn_text, zone_of, As, IsPlainText, IsShown, In, ShowsNumeric, ShowsTimeTz}
 use Rattle.pgp_value_text.proofs.Uniqueness.{one_date, one_instant, one_time}
+use Rattle.std.specs.Prelude.{◌∷◌}
 use Rattle.std.specs.Int.{w8, cast_unsigned}
 use Rattle.pgp_types.specs.Format.{IsSound}
+use Rattle.pgp_types.specs.Geometry.{box, point}
+use Rattle.pgp_types.specs.Path.{path}
+use Rattle.pgp_types.proofs.GeometryLemmas.{box_spelling, point_spelling}
+use Rattle.pgp_types.proofs.PathLemmas.{path_sound}
 use Rattle.pgp_types.specs.Network.{inet, macaddr, uuid}
 use Rattle.pgp_types.specs.Varbit.{varbit}
 use Rattle.pgp_types.proofs.InetLemmas.{inet_sound}
 use Rattle.pgp_types.proofs.VarbitLemmas.{varbit_sound}
-use Rattle.pgp_values.proofs.Fixed.{tid_sound}
+use Rattle.pgp_values.proofs.Fixed.{circle_sound, line_sound, lseg_sound, tid_sound}
+use Rattle.pgp_values.specs.Geometry.{circle, line, lseg}
 use Rattle.pgp_values.specs.Network.{macaddr8}
-use Rattle.pgp_values.specs.System.{tid}
+use Rattle.pgp_values.specs.System.{money, tid}
 use Rattle.pgp_value_text.specs.Bits.{bits_text, tid_text}
+use Rattle.pgp_value_text.specs.Figure.{ShowsBox, ShowsCircle, ShowsLine, ShowsPath, ShowsPoint, ShowsSegment}
+use Rattle.pgp_value_text.specs.Money.{money_text}
 use Rattle.pgp_value_text.specs.Network.{has_netmask, network_text, octets_text}
 use Rattle.pgp_types.specs.Text.{text}
 use Rattle.pgp_types.proofs.Readings.{all_sound, bool_sound, label_sound, text_sound, whole_sound}
 use Rattle.pgp_values.specs.declared.formats.BinaryFormat.{BinaryFormat}
-use Rattle.pgp_values.specs.declared.formats.BinaryFormat.TheVariants.{Bool as BoolFormat, Bytea as BytesFormat, Char as CharFormat, Cidr, Date, Float4, Float8, Inet, Int2, Int4, Int8, Interval, Jsonb, Jsonpath, Lsn, Macaddr, Macaddr8, Numeric, Oid, Text as TextFormat, Tid, Time, Timestamp, Timetz, Uuid, Varbit, Xid8}
+use Rattle.pgp_values.specs.declared.formats.BinaryFormat.TheVariants.{Bool as BoolFormat, Box as BoxFormat, Bytea as BytesFormat, Char as CharFormat, Cidr, Circle as CircleFormat, Date, Float4, Float8, Inet, Int2, Int4, Int8, Interval, Jsonb, Jsonpath, Line as LineFormat, Lseg, Lsn, Macaddr, Macaddr8, Money, Numeric, Oid, Path, Point as PointFormat, Polygon, Text as TextFormat, Tid, Time, Timestamp, Timetz, Uuid, Varbit, Xid8}
 use Rattle.pgp_values.specs.Decimal.{NumericReads}
 use Rattle.pgp_values.specs.Formats.{formats}
 use Rattle.pgp_values.specs.FormatTable.{format_in}
 use Rattle.pgp_values.specs.Text.{jsonb, jsonpath}
 use Rattle.pgp_values.specs.declared.error.NumericError.{NumericError}
 use Rattle.pgp_values.proofs.DecimalLemmas.{one_numeric}
+use Rattle.pgp_value_text.proofs.Figures.{one_box, one_circle, one_line, one_path, one_point, one_segment}
 use Rattle.pgp_value_text.proofs.Floats.{one_float}
 use Rattle.pgp_value_text.proofs.Texts.{one_as, one_shown}
 use Rattle.pgp_value_text.proofs.Zones.{one_zoned}
@@ -45,9 +54,11 @@ number_refused bytes e r t s = false≢true (subst IsErr (one_numeric bytes (Err
 
 pub one_formatted : (f : BinaryFormat) (type_oid : ℕ) (bytes a b : List ℕ) → IsShown f type_oid bytes a → IsShown f type_oid bytes b → a ≡ b
 one_formatted BoolFormat n = one_shown bool bool_sound (As bool_text) (one_as bool_text)
+one_formatted BoxFormat n = one_shown box (fixed_sound box_spelling) ShowsBox one_box
 one_formatted BytesFormat n = λ bytes a b s t. one_shown bytea all_sound (As hex_text) (one_as hex_text) bytes a b s.1 t.1
 one_formatted CharFormat n = one_shown char (fixed_sound int8_spelling) (As (λ z. char_text (cast_unsigned w8 z))) (one_as (λ z. char_text (cast_unsigned w8 z)))
 one_formatted Cidr n = one_shown inet inet_sound (As (network_text true)) (one_as (network_text true))
+one_formatted CircleFormat n = one_shown circle circle_sound ShowsCircle one_circle
 one_formatted Date n = one_shown date_value date_value_sound (ShowsMoment ShowsDay) (one_moment ShowsDay one_date)
 one_formatted Float4 n = one_shown float4 (fixed_sound uint32_spelling) (λ bits. ShowsFloat binary32 (from_bits binary32 bits)) (λ bits. one_float binary32 (from_bits binary32 bits))
 one_formatted Float8 n = one_shown float8 (fixed_sound uint64_spelling) (λ bits. ShowsFloat binary64 (from_bits binary64 bits)) (λ bits. one_float binary64 (from_bits binary64 bits))
@@ -58,11 +69,17 @@ one_formatted Int8 n = one_shown int8 (fixed_sound int64_spelling) (As signed_de
 one_formatted Interval n = one_shown interval interval_sound (As span_text) (one_as span_text)
 one_formatted Jsonb n = one_shown jsonb (label_sound 1) (As (λ text. text)) (one_as (λ text. text))
 one_formatted Jsonpath n = one_shown jsonpath (label_sound 1) (As (λ text. text)) (one_as (λ text. text))
+one_formatted LineFormat n = one_shown line line_sound ShowsLine one_line
+one_formatted Lseg n = one_shown lseg lseg_sound ShowsSegment one_segment
 one_formatted Lsn n = one_shown lsn (fixed_sound uint64_spelling) (As lsn_text) (one_as lsn_text)
 one_formatted Macaddr n = one_shown macaddr (whole_sound 6) (As octets_text) (one_as octets_text)
 one_formatted Macaddr8 n = one_shown macaddr8 macaddr8_sound (As octets_text) (one_as octets_text)
+one_formatted Money n = one_shown money (fixed_sound int64_spelling) (As money_text) (one_as money_text)
 one_formatted Numeric n = one_number
-one_formatted Oid n = λ bytes a b s t. one_shown oid (fixed_sound uint32_spelling) (As decimal) (one_as decimal) bytes a b s.1 t.1
+one_formatted Oid n = one_shown oid (fixed_sound uint32_spelling) (As decimal) (one_as decimal)
+one_formatted Path n = one_shown path path_sound ShowsPath one_path
+one_formatted PointFormat n = one_shown point (fixed_sound point_spelling) ShowsPoint one_point
+one_formatted Polygon n = λ bytes. one_shown path path_sound ShowsPath one_path (1 ∷ bytes)
 one_formatted TextFormat n = one_shown text text_sound (As (λ text. text)) (one_as (λ text. text))
 one_formatted Tid n = one_shown tid tid_sound (As tid_text) (one_as tid_text)
 one_formatted Time n = one_shown time (fixed_sound int64_spelling) ShowsTime one_time
@@ -73,9 +90,11 @@ one_formatted Varbit n = one_shown varbit varbit_sound (As bits_text) (one_as bi
 one_formatted Xid8 n = one_shown xid8 (fixed_sound uint64_spelling) (As decimal) (one_as decimal)
 one_formatted _ n = λ bytes a b s t. absurd s
 
-one_in : (f : Option BinaryFormat) (type_oid : ℕ) (bytes a b : List ℕ) → IsShownIn f type_oid bytes a → IsShownIn f type_oid bytes b → a ≡ b
-one_in (Some f) n = one_formatted f n
-one_in None n = λ bytes a b s t. absurd s
+-- by the format of the type
+pub one_in : (By : BinaryFormat → ℕ → List ℕ → List ℕ → Type 0) → ((f : BinaryFormat) (n : ℕ) (bytes a b : List ℕ) → By f n bytes a → By f n bytes b → a ≡ b)
+    → (f : Option BinaryFormat) (type_oid : ℕ) (bytes a b : List ℕ) → In By f type_oid bytes a → In By f type_oid bytes b → a ≡ b
+one_in By one (Some f) n = one f n
+one_in By one None n = λ bytes a b s t. absurd s
 
 pub one_plain : (type_oid : ℕ) (bytes a b : List ℕ) → IsPlainText type_oid bytes a → IsPlainText type_oid bytes b → a ≡ b
-one_plain type_oid = one_in (format_in formats type_oid) type_oid
+one_plain type_oid = one_in IsShown one_formatted (format_in formats type_oid) type_oid

@@ -1,5 +1,6 @@
 -- What is read is shown as its value, and what isn't read isn't shown.
 use Rattle.pgp_value_text.proofs.Common.{◌≡◌, ℕ, List, Bool, true, false, Result, Ok, Err, refl, sym, ◌∙◌, subst, IsErr, IfOk, false≢true, Shows, As, Tells}
+use Rattle.pgp_value_text.specs.Parts.{Pushes}
 use Rattle.pgp_base.specs.declared.error.Error.{Error}
 use Rattle.pgp_types.specs.Format.{Format, IsSound}
 
@@ -20,6 +21,11 @@ module _ {W V : Type 0} (f : Format W V) (sound : IsSound f) (shown : V → List
   tells_read lacks bytes v old new (Ok true) reads w = (w.0, (v, reads, w.1), w.2)
   tells_read lacks bytes v old new (Ok false) reads w = (λ t s. w.0 t (subst (λ v. shown v t) (same_value bytes s.0 v s.1 reads) s.2), w.1)
   tells_read lacks bytes v old new (Err e) reads w = w
+
+  pub pushes_read : {E : Type 0} (placed : List ℕ → List ℕ) (lacks : Type 0) (bytes : List ℕ) (v : V) (old new : List ℕ) (r : Result Bool E) → f.Reads bytes (Ok v) → Pushes (shown v) placed lacks old new r → Pushes (Shows f shown bytes) placed lacks old new r
+  pushes_read placed lacks bytes v old new (Ok true) reads w = (w.0, (v, reads, w.1), w.2)
+  pushes_read placed lacks bytes v old new (Ok false) reads w = λ t s. w t (subst (λ v. shown v t) (same_value bytes s.0 v s.1 reads) s.2)
+  pushes_read placed lacks bytes v old new (Err e) reads w = w
 
 -- a text that is given is one
 pub one_as : {V : Type 0} (text_of : V → List ℕ) (v : V) (a b : List ℕ) → As text_of v a → As text_of v b → a ≡ b

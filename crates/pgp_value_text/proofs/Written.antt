@@ -1,5 +1,5 @@
 -- What writers of days and times wrote.
-use Rattle.pgp_value_text.proofs.Common.{◌≡◌, ℕ, ℤ, ◌<◌, List, Bool, Result, Ok, Err, sym, ap, subst, arith, inl, inr, [], ◌++◌, codes, nat_eq, if◌then◌else◌, false≢true, IsEpochDay, IsCivilNanos, Moment, PosInfinity, NegInfinity, Value, day_1970, nanos_1970, WritesText, ShowsDay, ShowsInstant, ShowsMoment, ShowsTime, IsShownTime, HasText, Tells, zone_of}
+use Rattle.pgp_value_text.proofs.Common.{◌≡◌, ℕ, ℤ, ◌<◌, List, Bool, Result, Ok, Err, sym, ap, subst, arith, inl, inr, [], ◌++◌, codes, nat_eq, if◌then◌else◌, false≢true, IsEpochDay, IsCivilNanos, IsShownDay, IsShownInstant, Moment, PosInfinity, NegInfinity, Value, WritesText, ShowsDay, ShowsInstant, ShowsMoment, ShowsTime, IsShownTime, HasText, Tells, zone_of}
 use Rattle.jiff_core.proofs.SignedLemmas.{signed_arith}
 use Rattle.jiff.proofs.Family.{epoch_day_range, civil_nanos_range, time_nanos_bound}
 use Rattle.pgp_base.specs.Held.{items_held, ◌⊕◌, lengthened}
@@ -13,10 +13,10 @@ unfolding lengthened
 lengthened_items old new t e = ap (λ h. h.bytes) e
 
 -- the texts of what is in range
-pub day_in_range : (days : ℤ) (t : List ℕ) → ShowsDay days t → IsEpochDay (day_1970 days)
+pub day_in_range : (days : ℤ) (t : List ℕ) → ShowsDay days t → IsShownDay days
 day_in_range days t s = subst IsEpochDay s.1 (epoch_day_range s.0)
 
-pub instant_in_range : (zone : List ℕ) (n : ℤ) (t : List ℕ) → ShowsInstant zone n t → IsCivilNanos (nanos_1970 n)
+pub instant_in_range : (zone : List ℕ) (n : ℤ) (t : List ℕ) → ShowsInstant zone n t → IsShownInstant n
 instant_in_range zone n t s = subst IsCivilNanos s.1 (civil_nanos_range s.0)
 
 pub time_in_range : (n : ℤ) (t : List ℕ) → ShowsTime n t → IsShownTime n
@@ -40,7 +40,7 @@ module _ {E : Type 0} (lacks : Type 0) (old new : List ℕ) (shows : List ℕ �
 pub zone_if : (n : ℕ) (b : Bool) → nat_eq n 1184 ≡ b → zone_of n ≡ (if b then codes "+00" else [])
 zone_if n b e = ap (λ b. if b then codes "+00" else []) e
 
-pub tells_instant : {E : Type 0} (lacks : Type 0) (old new : List ℕ) (z zone : List ℕ) (v : Moment ℤ) (w : Result (Unit {0}) TextError) (r : Result Bool E) → z ≡ zone → WritesText (ShowsMoment (ShowsInstant zone) v) (HasText (λ n. IsCivilNanos (nanos_1970 n)) v) (λ _ n. lacks × (0 < n)) (items_held old) (items_held new) w → Told w r → Tells (ShowsMoment (ShowsInstant z) v) lacks old new r
+pub tells_instant : {E : Type 0} (lacks : Type 0) (old new : List ℕ) (z zone : List ℕ) (v : Moment ℤ) (w : Result (Unit {0}) TextError) (r : Result Bool E) → z ≡ zone → WritesText (ShowsMoment (ShowsInstant zone) v) (HasText IsShownInstant v) (λ _ n. lacks × (0 < n)) (items_held old) (items_held new) w → Told w r → Tells (ShowsMoment (ShowsInstant z) v) lacks old new r
 tells_instant lacks old new z zone v w r e wrote said =
     subst (λ z. Tells (ShowsMoment (ShowsInstant z) v) lacks old new r) (sym e)
-    (tells_told lacks old new (ShowsMoment (ShowsInstant zone) v) (HasText (λ n. IsCivilNanos (nanos_1970 n)) v) (moment_in_range (ShowsInstant zone) (λ n. IsCivilNanos (nanos_1970 n)) (instant_in_range zone) v) w r wrote said)
+    (tells_told lacks old new (ShowsMoment (ShowsInstant zone) v) (HasText IsShownInstant v) (moment_in_range (ShowsInstant zone) IsShownInstant (instant_in_range zone) v) w r wrote said)

@@ -1,14 +1,15 @@
 -- The text of an array whose elements have texts.
 -- PostgreSQL manual, "Arrays", "Array Input and Output Syntax".
-use Rattle.std.specs.Prelude.{◌≡◌, ℕ, zero, suc, ◌+◌, ◌/◌, ◌%◌, ◌==◌, ◌&&◌, nat_lt, if◌then◌else◌, Bool, true, false, ℤ, pos, ◌+ℤ◌, ◌-ℤ◌, unsigned_abs, List, [], ◌∷◌, ◌++◌, length, codes, Option, Some, None, Result, Ok, Err}
+use Rattle.std.specs.Prelude.{◌≡◌, ℕ, zero, suc, ◌+◌, ◌/◌, ◌%◌, ◌==◌, ◌&&◌, nat_lt, if◌then◌else◌, Bool, true, false, ℤ, pos, ◌+ℤ◌, ◌-ℤ◌, unsigned_abs, List, [], ◌∷◌, ◌++◌, length, codes, Option, Some, None}
 use Rattle.std.specs.Ordering.{int_eq}
 use Rattle.std.specs.Fmt.{signed_decimal}
 use Rattle.std.specs.List.{flat_map, list_all}
-use Rattle.pgp_base.specs.Walk.{Walk, hint_of}
+use Rattle.pgp_base.specs.Walk.{hint_of}
 use Rattle.pgp_types.specs.Array.{ArrayRead}
 use Rattle.pgp_types.specs.declared.array.ArrayDimension.{ArrayDimension}
-use Rattle.pgp_value_text.specs.Quoting.{element_text}
-use Rattle.pgp_value_text.specs.ValueText.{IsPlainText}
+use Rattle.pgp_value_text.specs.Parts.{ShowsEach}
+use Rattle.pgp_value_text.specs.Quoting.{quoted}
+use Rattle.pgp_value_text.specs.RangeText.{IsElementText}
 
 -- a row of so many elements begins at a place
 abbrev pub begins_row : ℕ → ℕ → Bool
@@ -26,7 +27,7 @@ braces brace size (d ∷ ds) place = (if begins_row size place then brace ∷ []
 -- a null, or an element that has a text
 abbrev pub ShowsElement : ℕ → Option (List ℕ) → List ℕ → Type 0
 ShowsElement type_oid None text = text ≡ codes "NULL"
-ShowsElement type_oid (Some bytes) text = (shown : List ℕ) × IsPlainText type_oid bytes shown × (text ≡ element_text 44 shown)
+ShowsElement type_oid (Some bytes) text = (shown : List ℕ) × IsElementText type_oid bytes shown × (text ≡ quoted false shown)
 
 -- a comma where an element stands before, and a brace for each row that begins
 abbrev pub opening : ℕ → List ArrayDimension → ℕ → List ℕ
@@ -35,12 +36,6 @@ opening size ds place = (if place == 0 then [] else 44 ∷ []) ++ braces 123 siz
 -- an element in its rows
 abbrev pub placed : ℕ → List ArrayDimension → ℕ → List ℕ → List ℕ
 placed size ds place text = opening size ds place ++ text ++ braces 125 size ds (place + 1)
-
--- the elements from a place on, after what stands there
-abbrev pub ShowsElements : ℕ → ℕ → List ArrayDimension → ℕ → List (Option (List ℕ)) → List ℕ → List ℕ → Type 0
-ShowsElements type_oid size ds place [] old new = new ≡ old
-ShowsElements type_oid size ds place (v ∷ vs) old new =
-    (text : List ℕ) × ShowsElement type_oid v text × ShowsElements type_oid size ds (place + 1) vs (old ++ placed size ds place text) new
 
 -- `[2:3]`, from the first index to the last
 abbrev pub indexes_text : ℤ → ℤ → List ℕ
@@ -62,21 +57,8 @@ all_bounds ds = if list_all begins_at_one ds then [] else flat_map bounds_text d
 -- of so many elements
 abbrev pub ShowsSome : ℕ → ArrayRead → List ℕ → Type 0
 ShowsSome zero a text = text ≡ codes "{}"
-ShowsSome (suc n) a text = ShowsElements a.element_type (suc n) a.dimensions.items 0 a.values.items (all_bounds a.dimensions.items) text
+ShowsSome (suc n) a text = ShowsEach (ShowsElement a.element_type) (placed (suc n) a.dimensions.items) 0 a.values.items (all_bounds a.dimensions.items) text
 
 -- as many elements stand there as its dimensions say, and no more bytes
 abbrev pub ShowsArray : ArrayRead → List ℕ → Type 0
 ShowsArray a text = (a.values.end ≡ None) × (length a.values.items ≡ (hint_of a.values.announced).0) × ShowsSome (length a.values.items) a text
-
--- Private: what is said of an element that was to be added.
-abbrev pub Pushes : {E : Type 0} → (List ℕ → Type 0) → (List ℕ → List ℕ) → Type 0 → List ℕ → List ℕ → Result Bool E → Type 0
-Pushes Shows placed lacks old new (Ok true) = (text : List ℕ) × Shows text × (new ≡ old ++ placed text)
-Pushes Shows placed lacks old new (Ok false) = (text : List ℕ) → Shows text → ⊥
-Pushes Shows placed lacks old new (Err e) = lacks
-
--- and of all
-abbrev pub PushesAll : {E : Type 0} → ℕ → ℕ → List ArrayDimension → Walk (Option (List ℕ)) → Type 0 → List ℕ → List ℕ → Result Bool E → Type 0
-PushesAll type_oid size ds walk lacks old new (Ok true) = (walk.end ≡ None) × (length walk.items ≡ size) × ShowsElements type_oid size ds 0 walk.items old new
-PushesAll type_oid size ds walk lacks old new (Ok false) =
-    walk.end ≡ None → length walk.items ≡ size → (all : List ℕ) → ShowsElements type_oid size ds 0 walk.items old all → ⊥
-PushesAll type_oid size ds walk lacks old new (Err e) = lacks

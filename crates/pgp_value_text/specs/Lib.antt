@@ -1,10 +1,14 @@
 pub mod ArrayText
 pub mod Bits
 pub mod Calendar
+pub mod Figure
 pub mod Float
+pub mod Money
 pub mod Network
 pub mod Numbers
+pub mod Parts
 pub mod Quoting
+pub mod RangeText
 pub mod Span
 pub mod TextOf
 pub mod Told

@@ -2,30 +2,35 @@
 -- `DateStyle` `ISO`, `IntervalStyle` `iso_8601` and `TimeZone` `UTC`. Of a floating-point number: rounded, and marked where that isn't the number itself.
 -- PostgreSQL manual, "Data Types": "Numeric Types", "Character Types", "Binary Data Types", "Date/Time Types", "Boolean Type", "UUID Type", "JSON Types",
 -- "Object Identifier Types", "pg_lsn Type", "Network Address Types", "Bit String Types".
-use Rattle.std.specs.Prelude.{◌≡◌, ℕ, from_bits, ◌+◌, ◌/◌, ◌%◌, ◌^◌, nat_eq, nat_lt, ◌==◌, ◌||◌, if◌then◌else◌, Bool, true, false, IsTrue, List, [], ◌∷◌, ◌++◌, codes, Option, Some, None, Result, Ok, Err}
+use Rattle.std.specs.Prelude.{◌≡◌, ℕ, from_bits, ◌+◌, ◌/◌, ◌%◌, ◌^◌, nat_eq, nat_lt, ◌==◌, ◌||◌, if◌then◌else◌, Bool, true, false, List, [], ◌∷◌, ◌++◌, codes, Option, Some, None, Result, Ok, Err}
 use Rattle.std.specs.Int.{w8, cast_unsigned}
 use Rattle.std.specs.Float.{binary32, binary64}
 use Rattle.std.specs.Fmt.{decimal, digits, signed_decimal}
 use Rattle.hex.specs.Hex.{encode_lower}
 use Rattle.uuid.specs.Text.{hyphenated_text, lower}
 use Rattle.pgp_types.specs.Format.{Format}
+use Rattle.pgp_types.specs.Geometry.{box, point}
+use Rattle.pgp_types.specs.Path.{path}
 use Rattle.pgp_types.specs.Network.{inet, macaddr, uuid}
 use Rattle.pgp_types.specs.Scalar.{bool, bytea, char, int2, int4, int8, oid, lsn, float4, float8}
 use Rattle.pgp_types.specs.Text.{text}
 use Rattle.pgp_types.specs.Time.{time}
 use Rattle.pgp_types.specs.Varbit.{varbit}
 use Rattle.pgp_values.specs.declared.formats.BinaryFormat.{BinaryFormat}
-use Rattle.pgp_values.specs.declared.formats.BinaryFormat.TheVariants.{Bool as BoolFormat, Bytea as BytesFormat, Char as CharFormat, Cidr, Date, Float4, Float8, Inet, Int2, Int4, Int8, Interval, Jsonb, Jsonpath, Lsn, Macaddr, Macaddr8, Numeric, Oid, Text as TextFormat, Tid, Time, Timestamp, Timetz, Uuid, Varbit, Xid8}
+use Rattle.pgp_values.specs.declared.formats.BinaryFormat.TheVariants.{Bool as BoolFormat, Box as BoxFormat, Bytea as BytesFormat, Char as CharFormat, Cidr, Circle as CircleFormat, Date, Float4, Float8, Inet, Int2, Int4, Int8, Interval, Jsonb, Jsonpath, Line as LineFormat, Lseg, Lsn, Macaddr, Macaddr8, Money, Numeric, Oid, Path, Point as PointFormat, Polygon, Text as TextFormat, Tid, Time, Timestamp, Timetz, Uuid, Varbit, Xid8}
 use Rattle.pgp_values.specs.Decimal.{NumericReads}
 use Rattle.pgp_values.specs.DecimalText.{numeric_text}
 use Rattle.pgp_values.specs.Formats.{formats}
 use Rattle.pgp_values.specs.FormatTable.{format_in}
+use Rattle.pgp_values.specs.Geometry.{circle, line, lseg}
 use Rattle.pgp_values.specs.Moment.{date_value, timestamp_value}
 use Rattle.pgp_values.specs.Network.{cidr, macaddr8}
-use Rattle.pgp_values.specs.System.{tid, xid8}
+use Rattle.pgp_values.specs.System.{money, tid, xid8}
 use Rattle.pgp_values.specs.Text.{jsonb, jsonpath}
 use Rattle.pgp_values.specs.Time.{interval, timetz}
 use Rattle.pgp_value_text.specs.Bits.{bits_text, tid_text}
+use Rattle.pgp_value_text.specs.Figure.{ShowsBox, ShowsCircle, ShowsLine, ShowsPath, ShowsPoint, ShowsSegment}
+use Rattle.pgp_value_text.specs.Money.{money_text}
 use Rattle.pgp_value_text.specs.Network.{has_netmask, network_text, octets_text}
 use Rattle.pgp_value_text.specs.Span.{span_text}
 use Rattle.pgp_value_text.specs.Calendar.{ShowsDay, ShowsInstant, ShowsMoment, ShowsTime}
@@ -60,20 +65,19 @@ ShowsNumeric bytes text = (v : _) × NumericReads bytes (Ok v) × (text ≡ nume
 unfoldable pub lsn_text : ℕ → List ℕ
 lsn_text n = digits 16 true (n / 2 ^ 32) ++ 47 ∷ digits 16 true (n % 2 ^ 32)
 
--- `oid`, `xid` and `cid` are shown as numbers; the types that name an object, as `regclass`, by its name
-abbrev pub is_numbered : ℕ → Bool
-is_numbered type_oid = nat_eq type_oid 26 || nat_eq type_oid 28 || nat_eq type_oid 29
-
 -- after the time of a `timestamptz`
 abbrev pub zone_of : ℕ → List ℕ
 zone_of type_oid = if nat_eq type_oid 1184 then codes "+00" else []
 
+-- a polygon is a closed path, whose bytes stand after a flag
 -- the text of a type with this format; where types share one and are shown otherwise, by the type
 abbrev pub IsShown : BinaryFormat → ℕ → List ℕ → List ℕ → Type 0
 IsShown BoolFormat type_oid = Shows bool (As bool_text)
+IsShown BoxFormat type_oid = Shows box ShowsBox
 IsShown BytesFormat type_oid = λ bytes text. (type_oid ≡ 17) × Shows bytea (As hex_text) bytes text
 IsShown CharFormat type_oid = Shows char (As (λ z. char_text (cast_unsigned w8 z)))
 IsShown Cidr type_oid = Shows cidr (As (network_text true))
+IsShown CircleFormat type_oid = Shows circle ShowsCircle
 IsShown Date type_oid = Shows date_value (ShowsMoment ShowsDay)
 IsShown Float4 type_oid = Shows float4 (λ bits. ShowsFloat binary32 (from_bits binary32 bits))
 IsShown Float8 type_oid = Shows float8 (λ bits. ShowsFloat binary64 (from_bits binary64 bits))
@@ -84,11 +88,17 @@ IsShown Int8 type_oid = Shows int8 (As signed_decimal)
 IsShown Interval type_oid = Shows interval (As span_text)
 IsShown Jsonb type_oid = Shows jsonb (As (λ document. document))
 IsShown Jsonpath type_oid = Shows jsonpath (As (λ path. path))
+IsShown LineFormat type_oid = Shows line ShowsLine
+IsShown Lseg type_oid = Shows lseg ShowsSegment
 IsShown Lsn type_oid = Shows lsn (As lsn_text)
 IsShown Macaddr type_oid = Shows macaddr (As octets_text)
 IsShown Macaddr8 type_oid = Shows macaddr8 (As octets_text)
+IsShown Money type_oid = Shows money (As money_text)
 IsShown Numeric type_oid = ShowsNumeric
-IsShown Oid type_oid = λ bytes text. IsTrue (is_numbered type_oid) × Shows oid (As decimal) bytes text
+IsShown Oid type_oid = Shows oid (As decimal)
+IsShown Path type_oid = Shows path ShowsPath
+IsShown PointFormat type_oid = Shows point ShowsPoint
+IsShown Polygon type_oid = λ bytes text. Shows path ShowsPath (1 ∷ bytes) text
 IsShown TextFormat type_oid = Shows text (As (λ shown. shown))
 IsShown Tid type_oid = Shows tid (As tid_text)
 IsShown Time type_oid = Shows time ShowsTime
@@ -99,14 +109,17 @@ IsShown Varbit type_oid = Shows varbit (As bits_text)
 IsShown Xid8 type_oid = Shows xid8 (As decimal)
 IsShown _ type_oid = λ bytes text. ⊥
 
--- a type that isn't known has none
-abbrev pub IsShownIn : Option BinaryFormat → ℕ → List ℕ → List ℕ → Type 0
-IsShownIn (Some format) type_oid = IsShown format type_oid
-IsShownIn None type_oid = λ bytes text. ⊥
+-- by the format of the type; a type that isn't known has none
+abbrev pub In : (BinaryFormat → ℕ → List ℕ → List ℕ → Type 0) → Option BinaryFormat → ℕ → List ℕ → List ℕ → Type 0
+In by (Some format) type_oid = by format type_oid
+In by None type_oid = λ bytes text. ⊥
+
+abbrev pub OfType : (BinaryFormat → ℕ → List ℕ → List ℕ → Type 0) → ℕ → List ℕ → List ℕ → Type 0
+OfType by type_oid = In by (format_in formats type_oid) type_oid
 
 -- of a type that isn't made of others
 abbrev pub IsPlainText : ℕ → List ℕ → List ℕ → Type 0
-IsPlainText type_oid = IsShownIn (format_in formats type_oid) type_oid
+IsPlainText = OfType IsShown
 
 -- What a writer of such a text returns: that it appended one, or that there is none. Then the buffer is unchanged, as where an allocation failed.
 abbrev pub Tells : {E : Type 0} → (List ℕ → Type 0) → Type 0 → List ℕ → List ℕ → Result Bool E → Type 0

@@ -1,16 +1,17 @@
 //! Arrays.
 
 ghost use Rattle.pgp_types.specs.Array.{array};
-ghost use Rattle.pgp_value_text.specs.TextOf.{is_vector};
+ghost use Rattle.pgp_value_text.specs.TextOf.{is_apart};
 ghost use Rattle.std.specs.Prelude.{◌≡◌, ◌<◌, false, Some};
 ghost use Rattle.pgp_base.specs.Walk.{hint_of};
 ghost use Rattle.pgp_types.specs.Part.{shown};
-ghost use Rattle.pgp_value_text.specs.ArrayText.{placed, Pushes, PushesAll, ShowsArray, ShowsElement};
+ghost use Rattle.pgp_value_text.specs.ArrayText.{placed, ShowsArray, ShowsElement};
+ghost use Rattle.pgp_value_text.specs.Parts.{Pushes, PushesAll};
 ghost use Rattle.pgp_value_text.specs.ValueText.{Shows, Tells};
 
-use crate::format::put_plain;
+use crate::element::put_element;
 use crate::put::{put, put_raw};
-use crate::quoting::push_element;
+use crate::quoting::push_quoted;
 use crate::rows::{push_all_bounds, push_braces};
 use bytes::BytesMut;
 use pgp_base::{FallibleIterator, Memory, Oid};
@@ -43,10 +44,10 @@ fn push_bytes<A: Memory>(
     ensures { Pushes (ShowsElement type_oid (Some bytes.now)) (λ t. t) A.Lacks out.old.items out.new.items result }
 {
     element.clear();
-    if !put_plain(type_oid, bytes, element)? {
+    if !put_element(type_oid, bytes, element)? {
         return Ok(false);
     }
-    push_element(b',', element.as_slice(), out)?;
+    push_quoted(false, element.as_slice(), out)?;
     Ok(true)
 }
 
@@ -80,7 +81,7 @@ fn push_elements<A: Memory>(
     element: &mut BytesMut<A>,
     out: &mut BytesMut<A>,
 ) -> Result<bool, AllocError>
-    ensures { PushesAll array.now.element_type size array.now.dimensions.items array.now.values A.Lacks out.old.items out.new.items result }
+    ensures { PushesAll (ShowsElement array.now.element_type) (placed size array.now.dimensions.items) size array.now.values A.Lacks out.old.items out.new.items result }
 {
     let mut values = array.values();
     'elements: for place in 0..size {
@@ -128,11 +129,11 @@ fn put_elements<A: Memory>(array: &Array<'_>, text: &mut BytesMut<A>) -> Result<
     }
 }
 
-// Whether the type is shown without braces.
-fn is_vector(type_oid: Oid) -> bool
-    ensures { result ≡ is_vector type_oid }
+// Whether the type is shown in another way.
+fn is_apart(type_oid: Oid) -> bool
+    ensures { result ≡ is_apart type_oid }
 {
-    type_oid == 22 || type_oid == 30
+    type_oid == 22 || type_oid == 30 || type_oid == 1020
 }
 
 // Adds the text of bytes that are an array's.
@@ -152,9 +153,9 @@ pub(crate) fn put_array<A: Memory>(
     bytes: &[u8],
     text: &mut BytesMut<A>,
 ) -> Result<bool, AllocError>
-    ensures { Tells (λ t. (is_vector type_oid ≡ false) × Shows array ShowsArray bytes.now t) A.Lacks text.old.items text.new.items result }
+    ensures { Tells (λ t. (is_apart type_oid ≡ false) × Shows array ShowsArray bytes.now t) A.Lacks text.old.items text.new.items result }
 {
-    if is_vector(type_oid) {
+    if is_apart(type_oid) {
         Ok(false)
     } else {
         put_read(bytes, text)

@@ -1,12 +1,11 @@
 //! The texts in which a server shows days and times, under `DateStyle` `ISO` and with the time zone `UTC`.
 
 ghost use Rattle.std.specs.Prelude.{◌≡◌, ◌≤◌, [], ⊤, codes, length};
-ghost use Rattle.jiff.specs.Words.{IsEpochDay, IsCivilNanos};
-ghost use Rattle.pgp_value_text.specs.Numbers.{day_1970, nanos_1970};
 ghost use Rattle.pgp_value_text.specs.Span.{span_text};
-ghost use Rattle.pgp_value_text.specs.Calendar.{ShowsDay, ShowsInstant, ShowsMoment, ShowsTime, IsShownTime, HasText, WritesText};
+ghost use Rattle.pgp_value_text.specs.Calendar.{ShowsDay, ShowsInstant, ShowsMoment, ShowsTime, IsShownDay, IsShownInstant, IsShownTime, HasText, WritesText};
 
 use crate::civil::{date_to_civil, time_to_civil, timestamp_to_civil};
+use crate::cycle::{day_in_cycle, instant_in_cycle, instant_years_later, years_later};
 use crate::digits::{clock_text, date_text, instant_text};
 use crate::error::TextError;
 use crate::span::span_text;
@@ -26,10 +25,10 @@ fn write<B: Buffer>(text: &str, out: &mut B) -> Result<(), TextError>
 
 // Appends the text of a day.
 fn day_to_text<B: Buffer>(days: i32, out: &mut B) -> Result<(), TextError>
-    ensures { WritesText (ShowsDay days) (IsEpochDay (day_1970 days)) B.Lacks (B.held out.old) (B.held out.new) result }
+    ensures { WritesText (ShowsDay days) (IsShownDay days) B.Lacks (B.held out.old) (B.held out.new) result }
 {
-    match date_to_civil(days) {
-        Ok(date) => write(date_text(date.to_plain()).as_str(), out),
+    match date_to_civil(day_in_cycle(days)) {
+        Ok(date) => write(date_text(years_later(days), date.to_plain()).as_str(), out),
         Err(_) => Err(TextError::OutOfRange),
     }
 }
@@ -37,10 +36,13 @@ fn day_to_text<B: Buffer>(days: i32, out: &mut B) -> Result<(), TextError>
 // Appends the text of a day and a time, and a zone.
 fn instant_to_text<B: Buffer>(microseconds: i64, zone: &str, out: &mut B) -> Result<(), TextError>
     requires { length zone.now ≤ 3 }
-    ensures { WritesText (ShowsInstant zone.now microseconds) (IsCivilNanos (nanos_1970 microseconds)) B.Lacks (B.held out.old) (B.held out.new) result }
+    ensures { WritesText (ShowsInstant zone.now microseconds) (IsShownInstant microseconds) B.Lacks (B.held out.old) (B.held out.new) result }
 {
-    match timestamp_to_civil(microseconds) {
-        Ok(shown) => write(instant_text(shown.to_plain(), zone).as_str(), out),
+    match timestamp_to_civil(instant_in_cycle(microseconds)) {
+        Ok(shown) => write(
+            instant_text(instant_years_later(microseconds), shown.to_plain(), zone).as_str(),
+            out,
+        ),
         Err(_) => Err(TextError::OutOfRange),
     }
 }
@@ -48,7 +50,7 @@ fn instant_to_text<B: Buffer>(microseconds: i64, zone: &str, out: &mut B) -> Res
 // Appends the text of a moment with a zone.
 fn moment_to_text<B: Buffer>(v: Moment<i64>, zone: &str, out: &mut B) -> Result<(), TextError>
     requires { length zone.now ≤ 3 }
-    ensures { WritesText (ShowsMoment (ShowsInstant zone.now) v) (HasText (λ n. IsCivilNanos (nanos_1970 n)) v) B.Lacks (B.held out.old) (B.held out.new) result }
+    ensures { WritesText (ShowsMoment (ShowsInstant zone.now) v) (HasText IsShownInstant v) B.Lacks (B.held out.old) (B.held out.new) result }
 {
     match v {
         Moment::PosInfinity => write("infinity", out),
@@ -57,14 +59,14 @@ fn moment_to_text<B: Buffer>(v: Moment<i64>, zone: &str, out: &mut B) -> Result<
     }
 }
 
-/// Appends the text of a `date`, as `2026-11-27`, `0044-03-15 BC` or `infinity`.
+/// Appends the text of a `date`, as `2026-11-27`, `12026-11-27`, `0044-03-15 BC` or `infinity`.
 ///
 /// # Errors
 ///
-/// Returns `OutOfRange` for a day before the year -9999 or after the year 9999, and `OutOfMemory` if the buffer can't grow; on error the
+/// Returns `OutOfRange` for a day before the year -9999, and `OutOfMemory` if the buffer can't grow; on error the
 /// buffer is unchanged.
 pub fn date_to_text<B: Buffer>(v: Moment<i32>, out: &mut B) -> Result<(), TextError>
-    ensures { WritesText (ShowsMoment ShowsDay v) (HasText (λ days. IsEpochDay (day_1970 days)) v) B.Lacks (B.held out.old) (B.held out.new) result }
+    ensures { WritesText (ShowsMoment ShowsDay v) (HasText IsShownDay v) B.Lacks (B.held out.old) (B.held out.new) result }
 {
     match v {
         Moment::PosInfinity => write("infinity", out),
@@ -79,7 +81,7 @@ pub fn date_to_text<B: Buffer>(v: Moment<i32>, out: &mut B) -> Result<(), TextEr
 ///
 /// Those of `date_to_text`.
 pub fn timestamp_to_text<B: Buffer>(v: Moment<i64>, out: &mut B) -> Result<(), TextError>
-    ensures { WritesText (ShowsMoment (ShowsInstant []) v) (HasText (λ n. IsCivilNanos (nanos_1970 n)) v) B.Lacks (B.held out.old) (B.held out.new) result }
+    ensures { WritesText (ShowsMoment (ShowsInstant []) v) (HasText IsShownInstant v) B.Lacks (B.held out.old) (B.held out.new) result }
 {
     moment_to_text(v, "", out)
 }
@@ -90,7 +92,7 @@ pub fn timestamp_to_text<B: Buffer>(v: Moment<i64>, out: &mut B) -> Result<(), T
 ///
 /// Those of `date_to_text`.
 pub fn timestamptz_to_text<B: Buffer>(v: Moment<i64>, out: &mut B) -> Result<(), TextError>
-    ensures { WritesText (ShowsMoment (ShowsInstant (codes "+00")) v) (HasText (λ n. IsCivilNanos (nanos_1970 n)) v) B.Lacks (B.held out.old) (B.held out.new) result }
+    ensures { WritesText (ShowsMoment (ShowsInstant (codes "+00")) v) (HasText IsShownInstant v) B.Lacks (B.held out.old) (B.held out.new) result }
 {
     moment_to_text(v, "+00", out)
 }

@@ -112,8 +112,11 @@ fn put_double<A: Memory>(x: f64, bits: u64, text: &mut BytesMut<A>) -> Result<bo
     }
 }
 
-// Adds the text of 64 bits, which may be no number's.
-fn put_double_bits<A: Memory>(bits: u64, text: &mut BytesMut<A>) -> Result<bool, AllocError>
+/// Adds the text of 64 bits, which may be no number's.
+pub(crate) fn put_double_bits<A: Memory>(
+    bits: u64,
+    text: &mut BytesMut<A>,
+) -> Result<bool, AllocError>
     ensures { Tells (ShowsFloat binary64 (from_bits binary64 bits)) A.Lacks text.old.items text.new.items result }
 {
     if bits % 0x8000_0000_0000_0000 > 0x7ff0_0000_0000_0000 {

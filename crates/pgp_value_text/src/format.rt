@@ -1,13 +1,16 @@
 //! The text of a value of a type that isn't made of others, by its format.
 
-ghost use Rattle.pgp_value_text.specs.ValueText.{IsPlainText, IsShown, IsShownIn, Tells};
+ghost use Rattle.pgp_value_text.specs.ValueText.{In, IsPlainText, IsShown, Tells};
 
 use crate::bits::{put_tid, put_varbit};
+use crate::figure::{put_box, put_circle, put_line, put_lseg, put_point};
 use crate::float::{put_float4, put_float8};
 use crate::moment::{put_date, put_interval, put_time, put_timestamp};
+use crate::money::put_money;
 use crate::network::{put_cidr, put_inet, put_macaddr, put_macaddr8};
-use crate::number::{put_bool, put_int2, put_int4, put_int8, put_numbered, put_numeric, put_xid8};
+use crate::number::{put_bool, put_int2, put_int4, put_int8, put_numeric, put_oid, put_xid8};
 use crate::object::{put_lsn, put_uuid};
+use crate::path::{put_path, put_polygon};
 use crate::plain::{put_bytea, put_char, put_jsonb, put_jsonpath, put_text};
 use crate::zone::put_timetz;
 use bytes::BytesMut;
@@ -26,9 +29,11 @@ pub(crate) fn put_formatted<A: Memory>(
 {
     match format {
         BinaryFormat::Bool => put_bool(bytes, text),
+        BinaryFormat::Box => put_box(bytes, text),
         BinaryFormat::Bytea => put_bytea(type_oid, bytes, text),
         BinaryFormat::Char => put_char(bytes, text),
         BinaryFormat::Cidr => put_cidr(bytes, text),
+        BinaryFormat::Circle => put_circle(bytes, text),
         BinaryFormat::Date => put_date(bytes, text),
         BinaryFormat::Float4 => put_float4(bytes, text),
         BinaryFormat::Float8 => put_float8(bytes, text),
@@ -39,11 +44,17 @@ pub(crate) fn put_formatted<A: Memory>(
         BinaryFormat::Interval => put_interval(bytes, text),
         BinaryFormat::Jsonb => put_jsonb(bytes, text),
         BinaryFormat::Jsonpath => put_jsonpath(bytes, text),
+        BinaryFormat::Line => put_line(bytes, text),
+        BinaryFormat::Lseg => put_lseg(bytes, text),
         BinaryFormat::Lsn => put_lsn(bytes, text),
         BinaryFormat::Macaddr => put_macaddr(bytes, text),
         BinaryFormat::Macaddr8 => put_macaddr8(bytes, text),
+        BinaryFormat::Money => put_money(bytes, text),
         BinaryFormat::Numeric => put_numeric(bytes, text),
-        BinaryFormat::Oid => put_numbered(type_oid, bytes, text),
+        BinaryFormat::Oid => put_oid(bytes, text),
+        BinaryFormat::Path => put_path(bytes, text),
+        BinaryFormat::Point => put_point(bytes, text),
+        BinaryFormat::Polygon => put_polygon(bytes, text),
         BinaryFormat::Text => put_text(bytes, text),
         BinaryFormat::Tid => put_tid(bytes, text),
         BinaryFormat::Time => put_time(bytes, text),
@@ -63,7 +74,7 @@ fn put_in<A: Memory>(
     bytes: &[u8],
     text: &mut BytesMut<A>,
 ) -> Result<bool, AllocError>
-    ensures { Tells (IsShownIn format type_oid bytes.now) A.Lacks text.old.items text.new.items result }
+    ensures { Tells (In IsShown format type_oid bytes.now) A.Lacks text.old.items text.new.items result }
 {
     match format {
         Some(format) => put_formatted(format, type_oid, bytes, text),

@@ -1,17 +1,17 @@
 //! Truth values and numbers.
 
-ghost use Rattle.std.specs.Prelude.{◌≡◌, IsTrue};
+ghost use Rattle.std.specs.Prelude.{◌≡◌};
 ghost use Rattle.std.specs.Fmt.{decimal, signed_decimal};
 ghost use Rattle.pgp_types.specs.Scalar.{bool, int2, int4, int8, oid};
 ghost use Rattle.pgp_values.specs.DecimalSeen.{said};
 ghost use Rattle.pgp_values.specs.DecimalText.{numeric_text};
 ghost use Rattle.pgp_values.specs.System.{xid8};
-ghost use Rattle.pgp_value_text.specs.ValueText.{bool_text, is_numbered, As, Shows, ShowsNumeric, Tells};
+ghost use Rattle.pgp_value_text.specs.ValueText.{bool_text, As, Shows, ShowsNumeric, Tells};
 
 use crate::put::put;
 use bytes::BytesMut;
 use itoa::Buffer;
-use pgp_base::{Memory, Oid};
+use pgp_base::Memory;
 use pgp_types::{bool_from_sql, int2_from_sql, int4_from_sql, int8_from_sql, oid_from_sql};
 use pgp_values::{Numeric, numeric_from_sql, numeric_to_text, xid8_from_sql};
 use std::alloc::AllocError;
@@ -56,8 +56,8 @@ pub(crate) fn put_int8<A: Memory>(bytes: &[u8], text: &mut BytesMut<A>) -> Resul
     }
 }
 
-// Adds the text of an `oid`.
-fn put_oid<A: Memory>(bytes: &[u8], text: &mut BytesMut<A>) -> Result<bool, AllocError>
+/// Adds the number of an `oid` and of the types that are sent as one.
+pub(crate) fn put_oid<A: Memory>(bytes: &[u8], text: &mut BytesMut<A>) -> Result<bool, AllocError>
     ensures { Tells (Shows oid (As decimal) bytes.now) A.Lacks text.old.items text.new.items result }
 {
     match oid_from_sql(bytes) {
@@ -73,28 +73,6 @@ pub(crate) fn put_xid8<A: Memory>(bytes: &[u8], text: &mut BytesMut<A>) -> Resul
     match xid8_from_sql(bytes) {
         Ok(n) => put(Buffer::new().format(n), text),
         Err(_) => Ok(false),
-    }
-}
-
-// Whether values of the type are shown as numbers.
-fn is_numbered(type_oid: Oid) -> bool
-    ensures { result ≡ is_numbered type_oid }
-{
-    type_oid == 26 || type_oid == 28 || type_oid == 29
-}
-
-/// Adds the text of an `oid`, where it isn't shown as a name.
-pub(crate) fn put_numbered<A: Memory>(
-    type_oid: Oid,
-    bytes: &[u8],
-    text: &mut BytesMut<A>,
-) -> Result<bool, AllocError>
-    ensures { Tells (λ t. IsTrue (is_numbered type_oid) × Shows oid (As decimal) bytes.now t) A.Lacks text.old.items text.new.items result }
-{
-    if is_numbered(type_oid) {
-        put_oid(bytes, text)
-    } else {
-        Ok(false)
     }
 }
 

@@ -1,10 +1,10 @@
 //! The text of a value, by its type.
 
-ghost use Rattle.pgp_value_text.specs.TextOf.{IsTextBy, IsTextIn, IsTextOf};
-ghost use Rattle.pgp_value_text.specs.ValueText.{Tells};
+ghost use Rattle.pgp_value_text.specs.TextOf.{IsTextBy, IsTextOf};
+ghost use Rattle.pgp_value_text.specs.ValueText.{In, Tells};
 
 use crate::array::put_array;
-use crate::format::put_formatted;
+use crate::element::put_element_by;
 use bytes::BytesMut;
 use pgp_base::{Memory, Oid};
 use pgp_values::{BinaryFormat, binary_format_of};
@@ -21,7 +21,7 @@ fn put_by<A: Memory>(
 {
     match format {
         BinaryFormat::Array => put_array(type_oid, bytes, text),
-        _ => put_formatted(format, type_oid, bytes, text),
+        _ => put_element_by(format, type_oid, bytes, text),
     }
 }
 
@@ -32,7 +32,7 @@ fn put_known<A: Memory>(
     bytes: &[u8],
     text: &mut BytesMut<A>,
 ) -> Result<bool, AllocError>
-    ensures { Tells (IsTextIn format type_oid bytes.now) A.Lacks text.old.items text.new.items result }
+    ensures { Tells (In IsTextBy format type_oid bytes.now) A.Lacks text.old.items text.new.items result }
 {
     match format {
         Some(format) => put_by(format, type_oid, bytes, text),
@@ -46,6 +46,7 @@ fn put_known<A: Memory>(
 /// The text is the one that a server shows under `DateStyle` `ISO`, `IntervalStyle` `iso_8601`, `TimeZone` `UTC` and in UTF-8:
 ///
 /// - `bool` as `t` or `f`; `int2`, `int4`, `int8`, `oid`, `xid`, `cid`, `xid8` and `numeric` in decimal; `pg_lsn` as `16/B374D848`;
+/// - the types that name an object (`regclass`, `regtype`) as its number, where a server shows the name; `money` as `$1,234.56`, as in the locale `C`;
 /// - `text`, `varchar`, `bpchar`, `name`, `json`, `xml`, `refcursor`, `unknown` and the like as their bytes, where these are UTF-8;
 /// - `bytea` in hex, as `\x00ff`; `uuid` in lower case and groups; `jsonb` and `jsonpath` as the text after the version;
 /// - `"char"` as its character, if it is one of ASCII, and else as a backslash and three octal digits;
@@ -54,11 +55,13 @@ fn put_known<A: Memory>(
 /// - `bit` and `varbit` as their bits; `tid` as `(block,row)`;
 /// - `float4` and `float8` rounded to 6 and 15 decimal digits, without zeros at the end (`1.5`, `100`, `-0`), with `~` before a text that isn't read
 ///   as the number itself (`~0.333333333333333`), or as `NaN`, `Infinity` or `-Infinity`;
+/// - a range as `empty`, `[1,5)` or `(,"2026-11-27 10:20:30"]`, a multirange as `{[1,5),[7,8)}`;
+/// - figures by their coordinates, each rounded and marked as a `float8`: `(1,2)`, `[(1,2),(3,4)]`, `(3,4),(1,2)`, `{1,2,3}`, `<(1,2),3>`, `((1,2),(3,4))`;
 /// - an array of such values, of any dimensions, as `{1,NULL}`, `{{"a b",""},{c,d}}` or `[0:1]={t,f}`.
 ///
-/// A floating-point number other than 0 has none below 0.0001, and where more digits would stand before the point; nor has a day outside the years from
-/// -9999 to 9999, a time in a zone of 16 hours or more, nor have `money`, shapes, ranges, records, the types of text search, those that name an object
-/// (`regclass`), and `int2vector` and `oidvector`.
+/// A floating-point number other than 0 has none below 0.0001, and where more digits would stand before the point; nor has a day before the
+/// year -9999, a time in a zone of 16 hours or more, nor have records, the types of text search, and `int2vector`, `oidvector` and
+/// arrays of boxes.
 ///
 /// # Errors
 ///

@@ -1,27 +1,33 @@
-use Rattle.pgp_value_text.proofs.Common.{◌≡◌, ℕ, List, ap, ◌∙◌, arith, ◌++◌}
-use Rattle.std.proofs.Common.{rules, suc}
-use Rattle.std.specs.Prelude.{length}
-use Rattle.pgp_base.specs.Walk.{TakesItem}
+use Rattle.pgp_value_text.proofs.Common.{◌≡◌, ℕ, List, arith, rules, ◌++◌}
+use Rattle.pgp_base.specs.Walk.{IsFinished, TakesItem}
 use Rattle.pgp_types.specs.Part.{shown}
 use Rattle.pgp_value_text.specs.ArrayText.{ShowsElement, placed}
-use Rattle.pgp_value_text.proofs.Elements.{elements_less, elements_more}
+use Rattle.pgp_value_text.proofs.Elements.{one_element}
+use Rattle.pgp_value_text.proofs.Parts.{left_end, left_none, left_step}
 use Rattle.pgp_value_text.proofs.array.push_elements.Goals as goal
 
 pub elements-preserved : goal.elements-preserved
 elements-preserved g c =
     let n = c.args.array.now.element_type in
-    let ds = c.args.array.now.dimensions.items in
-    let place = c.elements.place in
-    let before = c.elements.values in
-    let after = c.next.new.self in
+    let around = placed c.args.size c.args.array.now.dimensions.items in
     let x = shown c.in-Ok-Some.value in
-    let old = c.elements.out.items in
-    let mid = c.push_placed.new.out.items in
-    let takes : TakesItem before x after = search rules in
-    let pushed : (t : List ℕ) × ShowsElement n x t × (mid ≡ old ++ placed c.args.size ds place t) = rw c.if-not-branch.false at c.in_ok-push_placed-in-Ok-Some.ensures in
-    let fewer : length before.items ≡ suc (length after.items) = ap (λ l. length l) takes.items in (
-      λ all s. c.elements.invariant.0 all (elements_more n c.args.size ds place x before.items after.items takes.items old mid pushed.0 pushed.1 pushed.2 all s),
-      λ all s. elements_less n c.args.size ds place x before.items after.items takes.items old mid pushed.0 pushed.1 pushed.2 all (c.elements.invariant.1 all s),
-      takes.end ∙ c.elements.invariant.2,
-      omega (arith, fewer, c.elements.invariant.3),
-    )
+    let takes : TakesItem c.elements.values x c.next.new.self = search rules in
+    let pushed : (t : List ℕ) × ShowsElement n x t × (c.push_placed.new.out.items ≡ c.elements.out.items ++ around c.elements.place t) = rw c.if-not-branch.false at c.in_ok-push_placed-in-Ok-Some.ensures in
+    left_step (ShowsElement n) around (one_element n) c.args.array.now.values c.args.out.now.items c.elements.place c.elements.values c.next.new.self c.elements.out.items _ c.elements.invariant x takes pushed
+
+pub returns-then-not-branch : goal.returns-then-not-branch
+returns-then-not-branch g c =
+    let n = c.args.array.now.element_type in
+    let around = placed c.args.size c.args.array.now.dimensions.items in
+    let x = shown c.in-Ok-Some.value in
+    let takes : TakesItem c.elements.values x c.next.new.self = search rules in
+    let none : (t : List ℕ) → ShowsElement n x t → ⊥ = rw c.if-not-branch.true at c.in_ok-push_placed-in-Ok-Some.ensures in
+    λ _ _. left_none (ShowsElement n) around c.args.array.now.values c.args.out.now.items c.elements.place c.elements.values c.next.new.self c.elements.out.items c.elements.invariant x takes none
+
+pub returns-in-Ok-None : goal.returns-in-Ok-None
+returns-in-Ok-None g c =
+    let n = c.args.array.now.element_type in
+    let around = placed c.args.size c.args.array.now.dimensions.items in
+    let is : IsFinished c.elements.values c.next-2.new.self = search rules in
+    left_end (ShowsElement n) around c.args.array.now.values c.args.out.now.items c.elements.place c.elements.values c.next-2.new.self c.elements.out.items c.elements.invariant c.args.size is
+    (omega (arith, c.elements.auto.place-end, c.elements-test.false))

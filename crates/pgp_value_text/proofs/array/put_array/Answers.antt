@@ -1,10 +1,10 @@
 use Rattle.pgp_value_text.proofs.Common.{◌≡◌, false, sym, ◌∙◌, Shows}
 use Rattle.pgp_types.specs.Array.{array}
 use Rattle.pgp_value_text.specs.ArrayText.{ShowsArray}
-use Rattle.pgp_value_text.specs.TextOf.{is_vector}
+use Rattle.pgp_value_text.specs.TextOf.{is_apart}
 use Rattle.pgp_value_text.proofs.Texts.{tells_if}
 use Rattle.pgp_value_text.proofs.array.put_array.Goals as goal
 
-pub returns-else-is_vector : goal.returns-else-is_vector
-returns-else-is_vector g c =
-    tells_if _ _ _ (is_vector c.args.type_oid ≡ false) (Shows array ShowsArray c.args.bytes.now) c.put_read.result (sym c.is_vector.ensures ∙ c.if-is_vector.false) c.put_read.ensures
+pub returns-else-is_apart : goal.returns-else-is_apart
+returns-else-is_apart g c =
+    tells_if _ _ _ (is_apart c.args.type_oid ≡ false) (Shows array ShowsArray c.args.bytes.now) c.put_read.result (sym c.is_apart.ensures ∙ c.if-is_apart.false) c.put_read.ensures

@@ -34,7 +34,7 @@ pub returns-in-Numeric : goal.returns-in-Numeric
 returns-in-Numeric g c = rw c.in-Numeric.is c.put_numeric.ensures
 
 pub returns-in-Oid : goal.returns-in-Oid
-returns-in-Oid g c = rw c.in-Oid.is c.put_numbered.ensures
+returns-in-Oid g c = rw c.in-Oid.is c.put_oid.ensures
 
 pub returns-in-Text : goal.returns-in-Text
 returns-in-Text g c = rw c.in-Text.is c.put_text.ensures
@@ -80,3 +80,27 @@ returns-in-Tid g c = rw c.in-Tid.is c.put_tid.ensures
 
 pub returns-in-Varbit : goal.returns-in-Varbit
 returns-in-Varbit g c = rw c.in-Varbit.is c.put_varbit.ensures
+
+pub returns-in-Money : goal.returns-in-Money
+returns-in-Money g c = rw c.in-Money.is c.put_money.ensures
+
+pub returns-in-Box : goal.returns-in-Box
+returns-in-Box g c = rw c.in-Box.is c.put_box.ensures
+
+pub returns-in-Circle : goal.returns-in-Circle
+returns-in-Circle g c = rw c.in-Circle.is c.put_circle.ensures
+
+pub returns-in-Line : goal.returns-in-Line
+returns-in-Line g c = rw c.in-Line.is c.put_line.ensures
+
+pub returns-in-Lseg : goal.returns-in-Lseg
+returns-in-Lseg g c = rw c.in-Lseg.is c.put_lseg.ensures
+
+pub returns-in-Path : goal.returns-in-Path
+returns-in-Path g c = rw c.in-Path.is c.put_path.ensures
+
+pub returns-in-Point : goal.returns-in-Point
+returns-in-Point g c = rw c.in-Point.is c.put_point.ensures
+
+pub returns-in-Polygon : goal.returns-in-Polygon
+returns-in-Polygon g c = rw c.in-Polygon.is c.put_polygon.ensures

@@ -5,4 +5,4 @@ use Rattle.pgp_value_text.specs.Quoting.{is_special}
 use Rattle.pgp_value_text.proofs.quoting.has_special.Given as goal
 
 abbrev pub invariant-loop-byte : goal.invariant-loop-byte
-invariant-loop-byte l = list_any (is_special l.fn.delimiter) (take l.byte-index l.text) ≡ false
+invariant-loop-byte l = list_any (is_special l.fn.in_range) (take l.byte-index l.text) ≡ false

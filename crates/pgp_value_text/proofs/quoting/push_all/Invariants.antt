@@ -5,4 +5,4 @@ use Rattle.pgp_value_text.specs.Quoting.{escaped_byte}
 use Rattle.pgp_value_text.proofs.quoting.push_all.Given as goal
 
 abbrev pub invariant-loop-byte : goal.invariant-loop-byte
-invariant-loop-byte g l = l.out.items ≡ l.fn.out.items ++ flat_map escaped_byte (take l.byte-index l.bytes)
+invariant-loop-byte g l = l.out.items ≡ l.fn.out.items ++ flat_map (escaped_byte l.fn.in_range) (take l.byte-index l.bytes)

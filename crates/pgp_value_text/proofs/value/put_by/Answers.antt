@@ -7,4 +7,4 @@ returns-in-Array g c = rw c.in-Array.is c.put_array.ensures
 
 pub returns-in_default : goal.returns-in_default
 returns-in_default g c =
-    subst (λ shows. Tells (shows c.args.bytes.now) g.A.Memory.Lacks c.args.text.now.items c.put_formatted.new.text.items c.put_formatted.result) (sym (plain_by c.args.format c.args.type_oid c.in_default.not-Array)) c.put_formatted.ensures
+    subst (λ shows. Tells (shows c.args.bytes.now) g.A.Memory.Lacks c.args.text.now.items c.put_element_by.new.text.items c.put_element_by.result) (sym (plain_by c.args.format c.args.type_oid c.in_default.not-Array)) c.put_element_by.ensures

@@ -1,0 +1,8 @@
+-- What was added and what is left make the whole figure.
+use Rattle.std.specs.Prelude.{drop, map}
+use Rattle.pgp_value_text.specs.Figure.{shown_number}
+use Rattle.pgp_value_text.proofs.Figures.{Left}
+use Rattle.pgp_value_text.proofs.figure.push_numbers.Given as goal
+
+abbrev pub invariant-each : goal.invariant-each
+invariant-each g l = Left (map shown_number l.numbers) l.end l.fn.out.items (map shown_number (drop l.number-index l.numbers)) l.out.items

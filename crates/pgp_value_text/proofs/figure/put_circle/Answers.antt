@@ -1,0 +1,12 @@
+use Rattle.pgp_value_text.proofs.Common.{refl}
+use Rattle.pgp_values.proofs.Fixed.{circle_sound}
+use Rattle.pgp_values.specs.Geometry.{circle}
+use Rattle.pgp_value_text.specs.Figure.{ShowsCircle}
+use Rattle.pgp_value_text.proofs.Texts.{refused, tells_read}
+use Rattle.pgp_value_text.proofs.figure.put_circle.Goals as goal
+
+pub returns-in-Ok : goal.returns-in-Ok
+returns-in-Ok g c = tells_read circle circle_sound ShowsCircle _ c.args.bytes.now c.in-Ok.v _ _ c.put_numbers.result c.in-Ok.ensures c.put_numbers.ensures
+
+pub returns-in-Err : goal.returns-in-Err
+returns-in-Err g c = (refused circle circle_sound ShowsCircle _ _ c.in-Err.ensures, refl)

@@ -1,0 +1,7 @@
+use Rattle.pgp_value_text.specs.Figure.{ShowsPoint}
+use Rattle.pgp_value_text.specs.Parts.{listed}
+use Rattle.pgp_value_text.proofs.Parts.{Left}
+use Rattle.pgp_value_text.proofs.path.push_points.Given as goal
+
+abbrev pub invariant-each : goal.invariant-each
+invariant-each g l = Left ShowsPoint listed l.fn.points l.fn.out.items l.place l.points l.out.items

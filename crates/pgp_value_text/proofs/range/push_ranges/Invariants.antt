@@ -1,0 +1,9 @@
+use Rattle.pgp_types.specs.Range.{range}
+use Rattle.pgp_value_text.specs.Parts.{listed}
+use Rattle.pgp_value_text.specs.RangeText.{ShowsRange}
+use Rattle.pgp_value_text.specs.ValueText.{Shows}
+use Rattle.pgp_value_text.proofs.Parts.{Left}
+use Rattle.pgp_value_text.proofs.range.push_ranges.Given as goal
+
+abbrev pub invariant-members : goal.invariant-members
+invariant-members g l = Left (Shows range (ShowsRange l.fn.type_oid)) listed l.fn.ranges l.fn.out.items l.place l.ranges l.out.items
