@@ -1,7 +1,8 @@
 //! Recordings in files.
 
-ghost use Rattle.std.specs.Prelude.{◌≡◌, ◌++◌, [], ℕ, List, map, IfErr, IfOk, OnErr, OnOk};
-ghost use Rattle.pgp_conversation.specs.Common.{Caused, GivesUp};
+ghost use Rattle.std.specs.Prelude.{◌≡◌, ◌∷◌, ◌++◌, [], ℕ, List, map, IfErr, IfOk, OnErr, OnOk};
+ghost use Rattle.pgp_conversation.specs.Common.{Appends, AppendsFront, Caused, GivesUp};
+ghost use Rattle.pgp_conversation.specs.Tables.{table};
 ghost use Rattle.pgp_conversation.specs.Recording.{complaint_of, status_of};
 ghost use Rattle.pgp_conversation.specs.Several.{AddsFiles, AddsRecording, CutsFile, CutsTable, ListsFile, ListsTable, worst};
 ghost use Rattle.pgp_trace.specs.Steps.{view_of};
@@ -36,11 +37,7 @@ pub trait Recordings: Input {
 }
 
 /// All bytes of a file.
-fn read_file<A: Memory, R: Recordings>(
-    alloc: A,
-    name: &str,
-    input: &R,
-) -> Result<Vec<u8, A>, Fault>
+fn read_file<A: Memory, R: Recordings>(alloc: A, name: &str, input: &R) -> Result<Vec<u8, A>, Fault>
     ensures gives { IfOk result (λ bytes. R.Gives name.now bytes.items) }
     ensures cause { IfErr result (Caused A.Lacks (GivesUp R.Fails R.Called) ⊥) }
 {
@@ -101,11 +98,26 @@ pub fn list_table<A: MapMemory, R: Recordings, W: Output>(
 {
     let mut table = Summary::new(alloc, marking.folded);
     let end = add_files(alloc, view, marking, names, input, &mut table)?;
+    write_table(alloc, view, &table, output)?;
+    Ok(with_status(status_of(end), complaint_of(end)))
+}
+
+/// Writes a table.
+fn write_table<A: MapMemory, W: Output>(
+    alloc: A,
+    view: View<'_>,
+    summary: &Summary<A>,
+    output: &mut W,
+) -> Result<(), Fault>
+    ensures passed { OnOk result (W.Passed output.new) }
+    ensures written { OnOk result (Appends (W.contents output.old) (W.contents output.new) (table (view_of view.entry) summary.now.tallies)) }
+    ensures front { OnErr result (AppendsFront (W.contents output.old) (W.contents output.new) (table (view_of view.entry) summary.now.tallies)) }
+    ensures cause { IfErr result (Caused A.Lacks ⊥ (GivesUp W.Fails W.Interrupted)) }
+{
     let mut part = String::new(alloc);
     let mut text = String::new(alloc);
-    put_table(view, &table, &mut part, &mut text)?;
-    put_lines(text.as_str(), output)?;
-    Ok(with_status(status_of(end), complaint_of(end)))
+    put_table(view, summary, &mut part, &mut text)?;
+    put_lines(text.as_str(), output)
 }
 
 /// Adds to a table what the requests of these recordings ran. Returns how they end.
@@ -123,11 +135,27 @@ fn add_files<A: MapMemory, R: Recordings>(
 {
     let mut end = End::Whole;
     for name in names {
-        let bytes = read_file(alloc, name, input)?;
-        let its = sum_whole(alloc, view, marking, bytes.as_slice(), table)?;
-        end = worst(end, its);
+        end = add_file(alloc, view, marking, name, input, end, table)?;
     }
     Ok(end)
+}
+
+/// Adds what the requests of one recording more ran. Returns how it and those before it end.
+fn add_file<A: MapMemory, R: Recordings>(
+    alloc: A,
+    view: View<'_>,
+    marking: Marking,
+    name: &str,
+    input: &R,
+    end: End,
+    table: &mut Summary<A>,
+) -> Result<End, Fault>
+    ensures added { IfOk result (λ new. (names : List (List ℕ)) → AddsFiles R.Gives (view_of view.entry) marking names table.old.tallies end → AddsFiles R.Gives (view_of view.entry) marking (names ++ name.now ∷ []) table.new.tallies new) }
+    ensures cause { IfErr result (Caused A.Lacks (GivesUp R.Fails R.Called) ⊥) }
+{
+    let bytes = read_file(alloc, name, input)?;
+    let its = sum_whole(alloc, view, marking, bytes.as_slice(), table)?;
+    Ok(worst(end, its))
 }
 
 /// How two recordings end.

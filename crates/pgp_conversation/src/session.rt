@@ -104,9 +104,28 @@ pub fn list_whole<A: MapMemory, W: Output>(
     ensures cause { IfErr result (Caused A.Lacks ⊥ (GivesUp W.Fails W.Interrupted)) }
 {
     let mut held = held_at_first(alloc, marking);
+    list_held(view, marking, bytes, &mut held, output)
+}
+
+/// The same, where nothing was listed.
+fn list_held<A: MapMemory, W: Output>(
+    view: View<'_>,
+    marking: Marking,
+    bytes: &[u8],
+    held: &mut Held<A>,
+    output: &mut W,
+) -> Result<Said, Fault>
+    requires begun { held.old.begun ≡ false }
+    requires talk { kept_of held.old.talk ≡ held_first (record marking { absolute = false }) }
+    requires bytes { held.old.bytes.items ≡ [] }
+    ensures listed { IfOk result (λ said. WritesListing (view_of view.entry) marking (file_before bytes.now (W.contents output.old)) (file_after (W.contents output.new)) said.end (said.client.now ++ said.server.now ++ complaint_of said.end)) }
+    ensures passed { OnOk result (W.Passed output.new) }
+    ensures cut { OnErr result (IsCutShort (view_of view.entry) marking (file_before bytes.now (W.contents output.old)) (file_after (W.contents output.new))) }
+    ensures cause { IfErr result (Caused A.Lacks ⊥ (GivesUp W.Fails W.Interrupted)) }
+{
     held.talk.start = first_start(marking.absolute);
-    let stopped = list_piece(view, bytes, &mut held, output)?;
-    list_last(view, stopped, &mut held, output)
+    let stopped = list_piece(view, bytes, held, output)?;
+    list_last(view, stopped, held, output)
 }
 
 /// Adds to a table what the requests of a recording ran of which all bytes are there. Returns how it ends.
@@ -120,11 +139,31 @@ pub fn sum_whole<A: MapMemory>(
     ensures added { IfOk result (λ end. AddsRecording (view_of view.entry) marking bytes.now end table.old.tallies table.new.tallies) }
     ensures lacks { OnErr result A.Lacks }
 {
-    let mut talk = talk_at_first(alloc, marking);
-    talk.start = first_start(marking.absolute);
-    let mut texts = no_texts(alloc);
-    let (begun, listed, stopped) = list_chunks(view, false, bytes, &mut talk, &mut texts)?;
-    add_table(summary_of(&talk.known.numbers), table)?;
+    let mut held = held_at_first(alloc, marking);
+    sum_held(view, marking, bytes, &mut held, table)
+}
+
+/// The same, where nothing was listed.
+fn sum_held<A: MapMemory>(
+    view: View<'_>,
+    marking: Marking,
+    bytes: &[u8],
+    held: &mut Held<A>,
+    table: &mut Summary<A>,
+) -> Result<End, AllocError>
+    requires talk { kept_of held.old.talk ≡ held_first (record marking { absolute = false }) }
+    ensures added { IfOk result (λ end. AddsRecording (view_of view.entry) marking bytes.now end table.old.tallies table.new.tallies) }
+    ensures lacks { OnErr result A.Lacks }
+{
+    held.talk.start = first_start(marking.absolute);
+    let (begun, listed, stopped) = list_chunks(
+        view,
+        false,
+        bytes,
+        &mut held.talk,
+        &mut held.texts,
+    )?;
+    add_table(summary_of(&held.talk.known.numbers), table)?;
     Ok(end_of(begun, stopped, &bytes[listed..]))
 }
 
