@@ -1,16 +1,13 @@
 -- A recording of which all bytes are there.
-use Rattle.pgp_conversation.proofs.Common.{◌≡◌, ◌++◌, Bool, true, false, List, [], ℕ, Option, Some, Result, refl, sym, ap, subst, ◌∙◌, append-nil, IfOk, OnErr, OnOk, Appends, AppendsFront, Consumes, View, Marking, End, Tally, Known, last_lines, ListsAllChunks, ListsPiece, ListsSome, HeldTalk, held_first, held_last, summary_in, complaint_of, EndsBy, IsCutShort, IsReadTo, WritesListing, end_of}
+use Rattle.pgp_conversation.proofs.Common.{◌≡◌, ◌++◌, inl, Bool, true, false, List, [], ℕ, Option, Some, Result, refl, sym, ap, subst, ◌∙◌, append-nil, IfOk, OnErr, OnOk, Appends, AppendsFront, Consumes, View, Marking, End, Tally, Known, last_lines, ListsAllChunks, ListsPiece, ListsSome, HeldTalk, held_first, held_last, summary_in, complaint_of, EndsBy, IsCutShort, IsReadTo, WritesListing, end_of}
 use Rattle.pgp_summary.specs.Runs.{tally_after}
 use Rattle.pgp_trace.specs.Hints.{hint_of}
 use Rattle.pgp_conversation.specs.Several.{AddsRecording, file_after, file_before, tallies_in}
 use Rattle.pgp_conversation.specs.Pieces.{Tracks}
 use Rattle.pgp_conversation.specs.declared.session.Said.{Said}
-use Rattle.pgp_conversation.proofs.Sessions.{cut_piece, ends_by, follows_start, last_broken, last_listed, read_all, read_rest, received}
+use Rattle.pgp_conversation.proofs.Sessions.{ends_by, last_broken, last_listed, none_listed, read_all, read_rest, received}
 
--- nothing was listed yet
-pub none_listed : (view : View) (marking : Marking) (opened : Bool) (held : HeldTalk) (rest : List ℕ) → opened ≡ false → held ≡ held_first marking → rest ≡ [] → Tracks view marking [] [] opened held rest
-none_listed view marking opened held rest fresh first none = (follows_start view marking (file_after (Some [])) opened held rest fresh first none).tracks
-
+-- all its bytes came, and nothing was listed yet
 pub all_came : (view : View) (marking : Marking) (held : HeldTalk) (bytes : List ℕ) → held ≡ held_first marking → Tracks view marking bytes [] false held bytes
 all_came view marking held bytes first = received view marking [] [] false held [] bytes (none_listed view marking false held [] refl first refl)
 
@@ -22,10 +19,9 @@ all_read opened true rest = read_rest opened rest (Some [])
 all_read opened false rest = read_all opened rest (Some []) refl
 
 -- its chunks weren't all listed
-pub whole_cut : (view : View) (marking : Marking) (bytes : List ℕ) (old new : Option (List ℕ)) (opened : Bool) (held : HeldTalk) (rest : List ℕ) → opened ≡ false → held ≡ held_first marking → rest ≡ []
-    → ListsSome view marking bytes [] old new → IsCutShort view marking (file_before bytes old) (file_after new)
-whole_cut view marking bytes old new opened held rest fresh first none some =
-    cut_piece view marking (file_before bytes old) (file_before bytes old) opened held rest bytes (Some []) new (follows_start view marking (file_before bytes old) opened held rest fresh first none) (came bytes) some
+pub whole_cut : (view : View) (marking : Marking) (bytes : List ℕ) (old new : Option (List ℕ)) → ListsSome view marking bytes [] old new → IsCutShort view marking (file_before bytes old) (file_after new)
+whole_cut view marking bytes old new some =
+    record { bytes = bytes; begun = some.begun; rest = some.rest; lines = some.added; talk = some.talk; text = some.added; received = came bytes; each = some.each; due = inl refl; written = some.written }
 
 module _ {E : Type 0} where
   pub whole_listed : (r : Result Said E) (view : View) (marking : Marking) (bytes : List ℕ) (old middle new : Option (List ℕ)) (opened stopped : Bool) (held : HeldTalk) (rest : List ℕ) → ListsPiece view marking bytes [] opened stopped held rest old middle
