@@ -7,6 +7,7 @@ A file of runs has blocks, a word at the front of each, with lines of four space
     run WORDS      a run on these words, as a shell reads them, with `\\x` as above; what stands under it is the output. `terminal run`: on a terminal
     word NAME      one more word, which has a name
     input BYTES    what it reads; {NAME}, {NAME[1:]} and {NAME[:9]} stand for bytes that have a name, or a part of them
+    file F BYTES   a file that lies where it runs, written like an input
     output NAME, error NAME, status N     the output by its name; what is said on standard error, and the status, where there are such
 {VERSION} in a line stands for the version.
 """
@@ -16,6 +17,7 @@ import re
 import shlex
 import subprocess
 import sys
+import tempfile
 import tty
 
 HERE = os.path.dirname(os.path.abspath(__file__))
@@ -25,7 +27,7 @@ import client  # noqa: E402
 import objects  # noqa: E402
 
 ESCAPE = re.compile(rb'\\(?:(0)|(n)|(\\)|x([0-9a-f]{2}))')
-PART = re.compile(rb'\{(\w+)(?:\[(\d*):(\d*)\])?\}')
+PART = re.compile(rb'\{(\w+)(?:\[(\d*):(-?\d*)\])?\}')
 
 
 def unescaped(line):
@@ -39,15 +41,24 @@ def many(line):
 
 class Run:
     def __init__(self, words, is_terminal=False, given=b'', output=b''):
-        self.words, self.is_terminal, self.given, self.output, self.error, self.status = words, is_terminal, given, output, b'', 0
+        self.words, self.is_terminal, self.given, self.output, self.error, self.status, self.files = words, is_terminal, given, output, b'', 0, {}
 
     def comes_to(self, program):
+        if not self.files:
+            return self.comes_there(program, None)
+        with tempfile.TemporaryDirectory() as place:
+            for name, given in self.files.items():
+                with open(os.path.join(os.fsencode(place), name), 'wb') as file:
+                    file.write(given)
+            return self.comes_there(program, place)
+
+    def comes_there(self, program, place):
         shown = {'stdout': subprocess.PIPE}
         if self.is_terminal:
             ours, theirs = pty.openpty()
             tty.setraw(theirs)
             shown = {'stdout': theirs}
-        ran = subprocess.Popen([program, *self.words], stdin=subprocess.PIPE, stderr=subprocess.PIPE, **shown)
+        ran = subprocess.Popen([program, *self.words], stdin=subprocess.PIPE, stderr=subprocess.PIPE, cwd=place, **shown)
         if not self.is_terminal:
             return (*ran.communicate(self.given, timeout=60), ran.wait())
         # (what is shown there is less than what a terminal holds)
@@ -81,6 +92,9 @@ def stored(path, version):
     def part(m):
         whole = named[m[1]]
         return whole[int(m[2] or 0):int(m[3] or len(whole))]
+
+    def joined(text):
+        return b''.join(part(PART.fullmatch(it)) if it.startswith(b'{') else unescaped(it) for it in re.split(rb'(\{[^}]*\})', text))
     for line, under in blocks(path):
         word, _, rest = line.partition(b' ')
         lines = b''.join(line.replace(b'{VERSION}', version.encode()) + b'\n' for line in under)
@@ -94,14 +108,17 @@ def stored(path, version):
         elif word == b'word':
             runs[-1].words.append(named[rest])
         elif word == b'input':
-            runs[-1].given = b''.join(part(PART.fullmatch(it)) if it.startswith(b'{') else unescaped(it) for it in re.split(rb'(\{[^}]*\})', rest))
+            runs[-1].given = joined(rest)
+        elif word == b'file':
+            name, _, rest = rest.partition(b' ')
+            runs[-1].files[name] = joined(rest)
         elif word in (b'output', b'error'):
             setattr(runs[-1], word.decode(), named[rest])
         elif word == b'status':
             runs[-1].status = int(rest)
         else:
             raise SystemExit('%s: %r' % (path, line))
-        if word in (b'output', b'error', b'status', b'input', b'word'):
+        if word in (b'output', b'error', b'status', b'input', b'word', b'file'):
             runs[-1].output += lines
     return runs
 
@@ -113,7 +130,7 @@ def main(place, version):
         if name == 'pgtrace':
             runs += [Run(words, given=given, output=output) for words, given, output in client.runs() + objects.runs()]
         for run in runs:
-            came, wanted = run.comes_to(place.replace('%s', name)), (run.output, run.error, run.status)
+            came, wanted = run.comes_to(os.path.abspath(place.replace('%s', name))), (run.output, run.error, run.status)
             passed += came == wanted
             failed += came != wanted
             if came != wanted:

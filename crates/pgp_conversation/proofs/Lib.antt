@@ -22,3 +22,4 @@ pub mod Sayings
 pub mod OneTyped
 pub mod PrintedTypes
 pub mod TypedAlike
+pub mod Wholes

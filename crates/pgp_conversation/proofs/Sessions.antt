@@ -208,16 +208,20 @@ nothing_kept marking = record {
 no_magic : (rest more : List ℕ) → rest ≡ [] → rest ≢ magic ++ more
 no_magic rest more none = magic_short rest more (omega (arith, ap length none))
 
+-- before the first of its bytes
+pub none_listed : (view : View) (marking : Marking) (opened : Bool) (held : HeldTalk) (rest : List ℕ) → opened ≡ false → held ≡ held_first marking → rest ≡ [] → Tracks view marking [] [] opened held rest
+none_listed view marking opened held rest fresh first none = record {
+  talk = begins marking;
+  each = record { chunks = []; records = record { whole = sym none ∙ ap (λ b. beginning b ++ [] ++ rest) (sym fresh); each = tt; none = λ e. refl }; each = NoChunkListed };
+  keeps = subst (λ h. Keeps h (begins marking)) (sym first) (nothing_kept marking);
+}
+
 pub follows_start : (view : View) (marking : Marking) (s : Streams) (opened : Bool) (held : HeldTalk) (rest : List ℕ) → opened ≡ false → held ≡ held_first marking → rest ≡ [] → Follows view marking s s opened held rest
 follows_start view marking s opened held rest fresh first none = record {
   bytes = [];
   lines = [];
   received = Consumes-nil s.input;
-  tracks = record {
-    talk = begins marking;
-    each = record { chunks = []; records = record { whole = sym none ∙ ap (λ b. beginning b ++ [] ++ rest) (sym fresh); each = tt; none = λ e. refl }; each = NoChunkListed };
-    keeps = subst (λ h. Keeps h (begins marking)) (sym first) (nothing_kept marking);
-  };
+  tracks = none_listed view marking opened held rest fresh first none;
   stays = subst (λ b. Stays b false rest) (sym fresh) (λ more. no_magic rest more none);
   written = Appends-nil s.output;
 }

@@ -1,14 +1,14 @@
 -- What the program does for its words.
-use Rattle.std.specs.Prelude.{◌≡◌, ⊤, ◌⊎◌, ℕ, Bool, List, [], ◌∷◌, ◌++◌, Option, IfSome, codes}
-use Rattle.pgp_conversation.specs.Common.{Keeps, Appends, IsAtEnd, Streams, Caused, IsUnread, AppendsFront, AreWords, Fault, Memory, Read, Write, AreOptions, Chosen, chosen_of, options_in, view_by, first_phase, View, Marking, End}
+use Rattle.std.specs.Prelude.{◌≡◌, ⊤, ◌⊎◌, ◌||◌, ℕ, nat_lt, length, Bool, true, false, List, [], ◌∷◌, ◌++◌, Option, IfSome, codes}
+use Rattle.pgp_conversation.specs.Common.{Keeps, Appends, IsAtEnd, Streams, Caused, IsUnread, AppendsFront, AreWords, Fault, Memory, Read, Write, AreOptions, Chosen, chosen_of, options_in, view_by, first_phase, View, Marking}
 use Rattle.pgp_line.specs.Run as run
 use Rattle.pgp_trace.specs.Listing as stream
 use Rattle.pgp_trace.specs.Sides as side
 use Rattle.pgp_trace.specs.declared.options.Listing.{Listing}
 use Rattle.pgp_trace.specs.declared.options.Listing.TheVariants.{Server, Client, Session}
-use Rattle.pgp_conversation.specs.Recording.{status_of}
 use Rattle.pgp_conversation.specs.Session as recording
 use Rattle.pgp_conversation.specs.Session.{summarized}
+use Rattle.pgp_conversation.specs.Several.{CutsFile, CutsTable, ListsFile, ListsRecording, ListsTable}
 use Rattle.pgp_conversation.specs.declared.run as code
 use Rattle.pgp_conversation.specs.declared.run.Command.TheVariants as variants
 
@@ -29,15 +29,20 @@ word_of Server = codes "server"
 word_of Client = codes "client"
 word_of Session = codes "session"
 
+-- there are several files for a table alone
+abbrev pub is_fit : Chosen → Bool
+is_fit chosen = nat_lt (length chosen.files) 2 || chosen.marking.summed
+
 -- The words ask for a listing, by options that it has, which come to this where a terminal shows it or not.
-pub record AsksListing (terminal : Bool) (listing : Listing) (words : List (List ℕ)) (chosen : Chosen) : Type 0 where
+pub record AsksListing (terminal fit : Bool) (listing : Listing) (words : List (List ℕ)) (chosen : Chosen) : Type 0 where
   pub options : List (List ℕ)
   pub whole : words ≡ word_of listing ∷ options
   pub read : AreOptions terminal (options_in listing) options chosen
+  pub fits : is_fit chosen ≡ fit
 
 -- the words ask for it, where a terminal shows what is written or not
 abbrev pub Asks : (terminal : Bool) → List (List ℕ) → Command → Type 0
-Asks terminal words (Show listing chosen) = AsksListing terminal listing words chosen
+Asks terminal words (Show listing chosen) = AsksListing terminal true listing words chosen
 Asks terminal words Help = words ≡ codes "--help" ∷ []
 Asks terminal words Version = words ≡ codes "--version" ∷ []
 
@@ -45,8 +50,12 @@ Asks terminal words Version = words ≡ codes "--version" ∷ []
 abbrev pub IsOther : (terminal : Bool) → List (List ℕ) → Type 0
 IsOther terminal words = (command : Command) → ¬ Asks terminal words command
 
+-- or for the listing of several files
+abbrev pub AsksSeveral : (terminal : Bool) → List (List ℕ) → Type 0
+AsksSeveral terminal words = (listing : Listing) × (chosen : Chosen) × AsksListing terminal false listing words chosen
+
 abbrev pub usage : List ℕ
-usage = codes "usage: pgtrace server [--json] [--full] [--secrets] [--resume] [--only NAME[,NAME]..] [--except NAME[,NAME]..] [--color auto|always|never] | client [--json] [--full] [--secrets] [--resume] [--only NAME[,NAME]..] [--except NAME[,NAME]..] [--color auto|always|never] [--password-kind password|initial|response].. [--replication] | session [--json] [--full] [--secrets] [--requests] [--slower MS] [--raw] [--summary] [--fold] [--time absolute|relative] [--only NAME[,NAME]..] [--except NAME[,NAME]..] [--color auto|always|never] | --help | --version" ++ 10 ∷ []
+usage = codes "usage: pgtrace server [--json] [--full] [--secrets] [--resume] [--only NAME[,NAME]..] [--except NAME[,NAME]..] [--color auto|always|never] | client [--json] [--full] [--secrets] [--resume] [--only NAME[,NAME]..] [--except NAME[,NAME]..] [--color auto|always|never] [--password-kind password|initial|response].. [--replication] | session [--json] [--full] [--secrets] [--requests] [--slower MS] [--raw] [--summary] [--fold] [--time absolute|relative] [--only NAME[,NAME]..] [--except NAME[,NAME]..] [--color auto|always|never] [FILE].. | --help | --version" ++ 10 ∷ []
 
 abbrev pub version : List ℕ
 version = codes "pgtrace 0.1.0" ++ 10 ∷ []
@@ -74,12 +83,6 @@ pub record Lists (view : View) (from : side.Side) (before after : Streams) (stat
   pub listed : IfSome before.input (λ bytes. stream.WritesListing view from bytes before.output after.output said)
   pub fine : status ≡ 0
 
--- the recording's listing was written, and this is to be said of it
-pub record ListsRecording (view : View) (marking : Marking) (before after : Streams) (status : ℕ) (said : List ℕ) : Type 0 where
-  pub end : End
-  pub listed : recording.WritesListing view marking before after end said
-  pub fine : status ≡ status_of end
-
 -- the input is as it was, and a text was written
 pub record Prints (text : List ℕ) (before after : Streams) (status : ℕ) (said : List ℕ) : Type 0 where
   pub input : Keeps before.input after.input
@@ -87,13 +90,19 @@ pub record Prints (text : List ℕ) (before after : Streams) (status : ℕ) (sai
   pub silent : said ≡ []
   pub fine : status ≡ 0
 
+-- The recording of standard input is listed, or that in the file of this name; or the statements of those in several files stand in one table.
+abbrev pub DoesSession : (Gives : List ℕ → List ℕ → Type 0) → (files : List (List ℕ)) → View → Marking → Streams → Streams → (status : ℕ) → List ℕ → Type 0
+DoesSession Gives [] view marking before after status said = ListsRecording view marking before after status said
+DoesSession Gives (name ∷ []) view marking before after status said = Keeps before.input after.input × ListsFile Gives view marking name before.output after.output status said
+DoesSession Gives names view marking before after status said = Keeps before.input after.input × ListsTable Gives view marking names before.output after.output status said
+
 -- What is done where no fault is met, with this status, and what is then to be said on standard error.
-abbrev pub Does : Command → Streams → Streams → (status : ℕ) → List ℕ → Type 0
-Does (Show Server chosen) before after status said = Lists (view_by chosen) (server_by chosen) before after status said
-Does (Show Client chosen) before after status said = Lists (view_by chosen) (client_by chosen) before after status said
-Does (Show Session chosen) before after status said = ListsRecording (session_by chosen) chosen.marking before after status said
-Does Help before after status said = Prints usage before after status said
-Does Version before after status said = Prints version before after status said
+abbrev pub Does : (Gives : List ℕ → List ℕ → Type 0) → Command → Streams → Streams → (status : ℕ) → List ℕ → Type 0
+Does Gives (Show Server chosen) before after status said = Lists (view_by chosen) (server_by chosen) before after status said
+Does Gives (Show Client chosen) before after status said = Lists (view_by chosen) (client_by chosen) before after status said
+Does Gives (Show Session chosen) before after status said = DoesSession Gives chosen.files (session_by chosen) chosen.marking before after status said
+Does Gives Help before after status said = Prints usage before after status said
+Does Gives Version before after status said = Prints version before after status said
 
 -- A front of the listing was written; and where a read failed, nothing of what came is held back: its lines were written and passed on.
 abbrev pub BreaksOff : Type 0 → View → side.Side → Fault → Streams → Streams → Type 0
@@ -103,26 +112,35 @@ BreaksOff passed view from fault before after = stream.IsCutShort view from befo
 abbrev pub PrintsFront : List ℕ → Streams → Streams → Type 0
 PrintsFront text before after = Keeps before.input after.input × AppendsFront before.output after.output text
 
+abbrev pub StopsSession : (Gives : List ℕ → List ℕ → Type 0) → Type 0 → (files : List (List ℕ)) → View → Marking → Fault → Streams → Streams → Type 0
+StopsSession Gives passed [] view marking fault before after = recording.BreaksOff passed view marking fault before after
+StopsSession Gives passed (name ∷ []) view marking fault before after = Keeps before.input after.input × CutsFile Gives view marking name before.output after.output
+StopsSession Gives passed names view marking fault before after = Keeps before.input after.input × CutsTable Gives view marking names before.output after.output
+
 -- What is done where one is: what is written is a front of what would be.
-abbrev pub Stops : Type 0 → Command → Fault → Streams → Streams → Type 0
-Stops passed (Show Server chosen) fault before after = BreaksOff passed (view_by chosen) (server_by chosen) fault before after
-Stops passed (Show Client chosen) fault before after = BreaksOff passed (view_by chosen) (client_by chosen) fault before after
-Stops passed (Show Session chosen) fault before after = recording.BreaksOff passed (session_by chosen) chosen.marking fault before after
-Stops passed Help fault before after = PrintsFront usage before after
-Stops passed Version fault before after = PrintsFront version before after
+abbrev pub Stops : (Gives : List ℕ → List ℕ → Type 0) → Type 0 → Command → Fault → Streams → Streams → Type 0
+Stops Gives passed (Show Server chosen) fault before after = BreaksOff passed (view_by chosen) (server_by chosen) fault before after
+Stops Gives passed (Show Client chosen) fault before after = BreaksOff passed (view_by chosen) (client_by chosen) fault before after
+Stops Gives passed (Show Session chosen) fault before after = StopsSession Gives passed chosen.files (session_by chosen) chosen.marking fault before after
+Stops Gives passed Help fault before after = PrintsFront usage before after
+Stops Gives passed Version fault before after = PrintsFront version before after
 
 -- It was done and passed on, with this status, and this is to be said on standard error.
-pub record Succeeds (passed : Type 0) (command : Command) (before after : Streams) (status : ℕ) (complaint : List ℕ) : Type 0 where
-  pub does : Does command before after status complaint
+pub record Succeeds (Gives : List ℕ → List ℕ → Type 0) (passed : Type 0) (command : Command) (before after : Streams) (status : ℕ) (complaint : List ℕ) : Type 0 where
+  pub does : Does Gives command before after status complaint
   pub passed_on : passed
 
 -- Of such a reader and writer:
 module _ {R W : Type 0} (remaining : R → Option (List ℕ)) (contents : W → Option (List ℕ)) (Passed : W → Type 0) (MayRead : R → Type 0) where
+  abbrev pub ReadsForSession : (files : List (List ℕ)) → View → Marking → R → W → Type 0
+  ReadsForSession [] view marking reader writer = recording.ReadsWhenReady remaining contents Passed MayRead view marking reader writer
+  ReadsForSession (name ∷ more) view marking reader writer = ⊤
+
   -- where all lines of what came are written and passed on, the reader may be read for the command; what prints reads nothing
   abbrev pub ReadsFor : Command → R → W → Type 0
   ReadsFor (Show Server chosen) reader writer = stream.ReadsWhenReady remaining contents Passed MayRead (view_by chosen) (server_by chosen) reader writer
   ReadsFor (Show Client chosen) reader writer = stream.ReadsWhenReady remaining contents Passed MayRead (view_by chosen) (client_by chosen) reader writer
-  ReadsFor (Show Session chosen) reader writer = recording.ReadsWhenReady remaining contents Passed MayRead (session_by chosen) chosen.marking reader writer
+  ReadsFor (Show Session chosen) reader writer = ReadsForSession chosen.files (session_by chosen) chosen.marking reader writer
   ReadsFor Help reader writer = ⊤
   ReadsFor Version reader writer = ⊤
 
@@ -134,12 +152,12 @@ module _ {R W : Type 0} (remaining : R → Option (List ℕ)) (contents : W → 
   abbrev pub ReadsForOwn : (terminal : Bool) → (ℕ → List ℕ → Type 0) → (ℕ → Type 0) → R → W → Type 0
   ReadsForOwn terminal Stands Ends reader writer = (words : List (List ℕ)) → AreWords Stands Ends words → ReadsForWords terminal words reader writer
 
--- Where a terminal shows what is written or not, memory is refused and reads and writes fail so, and what was written is passed on so.
-module _ (terminal : Bool) (lacks read_failed write_failed passed : Type 0) where
+-- Where files gave such bytes, a terminal shows what is written or not, memory is refused and reads and writes fail so, and what was written is passed on so.
+module _ (Gives : List ℕ → List ℕ → Type 0) (terminal : Bool) (lacks read_failed write_failed passed : Type 0) where
   -- a fault was met, and is reported
   pub record IsFaulty (command : Command) (before after : Streams) (status : ℕ) (complaint : List ℕ) : Type 0 where
     pub fault : Fault
-    pub stops : Stops passed command fault before after
+    pub stops : Stops Gives passed command fault before after
     pub cause : Caused lacks read_failed write_failed fault
     pub reported : complaint ≡ complaint_of fault
     pub failed : status ≡ 1
@@ -148,12 +166,12 @@ module _ (terminal : Bool) (lacks read_failed write_failed passed : Type 0) wher
   pub record IsDone (words : List (List ℕ)) (before after : Streams) (status : ℕ) (complaint : List ℕ) : Type 0 where
     pub command : Command
     pub asks : Asks terminal words command
-    pub does : Succeeds passed command before after status complaint ⊎ IsFaulty command before after status complaint
+    pub does : Succeeds Gives passed command before after status complaint ⊎ IsFaulty command before after status complaint
 
-  -- Or they ask for nothing; or there is no memory to read them.
+  -- Or they ask for nothing, or for the listing of several files; or there is no memory to read them.
   abbrev pub Obeys : List (List ℕ) → Streams → Streams → ℕ → List ℕ → Type 0
   Obeys words before after status complaint = IsDone words before after status complaint
-      ⊎ (IsOther terminal words × IsUnread usage 2 before after status complaint)
+      ⊎ ((IsOther terminal words ⊎ AsksSeveral terminal words) × IsUnread usage 2 before after status complaint)
       ⊎ (lacks × IsUnread (complaint_of Memory) 1 before after status complaint)
 
   -- A run on words, and on the words of the process.

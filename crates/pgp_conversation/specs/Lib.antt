@@ -17,4 +17,5 @@ pub mod AlikeRecordings
 pub mod Order
 pub mod Turns
 pub mod Pieces
+pub mod Several
 pub mod Command

@@ -12,6 +12,7 @@ mod connection;
 mod ending;
 mod expectation;
 mod fields;
+pub mod files;
 mod frames;
 mod last;
 pub mod laws;

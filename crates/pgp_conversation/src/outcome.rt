@@ -19,7 +19,7 @@ pub struct Ended {
 
 /// With this status and one thing to say.
 #[tactic(auto, using(crate::proofs::Endings::alone))]
-fn with_status(status: u8, said: &'static str) -> Ended
+pub fn with_status(status: u8, said: &'static str) -> Ended
     ensures status { result.status ≡ status }
     ensures complaint { result.first.now ++ result.second.now ++ result.third.now ≡ said.now }
 {

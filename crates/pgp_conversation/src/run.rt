@@ -1,14 +1,15 @@
 //! The program's words.
 
-ghost use Rattle.std.specs.Prelude.{◌≡◌, ◌∷◌, ◌++◌, [], codes, map, IfSome, IfNone, IfOk, IfErr, OnErr, OnOk};
+ghost use Rattle.std.specs.Prelude.{◌≡◌, ◌⊎◌, ◌∷◌, ◌++◌, [], codes, map, IfSome, IfNone, IfOk, IfErr, OnErr, OnOk};
 ghost use Rattle.pgp_conversation.specs.Common.{Appends, Keeps, GivesUp, Caused, AppendsFront, LacksWords, streams, chosen_of, options_in, view_by};
 ghost use Rattle.pgp_trace.specs.Listing as stream;
 ghost use Rattle.pgp_trace.specs.Steps.{side_of, view_of};
-ghost use Rattle.pgp_conversation.specs.Command.{Asks, BreaksOff, Does, IsOther, Lists, ListsRecording, Obeys, ObeysOwn, Prints, PrintsFront, ReadsFor, ReadsForOwn, ReadsForWords, Runs, RunsOwn, Stops, asked, complaint_of, session_by, usage, word_of};
+ghost use Rattle.pgp_conversation.specs.Command.{Asks, AsksSeveral, BreaksOff, Does, DoesSession, IsOther, Lists, Obeys, ObeysOwn, Prints, PrintsFront, ReadsFor, ReadsForOwn, ReadsForSession, ReadsForWords, Runs, RunsOwn, Stops, StopsSession, asked, complaint_of, is_fit, session_by, usage, word_of};
 ghost use Rattle.pgp_conversation.specs.Command as spec;
 ghost use Rattle.pgp_conversation.specs.Session as recording;
+ghost use Rattle.pgp_conversation.specs.Several.{ListsRecording};
 
-use crate::ending::{complaint_of as end_complaint, status_of};
+use crate::files::{Recordings, ended_so, list_file, list_table};
 use crate::outcome::{Ended, finished, refused, stopped, tell};
 use crate::session::list_session;
 use pgp_base::Memory;
@@ -27,7 +28,7 @@ use pgp_trace::view::View;
 use std::alloc::AllocError;
 
 const USAGE: &str =
-    "usage: pgtrace server [--json] [--full] [--secrets] [--resume] [--only NAME[,NAME]..] [--except NAME[,NAME]..] [--color auto|always|never] | client [--json] [--full] [--secrets] [--resume] [--only NAME[,NAME]..] [--except NAME[,NAME]..] [--color auto|always|never] [--password-kind password|initial|response].. [--replication] | session [--json] [--full] [--secrets] [--requests] [--slower MS] [--raw] [--summary] [--fold] [--time absolute|relative] [--only NAME[,NAME]..] [--except NAME[,NAME]..] [--color auto|always|never] | --help | --version\n";
+    "usage: pgtrace server [--json] [--full] [--secrets] [--resume] [--only NAME[,NAME]..] [--except NAME[,NAME]..] [--color auto|always|never] | client [--json] [--full] [--secrets] [--resume] [--only NAME[,NAME]..] [--except NAME[,NAME]..] [--color auto|always|never] [--password-kind password|initial|response].. [--replication] | session [--json] [--full] [--secrets] [--requests] [--slower MS] [--raw] [--summary] [--fold] [--time absolute|relative] [--only NAME[,NAME]..] [--except NAME[,NAME]..] [--color auto|always|never] [FILE].. | --help | --version\n";
 
 const VERSION: &str = "pgtrace 0.1.0\n";
 
@@ -57,7 +58,7 @@ fn command_of<'a, A: MapMemory>(
     words: &[&'a str],
 ) -> Result<Option<Command<'a, A>>, AllocError>
     ensures known { IfOk result (λ r. IfSome r (λ command. Asks terminal (map (λ word. word.now) words.now) (asked command))) }
-    ensures other { IfOk result (λ r. IfNone r (IsOther terminal (map (λ word. word.now) words.now))) }
+    ensures other { IfOk result (λ r. IfNone r (IsOther terminal (map (λ word. word.now) words.now) ⊎ AsksSeveral terminal (map (λ word. word.now) words.now))) }
     ensures lacks { OnErr result A.Lacks }
 {
     match words {
@@ -84,13 +85,23 @@ fn show<'a, A: MapMemory>(
     words: &[&'a str],
 ) -> Result<Option<Command<'a, A>>, AllocError>
     ensures known { IfOk result (λ r. IfSome r (λ command. Asks terminal (word_of listing ∷ map (λ word. word.now) words.now) (asked command))) }
-    ensures other { IfOk result (λ r. IfNone r (IsOther terminal (word_of listing ∷ map (λ word. word.now) words.now))) }
+    ensures other { IfOk result (λ r. IfNone r (IsOther terminal (word_of listing ∷ map (λ word. word.now) words.now) ⊎ AsksSeveral terminal (word_of listing ∷ map (λ word. word.now) words.now))) }
     ensures lacks { OnErr result A.Lacks }
 {
     let Some(options) = options_of(alloc, terminal, options_in(listing), words)? else {
         return Ok(None);
     };
+    if !is_fit(&options) {
+        return Ok(None);
+    }
     Ok(Some(Command::Show { listing, options }))
+}
+
+/// Whether these options go together: there are several files for a table alone.
+fn is_fit<A: MapMemory>(options: &Options<'_, A>) -> bool
+    ensures { result ≡ is_fit (chosen_of options.now) }
+{
+    options.files.len() < 2 || options.marking.summed
 }
 
 /// How a listing with these options looks.
@@ -161,12 +172,7 @@ fn list_recording<A: MapMemory, R: Input, W: Output>(
     ensures cause { IfErr result (Caused A.Lacks (GivesUp R.Fails R.Called) (GivesUp W.Fails W.Interrupted)) }
 {
     match list_session(alloc, view, marking, input, output) {
-        Ok(said) => Ok(Ended {
-            status: status_of(said.end),
-            first: said.client,
-            second: said.server,
-            third: end_complaint(said.end),
-        }),
+        Ok(said) => Ok(ended_so(said)),
         Err(fault) => Err(fault),
     }
 }
@@ -186,7 +192,7 @@ fn print<W: Output>(text: &str, output: &mut W) -> Result<Ended, Fault>
 }
 
 /// Shows a listing by these options.
-fn list_by<A: MapMemory, R: Input, W: Output>(
+fn list_by<A: MapMemory, R: Recordings, W: Output>(
     alloc: A,
     listing: Listing,
     options: &Options<'_, A>,
@@ -195,8 +201,8 @@ fn list_by<A: MapMemory, R: Input, W: Output>(
 ) -> Result<Ended, Fault>
     requires live { ReadsFor R.remaining W.contents W.Passed R.MayRead (spec.Show listing (chosen_of options.now)) input.old output.old }
     ensures passed { OnOk result (W.Passed output.new) }
-    ensures done { IfOk result (λ ended. Does (spec.Show listing (chosen_of options.now)) (streams (R.remaining input.old) (W.contents output.old)) (streams (R.remaining input.new) (W.contents output.new)) ended.status (ended.first.now ++ ended.second.now ++ ended.third.now)) }
-    ensures stops { IfErr result (λ fault. Stops (W.Passed output.new) (spec.Show listing (chosen_of options.now)) fault (streams (R.remaining input.old) (W.contents output.old)) (streams (R.remaining input.new) (W.contents output.new))) }
+    ensures done { IfOk result (λ ended. Does R.Gives (spec.Show listing (chosen_of options.now)) (streams (R.remaining input.old) (W.contents output.old)) (streams (R.remaining input.new) (W.contents output.new)) ended.status (ended.first.now ++ ended.second.now ++ ended.third.now)) }
+    ensures stops { IfErr result (λ fault. Stops R.Gives (W.Passed output.new) (spec.Show listing (chosen_of options.now)) fault (streams (R.remaining input.old) (W.contents output.old)) (streams (R.remaining input.new) (W.contents output.new))) }
     ensures cause { IfErr result (Caused A.Lacks (GivesUp R.Fails R.Called) (GivesUp W.Fails W.Interrupted)) }
 {
     match listing {
@@ -212,18 +218,34 @@ fn list_by<A: MapMemory, R: Input, W: Output>(
             };
             list_side(alloc, view_by(options), side, input, output)
         }
-        Listing::Session => list_recording(
-            alloc,
-            session_by(options),
-            options.marking,
-            input,
-            output,
-        ),
+        Listing::Session => list_sessions(alloc, options, input, output),
+    }
+}
+
+/// Lists the recording of the reader, or that in a file, or writes the table of those in several files.
+fn list_sessions<A: MapMemory, R: Recordings, W: Output>(
+    alloc: A,
+    options: &Options<'_, A>,
+    input: &mut R,
+    output: &mut W,
+) -> Result<Ended, Fault>
+    requires live { ReadsForSession R.remaining W.contents W.Passed R.MayRead (chosen_of options.now).files (session_by (chosen_of options.now)) options.now.marking input.old output.old }
+    ensures passed { OnOk result (W.Passed output.new) }
+    ensures done { IfOk result (λ ended. DoesSession R.Gives (chosen_of options.now).files (session_by (chosen_of options.now)) options.now.marking (streams (R.remaining input.old) (W.contents output.old)) (streams (R.remaining input.new) (W.contents output.new)) ended.status (ended.first.now ++ ended.second.now ++ ended.third.now)) }
+    ensures stops { IfErr result (λ fault. StopsSession R.Gives (W.Passed output.new) (chosen_of options.now).files (session_by (chosen_of options.now)) options.now.marking fault (streams (R.remaining input.old) (W.contents output.old)) (streams (R.remaining input.new) (W.contents output.new))) }
+    ensures cause { IfErr result (Caused A.Lacks (GivesUp R.Fails R.Called) (GivesUp W.Fails W.Interrupted)) }
+{
+    let view = session_by(options);
+    let marking = options.marking;
+    match options.files.as_slice() {
+        [] => list_recording(alloc, view, marking, input, output),
+        [name] => list_file(alloc, view, marking, name, input, output),
+        names => list_table(alloc, view, marking, names, input, output),
     }
 }
 
 /// Does what the command asks for.
-fn perform<A: MapMemory, R: Input, W: Output>(
+fn perform<A: MapMemory, R: Recordings, W: Output>(
     alloc: A,
     command: &Command<'_, A>,
     input: &mut R,
@@ -231,8 +253,8 @@ fn perform<A: MapMemory, R: Input, W: Output>(
 ) -> Result<Ended, Fault>
     requires live { ReadsFor R.remaining W.contents W.Passed R.MayRead (asked command.now) input.old output.old }
     ensures passed { OnOk result (W.Passed output.new) }
-    ensures done { IfOk result (λ ended. Does (asked command.now) (streams (R.remaining input.old) (W.contents output.old)) (streams (R.remaining input.new) (W.contents output.new)) ended.status (ended.first.now ++ ended.second.now ++ ended.third.now)) }
-    ensures stops { IfErr result (λ fault. Stops (W.Passed output.new) (asked command.now) fault (streams (R.remaining input.old) (W.contents output.old)) (streams (R.remaining input.new) (W.contents output.new))) }
+    ensures done { IfOk result (λ ended. Does R.Gives (asked command.now) (streams (R.remaining input.old) (W.contents output.old)) (streams (R.remaining input.new) (W.contents output.new)) ended.status (ended.first.now ++ ended.second.now ++ ended.third.now)) }
+    ensures stops { IfErr result (λ fault. Stops R.Gives (W.Passed output.new) (asked command.now) fault (streams (R.remaining input.old) (W.contents output.old)) (streams (R.remaining input.new) (W.contents output.new))) }
     ensures cause { IfErr result (Caused A.Lacks (GivesUp R.Fails R.Called) (GivesUp W.Fails W.Interrupted)) }
 {
     match command {
@@ -243,7 +265,7 @@ fn perform<A: MapMemory, R: Input, W: Output>(
 }
 
 /// Does what the words ask for, where a terminal shows what is written or not.
-pub fn obey<A: MapMemory, R: Input, W: Output>(
+pub fn obey<A: MapMemory, R: Recordings, W: Output>(
     alloc: A,
     terminal: bool,
     words: &[&str],
@@ -251,7 +273,7 @@ pub fn obey<A: MapMemory, R: Input, W: Output>(
     output: &mut W,
 ) -> Ended
     requires live { ReadsForWords R.remaining W.contents W.Passed R.MayRead terminal (map (λ word. word.now) words.now) input.old output.old }
-    ensures { Obeys terminal A.Lacks (GivesUp R.Fails R.Called) (GivesUp W.Fails W.Interrupted) (W.Passed output.new) (map (λ word. word.now) words.now) (streams (R.remaining input.old) (W.contents output.old)) (streams (R.remaining input.new) (W.contents output.new)) result.status (result.first.now ++ result.second.now ++ result.third.now) }
+    ensures { Obeys R.Gives terminal A.Lacks (GivesUp R.Fails R.Called) (GivesUp W.Fails W.Interrupted) (W.Passed output.new) (map (λ word. word.now) words.now) (streams (R.remaining input.old) (W.contents output.old)) (streams (R.remaining input.new) (W.contents output.new)) result.status (result.first.now ++ result.second.now ++ result.third.now) }
 {
     let command = match command_of(alloc, terminal, words) {
         Ok(Some(command)) => command,
@@ -267,7 +289,7 @@ pub fn obey<A: MapMemory, R: Input, W: Output>(
 /// Does what the words ask for, where a terminal shows what is written or not, says on `errors` what is to be said there, and returns the status.
 ///
 /// Where `errors` fails, a front of that is said.
-pub fn run<A: MapMemory, R: Input, W: Output, E: Output>(
+pub fn run<A: MapMemory, R: Recordings, W: Output, E: Output>(
     alloc: A,
     terminal: bool,
     words: &[&str],
@@ -276,14 +298,14 @@ pub fn run<A: MapMemory, R: Input, W: Output, E: Output>(
     errors: &mut E,
 ) -> u8
     requires live { ReadsForWords R.remaining W.contents W.Passed R.MayRead terminal (map (λ word. word.now) words.now) input.old output.old }
-    ensures { Runs terminal A.Lacks (GivesUp R.Fails R.Called) (GivesUp W.Fails W.Interrupted) (W.Passed output.new) (GivesUp E.Fails E.Interrupted) (E.Passed errors.new) (map (λ word. word.now) words.now) (streams (R.remaining input.old) (W.contents output.old)) (streams (R.remaining input.new) (W.contents output.new)) (E.contents errors.old) (E.contents errors.new) result }
+    ensures { Runs R.Gives terminal A.Lacks (GivesUp R.Fails R.Called) (GivesUp W.Fails W.Interrupted) (W.Passed output.new) (GivesUp E.Fails E.Interrupted) (E.Passed errors.new) (map (λ word. word.now) words.now) (streams (R.remaining input.old) (W.contents output.old)) (streams (R.remaining input.new) (W.contents output.new)) (E.contents errors.old) (E.contents errors.new) result }
 {
     tell(obey(alloc, terminal, words, input, output), errors)
 }
 
 /// Does what the program's own words ask for, where there is memory for them. A word that isn't UTF-8
 /// asks for nothing that there is.
-fn try_own<A: MapMemory, V: Words, R: Input, W: Output>(
+fn try_own<A: MapMemory, V: Words, R: Recordings, W: Output>(
     alloc: A,
     terminal: bool,
     env: &V,
@@ -291,7 +313,7 @@ fn try_own<A: MapMemory, V: Words, R: Input, W: Output>(
     output: &mut W,
 ) -> Result<Ended, Fault>
     requires live { ReadsForOwn R.remaining W.contents W.Passed R.MayRead terminal (V.Stands env.now) (V.Ends env.now) input.old output.old }
-    ensures obeyed { IfOk result (λ done. ObeysOwn terminal A.Lacks (GivesUp R.Fails R.Called) (GivesUp W.Fails W.Interrupted) (W.Passed output.new) (V.Stands env.now) (V.Ends env.now) (V.Longer env.now) (streams (R.remaining input.old) (W.contents output.old)) (streams (R.remaining input.new) (W.contents output.new)) done.status (done.first.now ++ done.second.now ++ done.third.now)) }
+    ensures obeyed { IfOk result (λ done. ObeysOwn R.Gives terminal A.Lacks (GivesUp R.Fails R.Called) (GivesUp W.Fails W.Interrupted) (W.Passed output.new) (V.Stands env.now) (V.Ends env.now) (V.Longer env.now) (streams (R.remaining input.old) (W.contents output.old)) (streams (R.remaining input.new) (W.contents output.new)) done.status (done.first.now ++ done.second.now ++ done.third.now)) }
     ensures fault { IfErr result (λ fault. (fault ≡ Fault.Memory) × LacksWords A.Lacks (V.Stands env.now) (V.Longer env.now)) }
     ensures input { IfErr result (λ _. Keeps (R.remaining input.old) (R.remaining input.new)) }
     ensures output { IfErr result (λ _. Keeps (W.contents output.old) (W.contents output.new)) }
@@ -304,7 +326,7 @@ fn try_own<A: MapMemory, V: Words, R: Input, W: Output>(
 }
 
 /// Does what the program's own words ask for.
-fn obey_own<A: MapMemory, V: Words, R: Input, W: Output>(
+fn obey_own<A: MapMemory, V: Words, R: Recordings, W: Output>(
     alloc: A,
     terminal: bool,
     env: &V,
@@ -312,7 +334,7 @@ fn obey_own<A: MapMemory, V: Words, R: Input, W: Output>(
     output: &mut W,
 ) -> Ended
     requires live { ReadsForOwn R.remaining W.contents W.Passed R.MayRead terminal (V.Stands env.now) (V.Ends env.now) input.old output.old }
-    ensures { ObeysOwn terminal A.Lacks (GivesUp R.Fails R.Called) (GivesUp W.Fails W.Interrupted) (W.Passed output.new) (V.Stands env.now) (V.Ends env.now) (V.Longer env.now) (streams (R.remaining input.old) (W.contents output.old)) (streams (R.remaining input.new) (W.contents output.new)) result.status (result.first.now ++ result.second.now ++ result.third.now) }
+    ensures { ObeysOwn R.Gives terminal A.Lacks (GivesUp R.Fails R.Called) (GivesUp W.Fails W.Interrupted) (W.Passed output.new) (V.Stands env.now) (V.Ends env.now) (V.Longer env.now) (streams (R.remaining input.old) (W.contents output.old)) (streams (R.remaining input.new) (W.contents output.new)) result.status (result.first.now ++ result.second.now ++ result.third.now) }
 {
     match try_own(alloc, terminal, env, input, output) {
         Ok(done) => done,
@@ -321,7 +343,7 @@ fn obey_own<A: MapMemory, V: Words, R: Input, W: Output>(
 }
 
 /// Runs on the words of the process, after its name, where a terminal shows what is written or not.
-pub fn run_own<A: MapMemory, V: Words, R: Input, W: Output, E: Output>(
+pub fn run_own<A: MapMemory, V: Words, R: Recordings, W: Output, E: Output>(
     alloc: A,
     terminal: bool,
     env: &V,
@@ -330,7 +352,7 @@ pub fn run_own<A: MapMemory, V: Words, R: Input, W: Output, E: Output>(
     errors: &mut E,
 ) -> u8
     requires live { ReadsForOwn R.remaining W.contents W.Passed R.MayRead terminal (V.Stands env.now) (V.Ends env.now) input.old output.old }
-    ensures { RunsOwn terminal A.Lacks (GivesUp R.Fails R.Called) (GivesUp W.Fails W.Interrupted) (W.Passed output.new) (V.Stands env.now) (V.Ends env.now) (V.Longer env.now) (GivesUp E.Fails E.Interrupted) (E.Passed errors.new) (streams (R.remaining input.old) (W.contents output.old)) (streams (R.remaining input.new) (W.contents output.new)) (E.contents errors.old) (E.contents errors.new) result }
+    ensures { RunsOwn R.Gives terminal A.Lacks (GivesUp R.Fails R.Called) (GivesUp W.Fails W.Interrupted) (W.Passed output.new) (V.Stands env.now) (V.Ends env.now) (V.Longer env.now) (GivesUp E.Fails E.Interrupted) (E.Passed errors.new) (streams (R.remaining input.old) (W.contents output.old)) (streams (R.remaining input.new) (W.contents output.new)) (E.contents errors.old) (E.contents errors.new) result }
 {
     tell(obey_own(alloc, terminal, env, input, output), errors)
 }

@@ -8,13 +8,17 @@ ghost use Rattle.pgp_conversation.specs.Conversation.{first_start};
 ghost use Rattle.pgp_conversation.specs.Pieces.{ListsAllChunks, ListsPiece, ListsSome, Tracks, held_first, held_last, held_nothing};
 ghost use Rattle.pgp_conversation.specs.Recording.{complaint_of};
 ghost use Rattle.pgp_conversation.specs.Session.{IsCutShort, ReadsWhenReady, WasListed, WritesListing};
+ghost use Rattle.pgp_conversation.specs.Several.{AddsRecording, file_after, file_before, tallies_in};
 ghost use Rattle.pgp_conversation.specs.Steps.{end_of, half_of, kept_of};
+ghost use Rattle.pgp_summary.specs.Runs.{tally_after};
+ghost use Rattle.std.specs.Option.{option_map};
 
 use crate::chunk::{Part, first_part};
 use crate::connection::{Half, Talk, list_chunk};
 use crate::ending::{End, end_of};
 use crate::frames::{Texts, no_texts};
 use crate::last::add_end;
+use crate::numbers::summary_of;
 use crate::state::{at_first, is_replicating};
 use bytes::{Buf, BytesMut};
 use pgp_base::Memory;
@@ -22,6 +26,7 @@ use pgp_line::fault::Fault;
 use pgp_line::ports::Output;
 use pgp_line::print::put;
 use pgp_names::MapMemory;
+use pgp_summary::Summary;
 use pgp_trace::hint::hint_of;
 use pgp_trace::marking::Marking;
 use pgp_trace::ports::Input;
@@ -83,6 +88,97 @@ pub fn list_session<A: MapMemory, R: Input, W: Output>(
         &mut held,
         output,
     )
+}
+
+/// Lists a recording of which all bytes are there.
+pub fn list_whole<A: MapMemory, W: Output>(
+    alloc: A,
+    view: View<'_>,
+    marking: Marking,
+    bytes: &[u8],
+    output: &mut W,
+) -> Result<Said, Fault>
+    ensures listed { IfOk result (λ said. WritesListing (view_of view.entry) marking (file_before bytes.now (W.contents output.old)) (file_after (W.contents output.new)) said.end (said.client.now ++ said.server.now ++ complaint_of said.end)) }
+    ensures passed { OnOk result (W.Passed output.new) }
+    ensures cut { OnErr result (IsCutShort (view_of view.entry) marking (file_before bytes.now (W.contents output.old)) (file_after (W.contents output.new))) }
+    ensures cause { IfErr result (Caused A.Lacks ⊥ (GivesUp W.Fails W.Interrupted)) }
+{
+    let mut held = held_at_first(alloc, marking);
+    list_held(view, marking, bytes, &mut held, output)
+}
+
+/// The same, where nothing was listed.
+fn list_held<A: MapMemory, W: Output>(
+    view: View<'_>,
+    marking: Marking,
+    bytes: &[u8],
+    held: &mut Held<A>,
+    output: &mut W,
+) -> Result<Said, Fault>
+    requires begun { held.old.begun ≡ false }
+    requires talk { kept_of held.old.talk ≡ held_first (record marking { absolute = false }) }
+    requires bytes { held.old.bytes.items ≡ [] }
+    ensures listed { IfOk result (λ said. WritesListing (view_of view.entry) marking (file_before bytes.now (W.contents output.old)) (file_after (W.contents output.new)) said.end (said.client.now ++ said.server.now ++ complaint_of said.end)) }
+    ensures passed { OnOk result (W.Passed output.new) }
+    ensures cut { OnErr result (IsCutShort (view_of view.entry) marking (file_before bytes.now (W.contents output.old)) (file_after (W.contents output.new))) }
+    ensures cause { IfErr result (Caused A.Lacks ⊥ (GivesUp W.Fails W.Interrupted)) }
+{
+    held.talk.start = first_start(marking.absolute);
+    let stopped = list_piece(view, bytes, held, output)?;
+    list_last(view, stopped, held, output)
+}
+
+/// Adds to a table what the requests of a recording ran of which all bytes are there. Returns how it ends.
+pub fn sum_whole<A: MapMemory>(
+    alloc: A,
+    view: View<'_>,
+    marking: Marking,
+    bytes: &[u8],
+    table: &mut Summary<A>,
+) -> Result<End, AllocError>
+    ensures added { IfOk result (λ end. AddsRecording (view_of view.entry) marking bytes.now end table.old.tallies table.new.tallies) }
+    ensures lacks { OnErr result A.Lacks }
+{
+    let mut held = held_at_first(alloc, marking);
+    sum_held(view, marking, bytes, &mut held, table)
+}
+
+/// The same, where nothing was listed.
+fn sum_held<A: MapMemory>(
+    view: View<'_>,
+    marking: Marking,
+    bytes: &[u8],
+    held: &mut Held<A>,
+    table: &mut Summary<A>,
+) -> Result<End, AllocError>
+    requires talk { kept_of held.old.talk ≡ held_first (record marking { absolute = false }) }
+    ensures added { IfOk result (λ end. AddsRecording (view_of view.entry) marking bytes.now end table.old.tallies table.new.tallies) }
+    ensures lacks { OnErr result A.Lacks }
+{
+    held.talk.start = first_start(marking.absolute);
+    let (begun, listed, stopped) = list_chunks(
+        view,
+        false,
+        bytes,
+        &mut held.talk,
+        &mut held.texts,
+    )?;
+    add_table(summary_of(&held.talk.known.numbers), table)?;
+    Ok(end_of(begun, stopped, &bytes[listed..]))
+}
+
+/// Adds what requests ran, where that is known.
+fn add_table<A: MapMemory>(
+    summary: Option<&Summary<A>>,
+    table: &mut Summary<A>,
+) -> Result<(), AllocError>
+    ensures added { OnOk result (table.new.tallies ≡ tally_after table.old.tallies (tallies_in (option_map (λ summary. summary.now) summary.entry))) }
+    ensures lacks { OnErr result A.Lacks }
+{
+    match summary {
+        Some(summary) => table.add(summary),
+        None => Ok(()),
+    }
 }
 
 /// Before the first byte of a recording.
@@ -233,7 +329,7 @@ fn list_chunks<A: MapMemory>(
 }
 
 /// Writes lines, and has them passed on.
-fn put_lines<W: Output>(lines: &str, output: &mut W) -> Result<(), Fault>
+pub fn put_lines<W: Output>(lines: &str, output: &mut W) -> Result<(), Fault>
     ensures written { OnOk result (Appends (W.contents output.old) (W.contents output.new) lines.now) }
     ensures front { OnErr result (AppendsFront (W.contents output.old) (W.contents output.new) lines.now) }
     ensures passed { OnOk result (W.Passed output.new) }

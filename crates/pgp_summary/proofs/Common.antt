@@ -6,5 +6,5 @@ pub use Rattle.std.specs.Prelude.{if◌then◌else◌, nat_lt, Result}
 pub use Rattle.std.specs.Str.{bytes_eq}
 pub use Rattle.pgp_names.specs.Names.{found, put}
 pub use Rattle.pgp_summary.specs.Places.{Ran, more_of, no_run, tallies_of, tally_of}
-pub use Rattle.pgp_summary.specs.Runs.{tallied, ascending, inserted, Run, Tally, begun, capped, grown, tally, tally_after}
+pub use Rattle.pgp_summary.specs.Runs.{tallied, ascending, inserted, Tally, begun, capped, grown, tally, tally_after}
 pub use Rattle.pgp_summary.specs.Summary.{Request, State, done, nothing, skipped, taken, with_waiting}

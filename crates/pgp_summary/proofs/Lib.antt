@@ -1,3 +1,4 @@
+mod Adding
 mod Common
 mod Places
 mod Sorting

@@ -17,24 +17,24 @@ put_put name v w (e ∷ more) =
 no_none : {V : Type 0} {v : V} → None ≡ Some v → ⊥
 no_none e = cc
 
-pub some_more : (text : List ℕ) (rows errors : ℕ) (micros : Option ℕ) (had : Ran) (list : List (List ℕ × Ran)) → found text list ≡ Some had
-    → tallies_of (put text (more_of rows errors micros had) list) ≡ tallied (record { text = text; rows = rows; micros = micros; errors = errors }) (tallies_of list)
-some_more text rows errors micros had [] is = absurd (no_none is)
-some_more text rows errors micros had (e ∷ more) is =
+pub some_more : (text : List ℕ) (add had : Ran) (list : List (List ℕ × Ran)) → found text list ≡ Some had
+    → tallies_of (put text (more_of add had) list) ≡ tallied (tally_of (text, add)) (tallies_of list)
+some_more text add had [] is = absurd (no_none is)
+some_more text add had (e ∷ more) is =
     elim (cases_Bool (bytes_eq text e.0)) [
       | inl same ↦ (let x : e.1 ≡ had = here (ap (λ b. if b then Some e.1 else found text more) (sym same) ∙ is) in
-          rw (same, turned text e.0 true same) (ap (λ (r : Ran). tally_of (e.0, more_of rows errors micros r) ∷ tallies_of more) (sym x)))
-      | inr other ↦ rw (other, turned text e.0 false other) (ap (λ l. tally_of e ∷ l) (some_more text rows errors micros had more (ap (λ b. if b then Some e.1 else found text more) (sym other) ∙ is)))
+          rw (same, turned text e.0 true same) (ap (λ (r : Ran). tally_of (e.0, more_of add r) ∷ tallies_of more) (sym x)))
+      | inr other ↦ rw (other, turned text e.0 false other) (ap (λ l. tally_of e ∷ l) (some_more text add had more (ap (λ b. if b then Some e.1 else found text more) (sym other) ∙ is)))
     ]
   where
     here : {x y : Ran} → Some x ≡ Some y → x ≡ y
     here e = cc
 
-pub none_more : (text : List ℕ) (rows errors : ℕ) (micros : Option ℕ) (list : List (List ℕ × Ran)) → found text list ≡ None
-    → tallies_of (put text (more_of rows errors micros no_run) list) ≡ tallied (record { text = text; rows = rows; micros = micros; errors = errors }) (tallies_of list)
-none_more text rows errors micros [] is = refl
-none_more text rows errors micros (e ∷ more) is =
+pub none_more : (text : List ℕ) (add : Ran) (list : List (List ℕ × Ran)) → found text list ≡ None
+    → tallies_of (put text (more_of add no_run) list) ≡ tallied (tally_of (text, add)) (tallies_of list)
+none_more text add [] is = refl
+none_more text add (e ∷ more) is =
     elim (cases_Bool (bytes_eq text e.0)) [
       | inl same ↦ absurd (no_none (sym (ap (λ b. if b then Some e.1 else found text more) (sym same) ∙ is)))
-      | inr other ↦ rw (other, turned text e.0 false other) (ap (λ l. tally_of e ∷ l) (none_more text rows errors micros more (ap (λ b. if b then Some e.1 else found text more) (sym other) ∙ is)))
+      | inr other ↦ rw (other, turned text e.0 false other) (ap (λ l. tally_of e ∷ l) (none_more text add more (ap (λ b. if b then Some e.1 else found text more) (sym other) ∙ is)))
     ]

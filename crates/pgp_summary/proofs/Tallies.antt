@@ -1,6 +1,5 @@
 -- Each run is tallied, among those of its statement.
-use Rattle.pgp_summary.proofs.Common.{◌≡◌, ℕ, ◌+◌, ◌^◌, ◌-◌, Bool, true, false, List, [], ◌∷◌, ◌++◌, min, Option, Some, None, refl, sym, ap, arith, ◌∙◌, inl, inr, append_assoc, if◌then◌else◌, bytes_eq, cases_Bool, bytes_eq-Decides, Run, Tally, begun, capped, grown, tallied, tally, tally_after, Request, State, done, nothing, skipped, taken, with_waiting}
-use Rattle.std.specs.Option.{option_to_list, unwrap_or}
+use Rattle.pgp_summary.proofs.Common.{◌≡◌, ℕ, ◌+◌, ◌^◌, ◌-◌, Bool, true, false, List, [], ◌∷◌, ◌++◌, min, Option, Some, None, refl, sym, ap, arith, ◌∙◌, inl, inr, append_assoc, if◌then◌else◌, bytes_eq, cases_Bool, bytes_eq-Decides, Tally, begun, capped, grown, tallied, tally, tally_after, Request, State, done, nothing, skipped, taken, with_waiting}
 use Rattle.std.proofs.lemmas.Cmp.{nat_list_eq_equiv}
 use Rattle.std.proofs.lemmas.List.{append-nil}
 use Rattle.pgp_summary.proofs.Places.{turned}
@@ -24,7 +23,7 @@ call_tally (Row number) s = refl
 call_tally (Fail number) s = refl
 call_tally (End number reply micros) s = done_tally (taken number reply (skipped number s.waiting)).0 micros (taken number reply (skipped number s.waiting)).1 s
 
-tally_join : (tallies : List Tally) (xs ys : List Run) → tally_after (tally_after tallies xs) ys ≡ tally_after tallies (xs ++ ys)
+pub tally_join : (tallies : List Tally) (xs ys : List Tally) → tally_after (tally_after tallies xs) ys ≡ tally_after tallies (xs ++ ys)
 tally_join tallies [] ys = refl
 tally_join tallies (x ∷ xs) ys = tally_join (tallied x tallies) xs ys
 
@@ -38,7 +37,7 @@ all_tallied folds calls = calls_tally (nothing folds) calls
 
 -- ---- statements
 
-same_text : (x y : List ℕ) → bytes_eq x y ≡ true → x ≡ y
+pub same_text : (x y : List ℕ) → bytes_eq x y ≡ true → x ≡ y
 same_text x y e = (bytes_eq-Decides x y).0 e
 
 -- one that differs from one of two that are the same differs from the other
@@ -46,15 +45,15 @@ apart : (x s name : List ℕ) → bytes_eq x s ≡ false → bytes_eq x name ≡
 apart x s name other is = nat_list_eq_equiv.symm s name ∙ sym (nat_list_eq_equiv.congr x name s is) ∙ other
 
 -- the statement of a run has it more
-abbrev joined : Run → Option Tally → Tally
+abbrev joined : Tally → Option Tally → Tally
 joined run None = begun run
 joined run (Some e) = grown run e
 
-both_ways : (b : Bool) (run : Run) (e : Tally) (x : Option Tally) → (if b then Some (grown run e) else x) ≡ (if b then Some (joined run (if b then Some e else x)) else (if b then Some e else x))
+both_ways : (b : Bool) (run : Tally) (e : Tally) (x : Option Tally) → (if b then Some (grown run e) else x) ≡ (if b then Some (joined run (if b then Some e else x)) else (if b then Some e else x))
 both_ways true run e x = refl
 both_ways false run e x = refl
 
-found_more : (text : List ℕ) (run : Run) (tallies : List Tally) → found text (tallied run tallies) ≡ (if bytes_eq run.text text then Some (joined run (found text tallies)) else found text tallies)
+found_more : (text : List ℕ) (run : Tally) (tallies : List Tally) → found text (tallied run tallies) ≡ (if bytes_eq run.text text then Some (joined run (found text tallies)) else found text tallies)
 found_more text run [] = refl
 found_more text run (e ∷ more) =
     elim (cases_Bool (bytes_eq e.text run.text)) [
@@ -65,11 +64,11 @@ found_more text run (e ∷ more) =
       ])
     ]
 
-abbrev joined_all : List ℕ → Option Tally → List Run → Option Tally
+abbrev joined_all : List ℕ → Option Tally → List Tally → Option Tally
 joined_all text o [] = o
 joined_all text o (run ∷ more) = joined_all text (if bytes_eq run.text text then Some (joined run o) else o) more
 
-found_all : (text : List ℕ) (tallies : List Tally) (runs : List Run) → found text (tally_after tallies runs) ≡ joined_all text (found text tallies) runs
+found_all : (text : List ℕ) (tallies : List Tally) (runs : List Tally) → found text (tally_after tallies runs) ≡ joined_all text (found text tallies) runs
 found_all text tallies [] = refl
 found_all text tallies (run ∷ more) = found_all text (tallied run tallies) more ∙ ap (λ o. joined_all text o more) (found_more text run tallies)
 
@@ -79,7 +78,7 @@ capped_sum m n k e = omega (arith, e)
 abbrev tally_with : List ℕ → (rows : ℕ) → List ℕ → (total errors : ℕ) → Option Tally
 tally_with text rows times total errors = Some (record { text = text; rows = rows; times = times; total = total; errors = errors })
 
-some_joined : (text : List ℕ) (e : Tally) (rows total errors : ℕ) (runs : List Run) → e.text ≡ text → e.rows ≡ capped rows → e.total ≡ capped total → e.errors ≡ capped errors
+some_joined : (text : List ℕ) (e : Tally) (rows total errors : ℕ) (runs : List Tally) → e.text ≡ text → e.rows ≡ capped rows → e.total ≡ capped total → e.errors ≡ capped errors
     → joined_all text (Some e) runs ≡ tally_with text (capped (rows + all_rows text runs)) (e.times ++ times_of text runs) (capped (total + all_micros text runs)) (capped (errors + all_errors text runs))
 some_joined text e rows total errors [] is a b c = λ i. tally_with (is i) ((a ∙ no_more rows) i) (sym (append-nil e.times) i) ((b ∙ no_more total) i) ((c ∙ no_more errors) i)
   where
@@ -87,30 +86,30 @@ some_joined text e rows total errors [] is a b c = λ i. tally_with (is i) ((a �
     no_more n = ap capped (omega arith)
 some_joined text e rows total errors (run ∷ more) is a b c =
     elim (cases_Bool (bytes_eq run.text text)) [
-      | inl same ↦ rw same (some_joined text (grown run e) (rows + run.rows) (total + unwrap_or run.micros 0) (errors + run.errors) more is
-          (capped_sum e.rows rows run.rows a) (capped_sum e.total total (unwrap_or run.micros 0) b) (capped_sum e.errors errors run.errors c)
-          ∙ (λ i. tally_with text (capped (sum_apart rows run.rows (all_rows text more) i)) (append_assoc e.times (option_to_list run.micros) (times_of text more) i)
-          (capped (sum_apart total (unwrap_or run.micros 0) (all_micros text more) i)) (capped (sum_apart errors run.errors (all_errors text more) i))))
+      | inl same ↦ rw same (some_joined text (grown run e) (rows + run.rows) (total + run.total) (errors + run.errors) more is
+          (capped_sum e.rows rows run.rows a) (capped_sum e.total total run.total b) (capped_sum e.errors errors run.errors c)
+          ∙ (λ i. tally_with text (capped (sum_apart rows run.rows (all_rows text more) i)) (append_assoc e.times (run.times) (times_of text more) i)
+          (capped (sum_apart total run.total (all_micros text more) i)) (capped (sum_apart errors run.errors (all_errors text more) i))))
       | inr other ↦ rw other (some_joined text e rows total errors more is a b c)
     ]
   where
     sum_apart : (x y z : ℕ) → (x + y) + z ≡ x + (y + z)
     sum_apart x y z = omega arith
 
-none_joined : (text : List ℕ) (runs : List Run) → joined_all text None runs ≡ said_of text runs
+none_joined : (text : List ℕ) (runs : List Tally) → joined_all text None runs ≡ said_of text runs
 none_joined text [] = refl
 none_joined text (run ∷ more) =
     elim (cases_Bool (bytes_eq run.text text)) [
-      | inl same ↦ rw same (some_joined text (begun run) run.rows (unwrap_or run.micros 0) run.errors more (same_text run.text text same) (ap capped (omega arith)) (ap capped (omega arith)) (ap capped (omega arith)))
+      | inl same ↦ rw same (some_joined text (begun run) run.rows run.total run.errors more (same_text run.text text same) (ap capped (omega arith)) (ap capped (omega arith)) (ap capped (omega arith)))
       | inr other ↦ rw other (none_joined text more)
     ]
 
-pub all_found : (runs : List Run) (text : List ℕ) → found text (tally runs) ≡ said_of text runs
+pub all_found : (runs : List Tally) (text : List ℕ) → found text (tally runs) ≡ said_of text runs
 all_found runs text = found_all text [] runs ∙ none_joined text runs
 
 -- ---- apart
 
-stands_kept : (text : List ℕ) (run : Run) (tallies : List Tally) → bytes_eq run.text text ≡ false → stands_in text (tallied run tallies) ≡ stands_in text tallies
+pub stands_kept : (text : List ℕ) (run : Tally) (tallies : List Tally) → bytes_eq run.text text ≡ false → stands_in text (tallied run tallies) ≡ stands_in text tallies
 stands_kept text run [] other = rw other refl
 stands_kept text run (e ∷ more) other =
     elim (cases_Bool (bytes_eq e.text run.text)) [
@@ -118,7 +117,7 @@ stands_kept text run (e ∷ more) other =
       | inr differs ↦ rw differs (ap (λ b. if bytes_eq e.text text then true else b) (stands_kept text run more other))
     ]
 
-apart_more : (run : Run) (tallies : List Tally) → AreApart tallies → AreApart (tallied run tallies)
+pub apart_more : (run : Tally) (tallies : List Tally) → AreApart tallies → AreApart (tallied run tallies)
 apart_more run [] a = (refl, tt)
 apart_more run (e ∷ more) a =
     elim (cases_Bool (bytes_eq e.text run.text)) [
@@ -126,9 +125,9 @@ apart_more run (e ∷ more) a =
       | inr differs ↦ rw differs (stands_kept e.text run more (turned e.text run.text false differs) ∙ a.0, apart_more run more a.1)
     ]
 
-apart_after : (tallies : List Tally) (runs : List Run) → AreApart tallies → AreApart (tally_after tallies runs)
+apart_after : (tallies : List Tally) (runs : List Tally) → AreApart tallies → AreApart (tally_after tallies runs)
 apart_after tallies [] a = a
 apart_after tallies (run ∷ more) a = apart_after (tallied run tallies) more (apart_more run tallies a)
 
-pub all_apart : (runs : List Run) → AreApart (tally runs)
+pub all_apart : (runs : List Tally) → AreApart (tally runs)
 all_apart runs = apart_after [] runs tt

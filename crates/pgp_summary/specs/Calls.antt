@@ -1,8 +1,7 @@
 -- The runs that calls of a summary came to, and what is said of each statement by them alone.
 use Rattle.std.specs.Prelude.{◌≡◌, ⊤, ℕ, ◌+◌, Bool, true, false, if◌then◌else◌, List, [], ◌∷◌, ◌++◌, Option, Some, None}
-use Rattle.std.specs.Option.{option_to_list, unwrap_or}
 use Rattle.std.specs.Str.{bytes_eq}
-use Rattle.pgp_summary.specs.Runs.{Run, Tally, capped}
+use Rattle.pgp_summary.specs.Runs.{Tally, capped}
 use Rattle.pgp_summary.specs.Summary.{Request, State, asked, ended, error_of, failed, first_of, row, rows_of, skipped, taken, text_under}
 use Rattle.pgp_summary.specs.declared.work.Work.{Work}
 use Rattle.pgp_summary.specs.declared.work.Work.TheVariants.{Query, Parse, Bind, Execute}
@@ -27,56 +26,56 @@ after s [] = s
 after s (call ∷ more) = after (called call s) more
 
 -- the run that a request is, whose answer is complete
-abbrev pub run_by : Work → Request → (micros : ℕ) → State → List Run
-run_by Query r micros s = record { text = r.first; rows = rows_of r.number s; micros = Some micros; errors = 0 } ∷ []
+abbrev pub run_by : Work → Request → (micros : ℕ) → State → List Tally
+run_by Query r micros s = record { text = r.first; rows = rows_of r.number s; times = micros ∷ []; total = micros; errors = 0 } ∷ []
 run_by Parse r micros s = []
 run_by Bind r micros s = []
-run_by Execute r micros s = record { text = text_under r.first s.portals; rows = rows_of r.number s; micros = Some micros; errors = 0 } ∷ []
+run_by Execute r micros s = record { text = text_under r.first s.portals; rows = rows_of r.number s; times = micros ∷ []; total = micros; errors = 0 } ∷ []
 
-abbrev pub run_of : Option Request → (micros : ℕ) → State → List Run
+abbrev pub run_of : Option Request → (micros : ℕ) → State → List Tally
 run_of None micros s = []
 run_of (Some r) micros s = run_by r.work r micros s
 
 -- the run that a call ends, if it does, or the error of one that failed
-abbrev pub run_in : Call → State → List Run
+abbrev pub run_in : Call → State → List Tally
 run_in (Ask request) s = []
 run_in (Row number) s = []
 run_in (End number reply micros) s = run_of (taken number reply (skipped number s.waiting)).0 micros s
 run_in (Fail number) s = error_of (first_of number (skipped number s.waiting)) s
 
 -- those that calls end, in order
-abbrev pub runs_in : State → List Call → List Run
+abbrev pub runs_in : State → List Call → List Tally
 runs_in s [] = []
 runs_in s (call ∷ more) = run_in call s ++ runs_in (called call s) more
 
 -- ---- what is said of a statement
 
 -- the times of its runs, in order
-abbrev pub times_of : List ℕ → List Run → List ℕ
+abbrev pub times_of : List ℕ → List Tally → List ℕ
 times_of text [] = []
-times_of text (run ∷ more) = if bytes_eq run.text text then option_to_list run.micros ++ times_of text more else times_of text more
+times_of text (run ∷ more) = if bytes_eq run.text text then run.times ++ times_of text more else times_of text more
 
 -- and their rows
-abbrev pub all_rows : List ℕ → List Run → ℕ
+abbrev pub all_rows : List ℕ → List Tally → ℕ
 all_rows text [] = 0
 all_rows text (run ∷ more) = if bytes_eq run.text text then run.rows + all_rows text more else all_rows text more
 
 -- the sum of them
-abbrev pub all_micros : List ℕ → List Run → ℕ
+abbrev pub all_micros : List ℕ → List Tally → ℕ
 all_micros text [] = 0
-all_micros text (run ∷ more) = if bytes_eq run.text text then unwrap_or run.micros 0 + all_micros text more else all_micros text more
+all_micros text (run ∷ more) = if bytes_eq run.text text then run.total + all_micros text more else all_micros text more
 
 -- and their errors
-abbrev pub all_errors : List ℕ → List Run → ℕ
+abbrev pub all_errors : List ℕ → List Tally → ℕ
 all_errors text [] = 0
 all_errors text (run ∷ more) = if bytes_eq run.text text then run.errors + all_errors text more else all_errors text more
 
-abbrev pub has_run : List ℕ → List Run → Bool
+abbrev pub has_run : List ℕ → List Tally → Bool
 has_run text [] = false
 has_run text (run ∷ more) = if bytes_eq run.text text then true else has_run text more
 
 -- nothing, where it didn't run
-abbrev pub said_of : List ℕ → List Run → Option Tally
+abbrev pub said_of : List ℕ → List Tally → Option Tally
 said_of text runs = if has_run text runs then Some (record { text = text; rows = capped (all_rows text runs); times = times_of text runs; total = capped (all_micros text runs); errors = capped (all_errors text runs) }) else None
 
 -- what a table says of it

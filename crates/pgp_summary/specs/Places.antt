@@ -1,6 +1,5 @@
 -- Private: what the code keeps of statements that ran.
-use Rattle.std.specs.Prelude.{ℕ, ◌+◌, List, [], ◌++◌, map, Option}
-use Rattle.std.specs.Option.{option_to_list, unwrap_or}
+use Rattle.std.specs.Prelude.{ℕ, ◌+◌, List, [], ◌++◌, map}
 use Rattle.pgp_summary.specs.Runs.{Tally, capped}
 
 -- the rows of all runs of a statement, their times and the sum of these, and its errors
@@ -19,6 +18,6 @@ tallies_of list = map tally_of list
 abbrev pub no_run : Ran
 no_run = record { rows = 0; times = []; total = 0; errors = 0 }
 
--- what a request adds
-abbrev pub more_of : (rows errors : ℕ) (micros : Option ℕ) → Ran → Ran
-more_of rows errors micros had = record { rows = capped (had.rows + rows); times = had.times ++ option_to_list micros; total = capped (had.total + unwrap_or micros 0); errors = capped (had.errors + errors) }
+-- with what more requests of it came to
+abbrev pub more_of : Ran → Ran → Ran
+more_of more had = record { rows = capped (had.rows + more.rows); times = had.times ++ more.times; total = capped (had.total + more.total); errors = capped (had.errors + more.errors) }

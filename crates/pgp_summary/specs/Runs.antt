@@ -1,17 +1,9 @@
 -- Runs of statements, and what is said of each statement.
-use Rattle.std.specs.Prelude.{ℕ, ◌+◌, ◌-◌, ◌/◌, ◌%◌, ◌^◌, ◌==◌, min, nat_lt, if◌then◌else◌, List, [], ◌∷◌, ◌++◌, length, get_or, Option}
-use Rattle.std.specs.Option.{option_to_list, unwrap_or}
+use Rattle.std.specs.Prelude.{ℕ, ◌+◌, ◌-◌, ◌/◌, ◌%◌, ◌^◌, ◌==◌, min, nat_lt, if◌then◌else◌, List, [], ◌∷◌, ◌++◌, length, get_or}
 use Rattle.std.specs.Str.{bytes_eq}
 use Rattle.pgp_summary.specs.declared.entry.Line.{Line}
 
--- what a request came to: the text of its statement, the rows that the server sent, the microseconds that a run took which is over, and how many errors there were
-pub record Run : Type 0 where
-  pub text : List ℕ
-  pub rows : ℕ
-  pub micros : Option ℕ
-  pub errors : ℕ
-
--- a statement: its text, the rows of all its runs, the times of each, in the order in which they ended, their sum, and its errors
+-- what requests of a statement came to, one or more: its text, the rows that the server sent, the microseconds that each run took, in the order in which they ended, their sum, and how many errors there were
 pub record Tally : Type 0 where
   pub text : List ℕ
   pub rows : ℕ
@@ -23,25 +15,25 @@ pub record Tally : Type 0 where
 abbrev pub capped : ℕ → ℕ
 capped n = min n (2 ^ 64 - 1)
 
--- with one more run of it
-abbrev pub grown : Run → Tally → Tally
-grown run e = record { text = e.text; rows = capped (e.rows + run.rows); times = e.times ++ option_to_list run.micros; total = capped (e.total + unwrap_or run.micros 0); errors = capped (e.errors + run.errors) }
+-- with more runs of it
+abbrev pub grown : Tally → Tally → Tally
+grown run e = record { text = e.text; rows = capped (e.rows + run.rows); times = e.times ++ run.times; total = capped (e.total + run.total); errors = capped (e.errors + run.errors) }
 
 -- with its first
-abbrev pub begun : Run → Tally
+abbrev pub begun : Tally → Tally
 begun run = grown run (record { text = run.text; rows = 0; times = []; total = 0; errors = 0 })
 
 -- one more run, among those of its statement
-abbrev pub tallied : Run → List Tally → List Tally
+abbrev pub tallied : Tally → List Tally → List Tally
 tallied run [] = begun run ∷ []
 tallied run (e ∷ more) = if bytes_eq e.text run.text then grown run e ∷ more else e ∷ tallied run more
 
--- the statements of these runs, in the order in which the first run or error of each came
-abbrev pub tally_after : List Tally → List Run → List Tally
+-- the statements of these runs too, in the order in which the first run or error of each came: those of a request each, or the lines of another table
+abbrev pub tally_after : List Tally → List Tally → List Tally
 tally_after tallies [] = tallies
 tally_after tallies (run ∷ more) = tally_after (tallied run tallies) more
 
-abbrev pub tally : List Run → List Tally
+abbrev pub tally : List Tally → List Tally
 tally runs = tally_after [] runs
 
 -- ---- what is said of a statement

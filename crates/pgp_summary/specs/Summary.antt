@@ -3,7 +3,7 @@ use Rattle.std.specs.Prelude.{ℕ, ◌+◌, Bool, true, false, ◌&&◌, ◌==�
 use Rattle.std.specs.Option.{unwrap_or}
 use Rattle.pgp_names.specs.Names.{found, put}
 use Rattle.pgp_summary.specs.Fold.{folded}
-use Rattle.pgp_summary.specs.Runs.{Run, Tally, capped, tallied, tally_after}
+use Rattle.pgp_summary.specs.Runs.{Tally, capped, tallied, tally_after}
 use Rattle.pgp_summary.specs.declared.work.Work.{Work}
 use Rattle.pgp_summary.specs.declared.work.Work.TheVariants.{Query, Parse, Bind, Execute}
 use Rattle.pgp_summary.specs.declared.work.Reply.{Reply}
@@ -111,12 +111,12 @@ with_statement name text s = record s { statements = named name text s.statement
 abbrev pub with_portal : (name text : List ℕ) → State → State
 with_portal name text s = record s { portals = named name text s.portals }
 
-abbrev pub with_run : Run → State → State
+abbrev pub with_run : Tally → State → State
 with_run run s = record s { tallies = tallied run s.tallies }
 
 -- a run of this text by the request of this number
 abbrev pub ran : (text : List ℕ) (number micros : ℕ) → State → State
-ran text number micros s = with_run (record { text = text; rows = rows_of number s; micros = Some micros; errors = 0 }) s
+ran text number micros s = with_run (record { text = text; rows = rows_of number s; times = micros ∷ []; total = micros; errors = 0 }) s
 
 -- what a request did that took so long
 abbrev pub did : Work → Request → (micros : ℕ) → State → State
@@ -136,11 +136,11 @@ text_of Parse r statements portals = r.second
 text_of Bind r statements portals = text_under r.second statements
 text_of Execute r statements portals = text_under r.first portals
 
-abbrev pub error_of : Option Request → State → List Run
+abbrev pub error_of : Option Request → State → List Tally
 error_of None s = []
-error_of (Some r) s = record { text = text_of r.work r s.statements s.portals; rows = 0; micros = None; errors = 1 } ∷ []
+error_of (Some r) s = record { text = text_of r.work r s.statements s.portals; rows = 0; times = []; total = 0; errors = 1 } ∷ []
 
-abbrev pub with_runs : List Run → State → State
+abbrev pub with_runs : List Tally → State → State
 with_runs runs s = record s { tallies = tally_after s.tallies runs }
 
 -- the server sent an error for the request of this number

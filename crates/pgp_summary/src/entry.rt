@@ -1,8 +1,9 @@
 //! What a statement came to.
 
 ghost use Rattle.std.specs.Prelude.{◌≡◌, ◌+◌, ◌/◌, get_or, slice_get, IfOk, OnErr, OnOk};
-ghost use Rattle.pgp_summary.specs.Runs.{ascending, capped, line_by, line_of, median_of, tallied};
-ghost use Rattle.pgp_summary.specs.Places.{more_of, no_run, tallies_of};
+ghost use Rattle.std.specs.Option.{option_to_list};
+ghost use Rattle.pgp_summary.specs.Runs.{ascending, capped, line_by, line_of, median_of, tallied, tally_after};
+ghost use Rattle.pgp_summary.specs.Places.{more_of, no_run, tallies_of, tally_of};
 
 use pgp_base::Memory;
 use pgp_names::{MapMemory, Names};
@@ -41,12 +42,21 @@ impl<'a, A: Allocator> Model for Entry<'a, A> {
     ghost view = { λ x. record { text = x.text.now; rows = x.ran.now.rows; times = x.ran.now.times; total = x.ran.now.total; errors = x.ran.now.errors } };
 }
 
-/// What a request adds: the rows of a run, the microseconds that it took if it is over, and errors.
-#[derive(Debug, Clone, Copy, PartialEq, Eq)]
-pub(crate) struct More {
+/// What requests add: the rows of their runs, the microseconds that each took which is over, the sum of these, and errors.
+#[derive(Debug, Drop)]
+pub(crate) struct More<'a> {
     pub(crate) rows: u64,
-    pub(crate) micros: Option<u64>,
+    pub(crate) times: &'a [u64],
+    pub(crate) total: u64,
     pub(crate) errors: u64,
+}
+
+impl<'a> Model for More<'a> {
+    ghost use Rattle.pgp_summary.specs.Places as spec;
+
+    ghost Value = { spec.Ran };
+
+    ghost view = { λ x. record { rows = x.rows; times = x.times.now; total = x.total; errors = x.errors } };
 }
 
 /// What is said of a statement: how often it ran, how many errors there were, the rows of all its runs, and of the times that they took, in microseconds, the sum, the least, the median
@@ -101,20 +111,27 @@ impl<A: MapMemory> Ran<A> {
         })
     }
 
-    /// One more run, or an error.
-    fn with(mut self, more: More) -> Result<Ran<A>, AllocError>
-        ensures added { IfOk result (λ ran. ran ≡ more_of more.rows more.errors more.micros self) }
+    /// The same with more.
+    fn with(mut self, more: More<'_>) -> Result<Ran<A>, AllocError>
+        ensures added { IfOk result (λ ran. ran ≡ more_of more.entry self) }
         ensures lacks { OnErr result A.Lacks }
     {
         self.rows = plus(self.rows, more.rows);
-        self.total = plus(self.total, more.micros.unwrap_or(0));
+        self.total = plus(self.total, more.total);
         self.errors = plus(self.errors, more.errors);
-        match more.micros {
-            Some(micros) => {
-                A::push(&mut self.times, micros)?;
-                Ok(self)
-            }
-            None => Ok(self),
+        A::extend(&mut self.times, more.times)?;
+        Ok(self)
+    }
+
+    /// All of it, to be added to another's.
+    fn as_more(&self) -> More<'_>
+        ensures { result ≡ self.now }
+    {
+        More {
+            rows: self.rows,
+            times: self.times.as_slice(),
+            total: self.total,
+            errors: self.errors,
         }
     }
 }
@@ -132,14 +149,14 @@ pub(crate) fn entry_at<A: MapMemory>(
     }
 }
 
-/// One more run of a statement, or an error.
+/// Adds what requests of a statement came to.
 pub(crate) fn tally<A: MapMemory>(
     alloc: A,
     text: &[u8],
-    more: More,
+    more: More<'_>,
     entries: &mut Names<Ran<A>, A>,
 ) -> Result<(), AllocError>
-    ensures tallied { OnOk result (tallies_of entries.new ≡ tallied (record { text = text.now; rows = more.rows; micros = more.micros; errors = more.errors }) (tallies_of entries.old)) }
+    ensures tallied { OnOk result (tallies_of entries.new ≡ tallied (tally_of (text.now, more.entry)) (tallies_of entries.old)) }
     ensures lacks { OnErr result A.Lacks }
 {
     match entries.swap(text, none(alloc)) {
@@ -151,6 +168,37 @@ pub(crate) fn tally<A: MapMemory>(
             let first = none.with(more)?;
             entries.put(text, first)
         }
+    }
+}
+
+/// Adds what the statements of another table came to.
+pub(crate) fn tally_all<A: MapMemory>(
+    alloc: A,
+    others: &Names<Ran<A>, A>,
+    entries: &mut Names<Ran<A>, A>,
+) -> Result<(), AllocError>
+    ensures tallied { OnOk result (tallies_of entries.new ≡ tally_after (tallies_of entries.old) (tallies_of others.now)) }
+    ensures lacks { OnErr result A.Lacks }
+{
+    'each: for place in 0..others.len() {
+        tally_at(alloc, others, place, entries)?;
+    }
+    Ok(())
+}
+
+/// Adds what the statement at this place came to.
+fn tally_at<A: MapMemory>(
+    alloc: A,
+    others: &Names<Ran<A>, A>,
+    place: usize,
+    entries: &mut Names<Ran<A>, A>,
+) -> Result<(), AllocError>
+    ensures tallied { OnOk result (tallies_of entries.new ≡ tally_after (tallies_of entries.old) (option_to_list (slice_get (tallies_of others.now) place))) }
+    ensures lacks { OnErr result A.Lacks }
+{
+    match entry_at(others, place) {
+        Some(entry) => tally(alloc, entry.text, entry.ran.as_more(), entries),
+        None => Ok(()),
     }
 }
 

@@ -1,8 +1,8 @@
 //! Laws of summaries.
 
-ghost use Rattle.std.specs.Prelude.{◌≡◌, ℕ, Bool, List};
+ghost use Rattle.std.specs.Prelude.{◌≡◌, ◌++◌, ℕ, Bool, List};
 ghost use Rattle.pgp_summary.specs.Calls.{AreApart, Call, after, found, runs_in, said_of};
-ghost use Rattle.pgp_summary.specs.Runs.{Run, tally};
+ghost use Rattle.pgp_summary.specs.Runs.{Tally, tally, tally_after};
 ghost use Rattle.pgp_summary.specs.Summary.{nothing};
 
 /// Whatever calls were made: the statements are those of the runs that they ended and of their errors, and no others.
@@ -12,6 +12,11 @@ pub fn runs_are_tallied()
 
 /// Of these runs each statement has one line, with the times, the rows and the errors of all its runs, and of no others.
 pub fn each_statement_has_its_runs()
-    ensures found { (runs : List Run) (text : List ℕ) → found text (tally runs) ≡ said_of text runs }
-    ensures apart { (runs : List Run) → AreApart (tally runs) }
+    ensures found { (runs : List Tally) (text : List ℕ) → found text (tally runs) ≡ said_of text runs }
+    ensures apart { (runs : List Tally) → AreApart (tally runs) }
+{}
+
+/// The tables of two connections, one added to the other, are the table of the runs of both.
+pub fn tables_add_up()
+    ensures { (runs more : List Tally) → tally_after (tally runs) (tally more) ≡ tally (runs ++ more) }
 {}

@@ -1,9 +1,9 @@
 //! What the requests of a connection ran.
 
-ghost use Rattle.std.specs.Prelude.{◌≡◌, ◌&&◌, length, slice_get, Some, IfErr, IfOk, OnErr, OnOk};
-ghost use Rattle.pgp_summary.specs.Summary.{asked, did, ended, failed, nothing, ran, row, rows_of, text_in, text_of, text_under, with_portal};
+ghost use Rattle.std.specs.Prelude.{◌≡◌, ◌&&◌, length, slice_get, IfErr, IfOk, OnErr, OnOk};
+ghost use Rattle.pgp_summary.specs.Summary.{asked, did, ended, failed, nothing, ran, row, rows_of, text_in, text_of, text_under, with_portal, with_runs};
 
-use crate::entry::{Entry, More, Ran, entry_at, plus, tally};
+use crate::entry::{Entry, More, Ran, entry_at, plus, tally, tally_all};
 use crate::fold::fold;
 use crate::named::{Text, put, text_under};
 use crate::waiting::{Asked, first_of, push, skip, take};
@@ -13,12 +13,6 @@ use pgp_names::{MapMemory, Names};
 use std::alloc::{AllocError, Global};
 use std::collections::VecDeque;
 use std::marker::Model;
-
-const ERROR: More = More {
-    rows: 0,
-    micros: None,
-    errors: 1,
-};
 
 /// What the requests of a connection ran. It keeps the texts that prepared statements and portals have, those of the requests whose answers aren't complete,
 /// and of each statement that ran its text and 8 bytes a run.
@@ -159,7 +153,8 @@ impl<A: MapMemory> Summary<A> {
         ensures ran { OnOk result (self.new ≡ ran (text_under portal.now self.old.portals) number micros self.old) }
         ensures lacks { OnErr result A.Lacks }
     {
-        let more = self.run_of(number, micros);
+        let times = [micros];
+        let more = self.run_of(number, micros, &times);
         let text = text_under(portal, &self.portals);
         tally(self.alloc, text, more, &mut self.entries)
     }
@@ -169,17 +164,19 @@ impl<A: MapMemory> Summary<A> {
         ensures ran { OnOk result (self.new ≡ ran text.now number micros self.old) }
         ensures lacks { OnErr result A.Lacks }
     {
-        let more = self.run_of(number, micros);
+        let times = [micros];
+        let more = self.run_of(number, micros, &times);
         tally(self.alloc, text, more, &mut self.entries)
     }
 
-    /// A run by the request of this number.
-    fn run_of(&self, number: u64, micros: u64) -> More
-        ensures { result ≡ record { rows = rows_of number self.now; micros = Some micros; errors = 0 } }
+    /// A run by the request of this number, which took so long.
+    fn run_of<'b>(&self, number: u64, total: u64, times: &'b [u64]) -> More<'b>
+        ensures { result ≡ record { rows = rows_of number self.now; times = times.now; total = total; errors = 0 } }
     {
         More {
             rows: self.rows_of(number),
-            micros: Some(micros),
+            times,
+            total,
             errors: 0,
         }
     }
@@ -197,10 +194,28 @@ impl<A: MapMemory> Summary<A> {
         match first_of(number, &self.waiting) {
             Some(asked) => {
                 let text = text_of(asked, &self.statements, &self.portals);
-                tally(self.alloc, text, ERROR, &mut self.entries)
+                let error = More {
+                    rows: 0,
+                    times: &[],
+                    total: 0,
+                    errors: 1,
+                };
+                tally(self.alloc, text, error, &mut self.entries)
             }
             None => Ok(()),
         }
+    }
+
+    /// Adds the table of another connection: what its statements came to, under the same text or as statements of their own.
+    ///
+    /// # Errors
+    ///
+    /// Returns `AllocError` if there is no memory for it; then the summary is no longer that of the requests.
+    pub fn add(&mut self, other: &Summary<A>) -> Result<(), AllocError>
+        ensures added { OnOk result (self.new ≡ with_runs other.now.tallies self.old) }
+        ensures lacks { OnErr result A.Lacks }
+    {
+        tally_all(self.alloc, &other.entries, &mut self.entries)
     }
 
     /// How many statements ran.

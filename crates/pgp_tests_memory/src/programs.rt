@@ -3,10 +3,13 @@
 
 use crate::checks::{holds, same};
 use crate::process::Words;
+use pgp_base::Memory;
+use pgp_conversation::files::Recordings;
 use pgp_conversation::run::run as trace;
 use pgp_test_alloc::Refusing;
 use pgp_wire::run::run_own as wire;
 use std::alloc::Global;
+use std::io::{self, ErrorKind, Read};
 use std::process::Abort;
 
 /// Words and an input, and what `pgwire` comes to.
@@ -65,7 +68,37 @@ struct Listed {
     reported: &'static str,
 }
 
-static LISTINGS: [Listed; 5] = [
+/// An input, beside which each file has these bytes.
+struct Recorded {
+    input: &'static [u8],
+    file: &'static [u8],
+}
+
+impl Read for Recorded {
+    fn read(&mut self, buf: &mut [u8]) -> io::Result<usize> {
+        self.input.read(buf)
+    }
+}
+
+impl Recordings for Recorded {
+    ghost Gives = { λ _ _. Unit {0} };
+
+    fn read_whole<A: Memory>(&self, alloc: A, _name: &str) -> io::Result<Vec<u8, A>> {
+        match alloc.list_of(self.file) {
+            Ok(bytes) => Ok(bytes),
+            Err(_) => Err(io::Error::from(ErrorKind::OutOfMemory)),
+        }
+    }
+}
+
+/// A log-in, and a query that is answered after a millisecond.
+static QUERY: &[u8] = b"pgtrace recording 1\n\
+    >\x00\x00\x00\x00\x00\x0fB@\x00\x00\x00\x10\x00\x00\x00\x10\x00\x03\x00\x00user\x00a\x00\x00\
+    <\x00\x00\x00\x00\x00\x0fB@\x00\x00\x00\x0fR\x00\x00\x00\x08\x00\x00\x00\x00Z\x00\x00\x00\x05I\
+    >\x00\x00\x00\x00\x00\x0fB@\x00\x00\x00\x07Q\x00\x00\x00\x06a\x00\
+    <\x00\x00\x00\x00\x00\x0fF(\x00\x00\x00\x0bI\x00\x00\x00\x04Z\x00\x00\x00\x05I";
+
+static LISTINGS: [Listed; 7] = [
     // A refusal to encrypt, the end of a log-in, a setting, a state and a key, and the front of another state.
     Listed {
         words: &["server"],
@@ -106,6 +139,19 @@ static LISTINGS: [Listed; 5] = [
         input: b"pgtrace recording 1\n<\x00\x00\x00\x00\x00\x00\x00\x01\x00\x00\x00\x01N>\x00",
         output: "    0.000000 <          0        1 N SSLResponse or GSSENCResponse\n",
         reported: "pgtrace: the recording ends inside a chunk\n",
+    },
+    // The recording in a file, and the table of two.
+    Listed {
+        words: &["session", "a", "--only", "Query"],
+        input: b"",
+        output: "    0.000000 >         16        7 Q Query                query \"a\"\n",
+        reported: "",
+    },
+    Listed {
+        words: &["session", "a", "--summary", "b"],
+        input: b"",
+        output: "   count   errors       rows      total      least     median   greatest ms\n       2        0          0      2.000      1.000      1.000      1.000 \"a\"\n",
+        reported: "",
     },
 ];
 
@@ -159,7 +205,10 @@ fn pgwire_writes_nothing_with_each_request_refused(rt: HostRuntime) {
 /// Whether the request of memory of this number is refused: then a front is written, and that is reported.
 fn is_refused(rt: &impl Abort, alloc: Global, listed: &Listed, number: u64) -> bool {
     let heap = Refusing::new(alloc, number);
-    let mut input = listed.input;
+    let mut input = Recorded {
+        input: listed.input,
+        file: QUERY,
+    };
     let mut output = Vec::new(alloc);
     let mut errors = Vec::new(alloc);
     let words = listed.words;

@@ -1,9 +1,9 @@
 -- Options, one after another.
 use Rattle.pgp_trace.proofs.Common.{◌≡◌, ◌≢◌, ℕ, suc, ◌+◌, ◌-◌, ◌<◌, ◌≤◌, Bool, List, [], ◌∷◌, ◌++◌, length, length-append, get_or, drop, map, refl, sym, ap, subst, ◌∙◌, append_assoc, arith, codes, if◌then◌else◌, flat_map, AllByRecursion, append-nil, drop-drop, length-drop, length-map, drop-append_seam, flat_map-cons, AreOptions, AreNoOptions, BeginsWithNoneOf, Chosen, IsOneOf, argument_of, chooses, chosen_by, has_word, nothing_chosen, word_of}
 use Rattle.std.proofs.lemmas.Grind.{flat_map-append}
-use Rattle.pgp_trace.specs.Options.{spelled}
+use Rattle.pgp_trace.specs.Options.{IsSound, is_file, spelled}
 use Rattle.pgp_trace.specs.declared.options.Choice.{Choice}
-use Rattle.pgp_trace.specs.declared.options.Choice.TheVariants.{Only, Except}
+use Rattle.pgp_trace.specs.declared.options.Choice.TheVariants.{File, Only, Except}
 
 -- Some options came, and these words stand after them.
 pub record Received (terminal : Bool) (has all rest : List (List ℕ)) (chosen : Chosen) : Type 0 where
@@ -55,21 +55,22 @@ first words = get_or words 0 []
 
 -- how many words stand after the first word of an option
 abbrev behind : List ℕ → ℕ
-behind word = if has_word (codes "--only" ∷ codes "--except" ∷ codes "--color" ∷ codes "--password-kind" ∷ codes "--time" ∷ codes "--slower" ∷ []) word then 1 else 0
+behind word = if is_file word then 0 else if has_word (codes "--only" ∷ codes "--except" ∷ codes "--color" ∷ codes "--password-kind" ∷ codes "--time" ∷ codes "--slower" ∷ []) word then 1 else 0
 
-arguments : (c : Choice) → length (argument_of c) ≡ behind (word_of c)
-arguments (Only names) = refl
-arguments (Except names) = refl
-arguments c = refl
+arguments : (c : Choice) → IsSound c → length (argument_of c) ≡ behind (word_of c)
+arguments (File name) s = rw s refl
+arguments (Only names) s = refl
+arguments (Except names) s = refl
+arguments c s = refl
 
 first_word : (c d : Choice) (x y : List (List ℕ)) → spelled c ++ x ≡ spelled d ++ y → word_of c ≡ word_of d
 unfolding first
 first_word c d x y e = ap first e
 
 -- the same stands after the first option of each
-one_first : (c d : Choice) (x y : List (List ℕ)) → spelled c ++ x ≡ spelled d ++ y → x ≡ y
-one_first c d x y e =
-    let long : length (argument_of c) ≡ length (argument_of d) = arguments c ∙ ap behind (first_word c d x y e) ∙ sym (arguments d) in
+one_first : (c d : Choice) (x y : List (List ℕ)) → IsSound c → IsSound d → spelled c ++ x ≡ spelled d ++ y → x ≡ y
+one_first c d x y s t e =
+    let long : length (argument_of c) ≡ length (argument_of d) = arguments c s ∙ ap behind (first_word c d x y e) ∙ sym (arguments d t) in
     sym (drop-append_seam (spelled c) x) ∙ ap (λ l. drop (length (spelled c)) l) e ∙ ap (λ n. drop (suc n) (spelled d ++ y)) long ∙ drop-append_seam (spelled d) y
 
 split : (cs : List Choice) (c : Choice) (rest : List (List ℕ)) → flat_map spelled (c ∷ cs) ++ rest ≡ spelled c ++ (flat_map spelled cs ++ rest)
@@ -78,18 +79,18 @@ split cs c rest = ap (λ l. l ++ rest) (flat_map-cons spelled c cs) ∙ append_a
 some_words : (c : Choice) (x : List (List ℕ)) → spelled c ++ x ≡ [] → ⊥
 some_words c x e = let h : suc (length (argument_of c ++ x)) ≡ 0 = ap length e in absurd (omega (arith, h))
 
-breaks_off : (has : List (List ℕ)) (cs ds : List Choice) (rest : List (List ℕ)) → AllByRecursion (IsOneOf has) ds → rest ≢ [] → BeginsWithNoneOf has rest → flat_map spelled cs ++ rest ≡ flat_map spelled ds → ⊥
-breaks_off has [] [] rest each some none e = some e
-breaks_off has [] (d ∷ ds) rest each some none e = none d (flat_map spelled ds) each.0 (e ∙ flat_map-cons spelled d ds)
-breaks_off has (c ∷ cs) [] rest each some none e = some_words c (flat_map spelled cs ++ rest) (sym (split cs c rest) ∙ e)
-breaks_off has (c ∷ cs) (d ∷ ds) rest each some none e =
-    breaks_off has cs ds rest each.1 some none (one_first c d (flat_map spelled cs ++ rest) (flat_map spelled ds) (sym (split cs c rest) ∙ e ∙ flat_map-cons spelled d ds))
+breaks_off : (has : List (List ℕ)) (cs ds : List Choice) (rest : List (List ℕ)) → AllByRecursion (IsOneOf has) cs → AllByRecursion (IsOneOf has) ds → rest ≢ [] → BeginsWithNoneOf has rest → flat_map spelled cs ++ rest ≡ flat_map spelled ds → ⊥
+breaks_off has [] [] rest own each some none e = some e
+breaks_off has [] (d ∷ ds) rest own each some none e = none d (flat_map spelled ds) each.0 (e ∙ flat_map-cons spelled d ds)
+breaks_off has (c ∷ cs) [] rest own each some none e = some_words c (flat_map spelled cs ++ rest) (sym (split cs c rest) ∙ e)
+breaks_off has (c ∷ cs) (d ∷ ds) rest own each some none e =
+    breaks_off has cs ds rest own.1 each.1 some none (one_first c d (flat_map spelled cs ++ rest) (flat_map spelled ds) own.0.1 each.0.1 (sym (split cs c rest) ∙ e ∙ flat_map-cons spelled d ds))
 
 -- where no option stands after some, the words are no options
 pub received_wrong : {X : Type 0} (terminal : Bool) (word : X → List ℕ) (has all : List (List ℕ)) (words : List X) (at : ℕ) (chosen : Chosen) → at < length words → Received terminal has all (map word (drop at words)) chosen → BeginsWithNoneOf has (map word (drop at words)) → AreNoOptions has all
 received_wrong terminal word has all words at chosen less r none =
     let some : map word (drop at words) ≢ [] = λ e. absurd (omega (arith, less, length-drop at words, length-map (drop at words) word, ap length e)) in
-    λ ds each e. breaks_off has r.choices ds (map word (drop at words)) each some none (sym r.whole ∙ e)
+    λ ds each e. breaks_off has r.choices ds (map word (drop at words)) r.each each some none (sym r.whole ∙ e)
 
 -- ---- places in the words
 

@@ -1,5 +1,5 @@
 -- The options of a listing, as words spell them.
-use Rattle.std.specs.Prelude.{◌≡◌, ◌≢◌, ⊤, ℕ, ◌*◌, Ok, Bool, true, false, List, [], ◌∷◌, ◌++◌, ◌==◌, codes, map}
+use Rattle.std.specs.Prelude.{◌≡◌, ◌≢◌, ⊤, ℕ, ◌*◌, Ok, Bool, true, false, not, if◌then◌else◌, List, [], ◌∷◌, ◌++◌, ◌==◌, codes, map}
 use Rattle.std.specs.Borrow.{Bor}
 use Rattle.std.specs.Str.Parse.{ParsesUnsigned}
 use Rattle.pgp_trace.specs.Common.{flat_map, slice_split, AllByRecursion}
@@ -7,7 +7,7 @@ use Rattle.pgp_frontend_read.specs.declared.message.PasswordKind.{PasswordKind}
 use Rattle.pgp_frontend_read.specs.declared.message.PasswordKind.TheVariants.{Password, Initial, Response}
 use Rattle.pgp_trace.specs.declared.marking.Marking.{Marking}
 use Rattle.pgp_trace.specs.declared.options.Choice.{Choice}
-use Rattle.pgp_trace.specs.declared.options.Choice.TheVariants.{AsJson, Full, Secrets, Resume, Replication, Only, Except, Color, Kind, Time, Requests, Slower, Summary, Fold, Raw}
+use Rattle.pgp_trace.specs.declared.options.Choice.TheVariants.{File, AsJson, Full, Secrets, Resume, Replication, Only, Except, Color, Kind, Time, Requests, Slower, Summary, Fold, Raw}
 use Rattle.pgp_trace.specs.declared.options.Clock.{Clock}
 use Rattle.pgp_trace.specs.declared.options.Clock.TheVariants.{Absolute, Relative}
 use Rattle.pgp_trace.specs.declared.options.Listing.{Listing}
@@ -32,8 +32,14 @@ abbrev pub clock_word : Clock → List ℕ
 clock_word Absolute = codes "absolute"
 clock_word Relative = codes "relative"
 
+-- the name of a file is a word of its own, which begins with no `-`
+abbrev pub is_file : List ℕ → Bool
+is_file [] = false
+is_file (first ∷ more) = not (first == 45)
+
 -- the first word of one, and what stands after it
 abbrev pub word_of : Choice → List ℕ
+word_of (File name) = name.now
 word_of AsJson = codes "--json"
 word_of Full = codes "--full"
 word_of Secrets = codes "--secrets"
@@ -67,19 +73,24 @@ spelled choice = word_of choice ∷ argument_of choice
 abbrev pub options_in : Listing → List (List ℕ)
 options_in Server = codes "--json" ∷ codes "--full" ∷ codes "--secrets" ∷ codes "--resume" ∷ codes "--only" ∷ codes "--except" ∷ codes "--color" ∷ []
 options_in Client = codes "--json" ∷ codes "--full" ∷ codes "--secrets" ∷ codes "--resume" ∷ codes "--only" ∷ codes "--except" ∷ codes "--color" ∷ codes "--password-kind" ∷ codes "--replication" ∷ []
-options_in Session = codes "--json" ∷ codes "--full" ∷ codes "--secrets" ∷ codes "--requests" ∷ codes "--slower" ∷ codes "--raw" ∷ codes "--summary" ∷ codes "--fold" ∷ codes "--time" ∷ codes "--only" ∷ codes "--except" ∷ codes "--color" ∷ []
+options_in Session = codes "--json" ∷ codes "--full" ∷ codes "--secrets" ∷ codes "--requests" ∷ codes "--slower" ∷ codes "--raw" ∷ codes "--summary" ∷ codes "--fold" ∷ codes "--time" ∷ codes "--only" ∷ codes "--except" ∷ codes "--color" ∷ codes "FILE" ∷ []
+
+-- under which word of these an option stands there
+abbrev pub key_of : List ℕ → List ℕ
+key_of word = if is_file word then codes "FILE" else word
 
 -- of that which has a number of milliseconds: it is what its word says, and less than 2³²
 abbrev pub IsSound : Choice → Type 0
+IsSound (File name) = is_file name.now ≡ true
 IsSound (Slower word millis) = ParsesUnsigned {E = ⊤} 32 10 word.now (Ok millis)
 IsSound choice = ⊤
 
 abbrev pub IsOneOf : List (List ℕ) → Choice → Type 0
-IsOneOf has choice = (has_word has (word_of choice) ≡ true) × IsSound choice
+IsOneOf has choice = (has_word has (key_of (word_of choice)) ≡ true) × IsSound choice
 
 -- What options come to: of which style lines are, the names of the messages that are listed and of those that aren't, and whether lines have colours; whether a stream is taken in
 -- mid-session, whether it is one of replication, and which a client's messages of tag `p` are, from the first on; how late the answers are that are listed,
--- and what the marks of a recording say.
+-- what the marks of a recording say, and the names of files.
 pub record Chosen : Type 0 where
   pub json : Bool
   pub full : Bool
@@ -92,10 +103,11 @@ pub record Chosen : Type 0 where
   pub kinds : List PasswordKind
   pub slower : ℕ
   pub marking : Marking
+  pub files : List (List ℕ)
 
 -- with none, where a terminal shows the listing or not
 abbrev pub nothing_chosen : (terminal : Bool) → Chosen
-nothing_chosen terminal = record { json = false; full = false; secrets = false; resume = false; replicating = false; only = []; except = []; colored = terminal; kinds = []; slower = 0; marking = record { absolute = false; numbered = false; summed = false; folded = false; raw = false } }
+nothing_chosen terminal = record { json = false; full = false; secrets = false; resume = false; replicating = false; only = []; except = []; colored = terminal; kinds = []; slower = 0; marking = record { absolute = false; numbered = false; summed = false; folded = false; raw = false }; files = [] }
 
 abbrev pub is_comma : ℕ → Bool
 is_comma byte = byte == 44
@@ -126,6 +138,7 @@ marks choice m = m
 
 -- What one more changes. Of those that say when a listing has colours the last counts.
 abbrev pub chooses : (terminal : Bool) → Chosen → Choice → Chosen
+chooses terminal o (File name) = record o { files = o.files ++ name.now ∷ [] }
 chooses terminal o AsJson = record o { json = true }
 chooses terminal o Full = record o { full = true }
 chooses terminal o Secrets = record o { secrets = true }
@@ -180,4 +193,5 @@ chosen_of options = record {
   kinds = options.kinds.items;
   slower = options.slower;
   marking = options.marking;
+  files = map (λ (name : Bor (List ℕ)). name.now) options.files.items;
 }

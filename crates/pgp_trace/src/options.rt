@@ -1,7 +1,7 @@
 //! The options of a listing.
 
-ghost use Rattle.std.specs.Prelude.{◌≡◌, ◌++◌, ◌∷◌, true, codes, drop, length, map, IfNone, IfOk, IfSome, OnErr, OnOk};
-ghost use Rattle.pgp_trace.specs.Options.{AreNoOptions, AreOptions, BeginsWithNone, BeginsWithNoneOf, IsOneOf, IsSound, chooses, chosen_of, is_colored, marks, names_in, nothing_chosen, options_in, spelled};
+ghost use Rattle.std.specs.Prelude.{◌≡◌, ◌++◌, ◌∷◌, [], true, codes, drop, length, map, IfNone, IfOk, IfSome, OnErr, OnOk};
+ghost use Rattle.pgp_trace.specs.Options.{AreNoOptions, AreOptions, BeginsWithNone, BeginsWithNoneOf, IsOneOf, IsSound, chooses, chosen_of, is_colored, is_file, key_of, marks, names_in, nothing_chosen, options_in, spelled};
 
 use crate::marking::Marking;
 use crate::view::has_word;
@@ -41,6 +41,8 @@ pub enum Clock {
 /// An option of a listing.
 #[derive(Debug, Clone, Copy)]
 pub enum Choice<'a> {
+    /// The name of a file.
+    File(&'a str),
     AsJson,
     Full,
     Secrets,
@@ -87,6 +89,8 @@ pub struct Options<'a, A: Memory> {
     pub slower: u64,
     /// What the marks of a recording say.
     pub marking: Marking,
+    /// The names of files that are read in the place of standard input.
+    pub files: Vec<&'a str, A>,
 }
 
 const CLIENT: &[&str] = &[
@@ -114,6 +118,7 @@ const SESSION: &[&str] = &[
     "--only",
     "--except",
     "--color",
+    "FILE",
 ];
 
 /// The options that a listing has.
@@ -176,6 +181,7 @@ fn no_options<'a, A: Memory>(alloc: A, terminal: bool) -> Options<'a, A>
             folded: false,
             raw: false,
         },
+        files: Vec::new(alloc),
     }
 }
 
@@ -189,6 +195,7 @@ fn choose<'a, A: Memory>(
     ensures lacks { OnErr result A.Lacks }
 {
     match choice {
+        Choice::File(name) => add_file(name, &mut options.files)?,
         Choice::AsJson => options.json = true,
         Choice::Full => options.full = true,
         Choice::Secrets => options.secrets = true,
@@ -207,6 +214,15 @@ fn choose<'a, A: Memory>(
             &mut options.marking,
         ),
     }
+    Ok(())
+}
+
+/// Adds the name of a file.
+fn add_file<'a, A: Memory>(name: &'a str, files: &mut Vec<&'a str, A>) -> Result<(), AllocError>
+    ensures file { OnOk result (map (λ file. file.now) files.new.items ≡ map (λ file. file.now) files.old.items ++ name.now ∷ []) }
+    ensures lacks { OnErr result A.Lacks }
+{
+    A::push(files, name)?;
     Ok(())
 }
 
@@ -271,10 +287,27 @@ fn first_of<'a>(has: &[&str], words: &[&'a str]) -> Option<Choice<'a>>
     ensures none { IfNone result (BeginsWithNoneOf (map (λ word. word.now) has.now) (map (λ word. word.now) words.now)) }
 {
     let (word, _) = words.split_first()?;
-    if !has_word(has, word) {
+    if !has_word(has, key_of(word)) {
         return None;
     }
     first_choice(words)
+}
+
+/// Under which word an option stands among those of a listing.
+fn key_of(word: &str) -> &str
+    ensures { result.now ≡ key_of word.now }
+{
+    if is_file(word) { "FILE" } else { word }
+}
+
+/// Whether a word is the name of a file.
+fn is_file(word: &str) -> bool
+    ensures { result ≡ is_file word.now }
+{
+    match word.as_bytes().first() {
+        Some(first) => *first != b'-',
+        None => false,
+    }
 }
 
 /// The option that stands first.
@@ -283,6 +316,9 @@ fn first_choice<'a>(words: &[&'a str]) -> Option<Choice<'a>>
     ensures none { IfNone result (BeginsWithNone (map (λ word. word.now) words.now)) }
 {
     let (word, rest) = words.split_first()?;
+    if is_file(word) {
+        return Some(Choice::File(*word));
+    }
     match *word {
         "--json" => Some(Choice::AsJson),
         "--full" => Some(Choice::Full),

@@ -1,5 +1,7 @@
 //! Readers and writers for the tests: those that fail, and those that give what they have in pieces.
 
+use erased::kit::Global;
+use erased::proved::pgp_conversation::files::Recordings;
 use std::io::{self, Read, Write};
 
 /// A reader that gives these bytes, so many at a time, and then fails.
@@ -65,5 +67,20 @@ impl Write for FailingWriter {
             return Err(io::Error::from(io::ErrorKind::BrokenPipe));
         }
         Ok(())
+    }
+}
+
+/// A reader beside which there are no files.
+pub struct Alone<R>(pub R);
+
+impl<R: Read> Read for Alone<R> {
+    fn read(&mut self, buf: &mut [u8]) -> io::Result<usize> {
+        self.0.read(buf)
+    }
+}
+
+impl<R: Read> Recordings for Alone<R> {
+    fn read_whole(&self, _alloc: Global, _name: &str) -> io::Result<Vec<u8>> {
+        Err(io::Error::from(io::ErrorKind::NotFound))
     }
 }

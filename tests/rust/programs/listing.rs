@@ -1,7 +1,7 @@
 //! What no clause says of listings: that they come wherever the bytes are cut, and a front of them whatever fails. What is listed of these streams and
 //! recordings stands in tests/programs/pgtrace.runs too, with where it is from.
 
-use crate::programs::failing::{FailingReader, FailingWriter, PieceReader};
+use crate::programs::failing::{Alone, FailingReader, FailingWriter, PieceReader};
 use erased::kit::calls::Fail;
 use erased::kit::Global;
 use erased::proved::pgp_conversation::run::run;
@@ -123,7 +123,7 @@ impl Listing {
     /// The program ends so on this input, and says this; how that ended in memory is for who calls.
     fn ends<R: Read, W: Write>(&self, input: &mut R, output: &mut W, (status, reported): (u8, &str)) {
         let mut errors = Vec::new();
-        let ended = run(Global, false, self.words, input, output, &mut errors);
+        let ended = run(Global, false, self.words, &mut Alone(input), output, &mut errors);
         assert_eq!(ended, status);
         assert!(errors.as_slice() == reported.as_bytes());
     }
@@ -200,7 +200,7 @@ fn ends_quietly(listing: &Listing, left: usize, lines: &[u8]) {
         Global,
         false,
         listing.words,
-        &mut pipe.source(&mut input),
+        &mut Alone(pipe.source(&mut input)),
         &mut pipe.sink(&mut output),
         &mut pipe.sink(&mut errors),
     );

@@ -9,9 +9,9 @@ on_ok (Err e) f p = tt
 pub returns-in_ok-ran-in-Ok-clause-tallied : goal.returns-in_ok-ran-in-Ok-clause-tallied
 returns-in_ok-ran-in-Ok-clause-tallied g c = on_ok c.put.result (λ e. ap tallies_of (e ∙ ap (put c.args.text.now c.in_ok-ran-in-Ok.ran) c.in-Ok.ensures.put ∙ put_put c.args.text.now c.none.result c.in_ok-ran-in-Ok.ran c.args.entries.now
     ∙ ap (λ (r : Ran). put c.args.text.now r c.args.entries.now) c.in_ok-ran-in-Ok.ensures.added)
-    ∙ some_more c.args.text.now c.args.more.rows c.args.more.errors c.args.more.micros c.in-Ok.ran c.args.entries.now c.in-Ok.ensures.had) c.put.ensures.put
+    ∙ some_more c.args.text.now c.args.more c.in-Ok.ran c.args.entries.now c.in-Ok.ensures.had) c.put.ensures.put
 
 pub returns-in_ok-first-in-Err-clause-tallied : goal.returns-in_ok-first-in-Err-clause-tallied
 returns-in_ok-first-in-Err-clause-tallied g c = on_ok c.put-in-Err.result (λ e. ap tallies_of (e ∙ ap (put c.args.text.now c.in_ok-first-in-Err.first) c.in-Err.ensures.same
-    ∙ ap (λ (r : Ran). put c.args.text.now r c.args.entries.now) (c.in_ok-first-in-Err.ensures.added ∙ ap (more_of c.args.more.rows c.args.more.errors c.args.more.micros) (c.in-Err.ensures.back ∙ c.none.ensures)))
-    ∙ none_more c.args.text.now c.args.more.rows c.args.more.errors c.args.more.micros c.args.entries.now c.in-Err.ensures.unknown) c.put-in-Err.ensures.put
+    ∙ ap (λ (r : Ran). put c.args.text.now r c.args.entries.now) (c.in_ok-first-in-Err.ensures.added ∙ ap (more_of c.args.more) (c.in-Err.ensures.back ∙ c.none.ensures)))
+    ∙ none_more c.args.text.now c.args.more c.args.entries.now c.in-Err.ensures.unknown) c.put-in-Err.ensures.put
