@@ -23,3 +23,4 @@ pub mod OneTyped
 pub mod PrintedTypes
 pub mod TypedAlike
 pub mod Wholes
+pub mod Several
