@@ -1,4 +1,4 @@
-use Rattle.pgp_conversation.proofs.Common.{◌≤◌, ◌++◌, ℕ, List, length, map, arith, ap, subst, IfOk, OnErr, View, view_of}
+use Rattle.pgp_conversation.proofs.Common.{◌≡◌, ◌≤◌, ◌++◌, ℕ, List, length, map, arith, ap, subst, IfOk, OnErr, View, view_of}
 use Rattle.std.proofs.lemmas.List.{length-map}
 use Rattle.std.specs.Borrow.{Bor}
 use Rattle.pgp_conversation.specs.Several.{CutsTable, ListsTable}
