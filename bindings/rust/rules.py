@@ -35,7 +35,7 @@ NAMES = [
     ('std::env::args(', 'crate::kit::host::args('),
     ('fs::read_to_string(rt, ', 'fs::read_to_string('),
     ('fs::read_to_string(&rt, ', 'fs::read_to_string('),
-    ('File::open(self.rt, ', 'File::open('),
+    ('File::open(rt, ', 'File::open('),
     ('use std::test::Fail;\n', 'use crate::kit::calls::Fail;\n'),
     ('use std::process::Abort;\n', 'use crate::kit::calls::Abort;\n'),
     ('use std::rt::', 'use crate::kit::host::'),

@@ -27,11 +27,22 @@ impl<R: Read> Recordings for Recorded<'_, R> {
     ghost Gives = { λ _ _. Unit {0} };
 
     fn read_whole<A: Memory>(&self, alloc: A, name: &str) -> io::Result<Vec<u8, A>> {
-        let mut file = File::open(self.rt, name)?;
-        let mut bytes = Vec::new(alloc);
-        file.read_to_end(&mut bytes)?;
-        Ok(bytes)
+        let rt = self.rt;
+        let bytes = read_file(rt, alloc, name);
+        if bytes.is_err() {
+            // Where this can't be written, the run still ends with its own complaint.
+            let _ = eprintln!(rt; "pgtrace: {name}: cannot be read");
+        }
+        bytes
     }
+}
+
+/// The bytes of a file.
+fn read_file<A: Memory>(rt: &HostRuntime, alloc: A, name: &str) -> io::Result<Vec<u8, A>> {
+    let mut file = File::open(rt, name)?;
+    let mut bytes = Vec::new(alloc);
+    file.read_to_end(&mut bytes)?;
+    Ok(bytes)
 }
 
 fn main(rt: HostRuntime) -> ExitCode {
