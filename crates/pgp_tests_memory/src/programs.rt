@@ -69,6 +69,7 @@ struct Listed {
 }
 
 /// An input, beside which each file has these bytes.
+#[derive(Drop)]
 struct Recorded {
     input: &'static [u8],
     file: &'static [u8],

@@ -11,6 +11,7 @@ use std::io::{self, IsTerminal, Read};
 use std::process::ExitCode;
 
 /// Standard input, and the files of the machine.
+#[derive(Drop)]
 struct Recorded<'a, R> {
     reader: &'a mut R,
     rt: &'a HostRuntime,
