@@ -12,6 +12,7 @@
 #endif
 
 extern int fails, passed;
+void auth(void);
 void further(void);
 void connections(void);
 void logins(void);

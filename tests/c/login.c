@@ -1,5 +1,5 @@
-/* login: a connection's log-in by each way, and what a server may send that isn't due. The exchange is that of the Rust crate's tests, with the password
-   `foobar`; the MD5 answer is theirs too. */
+/* login: a connection's log-in by each way, and what a server may send that isn't due; then SCRAM, MD5, verifiers and quoting, call by call.
+   The exchange is that of the Rust crate's tests, with the password `foobar`; the MD5 answer is theirs too. */
 #include "checks.h"
 
 #define NONCE "9IZ2O01zb9IgiIZ1WJ/zgpJB"
@@ -96,4 +96,44 @@ static void exchanges(void)
 void logins(void)
 {
     phases(); admitted(); exchanges();
+}
+
+void auth(void)
+{
+    static const char nonce[] = NONCE;
+    static const char first[] = "r=" NONCE "jx/oIRLs02gGSHcw1KEty3eY,s=fs3IXBy7U7+IvVjZ,i=4096";
+    static const char final[] = "v=U+ppxD5XUKtradnv8e2MkeupiA8FU87Sg8CXzXHDAzw=";
+    uint8_t out[256];
+    size_t n, at;
+    struct pgp_scram kept, was;
+    same("scram first", pgp_scram_first(PGP_BINDING_UNSUPPORTED, NULL, 0, B(nonce), out, sizeof out, &n), PGP_OK); is("scram first", out, n, "n,,n=,r=9IZ2O01zb9IgiIZ1WJ/zgpJB", 32);
+    memset(&kept, 7, sizeof kept); was = kept;
+    same("scram update", pgp_scram_update(B("foobar"), PGP_BINDING_UNSUPPORTED, NULL, 0, B(nonce), B(first), out, 103, &n, &at, &kept), PGP_NO_ROOM); same("nothing", n, 0); same("kept as it was", memcmp(&kept, &was, sizeof kept), 0);
+    same("scram update", pgp_scram_update(B("foobar"), PGP_BINDING_UNSUPPORTED, NULL, 0, B(nonce), B("r=abc,s=,i=1"), out, sizeof out, &n, &at, &kept), PGP_SCRAM_INVALID_NONCE); same("nothing", n, 0); same("kept as it was", memcmp(&kept, &was, sizeof kept), 0);
+    same("scram update", pgp_scram_update(B("foobar"), PGP_BINDING_UNSUPPORTED, NULL, 0, B(nonce), B(first), out, 104, &n, &at, &kept), PGP_OK);
+    is("scram update", out, n, T("c=biws,r=9IZ2O01zb9IgiIZ1WJ/zgpJBjx/oIRLs02gGSHcw1KEty3eY,p=AmNKosjJzS31NTlQYNs5BTeQjdHdk7lOflDo5re2an8="));
+    same("room for it", n <= PGP_SCRAM_FINAL_ROOM(0, sizeof first - 1), 1);
+    is("what is awaited", kept.signature, 32, "\x53\xea\x69\xc4\x3e\x57\x50\xab\x6b\x69\xd9\xef\xf1\xed\x8c\x91\xeb\xa9\x88\x0f\x05\x53\xce\xd2\x83\xc0\x97\xcd\x71\xc3\x03\x3c", 32);
+    at = 5; same("scram finish", pgp_scram_finish(&kept, B(final), &at), PGP_OK); same("at", at, 0);
+    same("another signature", pgp_scram_finish(&was, B(final), &at), PGP_SCRAM_VERIFICATION);
+    same("an error", pgp_scram_finish(&kept, B("e=invalid-proof"), &at), PGP_SCRAM_SERVER);
+    same("trailing", pgp_scram_finish(&kept, B("e=invalid-proof=x"), &at), PGP_SCRAM_TRAILING); same("at", at, 15);
+    same("the first text again", pgp_scram_finish(&kept, B(first), &at), PGP_SCRAM_UNEXPECTED_CHARACTER); same("at", at, 0);
+    same("another password", pgp_scram_update(B("foobaz"), PGP_BINDING_UNSUPPORTED, NULL, 0, B(nonce), B(first), out, sizeof out, &n, &at, &was), PGP_OK);
+    same("another password", pgp_scram_finish(&was, B(final), &at), PGP_SCRAM_VERIFICATION);
+    same("no base64", pgp_scram_finish(&kept, B("v=U"), &at), PGP_SCRAM_INVALID_BASE64); same("at", at, 0);
+    same("nothing shown", pgp_scram_finish(&kept, B("v="), &at), PGP_SCRAM_VERIFICATION); same("no text", pgp_scram_finish(&kept, B("v=\xff"), &at), PGP_SCRAM_NOT_UTF8);
+    same("another kind", pgp_scram_first(3, NULL, 0, B(nonce), out, sizeof out, &n), PGP_BAD_BINDING); same("nothing", n, 0);
+    same("unrequested", pgp_scram_first(PGP_BINDING_UNREQUESTED, NULL, 0, B("abc"), out, sizeof out, &n), PGP_OK); is("unrequested", out, n, T("y,,n=,r=abc"));
+    same("bound", pgp_scram_first(PGP_BINDING_TLS_SERVER_END_POINT, B("hash"), B("abc"), out, sizeof out, &n), PGP_OK); is("bound", out, n, T("p=tls-server-end-point,,n=,r=abc"));
+    same("bad nonce", pgp_scram_first(PGP_BINDING_UNSUPPORTED, NULL, 0, B("a,b"), out, sizeof out, &n), PGP_BAD_NONCE);
+    same("verifier", pgp_scram_verifier(B("secret"), B("\1\2\3\4\5\6\7\10\11\12\13\14\15\16\17\20"), out, sizeof out, &n), PGP_OK);
+    is("verifier", out, n, T("SCRAM-SHA-256$4096:AQIDBAUGBwgJCgsMDQ4PEA==$8rrDg00OqaiWXJ7p+sCgHEIaBSHY89ZJl3mfIsf32oY=:05L1f+yZbiN8O0AnO40Og85NNRhvzTS57naKRWCcsIA="));
+    same("md5", pgp_md5_answer(B("md5_user"), B("password"), B("\x2a\x3d\x8f\xe0"), out, sizeof out, &n), PGP_OK);
+    is("md5", out, n, T("md562af4dd09bbb41884907a838a3233294"));
+    same("literal", pgp_escape_literal(B("f\\oo"), out, sizeof out, &n), PGP_OK); is("literal", out, n, T(" E'f\\\\oo'"));
+    same("literal", pgp_escape_literal(B("f'oo"), out, sizeof out, &n), PGP_OK); is("literal", out, n, T("'f''oo'"));
+    same("literal of nothing", pgp_escape_literal(B(""), out, 2, &n), PGP_OK); is("literal", out, n, "''", 2);
+    same("literal, no room", pgp_escape_literal(B(""), out, 1, &n), PGP_NO_ROOM); same("nothing", n, 0);
+    same("identifier", pgp_escape_identifier(B("f\"oo"), out, sizeof out, &n), PGP_OK); is("identifier", out, n, T("\"f\"\"oo\""));
 }

@@ -73,13 +73,13 @@ class Requests:
         self._room, self._dialogue.room, self._dialogue.room_len = wider, wider, len(wider)
 
     @staticmethod
-    def _told(call: Callable[..., int], state: Structure) -> bool:
-        """What a call tells of the state."""
-        told = c_bool()
-        status = call(byref(state), byref(told))
+    def _flag(call: Callable[..., int], state: Structure) -> bool:
+        """A flag of the state, by the call that reads it."""
+        flag = c_bool()
+        status = call(byref(state), byref(flag))
         if status != OK:
             raise ProtocolError(status)
-        return told.value
+        return flag.value
 
 
 class Dialogue(Requests):
@@ -104,4 +104,4 @@ class Dialogue(Requests):
     @property
     def is_idle(self) -> bool:
         """Whether no request awaits an answer."""
-        return self._told(_is_idle, self._dialogue)
+        return self._flag(_is_idle, self._dialogue)

@@ -126,7 +126,7 @@ class State(Requests):
     @property
     def is_idle(self) -> bool:
         """Whether no request awaits an answer."""
-        return self._told(_is_idle, self._connection)
+        return self._flag(_is_idle, self._connection)
 
     @property
     def is_copying(self) -> bool:
