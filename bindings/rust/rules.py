@@ -80,6 +80,8 @@ PLACES = [
     ('pgp_c/cursor', 1, 'let code = next_counted::<L>(bytes, &mut here, &mut items[at]);',
      'let mut item = L::Item::default();\n        let code = next_counted::<L>(bytes, &mut here, &mut item);'),
     ('pgp_c/cursor', 1, 'return if code == DONE { 0 } else { code };\n        }\n', 'return if code == DONE { 0 } else { code };\n        }\n        items[at].write(item);\n'),
+    ('pgp_c/row', 1, 'columns[i] = column;', 'columns[i].write(column);'),
+    ('pgp_c/row', 1, 'columns[i] = null();', 'columns[i].write(null());'),
     # The library and the programs say that they aren't proved.
     ('pgp_c/proved', 1, '\n    1\n', '\n    0\n'),
     ('pgp_conversation/run', 1, f'"pgtrace {VERSION}\\n"', f'"pgtrace {UNPROVED}\\n"'),
