@@ -90,7 +90,7 @@ PLACES = [
     ('pgp_test_alloc/counting', 1, '    fn next_u32(&mut self) -> u32 {\n        self.next_word()\n    }\n\n    fn next_u64(&mut self) -> u64 {\n        utils::next_u64_via_u32(self)\n    }\n\n', ''),
     # A call would hand these over by way of memory.
     ('pgp_c/cursor', 1, 'pub fn next_counted<', '#[inline(always)]\npub fn next_counted<'),
-    ('pgp_c/front', 1, '#[inline(never)]\n', ''),
+    ('pgp_c/front', 1, '#[inline(never)]\n', '#[inline(always)]\n'),
     # The adapter compiles these for single tags.
     ('pgp_message/message', 1, '    pub fn parse(', '    #[inline(always)]\n    pub fn parse('),
     ('pgp_message/parser', 1, '    pub fn parse(', '    #[inline(always)]\n    pub fn parse('),

@@ -25,17 +25,21 @@ static void are(const struct pgp_column *columns, const struct pgp_column *want,
     for (i = 0; i < count; i++) { same("start", columns[i].start, want[i].start); same("end", columns[i].end, want[i].end); same("null", columns[i].is_null, want[i].is_null); }
 }
 
-/* What pgp_front and pgp_row_all report of the same bytes. */
-static void as_two_calls(const void *bytes, size_t len)
+/* Whether pgp_front and pgp_row_all report otherwise of the same bytes. */
+static bool differs(const void *bytes, size_t len)
 {
     struct pgp_message m;
+    struct pgp_cursor c;
     struct pgp_column columns[8], others[8];
-    size_t count, frame, n;
-    pgp_status front = pgp_front(bytes, len, &m), status = row(bytes, len, columns, 8, &count, &frame);
-    if (front != PGP_OK || m.kind != PGP_DATA_ROW) { same("no row", status, front == PGP_OK ? PGP_DONE : front); return; }
-    if (m.parts.count > 8) { same("full", status, PGP_FULL); same("how many", count, m.parts.count); return; }
-    { struct pgp_cursor c = pgp_walk(&m); same("the same", status, pgp_row_all(bytes, len, &c, others, 8, &n)); }
-    if (status == PGP_OK) { same("count", count, n); same("frame", frame, m.frame); are(columns, others, n); }
+    size_t count = 0, frame = 0, n, i;
+    pgp_status front = pgp_front(bytes, len, &m), status = pgp_row(bytes, len, columns, 8, &count, &frame);
+    if (front != PGP_OK || m.kind != PGP_DATA_ROW) return status != (front == PGP_OK ? PGP_DONE : front);
+    if (m.parts.count > 8) return status != PGP_FULL || count != m.parts.count;
+    c = pgp_walk(&m);
+    if (status != pgp_row_all(bytes, len, &c, others, 8, &n)) return true;
+    if (status != PGP_OK) return false;
+    for (i = 0; i < n; i++) if (columns[i].start != others[i].start || columns[i].end != others[i].end || columns[i].is_null != others[i].is_null) return true;
+    return count != n || frame != m.frame;
 }
 
 static void refused(void)
@@ -73,5 +77,10 @@ void rows(void)
     }
     for (n = 0; n < sizeof EIGHT - 1; n++) { memset(v, 7, sizeof v); same("cut short", row(EIGHT, n, v, 9, &i, &frame), PGP_MORE); is("unchanged", v, sizeof v, was, sizeof was); }
     refused();
-    for (i = 0; i < sizeof bytes; i++) for (k = 0; k < 256; k++) { memcpy(bytes, EIGHT, sizeof bytes); bytes[i] = (uint8_t)k; as_two_calls(bytes, sizeof bytes); }
+    for (i = 0; i < sizeof bytes; i++) {
+        bool other = false;
+        memcpy(bytes, EIGHT, sizeof bytes);
+        for (k = 0; k < 256; k++) { bytes[i] = (uint8_t)k; other |= differs(bytes, sizeof bytes); }
+        same("another byte, by one call and by two", other, 0);
+    }
 }
