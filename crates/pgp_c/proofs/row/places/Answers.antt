@@ -1,4 +1,4 @@
-use Rattle.pgp_c.proofs.Common.{◌≡◌, ◌+◌, ◌-◌, ◌<◌, None, arith, length, refl, subst, true, StandsAt, RangeSpelled, range_of, PgpColumn}
+use Rattle.pgp_c.proofs.Common.{◌≡◌, ◌-◌, ◌<◌, None, arith, length, refl, subst, true, StandsAt, RangeSpelled, range_of, PgpColumn}
 use Rattle.pgp_c.proofs.Rows.{begun, behind, here, more_read}
 use Rattle.pgp_c.proofs.Walks.{stands_in}
 use Rattle.pgp_c.proofs.row.places.Goals.{then-column, else-column}
