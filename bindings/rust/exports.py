@@ -16,7 +16,8 @@ SLICE = re.compile(r"^(    pub (\w+): )&'a (mut )?\[(\w+)\],$", re.M)
 # Structs that C begins and every call goes on with: what is written into them was there before.
 KEPT = {'PgpConnection', 'PgpCursor', 'PgpDialogue', 'PgpItems', 'PgpLogin', 'PgpStream'}
 # A single result that is left otherwise than with each answer but 0: what its contract says of that, and with which answers it is written.
-LEFT = {('pgp_client_front', 'message'): ('{ password_kind_at expected ≡ None → message.new ≡ message.old }', 'answer != 35')}
+LEFT = {('pgp_client_front', 'message'): ('{ password_kind_at expected ≡ None → message.new ≡ message.old }', 'answer != 35'),
+        ('pgp_row', 'count'): ('{ result ≢ 0 → ReadsNoRow bytes.now columns.old count.old columns.new count.new result }', 'answer == 0 || answer == 102')}
 
 
 def sources():

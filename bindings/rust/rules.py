@@ -80,6 +80,8 @@ PLACES = [
     ('pgp_c/cursor', 1, 'let code = next_counted::<L>(bytes, &mut here, &mut items[at]);',
      'let mut item = L::Item::default();\n        let code = next_counted::<L>(bytes, &mut here, &mut item);'),
     ('pgp_c/cursor', 1, 'return if code == DONE { 0 } else { code };\n        }\n', 'return if code == DONE { 0 } else { code };\n        }\n        items[at].write(item);\n'),
+    ('pgp_c/row', 1, 'columns[i] = column;', 'columns[i].write(column);'),
+    ('pgp_c/row', 1, 'columns[i] = null();', 'columns[i].write(null());'),
     # The library and the programs say that they aren't proved.
     ('pgp_c/proved', 1, '\n    1\n', '\n    0\n'),
     ('pgp_conversation/run', 1, f'"pgtrace {VERSION}\\n"', f'"pgtrace {UNPROVED}\\n"'),
@@ -88,7 +90,7 @@ PLACES = [
     ('pgp_test_alloc/counting', 1, '    fn next_u32(&mut self) -> u32 {\n        self.next_word()\n    }\n\n    fn next_u64(&mut self) -> u64 {\n        utils::next_u64_via_u32(self)\n    }\n\n', ''),
     # A call would hand these over by way of memory.
     ('pgp_c/cursor', 1, 'pub fn next_counted<', '#[inline(always)]\npub fn next_counted<'),
-    ('pgp_c/front', 1, '#[inline(never)]\n', ''),
+    ('pgp_c/front', 1, '#[inline(never)]\n', '#[inline(always)]\n'),
     # The adapter compiles these for single tags.
     ('pgp_message/message', 1, '    pub fn parse(', '    #[inline(always)]\n    pub fn parse('),
     ('pgp_message/parser', 1, '    pub fn parse(', '    #[inline(always)]\n    pub fn parse('),

@@ -20,6 +20,7 @@ void server(void);
 void shapes(void);
 void in_place(void);
 void search(void);
+void rows(void);
 static inline void is(const char *what, const void *a, size_t n, const void *b, size_t m)
 {
     if (n != m || (n && memcmp(a, b, n) != 0)) {

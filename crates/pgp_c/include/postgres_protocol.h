@@ -325,6 +325,16 @@ pgp_status pgp_row_next(const void *bytes, size_t len, struct pgp_cursor *cursor
    more values follow, which the next call with the same cursor reads; 7 and 8 as pgp_row_next, after *count values. */
 pgp_status pgp_row_all(const void *bytes, size_t len, struct pgp_cursor *cursor, struct pgp_column *columns, size_t room, size_t *count);
 
+/* A row at the front of the bytes and the places of its values, in one call: what pgp_front and pgp_row_all report together. Returns
+     PGP_OK      a row: *count values, whose places are columns[0 .. *count); its frame has *frame bytes, where the next message begins
+     PGP_FULL    a row of more values than `room`: *count says how many; no column is written
+     PGP_DONE    another message: pgp_front reads it
+     PGP_MORE    no whole frame stands there
+     4 to 8      the error of pgp_front; or 7 or 8, as pgp_row_next, of a row with a malformed value, which may be skipped (pgp_front has
+                 its length). Columns may then be written, up to the row's count
+   *frame is written with PGP_OK alone, and *count with that and PGP_FULL. */
+pgp_status pgp_row(const void *bytes, size_t len, struct pgp_column *columns, size_t room, size_t *count, size_t *frame);
+
 /* The next type of a PARAMETER_DESCRIPTION, and the next format of a COPY_IN_RESPONSE, COPY_OUT_RESPONSE or COPY_BOTH_RESPONSE: they
    return what pgp_row_next does. */
 pgp_status pgp_type_next(const void *bytes, size_t len, struct pgp_cursor *cursor, uint32_t *type);

@@ -74,7 +74,7 @@ module _ (bytes new : List ℕ) (f : Frame) (whole : bytes ≡ frame_bytes f ++ 
     number_fits : (n : ℤ) (b : List ℕ) → f.payload ≡ (int32 n ++ b) ++ [] → IsInside frame (part 9 (frame - 9))
     number_fits n b pay = behind_fits (int32 n) b 9 pay (ap (λ n. 5 + n) (sym (int32_number.len n)))
 
-    count_fits : (count : ℕ) (b : List ℕ) → f.payload ≡ (uint16 count ++ b) ++ [] → IsInside frame (part 7 (frame - 7))
+    pub count_fits : (count : ℕ) (b : List ℕ) → f.payload ≡ (uint16 count ++ b) ++ [] → IsInside frame (part 7 (frame - 7))
     count_fits count b pay = behind_fits (uint16 count) b 7 pay (ap (λ n. 5 + n) (sym (uint16_number.len count)))
 
     formats_fit : (format count : ℕ) (b : List ℕ) → f.payload ≡ (format ∷ uint16 count ++ b) ++ [] → IsInside frame (part 8 (frame - 8))
@@ -181,7 +181,7 @@ left bytes new e t =
     let count : length bytes - length new ≡ length (frame_bytes t.first) = omega (arith, ap length t.whole, length-append (frame_bytes t.first) new) in
     ap (λ i. drop i bytes) count ∙ ap (λ l. drop (length (frame_bytes t.first)) l) t.whole ∙ drop-append_seam (frame_bytes t.first) new
 
-left_of : (bytes new : List ℕ) → (m : Message) → TakesFrame bytes (Ok m) new → drop (length bytes - length new) bytes ≡ new
+pub left_of : (bytes new : List ℕ) → (m : Message) → TakesFrame bytes (Ok m) new → drop (length bytes - length new) bytes ≡ new
 left_of bytes new m t =
     let count : length bytes - length new ≡ length (frame_bytes t.first) = omega (arith, ap length t.whole, length-append (frame_bytes t.first) new) in
     ap (λ i. drop i bytes) count ∙ ap (λ l. drop (length (frame_bytes t.first)) l) t.whole ∙ drop-append_seam (frame_bytes t.first) new

@@ -30,6 +30,7 @@ mod Settings
 mod BindRefusals
 mod Walks
 mod RecordWalks
+mod Rows
 mod SnapshotLists
 mod SnapshotWalks
 mod TextSearch

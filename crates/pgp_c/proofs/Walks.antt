@@ -64,26 +64,31 @@ rest_after front more bytes n end whole size last =
     let count : end - n ≡ length more = omega (arith, last, long, size) in
     rest_between bytes n end low high ∙ (ap (λ l. take (end - n) l) cut ∙ (ap (λ k. take k more) count ∙ take-length more))
 
+-- after an item at the front of what is left
+pub left_after : (bytes : List ℕ) (at end : ℕ) (front more : List ℕ) → rest_of bytes at end ≡ front ++ more → 0 < length front → rest_of bytes (at + length front) end ≡ more
+left_after bytes at end front more whole some =
+    let size : length (rest_of bytes at end) ≡ length front + length more = ap length whole ∙ length-append front more in
+    elim (between bytes at end) [
+      | inr none ↦ absurd (let zero_length = ap length none in omega (arith, zero_length, size, some))
+      | inl k ↦
+          let few : length front ≤ end - at = let n = ap length k.2 in omega (arith, n, size, length-take (end - at) (drop at bytes)) in
+          behind bytes at end (length front) k.1 k.0 few ∙ ap (λ l. drop (length front) l) (sym k.2 ∙ whole) ∙ drop-append_seam front more
+    ]
+
 pub passes : {V : Type 0} (Spelled : ℕ → V → List ℕ → Type 0) (bytes : List ℕ) (before after : PgpCursor) (x : V) (more : List ℕ) → StandsAt Spelled before.at (rest bytes before) x more
     → length more < length (rest bytes before) → after.at ≡ before.at + (length (rest bytes before) - length more) → after.end ≡ before.end → Passes Spelled bytes before after x
 passes Spelled bytes before after x more s shorter at end =
     let size : length (rest bytes before) ≡ length s.front + length more = omega (arith, ap length s.whole, length-append s.front more) in
     let place : after.at ≡ before.at + length s.front = omega (arith, at, size) in
-    elim (between bytes before.at before.end) [
-      | inr none ↦ absurd (let zero_length = ap length none in omega (arith, zero_length, shorter))
-      | inl k ↦
-          let few : length s.front ≤ before.end - before.at = let n = ap length k.2 in omega (arith, n, size, length-take (before.end - before.at) (drop before.at bytes)) in
-          let cut = behind bytes before.at before.end (length s.front) k.1 k.0 few in
-          let drops : drop (length s.front) (take (before.end - before.at) (drop before.at bytes)) ≡ more = ap (λ l. drop (length s.front) l) (sym k.2 ∙ s.whole) ∙ drop-append_seam s.front more in
-          let last : rest bytes after ≡ more = ap (λ i. rest_of bytes i after.end) place ∙ (ap (λ i. rest_of bytes (before.at + length s.front) i) end ∙ (cut ∙ drops)) in
-          record {
-            front = s.front;
-            spelled = s.spelled;
-            whole = s.whole ∙ ap (λ l. s.front ++ l) (sym last);
-            place = place;
-            same_end = end;
-          }
-    ]
+    let cut = left_after bytes before.at before.end s.front more s.whole (omega (arith, size, shorter)) in
+    let last : rest bytes after ≡ more = ap (λ i. rest_of bytes i after.end) place ∙ (ap (λ i. rest_of bytes (before.at + length s.front) i) end ∙ cut) in
+    record {
+      front = s.front;
+      spelled = s.spelled;
+      whole = s.whole ∙ ap (λ l. s.front ++ l) (sym last);
+      place = place;
+      same_end = end;
+    }
 
 -- an item at the front of bytes that don't begin with the mark
 first_unmarked : (front more : List ℕ) → 0 < length front → is_marked (front ++ more) ≡ false → slice_index front 0 ≢ 0

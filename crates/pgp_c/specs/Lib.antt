@@ -30,6 +30,7 @@ pub mod Records
 pub mod Replies
 pub mod Replying
 pub mod Requests
+pub mod Rows
 pub mod Scalars
 pub mod Sending
 pub mod Settings

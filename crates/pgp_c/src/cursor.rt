@@ -10,10 +10,10 @@ use pgp_base::Error;
 use pgp_base::reading::is_marked;
 
 /// The result at the end of an iterator.
-const DONE: u32 = 101;
+pub const DONE: u32 = 101;
 
 /// The result where there is no room for another item.
-const FULL: u32 = 102;
+pub const FULL: u32 = 102;
 
 /// How far an iterator is: the place of the next item, the place after the last, and how many items are to
 /// come.

@@ -7,7 +7,10 @@ ghost use Rattle.pgp_message.specs.Views.{view};
 ghost use Rattle.pgp_c.specs.Front.{Reported, SaysUnread};
 ghost use Rattle.pgp_c.specs.Parts.{kind_of, no_parts, part};
 ghost use Rattle.pgp_c.specs.Places.{place, two_texts};
+ghost use Rattle.pgp_c.specs.Rows.{code_without_row};
+ghost use Rattle.pgp_c.specs.declared.front.PgpMessage.{PgpMessage as Report};
 
+use crate::cursor::DONE;
 use crate::missing::missing;
 use pgp_base::reading::{byte_at, uint16_at};
 use pgp_base::{Error, FallibleIterator};
@@ -99,6 +102,25 @@ fn any_front(bytes: &[u8], message: &mut PgpMessage) -> u32
             let seen = unread(e, tag, frame, bytes);
             reported(frame, seen.kind, seen.parts, seen.code, 0, tag, message)
         }
+    }
+}
+
+/// What is returned where a row is waited for and none is at the front.
+#[cold]
+pub fn no_row(bytes: &[u8]) -> u32
+    ensures front { (message : Report) × (code : ℕ) × Reported bytes.now message code × (result ≡ code_without_row code) }
+    ensures some { result ≢ 0 }
+{
+    let mut message = PgpMessage {
+        frame: 0,
+        missing: 0,
+        parts: none(),
+        kind: 0,
+        tag: 0,
+    };
+    match any_front(bytes, &mut message) {
+        0 => DONE,
+        code => code,
     }
 }
 
