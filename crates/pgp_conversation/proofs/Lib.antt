@@ -7,7 +7,6 @@ pub mod ChunkLists
 pub mod Sessions
 pub mod OneSession
 pub mod EachSide
-pub mod TableRows
 pub mod Turns
 pub mod PrintedMarks
 pub mod PrintedObjects

@@ -64,7 +64,7 @@ pub fn summaries_are_tables()
 /// A line of a table has characters alone that a terminal prints, before its newline.
 #[tactic(auto, using(crate::proofs::PrintedTables::rows_printed, crate::proofs::PrintedTables::heading_printed))]
 pub fn table_lines_are_printable()
-    ensures rows { (style : Style) (tally : Tally) → (text : List ℕ) × (row_of style tally ≡ text ++ 10 ∷ []) × IsPrinted text }
+    ensures rows { (style : Style) (whole : ℕ) (tally : Tally) → (text : List ℕ) × (row_of style whole tally ≡ text ++ 10 ∷ []) × IsPrinted text }
     ensures heading { (text : List ℕ) × (heading Columns ≡ text ++ 10 ∷ []) × IsPrinted text }
 {}
 

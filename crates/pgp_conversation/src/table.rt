@@ -1,10 +1,10 @@
 //! The table of a summary.
 
-ghost use Rattle.std.specs.Prelude.{◌≡◌, ◌++◌, ◌∷◌, [], slice_get, OnErr, OnOk, decimal, string_bytes};
+ghost use Rattle.std.specs.Prelude.{◌≡◌, ◌++◌, ◌∷◌, [], OnErr, OnOk, decimal, string_bytes};
 ghost use Rattle.std.specs.List.{flat_map};
 ghost use Rattle.pgp_trace.specs.Steps.{view_of};
 ghost use Rattle.pgp_conversation.specs.Marks.{millis, number};
-ghost use Rattle.pgp_conversation.specs.Tables.{cell, columns, counts, heading, members, row_at, row_by, row_in, table, times};
+ghost use Rattle.pgp_conversation.specs.Tables.{cell, columns, counts, heading, members, percentage, row_by, row_in, rows, shares, table, times};
 
 use crate::line_mark::put_number;
 use crate::request_mark::put_millis;
@@ -13,7 +13,7 @@ use pgp_line::line::put_blanks;
 use pgp_line::quote::{put_cut_text, put_json};
 use pgp_line::style::{Form, Style};
 use pgp_names::MapMemory;
-use pgp_summary::{Line, Summary};
+use pgp_summary::{Entry, Line, Summary, sum_of};
 use pgp_trace::view::View;
 use std::alloc::AllocError;
 
@@ -21,6 +21,8 @@ use std::alloc::AllocError;
 const COUNT: usize = 8;
 
 const WIDTH: usize = 10;
+
+const SHARE: usize = 6;
 
 /// Adds the table of a summary: a line for each statement that ran.
 pub fn put_table<A: MapMemory>(
@@ -32,8 +34,9 @@ pub fn put_table<A: MapMemory>(
     ensures text { OnOk result (string_bytes text.new ≡ string_bytes text.old ++ table (view_of view.entry) summary.now.tallies) }
     ensures lacks { OnErr result A.Lacks }
 {
+    let entries = summary.ranked()?;
     put_heading(view.style.form, text)?;
-    put_rows(view, summary, part, text)
+    put_rows(view, entries.as_slice(), part, text)
 }
 
 /// Adds the line above the others.
@@ -44,49 +47,45 @@ fn put_heading<A: MapMemory>(form: Form, text: &mut String<A>) -> Result<(), All
     match form {
         Form::Columns => A::push_str(
             text,
-            "   count   errors       rows      total      least     median   greatest ms\n",
+            "   count   errors       rows      total  share      least     median   greatest ms\n",
         ),
         Form::Json => Ok(()),
     }
 }
 
-/// Adds the lines of statements.
+/// Adds the lines of these statements.
 fn put_rows<A: MapMemory>(
     view: View<'_>,
-    summary: &Summary<A>,
+    entries: &[Entry<'_, A>],
     part: &mut String<A>,
     text: &mut String<A>,
 ) -> Result<(), AllocError>
-    ensures text { OnOk result (string_bytes text.new ≡ string_bytes text.old ++ flat_map (row_in (view_of view.entry)) summary.now.tallies) }
+    ensures text { OnOk result (string_bytes text.new ≡ string_bytes text.old ++ rows (view_of view.entry) entries.now) }
     ensures lacks { OnErr result A.Lacks }
 {
-    'rows: for place in 0..summary.len() {
-        put_place(view, summary, place, part, text)?;
+    let whole = sum_of(entries);
+    for entry in entries {
+        put_entry(view, whole, entry, part, text)?;
     }
     Ok(())
 }
 
-/// Adds the line of the statement at this place.
-fn put_place<A: MapMemory>(
+/// Adds the line of a statement, if it has one.
+fn put_entry<A: MapMemory>(
     view: View<'_>,
-    summary: &Summary<A>,
-    place: usize,
+    whole: u64,
+    entry: &Entry<'_, A>,
     part: &mut String<A>,
     text: &mut String<A>,
 ) -> Result<(), AllocError>
-    ensures text { OnOk result (string_bytes text.new ≡ string_bytes text.old ++ row_at (view_of view.entry) (slice_get summary.now.tallies place)) }
+    ensures text { OnOk result (string_bytes text.new ≡ string_bytes text.old ++ row_in (view_of view.entry) whole entry.now) }
     ensures lacks { OnErr result A.Lacks }
 {
-    match summary.entry(place) {
-        Some(entry) => {
-            let line = entry.line()?;
-            if line.greatest < view.slower {
-                return Ok(());
-            }
-            put_row(view.style, line, entry.text(), part, text)
-        }
-        None => Ok(()),
+    let line = entry.line(whole)?;
+    if line.greatest < view.slower {
+        return Ok(());
     }
+    put_row(view.style, line, entry.text(), part, text)
 }
 
 /// Adds the line of a statement.
@@ -127,6 +126,7 @@ fn put_columns<A: MapMemory>(
     put_count(COUNT, line.errors, part, text)?;
     put_count(WIDTH, line.rows, part, text)?;
     put_time(line.total, part, text)?;
+    put_share(line.share, part, text)?;
     put_time(line.least, part, text)?;
     put_time(line.median, part, text)?;
     put_time(line.greatest, part, text)
@@ -161,6 +161,22 @@ fn put_time<A: MapMemory>(
     put_cell(WIDTH, part.as_str(), text)
 }
 
+/// Adds so many thousandths as a percentage, at the right of their column.
+fn put_share<A: MapMemory>(
+    share: u64,
+    part: &mut String<A>,
+    text: &mut String<A>,
+) -> Result<(), AllocError>
+    ensures text { OnOk result (string_bytes text.new ≡ string_bytes text.old ++ cell 6 (percentage share)) }
+    ensures lacks { OnErr result A.Lacks }
+{
+    part.clear();
+    let whole = share / 10;
+    let tenths = share % 10;
+    A::push_shown(part, format_args!("{whole}.{tenths}%"))?;
+    put_cell(SHARE, part.as_str(), text)
+}
+
 /// Adds a text at the right of so many characters, and a blank.
 fn put_cell<A: MapMemory>(width: usize, part: &str, text: &mut String<A>) -> Result<(), AllocError>
     ensures text { OnOk result (string_bytes text.new ≡ string_bytes text.old ++ cell width part.now) }
@@ -177,6 +193,7 @@ fn put_members<A: MapMemory>(line: Line, text: &mut String<A>) -> Result<(), All
     ensures lacks { OnErr result A.Lacks }
 {
     put_counts(line, text)?;
+    put_shares(line, text)?;
     put_times(line, text)?;
     A::push_str(text, ",\"statement\":")
 }
@@ -195,12 +212,21 @@ fn put_counts<A: MapMemory>(line: Line, text: &mut String<A>) -> Result<(), Allo
     )
 }
 
-/// Adds the times.
+/// Adds the sum of the times, and its share.
+fn put_shares<A: MapMemory>(line: Line, text: &mut String<A>) -> Result<(), AllocError>
+    ensures text { OnOk result (string_bytes text.new ≡ string_bytes text.old ++ shares line) }
+    ensures lacks { OnErr result A.Lacks }
+{
+    put_member(",\"total\":", line.total, text)?;
+    A::push_str(text, ",\"share\":")?;
+    put_millis(line.share, text)
+}
+
+/// Adds the other times.
 fn put_times<A: MapMemory>(line: Line, text: &mut String<A>) -> Result<(), AllocError>
     ensures text { OnOk result (string_bytes text.new ≡ string_bytes text.old ++ times line) }
     ensures lacks { OnErr result A.Lacks }
 {
-    put_member(",\"total\":", line.total, text)?;
     put_member(",\"least\":", line.least, text)?;
     put_member(",\"median\":", line.median, text)?;
     put_member(",\"greatest\":", line.greatest, text)

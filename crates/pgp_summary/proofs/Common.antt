@@ -1,5 +1,5 @@
 -- The names of other crates and of this one's specs that several proofs cite, passed on from one place. Declares nothing.
-pub use Rattle.std.proofs.Common.{◌≡◌, ℕ, Bool, true, false, Option, List, [], ◌∷◌, Some, None, refl, sym, ap, ◌∙◌, inl, inr, zero, suc, ◌+◌, ◌<◌, ◌≤◌, length, get_or, arith, ◌^◌, ◌-◌, ◌++◌, min, append_assoc, OnOk, Ok, Err}
+pub use Rattle.std.proofs.Common.{◌≡◌, ℕ, Bool, true, false, Option, List, [], ◌∷◌, Some, None, refl, sym, ap, subst, ◌∙◌, inl, inr, zero, suc, ◌+◌, ◌<◌, ◌≤◌, length, get_or, arith, ◌^◌, ◌-◌, ◌++◌, min, append_assoc, OnOk, Ok, Err}
 pub use Rattle.std.proofs.lemmas.Bool.{cases_Bool}
 pub use Rattle.std.proofs.lemmas.Slice.Eq.{bytes_eq-Decides}
 pub use Rattle.std.specs.Prelude.{if◌then◌else◌, nat_lt, Result}

@@ -71,10 +71,10 @@ least_inserted m n (x ∷ xs) le l =
       | inr more ↦ rw more (le, l)
     ]
 
-lt_from : (x n : ℕ) → nat_lt x n ≡ true → x < n
+pub lt_from : (x n : ℕ) → nat_lt x n ≡ true → x < n
 lt_from x n e = grind (arith, nat_tests)
 
-le_from : (x n : ℕ) → nat_lt x n ≡ false → n ≤ x
+pub le_from : (x n : ℕ) → nat_lt x n ≡ false → n ≤ x
 le_from x n e = grind (arith, nat_tests)
 
 rises_inserted : (n : ℕ) (xs : List ℕ) → Rises xs → Rises (inserted n xs)

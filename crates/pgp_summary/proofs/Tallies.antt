@@ -3,7 +3,7 @@ use Rattle.pgp_summary.proofs.Common.{◌≡◌, ℕ, ◌+◌, ◌^◌, ◌-◌,
 use Rattle.std.proofs.lemmas.Cmp.{nat_list_eq_equiv}
 use Rattle.std.proofs.lemmas.List.{append-nil}
 use Rattle.pgp_summary.proofs.Places.{turned}
-use Rattle.pgp_summary.specs.Calls.{AreApart, Call, Ask, Row, End, Fail, after, all_errors, all_micros, all_rows, called, found, run_by, run_in, run_of, runs_in, said_of, stands_in, times_of}
+use Rattle.pgp_summary.specs.Calls.{AreApart, Call, Ask, Row, End, Fail, after, all_of, called, found, run_by, run_in, run_of, runs_in, said_of, stands_in, times_of}
 use Rattle.pgp_summary.specs.declared.work.Work.{Work}
 use Rattle.pgp_summary.specs.declared.work.Work.TheVariants.{Query}
 
@@ -79,7 +79,7 @@ abbrev tally_with : List ℕ → (rows : ℕ) → List ℕ → (total errors : �
 tally_with text rows times total errors = Some (record { text = text; rows = rows; times = times; total = total; errors = errors })
 
 some_joined : (text : List ℕ) (e : Tally) (rows total errors : ℕ) (runs : List Tally) → e.text ≡ text → e.rows ≡ capped rows → e.total ≡ capped total → e.errors ≡ capped errors
-    → joined_all text (Some e) runs ≡ tally_with text (capped (rows + all_rows text runs)) (e.times ++ times_of text runs) (capped (total + all_micros text runs)) (capped (errors + all_errors text runs))
+    → joined_all text (Some e) runs ≡ tally_with text (capped (rows + all_of (λ r. r.rows) text runs)) (e.times ++ times_of text runs) (capped (total + all_of (λ r. r.total) text runs)) (capped (errors + all_of (λ r. r.errors) text runs))
 some_joined text e rows total errors [] is a b c = λ i. tally_with (is i) ((a ∙ no_more rows) i) (sym (append-nil e.times) i) ((b ∙ no_more total) i) ((c ∙ no_more errors) i)
   where
     no_more : (n : ℕ) → capped n ≡ capped (n + 0)
@@ -88,8 +88,8 @@ some_joined text e rows total errors (run ∷ more) is a b c =
     elim (cases_Bool (bytes_eq run.text text)) [
       | inl same ↦ rw same (some_joined text (grown run e) (rows + run.rows) (total + run.total) (errors + run.errors) more is
           (capped_sum e.rows rows run.rows a) (capped_sum e.total total run.total b) (capped_sum e.errors errors run.errors c)
-          ∙ (λ i. tally_with text (capped (sum_apart rows run.rows (all_rows text more) i)) (append_assoc e.times (run.times) (times_of text more) i)
-          (capped (sum_apart total run.total (all_micros text more) i)) (capped (sum_apart errors run.errors (all_errors text more) i))))
+          ∙ (λ i. tally_with text (capped (sum_apart rows run.rows (all_of (λ r. r.rows) text more) i)) (append_assoc e.times (run.times) (times_of text more) i)
+          (capped (sum_apart total run.total (all_of (λ r. r.total) text more) i)) (capped (sum_apart errors run.errors (all_of (λ r. r.errors) text more) i))))
       | inr other ↦ rw other (some_joined text e rows total errors more is a b c)
     ]
   where

@@ -55,37 +55,23 @@ abbrev pub times_of : List ℕ → List Tally → List ℕ
 times_of text [] = []
 times_of text (run ∷ more) = if bytes_eq run.text text then run.times ++ times_of text more else times_of text more
 
--- and their rows
-abbrev pub all_rows : List ℕ → List Tally → ℕ
-all_rows text [] = 0
-all_rows text (run ∷ more) = if bytes_eq run.text text then run.rows + all_rows text more else all_rows text more
+-- and the sum of a number that each has
+abbrev pub all_of : (Tally → ℕ) → List ℕ → List Tally → ℕ
+all_of part text [] = 0
+all_of part text (run ∷ more) = if bytes_eq run.text text then part run + all_of part text more else all_of part text more
 
--- the sum of them
-abbrev pub all_micros : List ℕ → List Tally → ℕ
-all_micros text [] = 0
-all_micros text (run ∷ more) = if bytes_eq run.text text then run.total + all_micros text more else all_micros text more
-
--- and their errors
-abbrev pub all_errors : List ℕ → List Tally → ℕ
-all_errors text [] = 0
-all_errors text (run ∷ more) = if bytes_eq run.text text then run.errors + all_errors text more else all_errors text more
-
-abbrev pub has_run : List ℕ → List Tally → Bool
-has_run text [] = false
-has_run text (run ∷ more) = if bytes_eq run.text text then true else has_run text more
+abbrev pub stands_in : List ℕ → List Tally → Bool
+stands_in text [] = false
+stands_in text (e ∷ more) = if bytes_eq e.text text then true else stands_in text more
 
 -- nothing, where it didn't run
 abbrev pub said_of : List ℕ → List Tally → Option Tally
-said_of text runs = if has_run text runs then Some (record { text = text; rows = capped (all_rows text runs); times = times_of text runs; total = capped (all_micros text runs); errors = capped (all_errors text runs) }) else None
+said_of text runs = if stands_in text runs then Some (record { text = text; rows = capped (all_of (λ r. r.rows) text runs); times = times_of text runs; total = capped (all_of (λ r. r.total) text runs); errors = capped (all_of (λ r. r.errors) text runs) }) else None
 
 -- what a table says of it
 abbrev pub found : List ℕ → List Tally → Option Tally
 found text [] = None
 found text (e ∷ more) = if bytes_eq e.text text then Some e else found text more
-
-abbrev pub stands_in : List ℕ → List Tally → Bool
-stands_in text [] = false
-stands_in text (e ∷ more) = if bytes_eq e.text text then true else stands_in text more
 
 -- no statement stands there twice
 abbrev pub AreApart : List Tally → Type 0

@@ -1,5 +1,6 @@
 -- Runs of statements, and what is said of each statement.
-use Rattle.std.specs.Prelude.{ℕ, ◌+◌, ◌-◌, ◌/◌, ◌%◌, ◌^◌, ◌==◌, min, nat_lt, if◌then◌else◌, List, [], ◌∷◌, ◌++◌, length, get_or}
+use Rattle.std.specs.Prelude.{ℕ, ◌+◌, ◌-◌, ◌*◌, ◌/◌, ◌%◌, ◌^◌, ◌==◌, min, nat_lt, if◌then◌else◌, List, [], ◌∷◌, ◌++◌, length, get_or}
+use Rattle.std.specs.List.{sum_by}
 use Rattle.std.specs.Str.{bytes_eq}
 use Rattle.pgp_summary.specs.declared.entry.Line.{Line}
 
@@ -52,9 +53,29 @@ ascending (x ∷ xs) = inserted x (ascending xs)
 abbrev pub median_of : List ℕ → ℕ
 median_of times = if length times % 2 == 1 then get_or times (length times / 2) 0 else (get_or times (length times / 2 - 1) 0 + get_or times (length times / 2) 0) / 2
 
--- how many runs and errors, their rows, and the sum, the least, the median and the greatest of their times, which stand in ascending order
-abbrev pub line_by : (errors rows total : ℕ) → List ℕ → Line
-line_by errors rows total times = record { count = length times; errors = errors; rows = rows; total = total; least = get_or times 0 0; median = median_of times; greatest = get_or times (length times - 1) 0 }
+-- the part of the whole, in thousandths rounded down
+abbrev pub share_of : (total whole : ℕ) → ℕ
+share_of total whole = if whole == 0 then 0 else capped (total * 1000 / whole)
 
-abbrev pub line_of : Tally → Line
-line_of e = line_by e.errors e.rows e.total (ascending e.times)
+-- how many runs and errors, their rows, and the sum, its share of the whole, the least, the median and the greatest of their times, which stand in ascending order
+abbrev pub line_by : (whole : ℕ) → Tally → List ℕ → Line
+line_by whole e times = record { count = length times; errors = e.errors; rows = e.rows; total = e.total; share = share_of e.total whole; least = get_or times 0 0; median = median_of times; greatest = get_or times (length times - 1) 0 }
+
+abbrev pub line_of : (whole : ℕ) → Tally → Line
+line_of whole e = line_by whole e (ascending e.times)
+
+-- ---- a table
+
+-- a statement before the first whose total isn't greater
+abbrev pub placed : Tally → List Tally → List Tally
+placed e [] = e ∷ []
+placed e (first ∷ more) = if nat_lt e.total first.total then first ∷ placed e more else e ∷ first ∷ more
+
+-- the greatest total first, and equal ones in the order in which they came
+abbrev pub ranked : List Tally → List Tally
+ranked [] = []
+ranked (e ∷ more) = placed e (ranked more)
+
+-- the sum of their totals
+abbrev pub sum_of : List Tally → ℕ
+sum_of tallies = capped (sum_by (λ (e : Tally). e.total) tallies)

@@ -2,7 +2,7 @@
 
 ghost use Rattle.std.specs.Prelude.{◌≡◌, ◌+◌, ◌/◌, get_or, slice_get, IfOk, OnErr, OnOk};
 ghost use Rattle.std.specs.Option.{option_to_list};
-ghost use Rattle.pgp_summary.specs.Runs.{ascending, capped, line_by, line_of, median_of, tallied, tally_after};
+ghost use Rattle.pgp_summary.specs.Runs.{ascending, capped, line_of, median_of, share_of, tallied, tally_after};
 ghost use Rattle.pgp_summary.specs.Places.{more_of, no_run, tallies_of, tally_of};
 
 use pgp_base::Memory;
@@ -59,14 +59,15 @@ impl<'a> Model for More<'a> {
     ghost view = { λ x. record { rows = x.rows; times = x.times.now; total = x.total; errors = x.errors } };
 }
 
-/// What is said of a statement: how often it ran, how many errors there were, the rows of all its runs, and of the times that they took, in microseconds, the sum, the least, the median
-/// and the greatest.
+/// What is said of a statement: how often it ran, how many errors there were, the rows of all its runs, and of the times that they took, in microseconds, the sum, its share of all in
+/// thousandths, the least, the median and the greatest.
 #[derive(Debug, Clone, Copy, PartialEq, Eq)]
 pub struct Line {
     pub count: u64,
     pub errors: u64,
     pub rows: u64,
     pub total: u64,
+    pub share: u64,
     pub least: u64,
     pub median: u64,
     pub greatest: u64,
@@ -80,37 +81,39 @@ impl<'a, A: MapMemory> Entry<'a, A> {
         self.text
     }
 
-    /// What is said of it.
+    /// The sum of its times.
+    pub(crate) fn total(&self) -> u64
+        ensures { result ≡ self.now.total }
+    {
+        let ran = self.ran;
+        ran.total
+    }
+
+    /// What is said of it, where all runs took so long.
     ///
     /// # Errors
     ///
     /// Returns `AllocError` if there is no memory to sort its times.
-    pub fn line(&self) -> Result<Line, AllocError>
-        ensures line { IfOk result (λ line. line ≡ line_of self.now) }
+    pub fn line(&self, whole: u64) -> Result<Line, AllocError>
+        ensures line { IfOk result (λ line. line ≡ line_of whole self.now) }
         ensures lacks { OnErr result A.Lacks }
     {
-        self.ran.line()
-    }
-}
-
-impl<A: MapMemory> Ran<A> {
-    /// What is said of it.
-    fn line(&self) -> Result<Line, AllocError>
-        ensures line { IfOk result (λ line. line ≡ line_by self.now.errors self.now.rows self.now.total (ascending self.now.times)) }
-        ensures lacks { OnErr result A.Lacks }
-    {
-        let times = sorted(*self.times.allocator(), self.times.as_slice())?;
+        let ran = self.ran;
+        let times = sorted(*ran.times.allocator(), ran.times.as_slice())?;
         Ok(Line {
             count: times.len() as u64,
-            errors: self.errors,
-            rows: self.rows,
-            total: self.total,
+            errors: ran.errors,
+            rows: ran.rows,
+            total: ran.total,
+            share: share(ran.total, whole),
             least: at(times.as_slice(), 0),
             median: median(times.as_slice()),
             greatest: at(times.as_slice(), times.len().saturating_sub(1)),
         })
     }
+}
 
+impl<A: MapMemory> Ran<A> {
     /// The same with more.
     fn with(mut self, more: More<'_>) -> Result<Ran<A>, AllocError>
         ensures added { IfOk result (λ ran. ran ≡ more_of more.entry self) }
@@ -219,6 +222,17 @@ pub(crate) fn plus(a: u64, b: u64) -> u64
     ensures { result ≡ capped (a + b) }
 {
     a.saturating_add(b)
+}
+
+/// The part of the whole, in thousandths rounded down.
+fn share(total: u64, whole: u64) -> u64
+    ensures { result ≡ share_of total whole }
+{
+    if whole == 0 {
+        return 0;
+    }
+    let share = u128::from(total) * 1000 / u128::from(whole);
+    share.min(u128::from(u64::MAX)) as u64
 }
 
 /// These times in ascending order.

@@ -6,10 +6,12 @@ mod entry;
 mod fold;
 pub mod laws;
 mod named;
+mod ranking;
 mod summary;
 mod waiting;
 mod work;
 
 pub use entry::{Entry, Line};
+pub use ranking::sum_of;
 pub use summary::Summary;
 pub use work::{Reply, Work};

@@ -1,11 +1,13 @@
 //! What the requests of a connection ran.
 
-ghost use Rattle.std.specs.Prelude.{◌≡◌, ◌&&◌, length, slice_get, IfErr, IfOk, OnErr, OnOk};
+ghost use Rattle.std.specs.Prelude.{◌≡◌, ◌&&◌, IfErr, IfOk, OnErr, OnOk};
+ghost use Rattle.pgp_summary.specs.Runs.{ranked};
 ghost use Rattle.pgp_summary.specs.Summary.{asked, did, ended, failed, nothing, ran, row, rows_of, text_in, text_of, text_under, with_portal, with_runs};
 
-use crate::entry::{Entry, More, Ran, entry_at, plus, tally, tally_all};
+use crate::entry::{Entry, More, Ran, plus, tally, tally_all};
 use crate::fold::fold;
 use crate::named::{Text, put, text_under};
+use crate::ranking::{entries_by, sorted_keys};
 use crate::waiting::{Asked, first_of, push, skip, take};
 use crate::work::{Reply, Work, ends};
 use pgp_base::Memory;
@@ -218,18 +220,18 @@ impl<A: MapMemory> Summary<A> {
         tally_all(self.alloc, &other.entries, &mut self.entries)
     }
 
-    /// How many statements ran.
-    pub fn len(&self) -> usize
-        ensures { result ≡ length self.now.tallies }
+    /// The statements that ran: the greatest total first, and equal ones in the order in which the first run or error of each came.
+    ///
+    /// # Errors
+    ///
+    /// Returns `AllocError` if there is no memory to sort them.
+    pub fn ranked(&self) -> Result<Vec<Entry<'_, A>, A>, AllocError>
+        ensures ranked { IfOk result (λ list. list.items ≡ ranked self.now.tallies) }
+        ensures lacks { OnErr result A.Lacks }
     {
-        self.entries.len()
-    }
-
-    /// The statement at this place, in the order in which the first run or error of each came.
-    pub fn entry(&self, place: usize) -> Option<Entry<'_, A>>
-        ensures { result ≡ slice_get self.now.tallies place }
-    {
-        entry_at(&self.entries, place)
+        let keys = sorted_keys(self.alloc, &self.entries)?;
+        let list = entries_by(self.alloc, keys.as_slice(), &self.entries)?;
+        Ok(list)
     }
 }
 

@@ -151,7 +151,7 @@ static LISTINGS: [Listed; 7] = [
     Listed {
         words: &["session", "a", "--summary", "b"],
         input: b"",
-        output: "   count   errors       rows      total      least     median   greatest ms\n       2        0          0      2.000      1.000      1.000      1.000 \"a\"\n",
+        output: "   count   errors       rows      total  share      least     median   greatest ms\n       2        0          0      2.000 100.0%      1.000      1.000      1.000 \"a\"\n",
         reported: "",
     },
 ];
