@@ -104,8 +104,8 @@ typedef enum pgp_status {
     PGP_CONNECTION_NO_STATUS = 93,      /* pgp_connection_take: a ReadyForQuery has another status than I, T and E */
     PGP_CONNECTION_TOO_LONG = 94,       /* pgp_connection_take: a message is announced that is too long */
     PGP_MORE = 100,                     /* bytes are missing: read more, and call again                  */
-    PGP_DONE = 101,                     /* the iterator is at its end                                    */
-    PGP_FULL = 102                      /* pgp_*_all: the array is full, and more items follow           */
+    PGP_DONE = 101,                     /* the iterator is at its end; pgp_row: another message is next  */
+    PGP_FULL = 102                      /* pgp_*_all, pgp_row: more items follow than the array holds    */
 } pgp_status;
 
 /* A text or some bytes. PGP_TEXT("user") is the pointer and the length of a literal, as two arguments of a call or in the braces of a struct pgp_bytes. */
