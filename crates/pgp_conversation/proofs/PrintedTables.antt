@@ -11,32 +11,62 @@ Plain text = list_all is_visible text ≡ true
 abbrev pub IsPrintedLine : List ℕ → Type 0
 IsPrintedLine line = (text : List ℕ) × (line ≡ text ++ 10 ∷ []) × IsPrinted text
 
-both : {a b : List ℕ} → Plain a → Plain b → Plain (a ++ b)
-both {a} {b} p q = plain_join a b p q
-
 in_cell : (width : ℕ) (text : List ℕ) → Plain text → Plain (cell width text)
-in_cell width text p = both (both (blank (width - length text)) p) refl
+in_cell width text p = plain_join (blanks (width - length text) ++ text) (32 ∷ []) (plain_join (blanks (width - length text)) text (blank (width - length text)) p) refl
 
 in_percentage : (n : ℕ) → Plain (percentage n)
-in_percentage n = both (both (both (plain_number (n / 10)) refl) (plain_number (n % 10))) refl
+in_percentage n =
+    let front = decimal (n / 10) ++ codes "." in
+    plain_join (front ++ decimal (n % 10)) (codes "%") (plain_join front (decimal (n % 10)) (plain_join (decimal (n / 10)) (codes ".") (plain_number (n / 10)) refl) (plain_number (n % 10))) refl
 
 in_columns : (l : Line) → Plain (columns l)
 in_columns l =
-    let counts = both (both (in_cell 8 (decimal l.count) (plain_number l.count)) (in_cell 8 (decimal l.errors) (plain_number l.errors))) (in_cell 10 (decimal l.rows) (plain_number l.rows)) in
-    let shares = both (both counts (in_cell 10 (millis l.total) (thousandths l.total))) (in_cell 6 (percentage l.share) (in_percentage l.share)) in
-    both (both (both shares (in_cell 10 (millis l.least) (thousandths l.least))) (in_cell 10 (millis l.median) (thousandths l.median))) (in_cell 10 (millis l.greatest) (thousandths l.greatest))
+    let a = cell 8 (decimal l.count) in
+    let b = a ++ cell 8 (decimal l.errors) in
+    let c = b ++ cell 10 (decimal l.rows) in
+    let d = c ++ cell 10 (millis l.total) in
+    let s = d ++ cell 6 (percentage l.share) in
+    let e = s ++ cell 10 (millis l.least) in
+    let f = e ++ cell 10 (millis l.median) in
+    let pa : Plain a = in_cell 8 (decimal l.count) (plain_number l.count) in
+    let pb : Plain b = plain_join a (cell 8 (decimal l.errors)) pa (in_cell 8 (decimal l.errors) (plain_number l.errors)) in
+    let pc : Plain c = plain_join b (cell 10 (decimal l.rows)) pb (in_cell 10 (decimal l.rows) (plain_number l.rows)) in
+    let pd : Plain d = plain_join c (cell 10 (millis l.total)) pc (in_cell 10 (millis l.total) (thousandths l.total)) in
+    let ps : Plain s = plain_join d (cell 6 (percentage l.share)) pd (in_cell 6 (percentage l.share) (in_percentage l.share)) in
+    let pe : Plain e = plain_join s (cell 10 (millis l.least)) ps (in_cell 10 (millis l.least) (thousandths l.least)) in
+    let pf : Plain f = plain_join e (cell 10 (millis l.median)) pe (in_cell 10 (millis l.median) (thousandths l.median)) in
+    plain_join f (cell 10 (millis l.greatest)) pf (in_cell 10 (millis l.greatest) (thousandths l.greatest))
 
 in_counts : (l : Line) → Plain (counts l)
-in_counts l = both (both (both (both (both refl (plain_number l.count)) refl) (plain_number l.errors)) refl) (plain_number l.rows)
+in_counts l =
+    let a = codes "{\"count\":" ++ decimal l.count in
+    let b = a ++ codes ",\"errors\":" in
+    let c = b ++ decimal l.errors in
+    let d = c ++ codes ",\"rows\":" in
+    let pa : Plain a = plain_join (codes "{\"count\":") (decimal l.count) refl (plain_number l.count) in
+    let pb : Plain b = plain_join a (codes ",\"errors\":") pa refl in
+    let pc : Plain c = plain_join b (decimal l.errors) pb (plain_number l.errors) in
+    plain_join d (decimal l.rows) (plain_join c (codes ",\"rows\":") pc refl) (plain_number l.rows)
 
 in_shares : (l : Line) → Plain (shares l)
-in_shares l = both (both (both refl (seconds l.total)) refl) (thousandths l.share)
+in_shares l =
+    let a = codes ",\"total\":" ++ number l.total in
+    plain_join (a ++ codes ",\"share\":") (millis l.share) (plain_join a (codes ",\"share\":") (plain_join (codes ",\"total\":") (number l.total) refl (seconds l.total)) refl) (thousandths l.share)
 
 in_times : (l : Line) → Plain (times l)
-in_times l = both (both (both (both (both refl (seconds l.least)) refl) (seconds l.median)) refl) (seconds l.greatest)
+in_times l =
+    let a = codes ",\"least\":" ++ number l.least in
+    let b = a ++ codes ",\"median\":" in
+    let c = b ++ number l.median in
+    let pa : Plain a = plain_join (codes ",\"least\":") (number l.least) refl (seconds l.least) in
+    let pb : Plain b = plain_join a (codes ",\"median\":") pa refl in
+    let pc : Plain c = plain_join b (number l.median) pb (seconds l.median) in
+    plain_join (c ++ codes ",\"greatest\":") (number l.greatest) (plain_join c (codes ",\"greatest\":") pc refl) (seconds l.greatest)
 
 in_members : (l : Line) → Plain (members l)
-in_members l = both (both (both (in_counts l) (in_shares l)) (in_times l)) refl
+in_members l =
+    let front = counts l ++ shares l in
+    plain_join (front ++ times l) (codes ",\"statement\":") (plain_join front (times l) (plain_join (counts l) (shares l) (in_counts l) (in_shares l)) (in_times l)) refl
 
 row_printed : (form : Form) (limit : ℕ) (l : Line) (text : List ℕ) → IsPrintedLine (row_by form limit l text)
 row_printed Columns limit l text = (columns l ++ up_to limit (quoted Columns) text, refl, join (columns l) (up_to limit (quoted Columns) text) (plain (columns l) (in_columns l)) (cut (quoted Columns) (quote Columns) limit text))

@@ -97,8 +97,27 @@ pub fn list_table<A: MapMemory, R: Recordings, W: Output>(
     ensures cause { IfErr result (Caused A.Lacks (GivesUp R.Fails R.Called) (GivesUp W.Fails W.Interrupted)) }
 {
     let mut table = Summary::new(alloc, marking.folded);
-    let end = add_files(alloc, view, marking, names, input, &mut table)?;
-    write_table(alloc, view, &table, output)?;
+    list_added(alloc, view, marking, names, input, &mut table, output)
+}
+
+/// The same, by a table that has no statement yet.
+fn list_added<A: MapMemory, R: Recordings, W: Output>(
+    alloc: A,
+    view: View<'_>,
+    marking: Marking,
+    names: &[&str],
+    input: &R,
+    table: &mut Summary<A>,
+    output: &mut W,
+) -> Result<Ended, Fault>
+    requires none { table.old.tallies ≡ [] }
+    ensures passed { OnOk result (W.Passed output.new) }
+    ensures done { IfOk result (λ ended. ListsTable R.Gives (view_of view.entry) marking (map (λ name. name.now) names.now) (W.contents output.old) (W.contents output.new) ended.status (ended.first.now ++ ended.second.now ++ ended.third.now)) }
+    ensures stops { OnErr result (CutsTable R.Gives (view_of view.entry) marking (map (λ name. name.now) names.now) (W.contents output.old) (W.contents output.new)) }
+    ensures cause { IfErr result (Caused A.Lacks (GivesUp R.Fails R.Called) (GivesUp W.Fails W.Interrupted)) }
+{
+    let end = add_files(alloc, view, marking, names, input, table)?;
+    write_table(alloc, view, table, output)?;
     Ok(with_status(status_of(end), complaint_of(end)))
 }
 

@@ -55,7 +55,6 @@ pub fn marked_lines_are_printable()
 {}
 
 /// Where a summary is asked for, nothing but its table is written.
-#[tactic(auto, using(crate::proofs::Summaries::table_alone))]
 pub fn summaries_are_tables()
     ensures { (view : View) (marking : Marking) (bytes output : List ℕ) (end : End) → marking.numbered ≡ true → marking.summed ≡ true → (listing : IsListing (summarized true view) marking bytes end output)
         → (summary : State) × (summary_in listing.talk.known.numbers ≡ Some summary) × (output ≡ table (summarized true view) summary.tallies) }

@@ -4,7 +4,7 @@ ghost use Rattle.std.specs.Prelude.{◌≡◌, ◌++◌, ◌∷◌, [], OnErr, O
 ghost use Rattle.std.specs.List.{flat_map};
 ghost use Rattle.pgp_trace.specs.Steps.{view_of};
 ghost use Rattle.pgp_conversation.specs.Marks.{millis, number};
-ghost use Rattle.pgp_conversation.specs.Tables.{cell, columns, counts, heading, members, percentage, row_by, row_in, rows, shares, table, times};
+ghost use Rattle.pgp_conversation.specs.Tables.{cell, columns, heading, members, percentage, row_by, row_in, rows, shares, table, times};
 
 use crate::line_mark::put_number;
 use crate::request_mark::put_millis;
@@ -35,21 +35,19 @@ pub fn put_table<A: MapMemory>(
     ensures lacks { OnErr result A.Lacks }
 {
     let entries = summary.ranked()?;
-    put_heading(view.style.form, text)?;
+    A::push_str(text, heading(view.style.form))?;
     put_rows(view, entries.as_slice(), part, text)
 }
 
-/// Adds the line above the others.
-fn put_heading<A: MapMemory>(form: Form, text: &mut String<A>) -> Result<(), AllocError>
-    ensures text { OnOk result (string_bytes text.new ≡ string_bytes text.old ++ heading form) }
-    ensures lacks { OnErr result A.Lacks }
+/// The line above the others.
+fn heading(form: Form) -> &'static str
+    ensures { result.now ≡ heading form }
 {
     match form {
-        Form::Columns => A::push_str(
-            text,
-            "   count   errors       rows      total  share      least     median   greatest ms\n",
-        ),
-        Form::Json => Ok(()),
+        Form::Columns => {
+            "   count   errors       rows      total  share      least     median   greatest ms\n"
+        }
+        Form::Json => "",
     }
 }
 
@@ -192,24 +190,16 @@ fn put_members<A: MapMemory>(line: Line, text: &mut String<A>) -> Result<(), All
     ensures text { OnOk result (string_bytes text.new ≡ string_bytes text.old ++ members line) }
     ensures lacks { OnErr result A.Lacks }
 {
-    put_counts(line, text)?;
-    put_shares(line, text)?;
-    put_times(line, text)?;
-    A::push_str(text, ",\"statement\":")
-}
-
-/// Adds the counts.
-fn put_counts<A: MapMemory>(line: Line, text: &mut String<A>) -> Result<(), AllocError>
-    ensures text { OnOk result (string_bytes text.new ≡ string_bytes text.old ++ counts line) }
-    ensures lacks { OnErr result A.Lacks }
-{
     let count = line.count;
     let errors = line.errors;
     let rows = line.rows;
     A::push_shown(
         text,
         format_args!("{{\"count\":{count},\"errors\":{errors},\"rows\":{rows}"),
-    )
+    )?;
+    put_shares(line, text)?;
+    put_times(line, text)?;
+    A::push_str(text, ",\"statement\":")
 }
 
 /// Adds the sum of the times, and its share.

@@ -1,13 +1,13 @@
 -- Keys in ascending order have the statements in the order of a table.
-use Rattle.pgp_summary.proofs.Common.{◌≡◌, ℕ, zero, suc, ◌+◌, ◌-◌, ◌^◌, ◌<◌, ◌≤◌, get_or, Bool, true, false, List, [], ◌∷◌, ◌++◌, length, Option, Some, None, refl, sym, ap, subst, arith, ◌∙◌, inl, inr, if◌then◌else◌, nat_lt, cases_Bool, Tally, capped, ascending, inserted}
-use Rattle.std.specs.Prelude.{⊤, ◌*◌, ◌%◌, slice_get, take}
+use Rattle.pgp_summary.proofs.Common.{◌≡◌, ℕ, zero, suc, ◌+◌, ◌-◌, ◌^◌, ◌<◌, ◌≤◌, get_or, List, [], ◌∷◌, ◌++◌, length, Some, refl, sym, ap, subst, arith, ◌∙◌, inl, inr, nat_lt, cases_Bool, Tally, capped, ascending, inserted}
+use Rattle.std.specs.Prelude.{⊤, ◌%◌, slice_get, take}
 use Rattle.std.specs.List.{flat_map}
 use Rattle.std.specs.List.Sorted.{IsPermutation, IsSorted}
 use Rattle.std.specs.Option.{option_to_list}
 use Rattle.std.specs.Ordering.{nat_cmp}
-use Rattle.std.proofs.lemmas.Bool.{lt-ltb, le-ltb}
+use Rattle.std.proofs.lemmas.Bool.{le-ltb, lt-ltb, ltb-false, ltb-true}
 use Rattle.std.proofs.lemmas.List.Sums.{sum_by_more}
-use Rattle.pgp_summary.proofs.Sorting.{le_from, lt_from, sorted_is}
+use Rattle.pgp_summary.proofs.Sorting.{sorted_is}
 use Rattle.pgp_summary.specs.Places.{AreKeys, Fits, FitsAt, key, key_at, picked}
 use Rattle.pgp_summary.specs.Runs.{placed, ranked, sum_of}
 
@@ -48,8 +48,8 @@ lower all low keys tallies h = absurd h
 key_order : (t u p q : ℕ) → u ≤ 2 ^ 64 - 1 → q ≤ 2 ^ 64 - 1 → p < q → nat_lt (key u q) (key t p) ≡ nat_lt t u
 key_order t u p q small near lt =
     elim (cases_Bool (nat_lt t u)) [
-      | inl less ↦ (let h = lt_from t u less in lt-ltb (key u q) (key t p) (omega (arith, h, small, near)) ∙ sym less)
-      | inr more ↦ (let h = le_from t u more in le-ltb (key u q) (key t p) (omega (arith, h, lt)) ∙ sym more)
+      | inl less ↦ (let h = ltb-true t u less in lt-ltb (key u q) (key t p) (omega (arith, h, small, near)) ∙ sym less)
+      | inr more ↦ (let h = ltb-false t u more in le-ltb (key u q) (key t p) (omega (arith, h, lt)) ∙ sym more)
     ]
 
 one_placed : (all : List Tally) (low k : ℕ) (e : Tally) (keys : List ℕ) (tallies : List Tally) → Fits e.total low → k ≡ key e.total low → slice_get all low ≡ Some e → HaveKeys all (low + 1) keys tallies → HaveKeys all low (inserted k keys) (placed e tallies)
@@ -62,6 +62,7 @@ one_placed all low k e (x ∷ keys) (d ∷ more) fits is here h =
   where
     all_low : HaveKeys all low (x ∷ keys) (d ∷ more)
     all_low = lower all low (x ∷ keys) (d ∷ more) h
+
     order : nat_lt x k ≡ nat_lt e.total d.total
     order = ap (λ n. nat_lt n k) h.0.is ∙ ap (nat_lt (key d.total h.0.place)) is ∙ key_order e.total d.total low h.0.place h.0.fits.0 h.0.fits.1 (let l = h.0.later in omega (arith, l))
 one_placed all low k e keys tallies fits is here h = absurd h

@@ -1,11 +1,11 @@
 -- Numbers in ascending order have no other one.
-use Rattle.pgp_summary.proofs.Common.{◌≡◌, ℕ, zero, suc, ◌+◌, ◌<◌, ◌≤◌, true, false, List, [], ◌∷◌, length, get_or, refl, sym, ap, arith, ◌∙◌, inl, inr, nat_lt, cases_Bool, ascending, inserted}
+use Rattle.pgp_summary.proofs.Common.{◌≡◌, ℕ, zero, suc, ◌+◌, ◌<◌, ◌≤◌, List, [], ◌∷◌, length, get_or, refl, sym, ap, arith, ◌∙◌, inl, inr, nat_lt, cases_Bool, ascending, inserted}
 use Rattle.std.specs.List.{sum_by}
 use Rattle.std.specs.List.Sorted.{IsNonDecreasing, IsPermutation, IsSorted}
 use Rattle.std.specs.Ordering.{nat_cmp}
 use Rattle.std.proofs.lemmas.List.Sorted.{IsNonDecreasingBy-drop, IsNonDecreasingBy-from_sort, sum_by-IsPermutation}
 use Rattle.std.proofs.lemmas.List.Sums.{sum_by-cons}
-use Rattle.std.proofs.lemmas.Bool.Decides.{nat_tests}
+use Rattle.std.proofs.lemmas.Bool.{ltb-false, ltb-true}
 
 -- ---- how often a number stands in a list
 
@@ -71,18 +71,12 @@ least_inserted m n (x ∷ xs) le l =
       | inr more ↦ rw more (le, l)
     ]
 
-pub lt_from : (x n : ℕ) → nat_lt x n ≡ true → x < n
-lt_from x n e = grind (arith, nat_tests)
-
-pub le_from : (x n : ℕ) → nat_lt x n ≡ false → n ≤ x
-le_from x n e = grind (arith, nat_tests)
-
 rises_inserted : (n : ℕ) (xs : List ℕ) → Rises xs → Rises (inserted n xs)
 rises_inserted n [] r = (tt, tt)
 rises_inserted n (x ∷ xs) r =
     elim (cases_Bool (nat_lt x n)) [
-      | inl less ↦ rw less (least_inserted x n xs (let h = lt_from x n less in omega (arith, h)) r.0, rises_inserted n xs r.1)
-      | inr more ↦ rw more ((le_from x n more, least_more n x xs (le_from x n more) r.0), r)
+      | inl less ↦ rw less (least_inserted x n xs (let h = ltb-true x n less in omega (arith, h)) r.0, rises_inserted n xs r.1)
+      | inr more ↦ rw more ((ltb-false x n more, least_more n x xs (ltb-false x n more) r.0), r)
     ]
 
 rises_ascending : (xs : List ℕ) → Rises (ascending xs)
@@ -117,10 +111,10 @@ head_not_less x y xs ys l e lt =
 heads : (x y : ℕ) → (x < y → ⊥) → (y < x → ⊥) → x ≡ y
 heads x y a b =
     elim (cases_Bool (nat_lt x y)) [
-      | inl less ↦ absurd (a (lt_from x y less))
+      | inl less ↦ absurd (a (ltb-true x y less))
       | inr more ↦ elim (cases_Bool (nat_lt y x)) [
-        | inl less ↦ absurd (b (lt_from y x less))
-        | inr most ↦ (let h = le_from x y more in let k = le_from y x most in omega (arith, h, k))
+        | inl less ↦ absurd (b (ltb-true y x less))
+        | inr most ↦ (let h = ltb-false x y more in let k = ltb-false y x most in omega (arith, h, k))
       ]
     ]
 

@@ -1,5 +1,5 @@
 use Rattle.pgp_conversation.proofs.Common.{inr, on_err}
-use Rattle.pgp_conversation.proofs.files.list_table.Goals as goal
+use Rattle.pgp_conversation.proofs.files.list_added.Goals as goal
 
 pub returns-in_err-write_table-clause-stops : goal.returns-in_err-write_table-clause-stops
 returns-in_err-write_table-clause-stops g c =
