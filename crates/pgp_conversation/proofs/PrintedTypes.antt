@@ -1,6 +1,9 @@
 -- Lines with values as texts are printable.
-use Rattle.pgp_conversation.proofs.Common.{◌≡◌, ℕ, ℤ, Bool, true, false, List, [], ◌∷◌, ◌++◌, drop, length, Option, Some, None, Ok, map, codes, Message, DataRow, CountedBytes, value_at, Part, Count, Length, ListEnds, Name, Tag, Text, closing, followed, key, opening, IsPrinted, Style, ClientMessage, Bind, counted, signed_part, ending, closing_printable, join, opening_printable, parts_printable, Column, Told, Heard, IsBindLine, IsRowLine, Said, Sent, ShowsBound, ShowsFitting, ShowsHeard, ShowsRow, ShowsSent, ShowsTyped, ShowsValues, bind_front, fits, has_binary, row_front, Awaited, Types, first, rows_of}
+use Rattle.pgp_conversation.proofs.Common.{◌≡◌, ℕ, ℤ, Bool, true, false, List, [], ◌∷◌, ◌++◌, drop, length, Option, Some, None, Ok, map, codes, Message, DataRow, CountedBytes, value_at, Part, Count, Length, ListEnds, Name, Tag, Text, closing, followed, key, opening, IsPrinted, Style, ClientMessage, Bind, Execute, counted, signed_part, ending, closing_printable, join, opening_printable, parts_printable, Column, Told, Heard, IsBindLine, IsRowLine, Said, Sent, ShowsBound, ShowsFitting, ShowsHeard, ShowsRow, ShowsSent, ShowsTyped, ShowsValues, bind_front, fits, has_binary, row_front, Awaited, Types, first, rows_of}
+use Rattle.pgp_conversation.specs.Common.{Key, Number, State}
+use Rattle.pgp_conversation.specs.Typed.{executed}
 use Rattle.pgp_conversation.specs.declared.placement.Told.TheVariants as told
+use Rattle.pgp_summary.specs.Summary.{text_due}
 
 -- printable characters before a newline
 abbrev pub IsLine : List ℕ → Type 0
@@ -56,8 +59,16 @@ bound_printed : (binary : Bool) (style : Style) (place len : ℕ) (parameters : 
 bound_printed true style place len parameters portal statement formats values results old new a s = bind_printed style place len parameters portal statement formats values results new s
 bound_printed false style place len parameters portal statement formats values results old new a s = rw s a
 
+executed_printed : (texts : Option State) (style : Style) (place len : ℕ) (portal : List ℕ) (max_rows : ℤ) (line : List ℕ) → IsLine line → IsLine (executed texts style place len portal max_rows line)
+executed_printed None style place len portal max_rows line a = a
+executed_printed (Some s) style place len portal max_rows line a =
+    let parts : List Part = Length len ∷ Tag 69 ∷ Name false (codes "Execute") ∷ key (codes "portal") ∷ Text portal ∷ Key (codes "rows") (codes "max_rows") ∷ Number max_rows ∷ key (codes "query") ∷ Text (text_due portal s) ∷ [] in
+    let all = followed style (opening style place) parts in
+    (all ++ closing style, refl, join all (closing style) (parts_printable style (opening style place) parts (opening_printable style.form place)) (closing_printable style.form))
+
 sent_printed : (style : Style) (place len : ℕ) (m : ClientMessage) (types : Types) (old new : List ℕ) → IsLine old → ShowsSent style place len m types old new → IsLine new
 sent_printed style place len (Bind portal statement formats values results) types old new a s = bound_printed (has_binary types.binds) style place len types.binds portal statement formats values results old new a s
+sent_printed style place len (Execute portal max_rows) types old new a s = rw s (executed_printed types.texts style place len portal max_rows old a)
 sent_printed style place len m types old new a s = rw s a
 
 pub typed_printed : (style : Style) (place len : ℕ) (told : Told) (said : Said) (types : Option Types) (old new : List ℕ) → IsLine old → ShowsTyped style place len told said types old new → IsLine new

@@ -3,10 +3,11 @@
 use Rattle.std.specs.Prelude.{◌≡◌, ◌⊎◌, ℕ, ℤ, Bool, true, false, ◌==◌, ◌&&◌, ◌||◌, if◌then◌else◌, List, [], ◌∷◌, ◌++◌, drop, length, map, Option, None, Some, Result, Ok, codes}
 use mathlib.Core.Logic.{inl, inr}
 use Rattle.std.specs.declared.ops.Range.{Range}
-use Rattle.pgp_conversation.specs.Common.{Error, Message, BindComplete, CloseComplete, DataRow, NoData, ParameterDescription, ParseComplete, ReadyForQuery, RowDescription, HasPlaces, value_at, ClientMessage, Bind, Close, Describe, Execute, Parse, Query, Sync, ClientError, Part, Binary, Count, Length, ListEnds, Name, Tag, Text, Value, closing, followed, key, opening, Style, LineOf, ending, Side, Beginning, Messages, Replicating, Encrypted, IsTextOf, Object, Statement, Portal, Simple, Column, Told}
+use Rattle.pgp_conversation.specs.Common.{Error, Message, BindComplete, CloseComplete, DataRow, NoData, ParameterDescription, ParseComplete, ReadyForQuery, RowDescription, HasPlaces, value_at, ClientMessage, Bind, Close, Describe, Execute, Parse, Query, Sync, ClientError, Part, Binary, Count, Key, Length, ListEnds, Name, Number, Tag, Text, Value, closing, followed, key, opening, Style, LineOf, ending, Side, Beginning, Messages, Replicating, Encrypted, IsTextOf, Object, Statement, Portal, Simple, Column, State, Told}
 use Rattle.pgp_base.specs.Items.{CountedItems}
 use Rattle.pgp_message.specs.Items.{FieldPart, FieldRefused, FieldSpelled, TypeRefused, TypeSpelled}
 use Rattle.pgp_message.specs.Parts.{CountedBytes}
+use Rattle.pgp_summary.specs.Summary.{text_due}
 use Rattle.pgp_trace.specs.Client.{counted, signed_part}
 use Rattle.pgp_trace.specs.Sides as side
 use Rattle.pgp_conversation.specs.declared.placement.Told.TheVariants as told
@@ -28,8 +29,8 @@ said_in style place (side.Server Encrypted) frame line to is = Unsaid
 said_in style place (side.Client opened kinds replicating) frame line to is = Sent is.reported.result
 
 -- nothing is looked for where bytes are shown as they are
-abbrev pub first_types : (raw : Bool) → Option Types
-first_types raw = if raw then None else Some no_types
+abbrev pub first_types : (raw named : Bool) → Option Types
+first_types raw named = if raw then None else Some (no_types named)
 
 -- ---- a request
 
@@ -59,8 +60,8 @@ asked n m = None
 
 -- what it changes when it is sent
 abbrev pub announces : ℕ → ClientMessage → Types → Types
-announces n (Parse name query types) t = parses n name (map parameter types) t
-announces n (Bind portal statement formats values results) t = binds (formatted (map is_binary formats) (parameters_of statement t)) t
+announces n (Parse name query types) t = parses n name query (map parameter types) t
+announces n (Bind portal statement formats values results) t = binds n portal statement (formatted (map is_binary formats) (parameters_of statement t)) t
 announces n Sync t = syncs t
 announces n m t = t
 
@@ -193,10 +194,21 @@ abbrev pub ShowsBound : (binary : Bool) → Style → (place len : ℕ) → List
 ShowsBound true style place len parameters portal statement formats values results old new = IsBindLine style place len parameters portal statement formats values results new
 ShowsBound false style place len parameters portal statement formats values results old new = new ≡ old
 
+-- the line of an Execute that runs this text
+abbrev pub execute_line : Style → (place len : ℕ) → (portal : List ℕ) → (max_rows : ℤ) → (query : List ℕ) → List ℕ
+execute_line style place len portal max_rows query =
+    followed style (opening style place) (Length len ∷ Tag 69 ∷ Name false (codes "Execute") ∷ key (codes "portal") ∷ Text portal ∷ Key (codes "rows") (codes "max_rows") ∷ Number max_rows ∷ key (codes "query") ∷ Text query ∷ []) ++ closing style ++ 10 ∷ []
+
+-- where texts are known
+abbrev pub executed : Option State → Style → (place len : ℕ) → (portal : List ℕ) → (max_rows : ℤ) → (line : List ℕ) → List ℕ
+executed None style place len portal max_rows line = line
+executed (Some s) style place len portal max_rows line = execute_line style place len portal max_rows (text_due portal s)
+
 -- the line of a request
 abbrev pub ShowsSent : Style → (place len : ℕ) → ClientMessage → Types → (old new : List ℕ) → Type 0
 ShowsSent style place len (Bind portal statement formats values results) types old new =
     ShowsBound (has_binary types.binds) style place len types.binds portal statement formats values results old new
+ShowsSent style place len (Execute portal max_rows) types old new = new ≡ executed types.texts style place len portal max_rows old
 ShowsSent style place len m types old new = new ≡ old
 
 -- the line of a frame, where so much is known after it

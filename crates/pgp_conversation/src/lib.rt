@@ -29,6 +29,7 @@ mod session;
 mod state;
 mod summing;
 mod table;
+mod texts;
 mod typed;
 mod types;
 mod value;

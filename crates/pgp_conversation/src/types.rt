@@ -9,8 +9,10 @@ ghost use Rattle.pgp_conversation.specs.TypesKept.{awaited_of, last_of, types_of
 use crate::awaited::{Awaited, Object, first, reach, wait_bound};
 use crate::column::Column;
 use crate::columns::{Columns, again, formatted, found, keep};
+use crate::texts::{ask_text, end_text, first_texts, reach_text};
 use pgp_base::Memory;
 use pgp_names::{MapMemory, Names};
+use pgp_summary::{Reply, Summary, Work};
 use std::alloc::AllocError;
 use std::collections::VecDeque;
 
@@ -40,11 +42,13 @@ pub struct Types<A: MapMemory> {
     pub binds: Vec<Column, A>,
     /// The number of the last Parse.
     pub parse: u64,
+    /// The texts of statements and portals, where names are asked for.
+    pub texts: Option<Summary<A>>,
 }
 
 /// Before the first request.
-pub fn no_types<A: MapMemory>(alloc: A) -> Types<A>
-    ensures { types_of result ≡ no_types }
+pub fn no_types<A: MapMemory>(alloc: A, named: bool) -> Types<A>
+    ensures { types_of result ≡ no_types named }
 {
     Types {
         awaited: VecDeque::new(alloc),
@@ -55,6 +59,7 @@ pub fn no_types<A: MapMemory>(alloc: A) -> Types<A>
         told: Names::new(alloc),
         binds: Vec::new(alloc),
         parse: 0,
+        texts: first_texts(alloc, named),
     }
 }
 
@@ -74,6 +79,7 @@ pub fn reach_answer<A: MapMemory>(number: u64, types: &mut Types<A>)
     ensures { types_of types.new ≡ reached number (types_of types.old) }
 {
     reach(number, &mut types.awaited);
+    reach_text(number, &mut types.texts);
 }
 
 /// The object of a request has these columns, or none are known.
@@ -130,7 +136,7 @@ pub fn bind<A: MapMemory>(number: u64, types: &mut Types<A>) -> Result<(), Alloc
         Some(asked) => {
             bind_to(asked, &types.statements, &mut types.portals)?;
             types.last = Some(bound_portal(asked)?);
-            Ok(())
+            end_text(asked.number, Reply::BindComplete, &mut types.texts)
         }
         None => Ok(()),
     }
@@ -182,10 +188,11 @@ pub fn end<A: MapMemory>(status: u8, types: &mut Types<A>)
 pub fn parse<A: MapMemory>(
     number: u64,
     name: &[u8],
+    query: &[u8],
     parameters: Vec<Column, A>,
     types: &mut Types<A>,
 ) -> Result<(), AllocError>
-    ensures parsed { OnOk result (types_of types.new ≡ waits (Some (record { number = number; object = Object.Statement; name = name.now; statement = []; formats = []; parameters = parameters.items })) (parses number name.now parameters.items (types_of types.old))) }
+    ensures parsed { OnOk result (types_of types.new ≡ waits (Some (record { number = number; object = Object.Statement; name = name.now; statement = []; formats = []; parameters = parameters.items })) (parses number name.now query.now parameters.items (types_of types.old))) }
     ensures lacks { OnErr result A.Lacks }
 {
     let alloc = *types.awaited.allocator();
@@ -193,6 +200,7 @@ pub fn parse<A: MapMemory>(
     keep(name, Some(sent), &mut types.sent)?;
     types.told.forget(name);
     types.parse = number;
+    ask_text(number, Work::Parse, name, query, &mut types.texts)?;
     wait_bound(
         number,
         Object::Statement,
@@ -275,6 +283,7 @@ pub fn finish<A: MapMemory>(number: u64, types: &mut Types<A>) -> Result<(), All
     describe(number, None, types)?;
     match first(number, &types.awaited) {
         Some(asked) => {
+            end_text(asked.number, Reply::ParseComplete, &mut types.texts)?;
             if asked.number < types.parse {
                 Ok(())
             } else {

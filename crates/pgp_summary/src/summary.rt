@@ -1,12 +1,12 @@
 //! What the requests of a connection ran.
 
-ghost use Rattle.std.specs.Prelude.{◌≡◌, ◌&&◌, length, slice_get, IfErr, IfOk, OnErr, OnOk};
-ghost use Rattle.pgp_summary.specs.Summary.{asked, did, ended, failed, nothing, ran, row, rows_of, text_in, text_of, text_under, with_portal, with_runs};
+ghost use Rattle.std.specs.Prelude.{◌≡◌, ◌&&◌, length, slice_get, take, IfErr, IfOk, OnErr, OnOk};
+ghost use Rattle.pgp_summary.specs.Summary.{asked, did, ended, failed, granted, nothing, ran, reached, row, rows_of, text_due, text_in, text_of, text_under, with_portal, with_runs};
 
 use crate::entry::{Entry, More, Ran, entry_at, plus, tally, tally_all};
 use crate::fold::fold;
 use crate::named::{Text, put, text_under};
-use crate::waiting::{Asked, first_of, push, skip, take};
+use crate::waiting::{Asked, first_of, last_given, push, skip, take};
 use crate::work::{Reply, Work, ends};
 use pgp_base::Memory;
 use pgp_names::{MapMemory, Names};
@@ -203,6 +203,38 @@ impl<A: MapMemory> Summary<A> {
                 tally(self.alloc, text, error, &mut self.entries)
             }
             None => Ok(()),
+        }
+    }
+
+    /// Takes note of an answer to the request of this number: those before it get none any more.
+    pub fn reach(&mut self, number: u64)
+        ensures { self.new ≡ reached number self.old }
+    {
+        skip(number, &mut self.waiting);
+    }
+
+    /// The text that an Execute of this portal runs that is sent now, if all requests before it succeed; `?` where none is known.
+    pub fn text_due(&self, portal: &[u8]) -> &[u8]
+        ensures { result.now ≡ text_due portal.now self.now }
+    {
+        match last_given(
+            Reply::BindComplete,
+            portal,
+            self.waiting.len(),
+            &self.waiting,
+        ) {
+            Some((place, statement)) => self.statement_due(statement, place),
+            None => text_under(portal, &self.portals),
+        }
+    }
+
+    /// The text that this statement has once the first requests, so many, have succeeded.
+    fn statement_due(&self, name: &[u8], count: usize) -> &[u8]
+        ensures { result.now ≡ text_under name.now (granted (take count self.now.waiting) self.now).statements }
+    {
+        match last_given(Reply::ParseComplete, name, count, &self.waiting) {
+            Some((_, text)) => text,
+            None => text_under(name, &self.statements),
         }
     }
 
