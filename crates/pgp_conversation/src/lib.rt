@@ -29,7 +29,6 @@ mod session;
 mod state;
 mod summing;
 mod table;
-mod texts;
 mod typed;
 mod types;
 mod value;

@@ -1,9 +1,10 @@
 -- The text that a portal has once the requests that wait have succeeded is what the last of them gives it, or what it has.
-use Rattle.pgp_summary.proofs.Common.{◌≡◌, ℕ, zero, suc, Bool, true, false, List, [], ◌∷◌, Some, None, Option, refl, sym, ap, ◌∙◌, inl, inr, if◌then◌else◌, bytes_eq, cases_Bool, Request, State, done, put, found}
+use Rattle.pgp_summary.proofs.Common.{◌≡◌, ℕ, zero, suc, ◌≤◌, length, Bool, true, false, List, [], ◌∷◌, Some, None, Option, refl, sym, ap, ◌∙◌, inl, inr, if◌then◌else◌, bytes_eq, cases_Bool, Request, State, done, put, found}
 use Rattle.std.specs.Option.{option_map, unwrap_or}
 use Rattle.std.specs.Prelude.{◌&&◌, take, slice_get}
+use Rattle.std.proofs.lemmas.List.{take_all}
 use Rattle.pgp_names.proofs.FoundLemmas.{found_put}
-use Rattle.pgp_summary.specs.Summary.{did, ends, given, given_at, gives, granted, last_given, text_under, unknown}
+use Rattle.pgp_summary.specs.Summary.{did, ends, given, given_at, gives, granted, last_given, text_due, text_under, unknown}
 use Rattle.pgp_summary.specs.declared.work.Work.{Work}
 use Rattle.pgp_summary.specs.declared.work.Work.TheVariants.{Query, Parse, Bind, Execute}
 use Rattle.pgp_summary.specs.declared.work.Reply.TheVariants.{ParseComplete, BindComplete}
@@ -34,41 +35,50 @@ bind_step Parse r name s = refl
 bind_step Bind r name s = under_put r.first name (text_under r.second s.statements) s.portals
 bind_step Execute r name s = refl
 
-module _ (waiting : List Request) (s : State) (name : List ℕ) where
-  -- a statement's text
+module _ (s : State) (name : List ℕ) where
+  -- those that are left once the first n succeeded
+  abbrev here : ℕ → State
+  here n = granted (take n s.waiting) s
+
   abbrev pub statement_by : Option (ℕ × List ℕ) → List ℕ
   statement_by None = text_under name s.statements
   statement_by (Some x) = x.1
 
-  statement_next : (n : ℕ) (before : Option (ℕ × List ℕ)) (here : State) (o : Option Request) → statement_by before ≡ text_under name here.statements
-      → statement_by (given_at n (given ParseComplete name o) before) ≡ text_under name (done o 0 here).statements
-  statement_next n before here None e = e
-  statement_next n before here (Some r) e =
+  statement_next : (n : ℕ) (before : Option (ℕ × List ℕ)) (o : Option Request) → statement_by before ≡ text_under name (here n).statements → statement_by (given_at n (given ParseComplete name o) before) ≡ text_under name (done o 0 (here n)).statements
+  statement_next n before None e = e
+  statement_next n before (Some r) e =
+      let step = parse_step r.work r name (here n) in
       elim (cases_Bool (gives ParseComplete name r)) [
-        | inl is ↦ rw is (sym (parse_step r.work r name here ∙ ap (λ b. if b then r.second else text_under name here.statements) is))
-        | inr not ↦ rw not (e ∙ sym (parse_step r.work r name here ∙ ap (λ b. if b then r.second else text_under name here.statements) not))
+        | inl is ↦ rw is (sym (step ∙ ap (λ b. if b then r.second else text_under name (here n).statements) is))
+        | inr not ↦ rw not (e ∙ sym (step ∙ ap (λ b. if b then r.second else text_under name (here n).statements) not))
       ]
 
-  pub statements_due : (n : ℕ) → statement_by (last_given ParseComplete name n waiting) ≡ text_under name (granted (take n waiting) s).statements
+  statements_due : (n : ℕ) → statement_by (last_given ParseComplete name n s.waiting) ≡ text_under name (here n).statements
   statements_due zero = refl
-  statements_due (suc n) = statement_next n (last_given ParseComplete name n waiting) (granted (take n waiting) s) (slice_get waiting n) (statements_due n) ∙ ap (λ (t : State). text_under name t.statements) (sym (granted_next n waiting s))
+  statements_due (suc n) = statement_next n (last_given ParseComplete name n s.waiting) (slice_get s.waiting n) (statements_due n) ∙ ap (λ (t : State). text_under name t.statements) (sym (granted_next n s.waiting s))
 
-  -- a portal's
-  abbrev pub portal_by : Option (ℕ × List ℕ) → List ℕ
+  abbrev portal_by : Option (ℕ × List ℕ) → List ℕ
   portal_by None = text_under name s.portals
-  portal_by (Some x) = text_under x.1 (granted (take x.0 waiting) s).statements
+  portal_by (Some x) = text_under x.1 (here x.0).statements
 
-  portal_next : (n : ℕ) (before : Option (ℕ × List ℕ)) (o : Option Request) → portal_by before ≡ text_under name (granted (take n waiting) s).portals
-      → portal_by (given_at n (given BindComplete name o) before) ≡ text_under name (done o 0 (granted (take n waiting) s)).portals
+  portal_next : (n : ℕ) (before : Option (ℕ × List ℕ)) (o : Option Request) → portal_by before ≡ text_under name (here n).portals → portal_by (given_at n (given BindComplete name o) before) ≡ text_under name (done o 0 (here n)).portals
   portal_next n before None e = e
   portal_next n before (Some r) e =
-      let here : State = granted (take n waiting) s in
-      let step = bind_step r.work r name here in
+      let step = bind_step r.work r name (here n) in
       elim (cases_Bool (gives BindComplete name r)) [
-        | inl is ↦ rw is (sym (step ∙ ap (λ b. if b then text_under r.second here.statements else text_under name here.portals) is))
-        | inr not ↦ rw not (e ∙ sym (step ∙ ap (λ b. if b then text_under r.second here.statements else text_under name here.portals) not))
+        | inl is ↦ rw is (sym (step ∙ ap (λ b. if b then text_under r.second (here n).statements else text_under name (here n).portals) is))
+        | inr not ↦ rw not (e ∙ sym (step ∙ ap (λ b. if b then text_under r.second (here n).statements else text_under name (here n).portals) not))
       ]
 
-  pub portals_due : (n : ℕ) → portal_by (last_given BindComplete name n waiting) ≡ text_under name (granted (take n waiting) s).portals
+  portals_due : (n : ℕ) → portal_by (last_given BindComplete name n s.waiting) ≡ text_under name (here n).portals
   portals_due zero = refl
-  portals_due (suc n) = portal_next n (last_given BindComplete name n waiting) (slice_get waiting n) (portals_due n) ∙ ap (λ (t : State). text_under name t.portals) (sym (granted_next n waiting s))
+  portals_due (suc n) = portal_next n (last_given BindComplete name n s.waiting) (slice_get s.waiting n) (portals_due n) ∙ ap (λ (t : State). text_under name t.portals) (sym (granted_next n s.waiting s))
+
+  portal_due : (n : ℕ) (given : Option (ℕ × List ℕ)) → length s.waiting ≤ n → given ≡ last_given BindComplete name n s.waiting → portal_by given ≡ text_due name s
+  portal_due n given all e = ap portal_by e ∙ portals_due n ∙ ap (λ l. text_under name (granted l s).portals) (take_all n s.waiting all)
+
+pub known_due : (s : State) (portal : List ℕ) (n : ℕ) → length s.waiting ≤ n → None ≡ last_given BindComplete portal n s.waiting → text_under portal s.portals ≡ text_due portal s
+known_due s portal n all none = portal_due s portal n None all none
+
+pub bound_due : (s : State) (portal name : List ℕ) (n i : ℕ) (given : Option (ℕ × List ℕ)) → length s.waiting ≤ n → Some (i, name) ≡ last_given BindComplete portal n s.waiting → given ≡ last_given ParseComplete name i s.waiting → statement_by s name given ≡ text_due portal s
+bound_due s portal name n i given all bound parsed = ap (statement_by s name) parsed ∙ statements_due s name i ∙ portal_due s portal n (Some (i, name)) all bound

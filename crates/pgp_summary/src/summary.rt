@@ -1,7 +1,7 @@
 //! What the requests of a connection ran.
 
-ghost use Rattle.std.specs.Prelude.{◌≡◌, ◌&&◌, length, slice_get, take, IfErr, IfOk, OnErr, OnOk};
-ghost use Rattle.pgp_summary.specs.Summary.{asked, did, ended, failed, granted, nothing, ran, reached, row, rows_of, text_due, text_in, text_of, text_under, with_portal, with_runs};
+ghost use Rattle.std.specs.Prelude.{◌≡◌, ◌&&◌, length, slice_get, IfErr, IfOk, OnErr, OnOk};
+ghost use Rattle.pgp_summary.specs.Summary.{asked, did, ended, failed, nothing, ran, reached, row, rows_of, text_due, text_in, text_of, text_under, with_portal, with_runs};
 
 use crate::entry::{Entry, More, Ran, entry_at, plus, tally, tally_all};
 use crate::fold::fold;
@@ -217,24 +217,14 @@ impl<A: MapMemory> Summary<A> {
     pub fn text_due(&self, portal: &[u8]) -> &[u8]
         ensures { result.now ≡ text_due portal.now self.now }
     {
-        match last_given(
-            Reply::BindComplete,
-            portal,
-            self.waiting.len(),
-            &self.waiting,
-        ) {
-            Some((place, statement)) => self.statement_due(statement, place),
-            None => text_under(portal, &self.portals),
-        }
-    }
-
-    /// The text that this statement has once the first requests, so many, have succeeded.
-    fn statement_due(&self, name: &[u8], count: usize) -> &[u8]
-        ensures { result.now ≡ text_under name.now (granted (take count self.now.waiting) self.now).statements }
-    {
-        match last_given(Reply::ParseComplete, name, count, &self.waiting) {
+        let waiting = &self.waiting;
+        let bound = last_given(Reply::BindComplete, portal, waiting.len(), waiting);
+        let Some((place, statement)) = bound else {
+            return text_under(portal, &self.portals);
+        };
+        match last_given(Reply::ParseComplete, statement, place, waiting) {
             Some((_, text)) => text,
-            None => text_under(name, &self.statements),
+            None => text_under(statement, &self.statements),
         }
     }
 
