@@ -60,7 +60,7 @@ module _ (one_text : OneText) where
       let each = subst (λ (l : List (Option (Range ℕ))). ShowsValues style columns.list (map (value_at row.storage) l) front a.values) same.0 a.each in
       let values = values_one style columns.list (map (value_at row.storage) b.places) front a.values b.values each b.each in
       a.is ∙ ap (λ l. followed style (followed style l (ending ListEnds a.end)) (names_parts named columns) ++ closing style ++ 10 ∷ []) values
-          ∙ ap (λ e. followed style (followed style b.values (ending ListEnds e)) (names_parts named columns) ++ closing style ++ 10 ∷ []) same.1 ∙ sym b.is
+      ∙ ap (λ e. followed style (followed style b.values (ending ListEnds e)) (names_parts named columns) ++ closing style ++ 10 ∷ []) same.1 ∙ sym b.is
 
   fitting_one : (fitting : Bool) (style : Style) (place len : ℕ) (named : Bool) (columns : Columns) (row : CountedBytes) (old x y : List ℕ) → ShowsFitting fitting style place len named columns row old x → ShowsFitting fitting style place len named columns row old y → x ≡ y
   fitting_one true style place len named columns row old x y a b = row_one style place len named columns row x y a b

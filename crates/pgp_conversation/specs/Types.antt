@@ -38,8 +38,11 @@ pub record Types : Type 0 where
   pub texts : Option State
 
 -- before the first request
+abbrev pub first_texts : (named : Bool) → Option State
+first_texts named = if named then Some (nothing false) else None
+
 abbrev pub no_types : (named : Bool) → Types
-no_types named = record { awaited = []; statements = []; portals = []; last = None; sent = []; told = []; binds = []; parse = 0; texts = if named then Some (nothing false) else None }
+no_types named = record { awaited = []; statements = []; portals = []; last = None; sent = []; told = []; binds = []; parse = 0; texts = first_texts named }
 
 -- a Parse or a Bind is sent
 abbrev pub asks_text : ℕ → Work → (first second : List ℕ) → Option State → Option State

@@ -2,7 +2,7 @@
 
 ghost use Rattle.std.specs.Prelude.{◌≡◌, ◌++◌, ◌∷◌, [], None, Some, length, OnErr, OnOk, string_bytes};
 ghost use Rattle.pgp_frontend_read.specs.Views.{kind_view, view};
-ghost use Rattle.pgp_conversation.specs.Typed.{IsBindLine, Said, ShowsSent, ShowsTyped, bind_front, execute_line};
+ghost use Rattle.pgp_conversation.specs.Typed.{IsBindLine, Said, ShowsSent, ShowsTyped, bind_front, executed};
 ghost use Rattle.pgp_conversation.specs.TypedLines.{AddsValues, ReadsSo, ShowsRequest};
 ghost use Rattle.pgp_conversation.specs.TypesKept.{types_in, types_of};
 
@@ -19,6 +19,7 @@ use pgp_line::line::{put_called, put_end, put_text};
 use pgp_line::nesting::{end_list, put_count, put_key};
 use pgp_line::style::Style;
 use pgp_names::MapMemory;
+use pgp_summary::Summary;
 use pgp_trace::body::put_integer;
 use pgp_trace::client_lists::put_formats;
 use pgp_trace::frame::begin_line;
@@ -112,42 +113,36 @@ fn show_message<A: MapMemory>(
                 Ok(())
             }
         }
-        ClientMessage::Execute { portal, max_rows } => match &types.texts {
-            Some(texts) => put_execute(
-                style,
-                place,
-                len,
-                portal,
-                max_rows,
-                texts.text_due(portal),
-                line,
-            ),
-            None => Ok(()),
-        },
+        ClientMessage::Execute { portal, max_rows } => {
+            put_execute(style, place, len, portal, max_rows, &types.texts, line)
+        }
         _ => Ok(()),
     }
 }
 
-/// Writes the line of an Execute that runs this text.
+/// Writes the line of an Execute anew, where texts are known.
 fn put_execute<A: MapMemory>(
     style: Style,
     place: u64,
     len: usize,
     portal: &[u8],
     max_rows: i32,
-    query: &[u8],
+    texts: &Option<Summary<A>>,
     line: &mut String<A>,
 ) -> Result<(), AllocError>
-    ensures line { OnOk result (string_bytes line.new ≡ execute_line style place len portal.now max_rows query.now) }
+    ensures line { OnOk result (string_bytes line.new ≡ executed texts.now style place len portal.now max_rows (string_bytes line.old)) }
     ensures lacks { OnErr result A.Lacks }
 {
+    let Some(texts) = texts else {
+        return Ok(());
+    };
     begin_line(style, place, len, b'E', line)?;
     put_called(style, false, "Execute", line)?;
     put_key(style, "portal", "portal", line)?;
     put_text(style, portal, line)?;
     put_integer(style, "rows", "max_rows", max_rows, line)?;
     put_key(style, "query", "query", line)?;
-    put_text(style, query, line)?;
+    put_text(style, texts.text_due(portal), line)?;
     put_end(style, line)
 }
 

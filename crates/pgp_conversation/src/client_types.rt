@@ -174,13 +174,7 @@ fn ask_bind<A: MapMemory>(
     let results = binaries_of(alloc, results)?;
     let binaries = binaries_of(alloc, formats)?;
     types.binds = formatted(alloc, binaries.as_slice(), parameters_of(statement, types))?;
-    ask_text(
-        number,
-        Work::Bind,
-        portal,
-        statement,
-        &mut types.texts,
-    )?;
+    ask_text(number, Work::Bind, portal, statement, &mut types.texts)?;
     wait_bound(
         number,
         Object::Portal,

@@ -27,7 +27,11 @@ use std::alloc::AllocError;
 pub fn first_types<A: MapMemory>(alloc: A, raw: bool, named: bool) -> Option<Types<A>>
     ensures { types_in result ≡ first_types raw named }
 {
-    if raw { None } else { Some(no_types(alloc, named)) }
+    if raw {
+        None
+    } else {
+        Some(no_types(alloc, named))
+    }
 }
 
 /// Takes note of a frame of this side, which has this name, and writes its line anew where it has values whose types are known. Returns what its mark says of

@@ -4,7 +4,7 @@ ghost use Rattle.std.specs.Prelude.{◌≡◌, [], Some, IfOk, OnErr, OnOk};
 ghost use Rattle.pgp_conversation.specs.Common.{option_map, found, without};
 ghost use Rattle.std.specs.Option.{option_copied};
 ghost use Rattle.pgp_conversation.specs.Shelves.{in_formats, kept};
-ghost use Rattle.pgp_conversation.specs.Types.{asks_text, bound, closed, described, ended, first, no_types, parameters_of, parsed, parses, passed_on, reached, rows_of, statement_of, syncs, tells, texts_after, told_by, waits};
+ghost use Rattle.pgp_conversation.specs.Types.{asks_text, bound, closed, described, ended, first, first_texts, no_types, parameters_of, parsed, parses, passed_on, reached, rows_of, statement_of, syncs, tells, texts_after, told_by, waits};
 ghost use Rattle.pgp_conversation.specs.TypesKept.{awaited_of, last_of, types_of};
 
 use crate::awaited::{Awaited, Object, first, reach, wait_bound};
@@ -59,11 +59,18 @@ pub fn no_types<A: MapMemory>(alloc: A, named: bool) -> Types<A>
         told: Names::new(alloc),
         binds: Vec::new(alloc),
         parse: 0,
-        texts: if named {
-            Some(Summary::new(alloc, false))
-        } else {
-            None
-        },
+        texts: first_texts(alloc, named),
+    }
+}
+
+/// Before the first request, where names are asked for.
+fn first_texts<A: MapMemory>(alloc: A, named: bool) -> Option<Summary<A>>
+    ensures { result ≡ first_texts named }
+{
+    if named {
+        Some(Summary::new(alloc, false))
+    } else {
+        None
     }
 }
 

@@ -7,5 +7,5 @@ returns-clause-hears g c =
     let old = types_of c.args.types.now in
     let named = is_some old.texts in
     ok_then c.describe.result
-    (λ is. (columns_of named fields.items fields.end, record { fields = fields.items; end = fields.end; list = c.fields.ensures.items; is = refl }, is ∙ ap (λ k. described (first c.args.number old.awaited) k old) c.in_ok-columns.ensures.columns))
+    (λ is. (columns_of named fields.items fields.end, record { fields = fields.items; end = fields.end; list = c.fields.ensures.items; is = refl }, is ∙ ap (λ k. described (first c.args.number old.awaited) k old) (c.in_ok-columns.ensures.columns ∙ ap (λ b. columns_of b fields.items fields.end) c.is_some.ensures)))
     c.describe.ensures.described
