@@ -43,7 +43,7 @@ pub use Rattle.pgp_conversation.specs.Shelves.{formatted, formatted_from, is_bin
 pub use Rattle.pgp_conversation.specs.Steps.{ListsBytes, ListsChunkTo, HeldHalf, HeldTalk, Holds, Keeps, ListsAllFrames, TakesChunk, ListsOneFrame, known_of, TakesPart, chunk_of, end_of, numbers_in, half_of, kept_of, KnowsNext}
 pub use Rattle.pgp_conversation.specs.Summing.{asking_from, asking_of, asking_in, summed, Asking, summed_so}
 pub use Rattle.pgp_conversation.specs.Tables.{cell, columns, heading, row_by, row_of, times, ending_by, table, row_in}
-pub use Rattle.pgp_conversation.specs.Typed.{Heard, Said, Sent, Unsaid, Learns, said_in, ShowsTyped, Gives, Hears, IsBindLine, IsRowLine, Lists, ShowsBound, ShowsBytes, ShowsFitting, ShowsHeard, ShowsRow, ShowsSent, ShowsValue, ShowsValues, bind_front, column_first, columns_of, fits, has_binary, parameters_in, row_front, column_of, parameter, sends}
+pub use Rattle.pgp_conversation.specs.Typed.{Heard, Said, Sent, Unsaid, Learns, said_in, ShowsTyped, Gives, Hears, IsBindLine, IsRowLine, Lists, ShowsBound, ShowsBytes, ShowsFitting, ShowsHeard, ShowsRow, ShowsSent, ShowsValue, ShowsValues, bind_front, column_first, columns_from, columns_of, executed, fits, has_binary, names_from, names_parts, parameters_in, row_front, parameter, sends, with_field}
 pub use Rattle.pgp_conversation.specs.TypedLines.{Reads, Passes, ReadsSo, ShowsRequest, Tells, lost, AddsValue, AddsValues}
 pub use Rattle.pgp_conversation.specs.Types.{Types, Awaited, described, first, reached, rows_of, tells}
 pub use Rattle.pgp_conversation.specs.TypesKept.{queue_of, types_of, types_in}

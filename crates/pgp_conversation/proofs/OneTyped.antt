@@ -1,16 +1,17 @@
 -- What a frame tells of types is one thing, and so is its line, since a value has one text.
-use Rattle.pgp_conversation.proofs.Common.{◌≡◌, ℕ, ℤ, Bool, true, false, List, [], ◌∷◌, drop, length, Option, Some, None, Ok, inl, inr, sym, ap, subst, ◌∙◌, map, codes, Range, Message, DataRow, ParameterDescription, RowDescription, FieldSpelled, FieldRefused, RangeSpelled, RangeRefused, TypeSpelled, TypeRefused, CountedBytes, value_at, ClientMessage, Bind, Part, ListEnds, Value, closing, followed, Style, counted, signed_part, ending, Column, Told, Gives, Heard, Hears, IsBindLine, IsRowLine, Learns, Lists, Said, Sent, ShowsBound, ShowsBytes, ShowsFitting, ShowsHeard, ShowsRow, ShowsSent, ShowsTyped, ShowsValue, ShowsValues, bind_front, column_first, columns_of, fits, has_binary, parameters_in, row_front, Awaited, Types, described, first, reached, rows_of, tells}
+use Rattle.pgp_conversation.proofs.Common.{◌≡◌, ℕ, ℤ, Bool, true, false, List, [], ◌∷◌, drop, is_some, length, names_parts, Option, Some, None, Ok, inl, inr, sym, ap, subst, ◌∙◌, map, codes, Range, Message, DataRow, ParameterDescription, RowDescription, FieldSpelled, FieldRefused, RangeSpelled, RangeRefused, TypeSpelled, TypeRefused, CountedBytes, value_at, ClientMessage, Bind, Part, ListEnds, Value, closing, followed, Style, counted, signed_part, ending, Column, Told, Gives, Heard, Hears, IsBindLine, IsRowLine, Learns, Lists, Said, Sent, ShowsBound, ShowsBytes, ShowsFitting, ShowsHeard, ShowsRow, ShowsSent, ShowsTyped, ShowsValue, ShowsValues, bind_front, column_first, columns_of, fits, has_binary, parameters_in, row_front, Awaited, Types, described, first, reached, rows_of, tells}
 use Rattle.std.specs.Prelude.{◌++◌}
+use Rattle.pgp_conversation.specs.Shelves.{Columns}
 use Rattle.pgp_trace.proofs.OneListing.{columns, ranges, types}
 use Rattle.pgp_value_text.specs.TextOf.{IsTextOf}
 use Rattle.pgp_conversation.specs.declared.placement.Told.TheVariants as told
 
 -- ---- what is told
 
-columns_one : (row : CountedBytes) (x y : Option (List Column)) → Lists row x → Lists row y → x ≡ y
-columns_one row x y a b =
+columns_one : (named : Bool) (row : CountedBytes) (x y : Option Columns) → Lists named row x → Lists named row y → x ≡ y
+columns_one named row x y a b =
     let same = columns.one row.count row.storage a.fields b.fields a.end b.end a.list b.list in
-    a.is ∙ ap (λ l. columns_of l a.end) same.0 ∙ ap (columns_of b.fields) same.1 ∙ sym b.is
+    a.is ∙ ap (λ l. columns_of named l a.end) same.0 ∙ ap (columns_of named b.fields) same.1 ∙ sym b.is
 
 parameters_one : (row : CountedBytes) (x y : Option (List Column)) → Gives row x → Gives row y → x ≡ y
 parameters_one row x y a b =
@@ -18,7 +19,7 @@ parameters_one row x y a b =
     a.is ∙ ap (λ l. parameters_in l a.end) same.0 ∙ ap (parameters_in b.types) same.1 ∙ sym b.is
 
 hears_one : (m : Message) (a : Option Awaited) (old x y : Types) → Hears m a old x → Hears m a old y → x ≡ y
-hears_one (RowDescription row) a old x y p q = p.2 ∙ ap (λ c. described a c old) (columns_one row p.0 q.0 p.1 q.1) ∙ sym q.2
+hears_one (RowDescription row) a old x y p q = p.2 ∙ ap (λ c. described a c old) (columns_one (is_some old.texts) row p.0 q.0 p.1 q.1) ∙ sym q.2
 hears_one (ParameterDescription row) a old x y p q = p.2 ∙ ap (λ c. tells a c old) (parameters_one row p.0 q.0 p.1 q.1) ∙ sym q.2
 hears_one m a old x y p q = p ∙ sym q
 
@@ -52,24 +53,25 @@ module _ (one_text : OneText) where
       let same = value_one (column_first columns) v a.0 b.0 a.1 b.1 in
       values_one style (drop 1 columns) vs (followed style old (b.0 ∷ [])) x y (subst (λ s. ShowsValues style (drop 1 columns) vs (followed style old (s ∷ [])) x) same a.2) b.2
 
-  row_one : (style : Style) (place len : ℕ) (columns : List Column) (row : CountedBytes) (x y : List ℕ) → IsRowLine style place len columns row x → IsRowLine style place len columns row y → x ≡ y
-  row_one style place len columns row x y a b =
+  row_one : (style : Style) (place len : ℕ) (named : Bool) (columns : Columns) (row : CountedBytes) (x y : List ℕ) → IsRowLine style place len named columns row x → IsRowLine style place len named columns row y → x ≡ y
+  row_one style place len named columns row x y a b =
       let same = ranges.one row.count row.storage a.places b.places a.end b.end a.list b.list in
       let front = row_front style place len row.count in
-      let each = subst (λ (l : List (Option (Range ℕ))). ShowsValues style columns (map (value_at row.storage) l) front a.values) same.0 a.each in
-      let values = values_one style columns (map (value_at row.storage) b.places) front a.values b.values each b.each in
-      a.is ∙ ap (λ l. followed style l (ending ListEnds a.end) ++ closing style ++ 10 ∷ []) values ∙ ap (λ e. followed style b.values (ending ListEnds e) ++ closing style ++ 10 ∷ []) same.1 ∙ sym b.is
+      let each = subst (λ (l : List (Option (Range ℕ))). ShowsValues style columns.list (map (value_at row.storage) l) front a.values) same.0 a.each in
+      let values = values_one style columns.list (map (value_at row.storage) b.places) front a.values b.values each b.each in
+      a.is ∙ ap (λ l. followed style (followed style l (ending ListEnds a.end)) (names_parts named columns) ++ closing style ++ 10 ∷ []) values
+      ∙ ap (λ e. followed style (followed style b.values (ending ListEnds e)) (names_parts named columns) ++ closing style ++ 10 ∷ []) same.1 ∙ sym b.is
 
-  fitting_one : (fitting : Bool) (style : Style) (place len : ℕ) (columns : List Column) (row : CountedBytes) (old x y : List ℕ) → ShowsFitting fitting style place len columns row old x → ShowsFitting fitting style place len columns row old y → x ≡ y
-  fitting_one true style place len columns row old x y a b = row_one style place len columns row x y a b
-  fitting_one false style place len columns row old x y a b = a ∙ sym b
+  fitting_one : (fitting : Bool) (style : Style) (place len : ℕ) (named : Bool) (columns : Columns) (row : CountedBytes) (old x y : List ℕ) → ShowsFitting fitting style place len named columns row old x → ShowsFitting fitting style place len named columns row old y → x ≡ y
+  fitting_one true style place len named columns row old x y a b = row_one style place len named columns row x y a b
+  fitting_one false style place len named columns row old x y a b = a ∙ sym b
 
-  rows_one : (style : Style) (place len : ℕ) (columns : Option (List Column)) (row : CountedBytes) (old x y : List ℕ) → ShowsRow style place len columns row old x → ShowsRow style place len columns row old y → x ≡ y
-  rows_one style place len None row old x y a b = a ∙ sym b
-  rows_one style place len (Some columns) row old x y a b = fitting_one (fits columns row) style place len columns row old x y a b
+  rows_one : (style : Style) (place len : ℕ) (named : Bool) (columns : Option Columns) (row : CountedBytes) (old x y : List ℕ) → ShowsRow style place len named columns row old x → ShowsRow style place len named columns row old y → x ≡ y
+  rows_one style place len named None row old x y a b = a ∙ sym b
+  rows_one style place len named (Some columns) row old x y a b = fitting_one (fits named columns.list row) style place len named columns row old x y a b
 
   heard_one : (style : Style) (place len : ℕ) (m : Message) (a : Option Awaited) (types : Types) (old x y : List ℕ) → ShowsHeard style place len m a types old x → ShowsHeard style place len m a types old y → x ≡ y
-  heard_one style place len (DataRow row) a types old x y p q = rows_one style place len (rows_of a types) row old x y p q
+  heard_one style place len (DataRow row) a types old x y p q = rows_one style place len (is_some types.texts) (rows_of a types) row old x y p q
   heard_one style place len m a types old x y p q = p ∙ sym q
 
   bind_one : (style : Style) (place len : ℕ) (parameters : List Column) (portal statement : List ℕ) (formats : List ℤ) (values : List (Option (List ℕ))) (results : List ℤ) (x y : List ℕ) → IsBindLine style place len parameters portal statement formats values results x

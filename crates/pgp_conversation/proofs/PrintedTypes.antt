@@ -1,6 +1,9 @@
 -- Lines with values as texts are printable.
-use Rattle.pgp_conversation.proofs.Common.{◌≡◌, ℕ, ℤ, Bool, true, false, List, [], ◌∷◌, ◌++◌, drop, length, Option, Some, None, Ok, map, codes, Message, DataRow, CountedBytes, value_at, Part, Count, Length, ListEnds, Name, Tag, Text, closing, followed, key, opening, IsPrinted, Style, ClientMessage, Bind, counted, signed_part, ending, closing_printable, join, opening_printable, parts_printable, Column, Told, Heard, IsBindLine, IsRowLine, Said, Sent, ShowsBound, ShowsFitting, ShowsHeard, ShowsRow, ShowsSent, ShowsTyped, ShowsValues, bind_front, fits, has_binary, row_front, Awaited, Types, first, rows_of}
+use Rattle.pgp_conversation.proofs.Common.{◌≡◌, ℕ, ℤ, Bool, true, false, List, [], ◌∷◌, ◌++◌, drop, length, Option, Some, None, Ok, map, codes, Message, DataRow, CountedBytes, value_at, Part, Count, Length, ListEnds, Name, Tag, Text, closing, followed, key, opening, IsPrinted, Style, ClientMessage, Bind, executed, is_some, names_parts, refl, counted, signed_part, ending, closing_printable, join, opening_printable, parts_printable, Column, Told, Heard, IsBindLine, IsRowLine, Said, Sent, ShowsBound, ShowsFitting, ShowsHeard, ShowsRow, ShowsSent, ShowsTyped, ShowsValues, bind_front, fits, has_binary, row_front, Awaited, Types, first, rows_of}
+use Rattle.pgp_conversation.specs.Common.{Execute, Key, Number, State}
+use Rattle.pgp_conversation.specs.Shelves.{Columns}
 use Rattle.pgp_conversation.specs.declared.placement.Told.TheVariants as told
+use Rattle.pgp_summary.specs.Summary.{text_due}
 
 -- printable characters before a newline
 abbrev pub IsLine : List ℕ → Type 0
@@ -13,23 +16,24 @@ values_printed : (style : Style) (columns : List Column) (values : List (Option 
 values_printed style columns [] old new a s = rw s a
 values_printed style columns (v ∷ vs) old new a s = values_printed style (drop 1 columns) vs (followed style old (s.0 ∷ [])) new (parts_printable style old (s.0 ∷ []) a) s.2
 
-row_printed : (style : Style) (place len : ℕ) (columns : List Column) (row : CountedBytes) (line : List ℕ) → IsRowLine style place len columns row line → IsLine line
-row_printed style place len columns row line is =
+row_printed : (style : Style) (place len : ℕ) (named : Bool) (columns : Columns) (row : CountedBytes) (line : List ℕ) → IsRowLine style place len named columns row line → IsLine line
+row_printed style place len named columns row line is =
     let front = row_front style place len row.count in
-    let values = values_printed style columns (map (value_at row.storage) is.places) front is.values (front_printed style place len row.count) is.each in
-    let all = followed style is.values (ending ListEnds is.end) in
-    (all ++ closing style, is.is, join all (closing style) (parts_printable style is.values (ending ListEnds is.end) values) (closing_printable style.form))
+    let values = values_printed style columns.list (map (value_at row.storage) is.places) front is.values (front_printed style place len row.count) is.each in
+    let ended = followed style is.values (ending ListEnds is.end) in
+    let all = followed style ended (names_parts named columns) in
+    (all ++ closing style, is.is, join all (closing style) (parts_printable style ended (names_parts named columns) (parts_printable style is.values (ending ListEnds is.end) values)) (closing_printable style.form))
 
-fitting_printed : (fitting : Bool) (style : Style) (place len : ℕ) (columns : List Column) (row : CountedBytes) (old new : List ℕ) → IsLine old → ShowsFitting fitting style place len columns row old new → IsLine new
-fitting_printed true style place len columns row old new a s = row_printed style place len columns row new s
-fitting_printed false style place len columns row old new a s = rw s a
+fitting_printed : (fitting : Bool) (style : Style) (place len : ℕ) (named : Bool) (columns : Columns) (row : CountedBytes) (old new : List ℕ) → IsLine old → ShowsFitting fitting style place len named columns row old new → IsLine new
+fitting_printed true style place len named columns row old new a s = row_printed style place len named columns row new s
+fitting_printed false style place len named columns row old new a s = rw s a
 
-rows_printed : (style : Style) (place len : ℕ) (columns : Option (List Column)) (row : CountedBytes) (old new : List ℕ) → IsLine old → ShowsRow style place len columns row old new → IsLine new
-rows_printed style place len None row old new a s = rw s a
-rows_printed style place len (Some columns) row old new a s = fitting_printed (fits columns row) style place len columns row old new a s
+rows_printed : (style : Style) (place len : ℕ) (named : Bool) (columns : Option Columns) (row : CountedBytes) (old new : List ℕ) → IsLine old → ShowsRow style place len named columns row old new → IsLine new
+rows_printed style place len named None row old new a s = rw s a
+rows_printed style place len named (Some columns) row old new a s = fitting_printed (fits named columns.list row) style place len named columns row old new a s
 
 heard_printed : (style : Style) (place len : ℕ) (m : Message) (w : Option Awaited) (types : Types) (old new : List ℕ) → IsLine old → ShowsHeard style place len m w types old new → IsLine new
-heard_printed style place len (DataRow row) w types old new a s = rows_printed style place len (rows_of w types) row old new a s
+heard_printed style place len (DataRow row) w types old new a s = rows_printed style place len (is_some types.texts) (rows_of w types) row old new a s
 heard_printed style place len m w types old new a s = rw s a
 
 bind_front_printed : (style : Style) (place len : ℕ) (portal statement : List ℕ) (formats : List ℤ) (count : ℕ) → IsPrinted (bind_front style place len portal statement formats count)
@@ -56,8 +60,16 @@ bound_printed : (binary : Bool) (style : Style) (place len : ℕ) (parameters : 
 bound_printed true style place len parameters portal statement formats values results old new a s = bind_printed style place len parameters portal statement formats values results new s
 bound_printed false style place len parameters portal statement formats values results old new a s = rw s a
 
+executed_printed : (texts : Option State) (style : Style) (place len : ℕ) (portal : List ℕ) (max_rows : ℤ) (line : List ℕ) → IsLine line → IsLine (executed texts style place len portal max_rows line)
+executed_printed None style place len portal max_rows line a = a
+executed_printed (Some s) style place len portal max_rows line a =
+    let parts : List Part = Length len ∷ Tag 69 ∷ Name false (codes "Execute") ∷ key (codes "portal") ∷ Text portal ∷ Key (codes "rows") (codes "max_rows") ∷ Number max_rows ∷ key (codes "query") ∷ Text (text_due portal s) ∷ [] in
+    let all = followed style (opening style place) parts in
+    (all ++ closing style, refl, join all (closing style) (parts_printable style (opening style place) parts (opening_printable style.form place)) (closing_printable style.form))
+
 sent_printed : (style : Style) (place len : ℕ) (m : ClientMessage) (types : Types) (old new : List ℕ) → IsLine old → ShowsSent style place len m types old new → IsLine new
 sent_printed style place len (Bind portal statement formats values results) types old new a s = bound_printed (has_binary types.binds) style place len types.binds portal statement formats values results old new a s
+sent_printed style place len (Execute portal max_rows) types old new a s = rw s (executed_printed types.texts style place len portal max_rows old a)
 sent_printed style place len m types old new a s = rw s a
 
 pub typed_printed : (style : Style) (place len : ℕ) (told : Told) (said : Said) (types : Option Types) (old new : List ℕ) → IsLine old → ShowsTyped style place len told said types old new → IsLine new

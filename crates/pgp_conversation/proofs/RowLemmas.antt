@@ -1,5 +1,6 @@
 -- Values of a row and columns of a description, one at a time.
-use Rattle.pgp_conversation.proofs.Common.{◌≡◌, ℕ, ℤ, List, [], ◌∷◌, ◌++◌, drop, length, Option, Some, None, Result, Ok, Err, refl, sym, ap, subst, ◌∙◌, append_assoc, OnOk, codes, map, option_map, Range, append-nil, Walk, TakesItem, IsFinished, IsRefused, Error, FieldPart, CountedBytes, HasPlaces, value_at, ListEnds, closing, followed, Style, counted, signed_part, ending, refused, IsBindLine, IsRowLine, ShowsValues, bind_front, column_first, column_of, columns_of, parameter, parameters_in, row_front, AddsValue, AddsValues, Column}
+use Rattle.pgp_conversation.proofs.Common.{◌≡◌, ℕ, ℤ, List, [], ◌∷◌, ◌++◌, drop, length, Option, Some, None, Result, Ok, Err, refl, sym, ap, subst, ◌∙◌, append_assoc, OnOk, codes, map, option_map, Range, append-nil, Walk, TakesItem, IsFinished, IsRefused, Error, FieldPart, CountedBytes, HasPlaces, value_at, ListEnds, closing, followed, Style, counted, signed_part, ending, refused, IsBindLine, IsRowLine, ShowsValues, bind_front, column_first, columns_from, names_from, names_parts, parameter, parameters_in, row_front, AddsValue, AddsValues, Bool, suc, Column, with_field}
+use Rattle.pgp_conversation.specs.Shelves.{Columns}
 
 -- ---- values
 
@@ -27,15 +28,15 @@ module _ (style : Style) (columns : List Column) (value : Option (Range ℕ) →
     text = grown ∙ ap (λ e. followed style old (ending ListEnds e)) (sym ends.end);
   }
 
-pub row_line : (style : Style) (place len : ℕ) (columns : List Column) (row : CountedBytes) (places : List (Option (Range ℕ))) (end : Option Error) (buffer front text line : List ℕ) → HasPlaces row places end → buffer ≡ row.storage → front ≡ row_front style place len row.count
-    → AddsValues style columns (map (value_at buffer) places) end front text → line ≡ text ++ closing style ++ 10 ∷ [] → IsRowLine style place len columns row line
-row_line style place len columns row places end buffer front text line has stands begins adds ended = record {
+pub row_line : (style : Style) (place len : ℕ) (named : Bool) (columns : Columns) (row : CountedBytes) (places : List (Option (Range ℕ))) (end : Option Error) (buffer front text more line : List ℕ) → HasPlaces row places end → buffer ≡ row.storage → front ≡ row_front style place len row.count
+    → AddsValues style columns.list (map (value_at buffer) places) end front text → more ≡ followed style text (names_parts named columns) → line ≡ more ++ closing style ++ 10 ∷ [] → IsRowLine style place len named columns row line
+row_line style place len named columns row places end buffer front text more line has stands begins adds names ended = record {
   places = places;
   end = end;
   values = adds.last;
   list = has;
-  each = subst (λ f. ShowsValues style columns (map (value_at row.storage) places) f adds.last) begins (subst (λ b. ShowsValues style columns (map (value_at b) places) front adds.last) stands adds.each);
-  is = ended ∙ ap (λ t. t ++ closing style ++ 10 ∷ []) adds.text;
+  each = subst (λ f. ShowsValues style columns.list (map (value_at row.storage) places) f adds.last) begins (subst (λ b. ShowsValues style columns.list (map (value_at b) places) front adds.last) stands adds.each);
+  is = ended ∙ ap (λ t. t ++ closing style ++ 10 ∷ []) (names ∙ ap (λ t. followed style t (names_parts named columns)) adds.text);
 }
 
 -- the same of values that stand in no bytes
@@ -73,26 +74,29 @@ bind_line style place len parameters portal statement formats values results fro
 
 -- ---- columns
 
-abbrev with_front : List Column → Option (List Column) → Option (List Column)
-with_front front columns = option_map (λ rest. front ++ rest) columns
-
-front_more : (front : List Column) (x : FieldPart) (fields : List FieldPart) (end : Option Error) → with_front (front ++ column_of x ∷ []) (columns_of fields end) ≡ with_front front (columns_of (x ∷ fields) end)
-front_more front x fields None = ap (λ l. Some l) (append_assoc front (column_of x ∷ []) (map column_of fields))
-front_more front x fields (Some e) = refl
-
-module _ (front : List Column) (before after : Walk FieldPart) (all : Option (List Column)) where
-  pub columns_more : (x : FieldPart) → with_front front (columns_of before.items before.end) ≡ all → TakesItem before x after → with_front (front ++ column_of x ∷ []) (columns_of after.items after.end) ≡ all
+module _ (named : Bool) (front : Columns) (before after : Walk FieldPart) (all : Option Columns) where
+  pub columns_more : (x : FieldPart) → columns_from named front before.items before.end ≡ all → TakesItem before x after → columns_from named (with_field named front x) after.items after.end ≡ all
   columns_more x so_far takes =
-      front_more front x after.items after.end ∙ ap (λ e. with_front front (columns_of (x ∷ after.items) e)) takes.end ∙ ap (λ l. with_front front (columns_of l before.end)) (sym takes.items) ∙ so_far
+      ap (λ e. columns_from named front (x ∷ after.items) e) takes.end ∙ ap (λ l. columns_from named front l before.end) (sym takes.items) ∙ so_far
 
-  pub columns_end : with_front front (columns_of before.items before.end) ≡ all → IsFinished before after → Some front ≡ all
+  pub columns_end : columns_from named front before.items before.end ≡ all → IsFinished before after → Some front ≡ all
   columns_end so_far ends =
-      ap (λ l. Some l) (sym (append-nil front)) ∙ ap (λ e. with_front front (columns_of [] e)) (sym ends.end) ∙ ap (λ l. with_front front (columns_of l before.end)) (sym ends.items) ∙ so_far
+      ap (λ e. columns_from named front [] e) (sym ends.end) ∙ ap (λ l. columns_from named front l before.end) (sym ends.items) ∙ so_far
 
-  pub columns_cut : (e : Error) → with_front front (columns_of before.items before.end) ≡ all → IsRefused before e after → None ≡ all
-  columns_cut e so_far ends = ap (λ x. with_front front (columns_of before.items x)) (sym ends.end) ∙ so_far
+  pub columns_cut : (e : Error) → columns_from named front before.items before.end ≡ all → IsRefused before e after → None ≡ all
+  columns_cut e so_far ends =
+      ap (λ x. columns_from named front [] x) (sym ends.end) ∙ ap (λ l. columns_from named front l before.end) (sym ends.items) ∙ so_far
+
+-- ---- names
+
+pub names_length : (columns : List Column) (names : List ℕ) → length (names_from columns names) ≡ length columns
+names_length [] names = refl
+names_length (c ∷ rest) names = ap suc (names_length rest (drop c.len names))
 
 -- ---- parameters
+
+abbrev with_front : List Column → Option (List Column) → Option (List Column)
+with_front front columns = option_map (λ rest. front ++ rest) columns
 
 parameter_more : (front : List Column) (x : ℕ) (types : List ℕ) (end : Option Error) → with_front (front ++ parameter x ∷ []) (parameters_in types end) ≡ with_front front (parameters_in (x ∷ types) end)
 parameter_more front x types None = ap (λ l. Some l) (append_assoc front (parameter x ∷ []) (map parameter types))

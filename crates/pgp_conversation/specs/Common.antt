@@ -19,7 +19,7 @@ pub use Rattle.pgp_conversation.specs.declared.role.Role.{Role}
 pub use Rattle.pgp_frontend.specs.ClientMessage.{Bind, CancelRequest, ClientMessage, Close, Describe, Execute, GssEncRequest, Parse, PasswordMessage, Query, Response, SaslInitialResponse, SaslResponse, SslRequest, Sync}
 pub use Rattle.pgp_frontend_read.specs.declared.error.ClientError.{ClientError}
 pub use Rattle.pgp_frontend_read.specs.declared.message.PasswordKind.{PasswordKind}
-pub use Rattle.pgp_line.specs.Line.{Binary, blanks, closing, Count, followed, key, Length, ListEnds, Name, opening, Part, Tag, Text, Value}
+pub use Rattle.pgp_line.specs.Line.{Binary, blanks, closing, Count, followed, Key, key, Length, ListEnds, Name, Number, opening, Part, Tag, Text, Value}
 pub use Rattle.pgp_line.specs.Quoting.{is_printable, is_visible, IsPrinted, json_value, quoted, up_to}
 pub use Rattle.pgp_line.specs.declared.style.Form.{Form}
 pub use Rattle.pgp_line.specs.declared.style.Form.TheVariants.{Columns, Json}

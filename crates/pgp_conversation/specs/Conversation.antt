@@ -34,7 +34,7 @@ counts marking = marking.numbered || not marking.raw
 
 -- before the first byte of a connection
 abbrev pub at_first : Marking → Known
-at_first marking = record { client = side.Client false [] false; server = side.Server Beginning; requests = []; numbers = first_numbers (counts marking) marking.summed marking.folded; marked = marking.numbered; types = first_types marking.raw }
+at_first marking = record { client = side.Client false [] false; server = side.Server Beginning; requests = []; numbers = first_numbers (counts marking) marking.summed marking.folded; marked = marking.numbered; types = first_types marking.raw marking.named }
 
 abbrev pub side_in : Sender → Known → Side
 side_in Client known = known.client

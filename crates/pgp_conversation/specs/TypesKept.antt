@@ -16,7 +16,7 @@ last_of None = None
 last_of (Some portal) = Some (record { name = portal.name.items; statement = portal.statement.items })
 
 abbrev pub types_of : {A : Type 0} → code_types.Types A → Types
-types_of t = record { awaited = queue_of t.awaited.items; statements = t.statements; portals = t.portals; last = last_of t.last; sent = t.sent; told = t.told; binds = t.binds.items; parse = t.parse }
+types_of t = record { awaited = queue_of t.awaited.items; statements = t.statements; portals = t.portals; last = last_of t.last; sent = t.sent; told = t.told; binds = t.binds.items; parse = t.parse; texts = t.texts }
 
 abbrev pub types_in : {A : Type 0} → Option (code_types.Types A) → Option Types
 types_in None = None

@@ -1,8 +1,8 @@
-//! The line of a Bind whose parameters are known.
+//! The lines of a Bind whose parameters are known, and of an Execute whose text is.
 
 ghost use Rattle.std.specs.Prelude.{◌≡◌, ◌++◌, ◌∷◌, [], None, Some, length, OnErr, OnOk, string_bytes};
 ghost use Rattle.pgp_frontend_read.specs.Views.{kind_view, view};
-ghost use Rattle.pgp_conversation.specs.Typed.{IsBindLine, Said, ShowsSent, ShowsTyped, bind_front};
+ghost use Rattle.pgp_conversation.specs.Typed.{IsBindLine, Said, ShowsSent, ShowsTyped, bind_front, executed};
 ghost use Rattle.pgp_conversation.specs.TypedLines.{AddsValues, ReadsSo, ShowsRequest};
 ghost use Rattle.pgp_conversation.specs.TypesKept.{types_in, types_of};
 
@@ -19,13 +19,15 @@ use pgp_line::line::{put_called, put_end, put_text};
 use pgp_line::nesting::{end_list, put_count, put_key};
 use pgp_line::style::Style;
 use pgp_names::MapMemory;
+use pgp_summary::Summary;
+use pgp_trace::body::put_integer;
 use pgp_trace::client_lists::put_formats;
 use pgp_trace::frame::begin_line;
 use pgp_trace::lists::put_fault;
 use std::alloc::AllocError;
 
 /// Writes the line of a client's frame anew, whose mark says this of requests, where it is a Bind some of whose parameters come in binary format, and their
-/// types are known; by what is known once it was sent.
+/// types are known, or an Execute and names are asked for; by what is known once it was sent.
 pub fn show_sent<A: MapMemory>(
     style: Style,
     place: u64,
@@ -111,8 +113,37 @@ fn show_message<A: MapMemory>(
                 Ok(())
             }
         }
+        ClientMessage::Execute { portal, max_rows } => {
+            put_execute(style, place, len, portal, max_rows, &types.texts, line)
+        }
         _ => Ok(()),
     }
+}
+
+/// Writes the line of an Execute anew, where texts are known.
+fn put_execute<A: MapMemory>(
+    style: Style,
+    place: u64,
+    len: usize,
+    portal: &[u8],
+    max_rows: i32,
+    texts: &Option<Summary<A>>,
+    line: &mut String<A>,
+) -> Result<(), AllocError>
+    ensures line { OnOk result (string_bytes line.new ≡ executed texts.now style place len portal.now max_rows (string_bytes line.old)) }
+    ensures lacks { OnErr result A.Lacks }
+{
+    let Some(texts) = texts else {
+        return Ok(());
+    };
+    begin_line(style, place, len, b'E', line)?;
+    put_called(style, false, "Execute", line)?;
+    put_key(style, "portal", "portal", line)?;
+    put_text(style, portal, line)?;
+    put_integer(style, "rows", "max_rows", max_rows, line)?;
+    put_key(style, "query", "query", line)?;
+    put_text(style, texts.text_due(portal), line)?;
+    put_end(style, line)
 }
 
 /// Writes the line of a Bind.

@@ -20,13 +20,14 @@ use crate::placement::Told;
 use crate::role::{asking, sent_fault};
 use crate::summing::{asking_of, sum_frame};
 use crate::typed::pass;
-use crate::types::{Types, parameters_of, parse, sync};
+use crate::types::{Types, ask_text, parameters_of, parse, sync};
 use bytes::BytesMut;
 use pgp_base::Memory;
 use pgp_client::Request;
 use pgp_frontend_read::{ClientMessage, ClientMessages, Formats, PasswordKind};
 use pgp_line::style::Style;
 use pgp_names::MapMemory;
+use pgp_summary::Work;
 use std::alloc::AllocError;
 
 /// Takes note of a client's frame, and writes its line anew where it has values whose types are known. Returns what its mark says of requests, and what it
@@ -129,12 +130,12 @@ fn ask<A: MapMemory>(
     match message {
         ClientMessage::Parse {
             name,
+            query,
             param_types,
-            ..
         } => {
             let alloc = *types.awaited.allocator();
             let parameters = given_types(alloc, param_types)?;
-            parse(number, name, parameters, types)
+            parse(number, name, query, parameters, types)
         }
         ClientMessage::Bind {
             portal,
@@ -166,13 +167,14 @@ fn ask_bind<A: MapMemory>(
     results: Formats<'_>,
     types: &mut Types<A>,
 ) -> Result<(), AllocError>
-    ensures asked { OnOk result (types_of types.new ≡ waits (Some (record { number = number; object = Object.Portal; name = portal.now; statement = statement.now; formats = map is_binary results.entry; parameters = [] })) (binds (formatted (map is_binary formats.entry) (parameters_of statement.now (types_of types.old))) (types_of types.old))) }
+    ensures asked { OnOk result (types_of types.new ≡ waits (Some (record { number = number; object = Object.Portal; name = portal.now; statement = statement.now; formats = map is_binary results.entry; parameters = [] })) (binds number portal.now statement.now (formatted (map is_binary formats.entry) (parameters_of statement.now (types_of types.old))) (types_of types.old))) }
     ensures lacks { OnErr result A.Lacks }
 {
     let alloc = *types.awaited.allocator();
     let results = binaries_of(alloc, results)?;
     let binaries = binaries_of(alloc, formats)?;
     types.binds = formatted(alloc, binaries.as_slice(), parameters_of(statement, types))?;
+    ask_text(number, Work::Bind, portal, statement, &mut types.texts)?;
     wait_bound(
         number,
         Object::Portal,

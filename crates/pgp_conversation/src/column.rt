@@ -10,6 +10,8 @@ pub struct Column {
     pub oid: u32,
     /// Whether they come in binary format.
     pub binary: bool,
+    /// How many bytes its name has.
+    pub len: usize,
 }
 
 /// Whether a format is the binary one.

@@ -1,81 +1,113 @@
 //! What is known under names.
 
 ghost use Rattle.std.specs.Prelude.{◌≡◌, IfOk, OnErr, OnOk};
-ghost use Rattle.std.specs.Option.{option_map};
-ghost use Rattle.pgp_names.specs.Names.{found, without};
-ghost use Rattle.pgp_conversation.specs.Shelves.{formatted, kept};
+ghost use Rattle.pgp_names.specs.Names.{without};
+ghost use Rattle.pgp_conversation.specs.Shelves.{bare, formatted, in_formats, kept};
+ghost use Rattle.pgp_conversation.specs.Typed.{column_of, with_field};
 
-use crate::column::{Column, binary_at};
+use crate::column::{Column, binary_at, is_binary};
 use pgp_base::Memory;
+use pgp_message::Field;
 use pgp_names::{MapMemory, Names};
 use std::alloc::{AllocError, Allocator};
 use std::marker::Model;
 
-/// Columns, or parameters.
+/// Columns, and their names one after another, of each as many bytes as the column says; or parameters, which have none.
 #[derive(Drop)]
 pub struct Columns<A: Allocator> {
     list: Vec<Column, A>,
+    names: Vec<u8, A>,
 }
 
 impl<A: Allocator> Model for Columns<A> {
-    ghost use Rattle.std.specs.Prelude.{List};
-    ghost use Rattle.pgp_conversation.specs.declared.column.Column.{Column};
+    ghost use Rattle.pgp_conversation.specs.Shelves.{Columns as Described};
 
-    ghost Value = { List Column };
+    ghost Value = { Described };
 
-    ghost view = { λ x. x.list.items };
+    ghost view = { λ x. record { list = x.list.items; names = x.names.items } };
 }
 
-impl<A: Allocator> Columns<A> {
-    fn as_slice(&self) -> &[Column]
-        ensures { result.now ≡ self.now }
+impl<A: MapMemory> Columns<A> {
+    pub fn list(&self) -> &[Column]
+        ensures { result.now ≡ self.now.list }
     {
         self.list.as_slice()
     }
+
+    pub fn names(&self) -> &[u8]
+        ensures { result.now ≡ self.now.names }
+    {
+        self.names.as_slice()
+    }
+
+    /// Adds the column that a field describes, with its name where names are asked for.
+    pub fn push(&mut self, named: bool, field: &Field<'_>) -> Result<(), AllocError>
+        ensures pushed { OnOk result (self.new ≡ with_field named self.old field.now) }
+        ensures lacks { OnErr result A.Lacks }
+    {
+        A::push(&mut self.list, column_of(field))?;
+        if named {
+            A::extend(&mut self.names, field.name().as_bytes())?;
+        }
+        Ok(())
+    }
+
+    /// The same columns once more.
+    pub fn again(&self) -> Result<Columns<A>, AllocError>
+        ensures same { IfOk result (λ copy. copy ≡ self.now) }
+        ensures lacks { OnErr result A.Lacks }
+    {
+        let alloc = *self.list.allocator();
+        let list = alloc.list_of(self.list.as_slice())?;
+        let names = alloc.list_of(self.names.as_slice())?;
+        Ok(Columns { list, names })
+    }
+
+    /// The same in these formats.
+    pub fn in_formats(&self, formats: &[bool]) -> Result<Columns<A>, AllocError>
+        ensures formatted { IfOk result (λ columns. columns ≡ in_formats formats.now self.now) }
+        ensures lacks { OnErr result A.Lacks }
+    {
+        let alloc = *self.list.allocator();
+        let list = formatted(alloc, formats, self.list.as_slice())?;
+        let names = alloc.list_of(self.names.as_slice())?;
+        Ok(Columns { list, names })
+    }
 }
 
-/// The columns under a name.
-pub fn found<'a, A: MapMemory>(name: &[u8], shelf: &'a Names<Columns<A>, A>) -> Option<&'a [Column]>
-    ensures { option_map (λ columns. columns.now) result ≡ found name.now shelf.now }
+fn column_of(field: &Field<'_>) -> Column
+    ensures { result ≡ column_of field.now }
 {
-    match shelf.get(name) {
-        Some(columns) => Some(columns.as_slice()),
-        None => None,
+    Column {
+        oid: field.type_oid(),
+        binary: is_binary(field.format()),
+        len: field.name().len(),
     }
+}
+
+/// These columns or parameters, without names.
+pub fn bare<A: MapMemory>(list: Vec<Column, A>) -> Columns<A>
+    ensures { result ≡ bare list.items }
+{
+    let names = Vec::new(*list.allocator());
+    Columns { list, names }
 }
 
 /// Keeps columns under a name, in the place of others; or lets those go, where none are known.
 pub fn keep<A: MapMemory>(
     name: &[u8],
-    columns: Option<Vec<Column, A>>,
+    columns: Option<Columns<A>>,
     shelf: &mut Names<Columns<A>, A>,
 ) -> Result<(), AllocError>
-    ensures kept { OnOk result (shelf.new ≡ kept name.now (option_map (λ list. list.items) columns) shelf.old) }
+    ensures kept { OnOk result (shelf.new ≡ kept name.now columns shelf.old) }
     ensures lacks { OnErr result A.Lacks }
 {
     match columns {
-        Some(list) => shelf.put(name, Columns { list }),
+        Some(columns) => shelf.put(name, columns),
         None => {
             shelf.forget(name);
             Ok(())
         }
-    }
-}
-
-/// The same columns once more.
-pub fn again<A: MapMemory>(
-    columns: &Option<Vec<Column, A>>,
-) -> Result<Option<Vec<Column, A>>, AllocError>
-    ensures same { IfOk result (λ copy. option_map (λ list. list.items) copy ≡ option_map (λ list. list.items) columns.now) }
-    ensures lacks { OnErr result A.Lacks }
-{
-    match columns {
-        Some(list) => {
-            let alloc = *list.allocator();
-            let copy = alloc.list_of(list.as_slice())?;
-            Ok(Some(copy))
-        }
-        None => Ok(None),
     }
 }
 
@@ -97,6 +129,7 @@ pub fn formatted<A: MapMemory>(
             Column {
                 oid: column.oid,
                 binary,
+                len: column.len,
             },
         )?;
         rest = behind;

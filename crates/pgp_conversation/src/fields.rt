@@ -3,40 +3,33 @@
 ghost use Rattle.std.specs.Prelude.{◌≡◌, map, IfOk, OnErr};
 ghost use Rattle.std.specs.Option.{option_map};
 ghost use Rattle.pgp_conversation.specs.Shelves.{is_binary};
-ghost use Rattle.pgp_conversation.specs.Typed.{column_of, columns_of, parameter, parameters_in};
+ghost use Rattle.pgp_conversation.specs.Typed.{columns_of, parameter, parameters_in};
 
 use crate::column::{Column, is_binary};
+use crate::columns::{Columns, bare};
 use pgp_base::{FallibleIterator, Memory};
 use pgp_frontend_read::{Formats, ParamTypes};
-use pgp_message::{Field, Fields, Parameters};
+use pgp_message::{Fields, Parameters};
 use pgp_names::MapMemory;
 use std::alloc::AllocError;
 
-/// The columns of a description, if it doesn't break off.
+/// The columns of a description, if it doesn't break off, with their names where those are asked for.
 #[tactic(auto, using(crate::proofs::RowLemmas::columns_more, crate::proofs::RowLemmas::columns_end, crate::proofs::RowLemmas::columns_cut))]
 pub fn columns_of<A: MapMemory>(
     alloc: A,
+    named: bool,
     mut fields: Fields<'_>,
-) -> Result<Option<Vec<Column, A>>, AllocError>
-    ensures columns { IfOk result (λ columns. option_map (λ list. list.items) columns ≡ columns_of fields.entry.items fields.entry.end) }
+) -> Result<Option<Columns<A>>, AllocError>
+    ensures columns { IfOk result (λ columns. columns ≡ columns_of named fields.entry.items fields.entry.end) }
     ensures lacks { OnErr result A.Lacks }
 {
-    let mut columns = Vec::new(alloc);
+    let mut columns = bare(Vec::new(alloc));
     'fields: loop {
         match fields.next() {
-            Ok(Some(field)) => A::push(&mut columns, column_of(&field))?,
+            Ok(Some(field)) => columns.push(named, &field)?,
             Ok(None) => return Ok(Some(columns)),
             Err(_) => return Ok(None),
         }
-    }
-}
-
-fn column_of(field: &Field<'_>) -> Column
-    ensures { result ≡ column_of field.now }
-{
-    Column {
-        oid: field.type_oid(),
-        binary: is_binary(field.format()),
     }
 }
 
@@ -62,7 +55,11 @@ pub fn binaries_of<A: MapMemory>(
 fn parameter(oid: u32) -> Column
     ensures { result ≡ parameter oid }
 {
-    Column { oid, binary: false }
+    Column {
+        oid,
+        binary: false,
+        len: 0,
+    }
 }
 
 /// The parameters that a Parse gives.

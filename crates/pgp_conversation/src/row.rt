@@ -1,15 +1,18 @@
 //! The line of a row whose columns are known.
 
-ghost use Rattle.std.specs.Prelude.{◌≡◌, ◌≤◌, length, drop, map, OnErr, OnOk, string_bytes};
-ghost use Rattle.pgp_conversation.specs.Common.{AllByRecursion, option_map, IsPlaceIn, value_at};
-ghost use Rattle.pgp_conversation.specs.Typed.{IsRowLine, ShowsRow, column_first, fits, has_binary};
+ghost use Rattle.std.specs.Prelude.{◌≡◌, ◌≤◌, None, length, drop, map, take, OnErr, OnOk, string_bytes};
+ghost use Rattle.std.specs.Option.{option_copied};
+ghost use Rattle.pgp_trace.specs.Shown.{list_of, text_part};
+ghost use Rattle.pgp_conversation.specs.Common.{AllByRecursion, IsPlaceIn, followed, value_at};
+ghost use Rattle.pgp_conversation.specs.Typed.{IsRowLine, ShowsRow, column_first, fits, has_binary, names_from, names_parts};
 ghost use Rattle.pgp_conversation.specs.TypedLines.{AddsValue, AddsValues};
 
 use crate::column::Column;
+use crate::columns::Columns;
 use crate::value::put_typed;
 use bytes::BytesMut;
 use pgp_base::{FallibleIterator, Memory};
-use pgp_line::line::{put_called, put_end};
+use pgp_line::line::{put_called, put_end, put_text};
 use pgp_line::nesting::{end_list, put_count, put_key};
 use pgp_line::style::Style;
 use pgp_message::{DataRowBody, DataRowRanges};
@@ -20,23 +23,24 @@ use std::alloc::AllocError;
 use std::ops::Range;
 
 /// Writes the line of a row anew, whose frame stands at this place and has so many bytes, where its columns are known and some of its values come in
-/// binary format.
+/// binary format, or names are asked for.
 pub fn type_row<A: MapMemory>(
     style: Style,
     place: u64,
     len: usize,
-    columns: Option<&[Column]>,
+    named: bool,
+    columns: Option<&Columns<A>>,
     row: &DataRowBody<&[u8]>,
     text: &mut BytesMut<A>,
     line: &mut String<A>,
 ) -> Result<(), AllocError>
-    ensures shows { OnOk result (ShowsRow style place len (option_map (λ columns. columns.now) columns.entry) row.now (string_bytes line.old) (string_bytes line.new)) }
+    ensures shows { OnOk result (ShowsRow style place len named (option_copied columns.entry) row.now (string_bytes line.old) (string_bytes line.new)) }
     ensures lacks { OnErr result A.Lacks }
 {
     match columns {
         Some(columns) => {
-            if fits(columns, row) {
-                put_row(style, place, len, columns, row, text, line)
+            if fits(named, columns.list(), row) {
+                put_row(style, place, len, named, columns, row, text, line)
             } else {
                 Ok(())
             }
@@ -45,11 +49,11 @@ pub fn type_row<A: MapMemory>(
     }
 }
 
-/// Whether the columns are as many as the row announces, and some are in binary format.
-fn fits(columns: &[Column], row: &DataRowBody<&[u8]>) -> bool
-    ensures { result ≡ fits columns.now row.now }
+/// Whether the columns are as many as the row announces, and some are in binary format, or names are asked for.
+fn fits(named: bool, columns: &[Column], row: &DataRowBody<&[u8]>) -> bool
+    ensures { result ≡ fits named columns.now row.now }
 {
-    columns.len() == row.ranges().size_hint().0 && has_binary(columns)
+    columns.len() == row.ranges().size_hint().0 && (named || has_binary(columns))
 }
 
 /// Whether some of the columns are in binary format.
@@ -71,12 +75,13 @@ fn put_row<A: MapMemory>(
     style: Style,
     place: u64,
     len: usize,
-    columns: &[Column],
+    named: bool,
+    columns: &Columns<A>,
     row: &DataRowBody<&[u8]>,
     text: &mut BytesMut<A>,
     line: &mut String<A>,
 ) -> Result<(), AllocError>
-    ensures line { OnOk result (IsRowLine style place len columns.now row.now (string_bytes line.new)) }
+    ensures line { OnOk result (IsRowLine style place len named columns.now row.now (string_bytes line.new)) }
     ensures lacks { OnErr result A.Lacks }
 {
     let places = row.ranges();
@@ -84,7 +89,8 @@ fn put_row<A: MapMemory>(
     put_called(style, false, "DataRow", line)?;
     put_key(style, "values", "values", line)?;
     put_count(style, places.size_hint().0 as u64, line)?;
-    put_values(style, columns, row.buffer(), places, text, line)?;
+    put_values(style, columns.list(), row.buffer(), places, text, line)?;
+    put_names(style, named, columns, line)?;
     put_end(style, line)
 }
 
@@ -123,6 +129,7 @@ pub fn column_first(columns: &[Column]) -> Column
         [] => Column {
             oid: 0,
             binary: false,
+            len: 0,
         },
         [first, ..] => *first,
     }
@@ -160,5 +167,57 @@ fn put_place<A: MapMemory>(
             line,
         ),
         None => put_typed(style, column, None, text, line),
+    }
+}
+
+/// Adds the names of columns, where they are asked for.
+#[tactic(auto, using(crate::proofs::RowLemmas::names_length))]
+fn put_names<A: MapMemory>(
+    style: Style,
+    named: bool,
+    columns: &Columns<A>,
+    line: &mut String<A>,
+) -> Result<(), AllocError>
+    ensures adds { OnOk result (string_bytes line.new ≡ followed style (string_bytes line.old) (names_parts named columns.now)) }
+    ensures lacks { OnErr result A.Lacks }
+{
+    if !named {
+        return Ok(());
+    }
+    put_key(style, "columns", "columns", line)?;
+    put_count(style, columns.list().len() as u64, line)?;
+    put_each_name(style, columns.list(), columns.names(), line)
+}
+
+/// Adds the names of these columns, which stand one after another.
+fn put_each_name<A: MapMemory>(
+    style: Style,
+    columns: &[Column],
+    names: &[u8],
+    line: &mut String<A>,
+) -> Result<(), AllocError>
+    ensures adds { OnOk result (string_bytes line.new ≡ followed style (string_bytes line.old) (list_of text_part (names_from columns.now names.now) None)) }
+    ensures lacks { OnErr result A.Lacks }
+{
+    let mut rest = columns;
+    let mut left = names;
+    'columns: while let Some((column, behind)) = rest.split_first() {
+        let (name, more) = cut(column.len, left);
+        put_text(style, name, line)?;
+        rest = behind;
+        left = more;
+    }
+    end_list(style, line)
+}
+
+/// So many of the bytes, as far as there are any, and what stands after them.
+fn cut(len: usize, bytes: &[u8]) -> (&[u8], &[u8])
+    ensures front { result.0.now ≡ take len bytes.now }
+    ensures behind { result.1.now ≡ drop len bytes.now }
+{
+    if len < bytes.len() {
+        bytes.split_at(len)
+    } else {
+        (bytes, &[])
     }
 }

@@ -28,7 +28,7 @@ use pgp_trace::view::View;
 use std::alloc::AllocError;
 
 const USAGE: &str =
-    "usage: pgtrace server [--json] [--full] [--secrets] [--resume] [--only NAME[,NAME]..] [--except NAME[,NAME]..] [--color auto|always|never] | client [--json] [--full] [--secrets] [--resume] [--only NAME[,NAME]..] [--except NAME[,NAME]..] [--color auto|always|never] [--password-kind password|initial|response].. [--replication] | session [--json] [--full] [--secrets] [--requests] [--slower MS] [--raw] [--summary] [--fold] [--time absolute|relative] [--only NAME[,NAME]..] [--except NAME[,NAME]..] [--color auto|always|never] [FILE].. | --help | --version\n";
+    "usage: pgtrace server [--json] [--full] [--secrets] [--resume] [--only NAME[,NAME]..] [--except NAME[,NAME]..] [--color auto|always|never] | client [--json] [--full] [--secrets] [--resume] [--only NAME[,NAME]..] [--except NAME[,NAME]..] [--color auto|always|never] [--password-kind password|initial|response].. [--replication] | session [--json] [--full] [--secrets] [--requests] [--slower MS] [--raw] [--names] [--summary] [--fold] [--time absolute|relative] [--only NAME[,NAME]..] [--except NAME[,NAME]..] [--color auto|always|never] [FILE].. | --help | --version\n";
 
 const VERSION: &str = "pgtrace 0.1.0\n";
 

@@ -186,7 +186,7 @@ fn describe_row<A: MapMemory>(
     ensures lacks { OnErr result A.Lacks }
 {
     let alloc = *types.awaited.allocator();
-    let columns = columns_of(alloc, row.fields())?;
+    let columns = columns_of(alloc, types.texts.is_some(), row.fields())?;
     describe(number, columns, types)
 }
 
@@ -223,6 +223,7 @@ fn show<A: MapMemory>(
             style,
             place,
             len,
+            types.texts.is_some(),
             rows_of(number, types),
             row,
             text,

@@ -50,7 +50,7 @@ pub fn at_first<A: MapMemory>(alloc: A, marking: Marking) -> Known<A>
         requests: Vec::new(alloc),
         numbers: first_numbers(alloc, counts(marking), marking.summed, marking.folded),
         marked: marking.numbered,
-        types: first_types(alloc, marking.raw),
+        types: first_types(alloc, marking.raw, marking.named),
     }
 }
 

@@ -23,11 +23,15 @@ use pgp_line::style::Style;
 use pgp_names::MapMemory;
 use std::alloc::AllocError;
 
-/// Before the first frame, where values are shown as their bytes or not.
-pub fn first_types<A: MapMemory>(alloc: A, raw: bool) -> Option<Types<A>>
-    ensures { types_in result ≡ first_types raw }
+/// Before the first frame, where values are shown as their bytes or not, and names are asked for or not.
+pub fn first_types<A: MapMemory>(alloc: A, raw: bool, named: bool) -> Option<Types<A>>
+    ensures { types_in result ≡ first_types raw named }
 {
-    if raw { None } else { Some(no_types(alloc)) }
+    if raw {
+        None
+    } else {
+        Some(no_types(alloc, named))
+    }
 }
 
 /// Takes note of a frame of this side, which has this name, and writes its line anew where it has values whose types are known. Returns what its mark says of

@@ -2,15 +2,17 @@
 
 ghost use Rattle.std.specs.Prelude.{◌≡◌, [], Some, IfOk, OnErr, OnOk};
 ghost use Rattle.pgp_conversation.specs.Common.{option_map, found, without};
-ghost use Rattle.pgp_conversation.specs.Shelves.{formatted, kept};
-ghost use Rattle.pgp_conversation.specs.Types.{bound, closed, described, ended, first, no_types, parameters_of, parsed, parses, passed_on, reached, rows_of, statement_of, syncs, tells, told_by, waits};
+ghost use Rattle.std.specs.Option.{option_copied};
+ghost use Rattle.pgp_conversation.specs.Shelves.{in_formats, kept};
+ghost use Rattle.pgp_conversation.specs.Types.{asks_text, bound, closed, described, ended, first, first_texts, no_types, parameters_of, parsed, parses, passed_on, reached, rows_of, statement_of, syncs, tells, texts_after, told_by, waits};
 ghost use Rattle.pgp_conversation.specs.TypesKept.{awaited_of, last_of, types_of};
 
 use crate::awaited::{Awaited, Object, first, reach, wait_bound};
 use crate::column::Column;
-use crate::columns::{Columns, again, formatted, found, keep};
+use crate::columns::{Columns, bare, keep};
 use pgp_base::Memory;
 use pgp_names::{MapMemory, Names};
+use pgp_summary::{Reply, Summary, Work};
 use std::alloc::AllocError;
 use std::collections::VecDeque;
 
@@ -40,11 +42,13 @@ pub struct Types<A: MapMemory> {
     pub binds: Vec<Column, A>,
     /// The number of the last Parse.
     pub parse: u64,
+    /// The texts of statements and portals, where names are asked for.
+    pub texts: Option<Summary<A>>,
 }
 
 /// Before the first request.
-pub fn no_types<A: MapMemory>(alloc: A) -> Types<A>
-    ensures { types_of result ≡ no_types }
+pub fn no_types<A: MapMemory>(alloc: A, named: bool) -> Types<A>
+    ensures { types_of result ≡ no_types named }
 {
     Types {
         awaited: VecDeque::new(alloc),
@@ -55,17 +59,29 @@ pub fn no_types<A: MapMemory>(alloc: A) -> Types<A>
         told: Names::new(alloc),
         binds: Vec::new(alloc),
         parse: 0,
+        texts: first_texts(alloc, named),
+    }
+}
+
+/// Before the first request, where names are asked for.
+fn first_texts<A: MapMemory>(alloc: A, named: bool) -> Option<Summary<A>>
+    ensures { result ≡ first_texts named }
+{
+    if named {
+        Some(Summary::new(alloc, false))
+    } else {
+        None
     }
 }
 
 /// The columns of the rows that answer a request.
-pub fn rows_of<A: MapMemory>(number: u64, types: &Types<A>) -> Option<&[Column]>
-    ensures { option_map (λ columns. columns.now) result ≡ rows_of (first number (types_of types.now).awaited) (types_of types.now) }
+pub fn rows_of<A: MapMemory>(number: u64, types: &Types<A>) -> Option<&Columns<A>>
+    ensures { option_copied result ≡ rows_of (first number (types_of types.now).awaited) (types_of types.now) }
 {
     let asked = first(number, &types.awaited)?;
     match asked.object {
         Object::Statement => None,
-        Object::Portal | Object::Simple => found(asked.name.as_slice(), &types.portals),
+        Object::Portal | Object::Simple => types.portals.get(asked.name.as_slice()),
     }
 }
 
@@ -74,15 +90,19 @@ pub fn reach_answer<A: MapMemory>(number: u64, types: &mut Types<A>)
     ensures { types_of types.new ≡ reached number (types_of types.old) }
 {
     reach(number, &mut types.awaited);
+    match &mut types.texts {
+        Some(texts) => texts.reach(number),
+        None => {}
+    }
 }
 
 /// The object of a request has these columns, or none are known.
 pub fn describe<A: MapMemory>(
     number: u64,
-    columns: Option<Vec<Column, A>>,
+    columns: Option<Columns<A>>,
     types: &mut Types<A>,
 ) -> Result<(), AllocError>
-    ensures described { OnOk result (types_of types.new ≡ described (first number (types_of types.old).awaited) (option_map (λ list. list.items) columns) (types_of types.old)) }
+    ensures described { OnOk result (types_of types.new ≡ described (first number (types_of types.old).awaited) columns (types_of types.old)) }
     ensures lacks { OnErr result A.Lacks }
 {
     match first(number, &types.awaited) {
@@ -102,17 +122,21 @@ pub fn describe<A: MapMemory>(
 /// The statement of the portal of this name, if it was bound last, has these columns.
 fn pass_on<A: MapMemory>(
     name: &[u8],
-    columns: &Option<Vec<Column, A>>,
+    columns: &Option<Columns<A>>,
     last: &Option<BoundPortal<A>>,
     statements: &mut Names<Columns<A>, A>,
 ) -> Result<(), AllocError>
-    ensures kept { OnOk result (statements.new ≡ passed_on (statement_of name.now (last_of last.now)) (option_map (λ list. list.items) columns.now) statements.old) }
+    ensures kept { OnOk result (statements.new ≡ passed_on (statement_of name.now (last_of last.now)) columns.now statements.old) }
     ensures lacks { OnErr result A.Lacks }
 {
     match last {
         Some(portal) => {
             if portal.name.as_slice() == name {
-                keep(portal.statement.as_slice(), again(columns)?, statements)
+                let name = portal.statement.as_slice();
+                match columns {
+                    Some(columns) => keep(name, Some(columns.again()?), statements),
+                    None => keep(name, None, statements),
+                }
             } else {
                 Ok(())
             }
@@ -130,7 +154,7 @@ pub fn bind<A: MapMemory>(number: u64, types: &mut Types<A>) -> Result<(), Alloc
         Some(asked) => {
             bind_to(asked, &types.statements, &mut types.portals)?;
             types.last = Some(bound_portal(asked)?);
-            Ok(())
+            end_text(asked.number, Reply::BindComplete, &mut types.texts)
         }
         None => Ok(()),
     }
@@ -154,14 +178,13 @@ fn bind_to<A: MapMemory>(
     statements: &Names<Columns<A>, A>,
     portals: &mut Names<Columns<A>, A>,
 ) -> Result<(), AllocError>
-    ensures bound { OnOk result (portals.new ≡ kept asked.now.name.items (option_map (formatted asked.now.formats.items) (found asked.now.statement.items statements.now)) (portals.old)) }
+    ensures bound { OnOk result (portals.new ≡ kept asked.now.name.items (option_map (in_formats asked.now.formats.items) (found asked.now.statement.items statements.now)) (portals.old)) }
     ensures lacks { OnErr result A.Lacks }
 {
     let name = asked.name.as_slice();
-    match found(asked.statement.as_slice(), statements) {
+    match statements.get(asked.statement.as_slice()) {
         Some(columns) => {
-            let alloc = *asked.name.allocator();
-            let columns = formatted(alloc, asked.formats.as_slice(), columns)?;
+            let columns = columns.in_formats(asked.formats.as_slice())?;
             keep(name, Some(columns), portals)
         }
         None => keep(name, None, portals),
@@ -182,17 +205,19 @@ pub fn end<A: MapMemory>(status: u8, types: &mut Types<A>)
 pub fn parse<A: MapMemory>(
     number: u64,
     name: &[u8],
+    query: &[u8],
     parameters: Vec<Column, A>,
     types: &mut Types<A>,
 ) -> Result<(), AllocError>
-    ensures parsed { OnOk result (types_of types.new ≡ waits (Some (record { number = number; object = Object.Statement; name = name.now; statement = []; formats = []; parameters = parameters.items })) (parses number name.now parameters.items (types_of types.old))) }
+    ensures parsed { OnOk result (types_of types.new ≡ waits (Some (record { number = number; object = Object.Statement; name = name.now; statement = []; formats = []; parameters = parameters.items })) (parses number name.now query.now parameters.items (types_of types.old))) }
     ensures lacks { OnErr result A.Lacks }
 {
     let alloc = *types.awaited.allocator();
     let sent = alloc.list_of(parameters.as_slice())?;
-    keep(name, Some(sent), &mut types.sent)?;
+    keep(name, Some(bare(sent)), &mut types.sent)?;
     types.told.forget(name);
     types.parse = number;
+    ask_text(number, Work::Parse, name, query, &mut types.texts)?;
     wait_bound(
         number,
         Object::Statement,
@@ -215,10 +240,10 @@ pub fn sync<A: MapMemory>(types: &mut Types<A>)
 pub fn parameters_of<'a, A: MapMemory>(name: &[u8], types: &'a Types<A>) -> &'a [Column]
     ensures { result.now ≡ parameters_of name.now (types_of types.now) }
 {
-    match found(name, &types.told) {
-        Some(parameters) => parameters,
-        None => match found(name, &types.sent) {
-            Some(parameters) => parameters,
+    match types.told.get(name) {
+        Some(parameters) => parameters.list(),
+        None => match types.sent.get(name) {
+            Some(parameters) => parameters.list(),
             None => &[],
         },
     }
@@ -261,7 +286,10 @@ fn put_told<A: MapMemory>(
     ensures lacks { OnErr result A.Lacks }
 {
     match object {
-        Object::Statement => keep(name, parameters, told),
+        Object::Statement => match parameters {
+            Some(list) => keep(name, Some(bare(list)), told),
+            None => keep(name, None, told),
+        },
         Object::Portal | Object::Simple => Ok(()),
     }
 }
@@ -275,6 +303,7 @@ pub fn finish<A: MapMemory>(number: u64, types: &mut Types<A>) -> Result<(), All
     describe(number, None, types)?;
     match first(number, &types.awaited) {
         Some(asked) => {
+            end_text(asked.number, Reply::ParseComplete, &mut types.texts)?;
             if asked.number < types.parse {
                 Ok(())
             } else {
@@ -301,6 +330,38 @@ pub fn close<A: MapMemory>(number: u64, types: &mut Types<A>) -> Result<(), Allo
     describe(number, None, types)?;
     match first(number, &types.awaited) {
         Some(asked) => put_told(asked.object, asked.name.as_slice(), None, &mut types.told),
+        None => Ok(()),
+    }
+}
+
+/// A Parse or a Bind is sent.
+pub fn ask_text<A: MapMemory>(
+    number: u64,
+    work: Work,
+    first: &[u8],
+    second: &[u8],
+    texts: &mut Option<Summary<A>>,
+) -> Result<(), AllocError>
+    ensures asked { OnOk result (texts.new ≡ asks_text number work first.now second.now texts.old) }
+    ensures lacks { OnErr result A.Lacks }
+{
+    match texts {
+        Some(texts) => texts.ask(number, work, first, second),
+        None => Ok(()),
+    }
+}
+
+/// A Parse or a Bind took effect.
+fn end_text<A: MapMemory>(
+    number: u64,
+    reply: Reply,
+    texts: &mut Option<Summary<A>>,
+) -> Result<(), AllocError>
+    ensures ended { OnOk result (texts.new ≡ texts_after number reply texts.old) }
+    ensures lacks { OnErr result A.Lacks }
+{
+    match texts {
+        Some(texts) => texts.end(number, reply, 0),
         None => Ok(()),
     }
 }

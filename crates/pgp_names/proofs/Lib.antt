@@ -1,3 +1,3 @@
 mod Common
 mod NameLemmas
-mod FoundLemmas
+pub mod FoundLemmas

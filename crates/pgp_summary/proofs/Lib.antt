@@ -1,5 +1,6 @@
 mod Adding
 mod Common
+mod Due
 mod Places
 pub mod Ranks
 mod Sorting

@@ -1,5 +1,5 @@
 -- What requests ran, by the messages that ended their answers.
-use Rattle.std.specs.Prelude.{ℕ, ◌+◌, Bool, true, false, ◌&&◌, ◌==◌, nat_lt, if◌then◌else◌, List, [], ◌∷◌, ◌++◌, Option, None, Some, codes}
+use Rattle.std.specs.Prelude.{ℕ, zero, suc, ◌+◌, Bool, true, false, ◌&&◌, ◌==◌, nat_lt, if◌then◌else◌, List, [], ◌∷◌, ◌++◌, Option, None, Some, bytes_eq, codes, slice_get}
 use Rattle.std.specs.Option.{unwrap_or}
 use Rattle.pgp_names.specs.Names.{found, put}
 use Rattle.pgp_summary.specs.Fold.{folded}
@@ -66,6 +66,22 @@ abbrev pub first_of : ℕ → List Request → Option Request
 first_of number [] = None
 first_of number (first ∷ more) = if first.number == number then Some first else None
 
+-- Private: whether one gives this name something once it is ended so; what it gives; and the last of the first n that does.
+abbrev pub gives : Reply → (name : List ℕ) → Request → Bool
+gives reply name r = ends r.work reply && bytes_eq r.first name
+
+abbrev pub given : Reply → (name : List ℕ) → Option Request → Option (List ℕ)
+given reply name None = None
+given reply name (Some r) = if gives reply name r then Some r.second else None
+
+abbrev pub given_at : (place : ℕ) → Option (List ℕ) → (before : Option (ℕ × List ℕ)) → Option (ℕ × List ℕ)
+given_at place None before = before
+given_at place (Some text) before = Some (place, text)
+
+abbrev pub last_given : Reply → (name : List ℕ) → (n : ℕ) → List Request → Option (ℕ × List ℕ)
+last_given reply name zero waiting = None
+last_given reply name (suc n) waiting = given_at n (given reply name (slice_get waiting n)) (last_given reply name n waiting)
+
 -- ---- what is known of the requests
 
 -- Whether statements are noted without their literals; the texts of statements and portals; the requests whose answers aren't complete, in order; how many rows of which request came; and the statements that ran.
@@ -105,6 +121,10 @@ row number s = record s { counted = number; rows = capped (rows_of number s + 1)
 abbrev pub with_waiting : List Request → State → State
 with_waiting waiting s = record s { waiting = waiting }
 
+-- an answer comes to the request of this number
+abbrev pub reached : ℕ → State → State
+reached number s = with_waiting (skipped number s.waiting) s
+
 abbrev pub with_statement : (name text : List ℕ) → State → State
 with_statement name text s = record s { statements = named name text s.statements }
 
@@ -124,6 +144,15 @@ did Query r micros s = ran r.first r.number micros s
 did Parse r micros s = with_statement r.first r.second s
 did Bind r micros s = with_portal r.first (text_under r.second s.statements) s
 did Execute r micros s = ran (text_under r.first s.portals) r.number micros s
+
+-- what all of these change that succeed
+abbrev pub granted : List Request → State → State
+granted [] s = s
+granted (r ∷ more) s = granted more (did r.work r 0 s)
+
+-- the text that an Execute of this portal runs that is sent now, if all before it succeed
+abbrev pub text_due : (portal : List ℕ) → State → List ℕ
+text_due portal s = text_under portal (granted s.waiting s).portals
 
 abbrev pub done : Option Request → (micros : ℕ) → State → State
 done None micros s = s

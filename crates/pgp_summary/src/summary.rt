@@ -2,13 +2,13 @@
 
 ghost use Rattle.std.specs.Prelude.{◌≡◌, ◌&&◌, IfErr, IfOk, OnErr, OnOk};
 ghost use Rattle.pgp_summary.specs.Runs.{ranked};
-ghost use Rattle.pgp_summary.specs.Summary.{asked, did, ended, failed, nothing, ran, row, rows_of, text_in, text_of, text_under, with_portal, with_runs};
+ghost use Rattle.pgp_summary.specs.Summary.{asked, did, ended, failed, nothing, ran, reached, row, rows_of, text_due, text_in, text_of, text_under, with_portal, with_runs};
 
 use crate::entry::{Entry, More, Ran, plus, tally, tally_all};
 use crate::fold::fold;
 use crate::named::{Text, put, text_under};
 use crate::ranking::{entries_by, sorted_keys};
-use crate::waiting::{Asked, first_of, push, skip, take};
+use crate::waiting::{Asked, first_of, last_given, push, skip, take};
 use crate::work::{Reply, Work, ends};
 use pgp_base::Memory;
 use pgp_names::{MapMemory, Names};
@@ -205,6 +205,28 @@ impl<A: MapMemory> Summary<A> {
                 tally(self.alloc, text, error, &mut self.entries)
             }
             None => Ok(()),
+        }
+    }
+
+    /// Takes note of an answer to the request of this number: those before it get none any more.
+    pub fn reach(&mut self, number: u64)
+        ensures { self.new ≡ reached number self.old }
+    {
+        skip(number, &mut self.waiting);
+    }
+
+    /// The text that an Execute of this portal runs that is sent now, if all requests before it succeed; `?` where none is known.
+    pub fn text_due(&self, portal: &[u8]) -> &[u8]
+        ensures { result.now ≡ text_due portal.now self.now }
+    {
+        let waiting = &self.waiting;
+        let bound = last_given(Reply::BindComplete, portal, waiting.len(), waiting);
+        let Some((place, statement)) = bound else {
+            return text_under(portal, &self.portals);
+        };
+        match last_given(Reply::ParseComplete, statement, place, waiting) {
+            Some((_, text)) => text,
+            None => text_under(statement, &self.statements),
         }
     }
 

@@ -1,8 +1,8 @@
 //! The requests whose answers aren't complete.
 
-ghost use Rattle.std.specs.Prelude.{◌≡◌, ◌++◌, ◌∷◌, [], nat_lt, OnErr, OnOk};
+ghost use Rattle.std.specs.Prelude.{◌≡◌, ◌++◌, ◌∷◌, [], nat_lt, slice_get, OnErr, OnOk};
 ghost use Rattle.std.specs.Option.{option_map};
-ghost use Rattle.pgp_summary.specs.Summary.{first_of, is_ended, is_first_before, is_first_ended, skipped, taken};
+ghost use Rattle.pgp_summary.specs.Summary.{first_of, given, gives, is_ended, is_first_before, is_first_ended, last_given, skipped, taken};
 
 use crate::work::{Reply, Work, ends};
 use pgp_base::Memory;
@@ -41,6 +41,13 @@ impl<A: MapMemory> Asked<A> {
         ensures { result ≡ is_ended number reply self.now }
     {
         self.number == number && ends(self.work, reply)
+    }
+
+    /// Whether it gives this name something, once it is ended so.
+    fn gives(&self, reply: Reply, name: &[u8]) -> bool
+        ensures { result ≡ gives reply name.now self.now }
+    {
+        ends(self.work, reply) && self.first.as_slice() == name
     }
 }
 
@@ -111,5 +118,39 @@ fn is_first_ended<A: MapMemory>(number: u64, reply: Reply, waiting: &VecDeque<As
     match waiting.front() {
         Some(asked) => asked.is_ended(number, reply),
         None => false,
+    }
+}
+
+/// The place of the last of the first requests, so many, that gives this name something once it is ended so, and what it gives.
+pub(crate) fn last_given<'a, A: MapMemory>(
+    reply: Reply,
+    name: &[u8],
+    count: usize,
+    waiting: &'a VecDeque<Asked<A>, A>,
+) -> Option<(usize, &'a [u8])>
+    ensures { option_map (λ x. (x.0, x.1.now)) result ≡ last_given reply name.now count waiting.now.items }
+{
+    let mut behind = count;
+    'back: while behind > 0 {
+        behind -= 1;
+        if let Some(text) = given(reply, name, behind, waiting) {
+            return Some((behind, text));
+        }
+    }
+    None
+}
+
+/// What the request at this place gives the name.
+fn given<'a, A: MapMemory>(
+    reply: Reply,
+    name: &[u8],
+    place: usize,
+    waiting: &'a VecDeque<Asked<A>, A>,
+) -> Option<&'a [u8]>
+    ensures { option_map (λ text. text.now) result ≡ given reply name.now (slice_get waiting.now.items place) }
+{
+    match waiting.get(place) {
+        Some(asked) if asked.gives(reply, name) => Some(asked.second.as_slice()),
+        _ => None,
     }
 }

@@ -7,7 +7,7 @@ use Rattle.pgp_frontend_read.specs.declared.message.PasswordKind.{PasswordKind}
 use Rattle.pgp_frontend_read.specs.declared.message.PasswordKind.TheVariants.{Password, Initial, Response}
 use Rattle.pgp_trace.specs.declared.marking.Marking.{Marking}
 use Rattle.pgp_trace.specs.declared.options.Choice.{Choice}
-use Rattle.pgp_trace.specs.declared.options.Choice.TheVariants.{File, AsJson, Full, Secrets, Resume, Replication, Only, Except, Color, Kind, Time, Requests, Slower, Summary, Fold, Raw}
+use Rattle.pgp_trace.specs.declared.options.Choice.TheVariants.{File, AsJson, Full, Secrets, Resume, Replication, Only, Except, Color, Kind, Time, Requests, Slower, Summary, Fold, Raw, Names}
 use Rattle.pgp_trace.specs.declared.options.Clock.{Clock}
 use Rattle.pgp_trace.specs.declared.options.Clock.TheVariants.{Absolute, Relative}
 use Rattle.pgp_trace.specs.declared.options.Listing.{Listing}
@@ -55,6 +55,7 @@ word_of (Slower word millis) = codes "--slower"
 word_of Summary = codes "--summary"
 word_of Fold = codes "--fold"
 word_of Raw = codes "--raw"
+word_of Names = codes "--names"
 
 abbrev pub argument_of : Choice → List (List ℕ)
 argument_of (Only names) = names.now ∷ []
@@ -73,7 +74,7 @@ spelled choice = word_of choice ∷ argument_of choice
 abbrev pub options_in : Listing → List (List ℕ)
 options_in Server = codes "--json" ∷ codes "--full" ∷ codes "--secrets" ∷ codes "--resume" ∷ codes "--only" ∷ codes "--except" ∷ codes "--color" ∷ []
 options_in Client = codes "--json" ∷ codes "--full" ∷ codes "--secrets" ∷ codes "--resume" ∷ codes "--only" ∷ codes "--except" ∷ codes "--color" ∷ codes "--password-kind" ∷ codes "--replication" ∷ []
-options_in Session = codes "--json" ∷ codes "--full" ∷ codes "--secrets" ∷ codes "--requests" ∷ codes "--slower" ∷ codes "--raw" ∷ codes "--summary" ∷ codes "--fold" ∷ codes "--time" ∷ codes "--only" ∷ codes "--except" ∷ codes "--color" ∷ codes "FILE" ∷ []
+options_in Session = codes "--json" ∷ codes "--full" ∷ codes "--secrets" ∷ codes "--requests" ∷ codes "--slower" ∷ codes "--raw" ∷ codes "--names" ∷ codes "--summary" ∷ codes "--fold" ∷ codes "--time" ∷ codes "--only" ∷ codes "--except" ∷ codes "--color" ∷ codes "FILE" ∷ []
 
 -- under which word of these an option stands there
 abbrev pub key_of : List ℕ → List ℕ
@@ -107,7 +108,7 @@ pub record Chosen : Type 0 where
 
 -- with none, where a terminal shows the listing or not
 abbrev pub nothing_chosen : (terminal : Bool) → Chosen
-nothing_chosen terminal = record { json = false; full = false; secrets = false; resume = false; replicating = false; only = []; except = []; colored = terminal; kinds = []; slower = 0; marking = record { absolute = false; numbered = false; summed = false; folded = false; raw = false }; files = [] }
+nothing_chosen terminal = record { json = false; full = false; secrets = false; resume = false; replicating = false; only = []; except = []; colored = terminal; kinds = []; slower = 0; marking = record { absolute = false; numbered = false; summed = false; folded = false; raw = false; named = false }; files = [] }
 
 abbrev pub is_comma : ℕ → Bool
 is_comma byte = byte == 44
@@ -134,6 +135,7 @@ marks Requests m = record m { numbered = true }
 marks Summary m = record m { numbered = true; summed = true }
 marks Fold m = record m { folded = true }
 marks Raw m = record m { raw = true }
+marks Names m = record m { named = true }
 marks choice m = m
 
 -- What one more changes. Of those that say when a listing has colours the last counts.

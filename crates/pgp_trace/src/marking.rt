@@ -13,4 +13,6 @@ pub struct Marking {
     pub folded: bool,
     /// Whether values in binary format are shown as their bytes.
     pub raw: bool,
+    /// Whether an Execute has its statement's text, and a row the names of its columns.
+    pub named: bool,
 }

@@ -67,6 +67,8 @@ pub enum Choice<'a> {
     Fold,
     /// Values in binary format are shown as their bytes.
     Raw,
+    /// An Execute has its statement's text, and a row the names of its columns.
+    Names,
 }
 
 /// What the options of a listing come to.
@@ -112,6 +114,7 @@ const SESSION: &[&str] = &[
     "--requests",
     "--slower",
     "--raw",
+    "--names",
     "--summary",
     "--fold",
     "--time",
@@ -180,6 +183,7 @@ fn no_options<'a, A: Memory>(alloc: A, terminal: bool) -> Options<'a, A>
             summed: false,
             folded: false,
             raw: false,
+            named: false,
         },
         files: Vec::new(alloc),
     }
@@ -209,10 +213,12 @@ fn choose<'a, A: Memory>(
             options.slower = u64::from(millis) * 1000;
             mark(choice, &mut options.marking)
         }
-        Choice::Time(_) | Choice::Requests | Choice::Summary | Choice::Fold | Choice::Raw => mark(
-            choice,
-            &mut options.marking,
-        ),
+        Choice::Time(_)
+        | Choice::Requests
+        | Choice::Summary
+        | Choice::Fold
+        | Choice::Raw
+        | Choice::Names => mark(choice, &mut options.marking),
     }
     Ok(())
 }
@@ -239,6 +245,7 @@ fn mark(choice: Choice<'_>, marking: &mut Marking)
         }
         Choice::Fold => marking.folded = true,
         Choice::Raw => marking.raw = true,
+        Choice::Names => marking.named = true,
         _ => {}
     }
 }
@@ -335,6 +342,7 @@ fn first_choice<'a>(words: &[&'a str]) -> Option<Choice<'a>>
         "--summary" => Some(Choice::Summary),
         "--fold" => Some(Choice::Fold),
         "--raw" => Some(Choice::Raw),
+        "--names" => Some(Choice::Names),
         _ => None,
     }
 }

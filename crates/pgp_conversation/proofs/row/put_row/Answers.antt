@@ -1,5 +1,5 @@
 -- The places of a row lie in its bytes.
-use Rattle.pgp_conversation.proofs.Common.{◌≡◌, rules, string_bytes, row_front, ok_then}
+use Rattle.pgp_conversation.proofs.Common.{◌≡◌, List, map, rules, subst, string_bytes, AddsValues, Column, row_front, value_at, ok_then}
 use Rattle.pgp_message.proofs.TableLemmas.{places_in}
 use Rattle.pgp_conversation.proofs.RowLemmas.{row_line}
 use Rattle.pgp_conversation.proofs.row.put_row.Goals as goal
@@ -13,6 +13,7 @@ returns-clause-line g c =
     let places = c.ranges-places.result in
     let front = string_bytes c.put_count.new.line in
     let text = string_bytes c.put_values.new.line in
+    let adds = subst (λ (l : List Column). AddsValues c.args.style l (map (value_at c.buffer.result.now) places.items) places.end front text) c.list.ensures c.in_ok-put_values.ensures.adds in
     let begins : front ≡ row_front c.args.style c.args.place c.args.len row.count = search rules in
     ok_then c.put_end.result
-    (λ ended. row_line c.args.style c.args.place c.args.len c.args.columns.now row places.items places.end c.buffer.result.now front text (string_bytes c.put_end.new.line) c.ranges-places.ensures.items c.buffer.ensures begins c.in_ok-put_values.ensures.adds ended) c.put_end.ensures.text
+    (λ ended. row_line c.args.style c.args.place c.args.len c.args.named c.args.columns.now row places.items places.end c.buffer.result.now front text (string_bytes c.put_names.new.line) (string_bytes c.put_end.new.line) c.ranges-places.ensures.items c.buffer.ensures begins adds c.in_ok-put_names.ensures.adds ended) c.put_end.ensures.text
