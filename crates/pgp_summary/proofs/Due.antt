@@ -1,6 +1,6 @@
 -- The text that a portal has once the requests that wait have succeeded is what the last of them gives it, or what it has.
 use Rattle.pgp_summary.proofs.Common.{◌≡◌, ℕ, zero, suc, ◌≤◌, length, Bool, true, false, List, [], ◌∷◌, Some, None, Option, refl, sym, ap, ◌∙◌, inl, inr, if◌then◌else◌, bytes_eq, cases_Bool, Request, State, done, put, found}
-use Rattle.std.specs.Option.{option_map, unwrap_or}
+use Rattle.std.specs.Option.{unwrap_or}
 use Rattle.std.specs.Prelude.{◌&&◌, take, slice_get}
 use Rattle.std.proofs.lemmas.List.{take_all}
 use Rattle.pgp_names.proofs.FoundLemmas.{found_put}
