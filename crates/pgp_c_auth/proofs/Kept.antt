@@ -1,21 +1,16 @@
 -- The settings of bytes, and where one stands.
-use Rattle.std.proofs.Common.{◌≡◌, ◌≢◌, ℕ, zero, suc, ◌+◌, ◌-◌, ◌<◌, ◌≤◌, true, false, List, [], ◌∷◌, ◌++◌, Option, Some, None, ap, arith, append_assoc, drop, inl, inr, length, length-append, refl, subst, sym, take, ◌∙◌}
+use Rattle.pgp_c_auth.proofs.Common.{◌≡◌, ◌≢◌, ℕ, zero, suc, ◌+◌, ◌-◌, ◌<◌, ◌≤◌, true, false, List, [], ◌∷◌, ◌++◌, Option, Some, None, ap, arith, append_assoc, drop, inl, inr, length, length-append, refl, subst, sym, take, ◌∙◌, ParameterStatus, HasValueAt, IsFull, StandsAt, kept_bytes, kept_in, pairs, settings_of, settled, size_of, spelled, value_of, without, drop-drop, drop-take, length-drop, length-take, length-take-le, take-append-drop, take-take, take_more_set, Setting, slice_set, if◌then◌else◌, ◌==◌}
 use Rattle.std.proofs.Math.Seq.{drop-append-add, drop-append_seam, take-append_seam}
 use Rattle.std.proofs.lemmas.Bool.{cases_Bool, ne_eqb}
-use Rattle.std.proofs.lemmas.List.{drop-drop, drop-take, length-drop, length-take, length-take-le, take-append-drop, take-take, take_more_set}
 use Rattle.std.proofs.lemmas.Slice.{take-put_mid}
 use Rattle.std.proofs.lemmas.Slice.Eq.{bytes_eq-Decides}
 use Rattle.std.specs.Str.{bytes_eq}
-use Rattle.std.specs.Prelude.{slice_set, if◌then◌else◌, ◌==◌}
 use borrow.Rule.Slice.PartMut.{mid_len, mid_of, post_of, put_mid, same_len_mid}
 use Rattle.pgp_base.proofs.Strings.{string_takes, string_whole}
 unfoldable use Rattle.pgp_base.specs.PartReading.{string_at}
 use Rattle.pgp_base.specs.PartReading.{with_first as with_first_byte}
 use Rattle.pgp_base.specs.Wire.{HasNoZero, text}
-use Rattle.pgp_message.specs.BackendMessage.{ParameterStatus}
-use Rattle.pgp_message.specs.Parts.{Setting}
 unfoldable use Rattle.pgp_c_auth.specs.Settings.{texts}
-use Rattle.pgp_c_auth.specs.Settings.{HasValueAt, IsFull, StandsAt, kept_bytes, kept_in, pairs, settings_of, settled, size_of, spelled, value_of, without}
 use Rattle.pgp_c_auth.specs.declared.settings.PgpSettings.{PgpSettings}
 
 texts_text : (z rest : List ℕ) → HasNoZero z → texts (z ++ 0 ∷ rest) ≡ z ∷ texts rest

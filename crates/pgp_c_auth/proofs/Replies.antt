@@ -1,19 +1,14 @@
 -- What a log-in answers: a message that was appended, or why it wasn't.
-use Rattle.std.proofs.Common.{◌≡◌, ℕ, List, Ok, Err, Some, None, Result, ap, inl, inr, sym, subst, ◌<◌, ◌∙◌, ◌⊎◌, ◌++◌, length}
+use Rattle.pgp_c_auth.proofs.Common.{◌≡◌, ℕ, List, Ok, Err, Some, None, Result, ap, inl, inr, sym, subst, ◌<◌, ◌∙◌, ◌⊎◌, ◌++◌, length, ClientMessage, PgpWays, PgpLogin, Came, MayWelcome, at_phase, awaits_final, awaits_welcome, done, Verifies}
 use Rattle.pgp_base.specs.Cause.{Wants}
 use Rattle.pgp_base.specs.Error.{number_of}
 use Rattle.pgp_base.specs.Held.{Held, ◌⊕◌, items_held, lengthened}
 use Rattle.pgp_base.specs.declared.error.Error.{Error}
 use Rattle.pgp_base.specs.declared.error.Error.TheVariants.{OutOfMemory}
-use Rattle.pgp_frontend.specs.ClientMessage.{ClientMessage}
 use Rattle.pgp_frontend.specs.Payload.{bytes_of, cause, WritesMessage}
-use Rattle.pgp_auth.specs.ScramRefusal.{Verifies}
 use Rattle.pgp_c_auth.specs.Answering.{Added, Ends, HasAnswered, NothingAsked, Unsent, Welcomes, reported}
-use Rattle.pgp_c_auth.specs.Login.{Came, MayWelcome, at_phase, awaits_final, awaits_welcome, done}
 use Rattle.pgp_c_auth.specs.declared.asking.Asking.{Asking as Reported}
 use Rattle.pgp_c_auth.specs.declared.asking.Asking.TheVariants as code
-use Rattle.pgp_c_auth.specs.declared.asking.PgpWays.{PgpWays}
-use Rattle.pgp_c_auth.specs.declared.login.PgpLogin.{PgpLogin}
 use Rattle.std.specs.Borrow.{Bor}
 
 lengthened_by : (old new z : List ℕ) → items_held new ≡ items_held old ⊕ z → new ≡ old ++ z

@@ -1,20 +1,10 @@
 -- What a connection has come by.
 use Rattle.std.proofs.Common.{◌≡◌, ℕ, Bool, true, false, List, [], ◌∷◌, ◌++◌, Option, Contains, inl, inr, arith, refl, sym, subst, append_assoc}
-use Rattle.std.proofs.lemmas.List.{append-nil}
 use Rattle.std.proofs.lemmas.List.Elements.{Contains-append_left, Contains-append_right}
-use Rattle.pgp_client.specs.Kinds.{kind_of}
-use Rattle.pgp_client.specs.Talk.{Talk}
 use Rattle.pgp_client.specs.Telling.{Asks, Follows, Hears, Turn, start}
-use Rattle.pgp_frontend.specs.ClientMessage.{ClientMessage}
-use Rattle.pgp_message.specs.BackendMessage.{Message, Authentication, AuthenticationSaslContinue, AuthenticationSaslFinal}
 use Rattle.pgp_c_auth.specs.Answering.{Answers, Asking, Begins as BeginsExchange, ByCleartext as Cleartext, ByMd5 as Md5, Ends, First, Final, GoesOn, NothingAsked, Welcomes, asking, start_of}
-use Rattle.pgp_c_auth.specs.Connection.{Link}
+use Rattle.pgp_c_auth.proofs.Common.{Link, ClientMessage, Message, Authentication, AuthenticationSaslContinue, AuthenticationSaslFinal, append-nil, kind_of, PgpWays, PgpLogin, Talk, IsAdmitted, by_scram, AnswersWith, Verifies}
 use Rattle.pgp_c_auth.specs.Runs.{Asked, Begins, ByCleartext, ByMd5, ByNone, BySignature, Heard, LetIn, Runs, Signed, now_begun}
-use Rattle.pgp_c_auth.specs.Login.{IsAdmitted, by_scram}
-use Rattle.pgp_c_auth.specs.Scram.{AnswersWith}
-use Rattle.pgp_auth.specs.ScramRefusal.{Verifies}
-use Rattle.pgp_c_auth.specs.declared.asking.PgpWays.{PgpWays}
-use Rattle.pgp_c_auth.specs.declared.login.PgpLogin.{PgpLogin}
 
 -- ---- the log-in
 

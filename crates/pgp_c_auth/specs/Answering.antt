@@ -8,7 +8,7 @@ use Rattle.pgp_auth.specs.Md5Text.{md5_answer}
 use Rattle.pgp_auth.specs.ScramRefusal.{AsksFewer, Verifies}
 use Rattle.pgp_frontend.specs.ClientMessage.{ClientMessage, PasswordMessage, SaslInitialResponse, SaslResponse}
 use Rattle.pgp_frontend.specs.Payload.{bytes_of, cause, IsInRange}
-use Rattle.pgp_message.specs.BackendMessage.{Message, Authentication, AuthenticationOk, AuthenticationCleartextPassword, AuthenticationMd5Password, AuthenticationSasl, AuthenticationSaslContinue, AuthenticationSaslFinal}
+pub use Rattle.pgp_message.specs.LogIn.{Asking, Nothing, Cleartext, Md5, Sasl, First, Final, Welcome, Other, asking}
 use Rattle.pgp_message.specs.Items.{TextSpelled, TextRefused}
 use Rattle.pgp_c_auth.specs.Login.{Asked, Came, Declined, IsAdmitted, MayWelcome, at_phase, awaits_final, awaits_first, awaits_request, awaits_welcome, by_cleartext, by_md5, by_none, by_scram, done}
 use Rattle.pgp_c_auth.specs.Scram.{AnswersIn, AnswersWith, BeginRefused, FirstText, NotAnswered, ShownRefused, Start, start}
@@ -16,28 +16,6 @@ use Rattle.pgp_c_auth.specs.declared.asking.Asking.{Asking as Reported}
 use Rattle.pgp_c_auth.specs.declared.asking.Asking.TheVariants as code
 use Rattle.pgp_c_auth.specs.declared.asking.PgpWays.{PgpWays}
 use Rattle.pgp_c_auth.specs.declared.login.PgpLogin.{PgpLogin}
-
--- what a message asks of a client that logs in
-pub data Asking : Type 0 where
-  Nothing : Asking
-  Cleartext : Asking
-  Md5 : (salt : List ℕ) → Asking
-  Sasl : (mechanisms : List ℕ) → Asking
-  First : (text : List ℕ) → Asking
-  Final : (text : List ℕ) → Asking
-  Welcome : Asking
-  -- another way
-  Other : Asking
-
-abbrev pub asking : Message → Asking
-asking (Authentication AuthenticationOk) = Welcome
-asking (Authentication AuthenticationCleartextPassword) = Cleartext
-asking (Authentication (AuthenticationMd5Password salt)) = Md5 salt
-asking (Authentication (AuthenticationSasl mechanisms)) = Sasl mechanisms
-asking (Authentication (AuthenticationSaslContinue text)) = First text
-asking (Authentication (AuthenticationSaslFinal text)) = Final text
-asking (Authentication request) = Other
-asking m = Nothing
 
 -- what the code's words say
 abbrev pub reported : Reported → Asking

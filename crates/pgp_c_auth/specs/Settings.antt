@@ -5,6 +5,7 @@ use Rattle.std.specs.Str.{bytes_eq}
 use Rattle.pgp_base.specs.Wire.{text}
 use Rattle.pgp_message.specs.BackendMessage.{Message, ParameterStatus}
 use Rattle.pgp_message.specs.Parts.{Setting}
+pub use Rattle.pgp_message.specs.Parts.{value_of, without}
 use Rattle.pgp_c_auth.specs.declared.settings.PgpSettings.{PgpSettings}
 
 -- the texts that a byte 0 ends, one behind another; what stands behind the last 0 is none
@@ -37,16 +38,6 @@ kept_bytes p = take p.len p.room.now
 
 abbrev pub kept_in : PgpSettings → List Setting
 kept_in p = settings_of (kept_bytes p)
-
--- the value under a name
-abbrev pub value_of : List ℕ → List Setting → Option (List ℕ)
-value_of name [] = None
-value_of name (s ∷ kept) = if bytes_eq s.name name then Some s.value else value_of name kept
-
--- without the setting of this name
-abbrev pub without : List ℕ → List Setting → List Setting
-without name [] = []
-without name (s ∷ kept) = if bytes_eq s.name name then kept else s ∷ without name kept
 
 -- After a message, where memory of so many bytes is given: a setting that it reports stands first, and its former value is gone. Where no byte is given none is kept.
 abbrev pub settled : ℕ → Message → List Setting → List Setting

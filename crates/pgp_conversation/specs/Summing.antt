@@ -1,5 +1,5 @@
 -- What requests ran, by the messages of both sides.
-use Rattle.std.specs.Prelude.{ℕ, ◌-◌, if◌then◌else◌, List, [], Option, Some, None, Result, Ok, Err, bytes_eq, codes}
+use Rattle.std.specs.Prelude.{ℕ, if◌then◌else◌, List, [], Option, Some, None, Result, Ok, Err, bytes_eq, codes}
 use Rattle.pgp_conversation.specs.Common.{ClientMessage, Bind, Execute, Parse, Query, ClientError, Style, State, asked, ended, failed, row, LineOf, Side, Told, Number, Answer, Lost, Nothing, Uncounted}
 use Rattle.pgp_summary.specs.declared.work.Work.{Work}
 use Rattle.pgp_summary.specs.declared.work.Work.TheVariants as works
@@ -55,21 +55,21 @@ abbrev pub asks_for : Option Asking → (number : ℕ) → State → State
 asks_for None number s = s
 asks_for (Some a) number s = asked (record { number = number; work = a.work; first = a.first; second = a.second }) s
 
-abbrev pub ends_so : Option Reply → (number micros : ℕ) → State → State
-ends_so None number micros s = s
-ends_so (Some reply) number micros s = ended number reply micros s
+abbrev pub ends_so : Option Reply → (number sent now : ℕ) → State → State
+ends_so None number sent now s = s
+ends_so (Some reply) number sent now s = ended number reply sent now s
 
--- a message that belongs to the request of this number, and came so long after it
-abbrev pub answers_so : (name : List ℕ) → (number micros : ℕ) → State → State
-answers_so name number micros s =
+-- a message that belongs to the request of this number, which was sent then, and comes now
+abbrev pub answers_so : (name : List ℕ) → (number sent now : ℕ) → State → State
+answers_so name number sent now s =
     if bytes_eq name (codes "DataRow") then row number s
-    else if bytes_eq name (codes "ErrorResponse") then ended number ExecuteEnd micros (failed number s)
-    else ends_so (reply_named name) number micros s
+    else if bytes_eq name (codes "ErrorResponse") then ended number ExecuteEnd sent now (failed number s)
+    else ends_so (reply_named name) number sent now s
 
--- a frame of this name that its mark says this of, and that asks for this. (Where the clock was set back no time has gone by.)
+-- a frame of this name that its mark says this of, and that asks for this
 abbrev pub takes_note : Told → Option Asking → (name : List ℕ) → State → State
 takes_note (Number number) asking name s = asks_for asking number s
-takes_note (Answer number sent now) asking name s = answers_so name number (now - sent) s
+takes_note (Answer number sent now) asking name s = answers_so name number sent now s
 takes_note Lost asking name s = s
 takes_note Nothing asking name s = s
 takes_note Uncounted asking name s = s

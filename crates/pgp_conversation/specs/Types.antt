@@ -131,7 +131,7 @@ described (Some a) columns t = describes a.object a.name columns t
 
 -- a Parse or a Bind took effect
 abbrev pub texts_after : ℕ → Reply → Option State → Option State
-texts_after number reply texts = option_map (summary.ended number reply 0) texts
+texts_after number reply texts = option_map (summary.ended number reply 0 0) texts
 
 -- A Parse is done: no columns of its statement are known, and the parameters that it gave are told. The portal that was bound last may be of another statement of its name.
 abbrev pub parsed : Option Awaited → Types → Types

@@ -93,9 +93,7 @@ fn note_told<A: MapMemory>(
 {
     match told {
         Told::Number(number) => note_request(asking, number, summary),
-        Told::Answer { number, sent, now } => {
-            note_answer(name, number, now.saturating_sub(sent), summary)
-        }
+        Told::Answer { number, sent, now } => { note_answer(name, number, sent, now, summary) }
         Told::Lost | Told::Nothing | Told::Uncounted => Ok(()),
     }
 }
@@ -115,14 +113,15 @@ fn note_request<A: MapMemory>(
     }
 }
 
-/// Takes note of a message of this name that belongs to the request of this number, so many microseconds after it.
+/// Takes note of a message of this name that belongs to the request of this number, which was sent then.
 fn note_answer<A: MapMemory>(
     name: &str,
     number: u64,
-    micros: u64,
+    sent: u64,
+    now: u64,
     summary: &mut Summary<A>,
 ) -> Result<(), AllocError>
-    ensures noted { OnOk result (summary.new ≡ answers_so name.now number micros summary.old) }
+    ensures noted { OnOk result (summary.new ≡ answers_so name.now number sent now summary.old) }
     ensures lacks { OnErr result A.Lacks }
 {
     match name {
@@ -132,9 +131,9 @@ fn note_answer<A: MapMemory>(
         }
         "ErrorResponse" => {
             summary.fail(number)?;
-            summary.end(number, Reply::ExecuteEnd, micros)
+            summary.end(number, Reply::ExecuteEnd, sent, now)
         }
-        _ => note_end(reply_named(name), number, micros, summary),
+        _ => note_end(reply_named(name), number, sent, now, summary),
     }
 }
 
@@ -142,14 +141,15 @@ fn note_answer<A: MapMemory>(
 fn note_end<A: MapMemory>(
     reply: Option<Reply>,
     number: u64,
-    micros: u64,
+    sent: u64,
+    now: u64,
     summary: &mut Summary<A>,
 ) -> Result<(), AllocError>
-    ensures ended { OnOk result (summary.new ≡ ends_so reply number micros summary.old) }
+    ensures ended { OnOk result (summary.new ≡ ends_so reply number sent now summary.old) }
     ensures lacks { OnErr result A.Lacks }
 {
     match reply {
-        Some(reply) => summary.end(number, reply, micros),
+        Some(reply) => summary.end(number, reply, sent, now),
         None => Ok(()),
     }
 }

@@ -361,7 +361,7 @@ fn end_text<A: MapMemory>(
     ensures lacks { OnErr result A.Lacks }
 {
     match texts {
-        Some(texts) => texts.end(number, reply, 0),
+        Some(texts) => texts.end(number, reply, 0, 0),
         None => Ok(()),
     }
 }

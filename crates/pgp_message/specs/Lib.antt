@@ -1,5 +1,6 @@
 pub mod Parts
 pub mod BackendMessage
+pub mod LogIn
 pub mod Stream
 pub mod Header
 pub mod Remembered

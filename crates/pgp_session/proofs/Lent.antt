@@ -1,6 +1,5 @@
 -- What is known of a session that a pooler may lend.
-use Rattle.pgp_session.proofs.Common.{◌≡◌, ◌⊎◌, ℕ, Bool, List, [], ◌∷◌, ◌++◌, Option, None, Ok, refl, sym, ap, ◌∙◌, ◌||◌, false, true, kind_of, is_idle, taken, Talk, Event, Aside, Ended, ClientMessage, Message, newer, status}
-use Rattle.pgp_client.specs.declared.kind.Kind.{Kind}
+use Rattle.pgp_session.proofs.Common.{◌≡◌, ◌⊎◌, ℕ, Bool, List, [], ◌∷◌, ◌++◌, Option, None, Ok, refl, sym, ap, ◌∙◌, ◌||◌, false, true, kind_of, is_idle, taken, Talk, Event, Aside, Ended, ClientMessage, Message, newer, status, Kind}
 use Rattle.pgp_session.specs.Pooler.{AndReceived, AndResult, AndSent, CanBeLent, IsQuiet, Nothing, Saw, Shown, last_status, leaves, left_after, waits, waits_after}
 
 waits_more : (before : Bool) (sent : List ClientMessage) (m : ClientMessage) → waits_after before (sent ++ m ∷ []) ≡ waits (waits_after before sent) m

@@ -1,6 +1,5 @@
 -- Whether a text is one of a list's.
-use Rattle.pgp_session.proofs.Common.{◌≡◌, ℕ, zero, suc, Bool, true, false, List, [], ◌∷◌, map, refl, arith, inl, inr, Bor, list_any, cases_Bool}
-use Rattle.std.specs.Bool.{Decides}
+use Rattle.pgp_session.proofs.Common.{◌≡◌, ℕ, zero, suc, Bool, true, false, List, [], ◌∷◌, map, refl, arith, inl, inr, Bor, list_any, cases_Bool, Decides}
 use Rattle.std.specs.List.{Contains}
 
 not_both : (b : Bool) → b ≡ true → b ≡ false → ⊥

@@ -1,50 +1,9 @@
 -- What a dialogue took belongs to the requests.
-use Rattle.std.proofs.Common.{◌≡◌, Bool, true, false, List, [], ◌∷◌, ◌++◌, length, Ok, refl, sym, ap, subst, ◌∙◌, append_assoc, append-nil}
-use Rattle.pgp_client.specs.Flow.{Among, NoneLeft, OneOfThem, OneAside, StandsAnywhere, Notices, Notifies, Sets, Belong, Serves, Ready}
-use Rattle.pgp_client.specs.Talk.{Talk}
-use Rattle.pgp_client.specs.Taking.{is_aside, taken, taken_as}
-use Rattle.pgp_client.specs.Telling.{start}
-use Rattle.pgp_client.specs.declared.event.Event.{Event}
-use Rattle.pgp_client.specs.declared.event.Event.TheVariants.{Aside, Ended}
-use Rattle.pgp_client.specs.declared.kind.Kind.{Kind}
-use Rattle.pgp_client.specs.declared.kind.Kind.TheVariants as kinds
-use Rattle.pgp_client.specs.declared.request.Asked.{Asked}
-use Rattle.pgp_client.specs.declared.request.Request.{Request}
-use Rattle.pgp_client.proofs.Served.{ok_parts}
-use Rattle.pgp_client.proofs.Exact.{Stops, AsksOne, HearsOne, Stripped, exact}
-use Rattle.pgp_session.specs.Answered.{named}
+use Rattle.std.proofs.Common.{◌≡◌, List, [], ◌∷◌, ◌++◌, length, refl, sym, ap, subst, ◌∙◌, append_assoc, append-nil}
+use Rattle.pgp_client.proofs.Exact.{Stops, AsksOne, Stripped, exact, one_stripped}
+use Rattle.pgp_session.proofs.Common.{named, Kind, Event, Asked, Request, NoneLeft, Belong, Serves, Ready, Talk, start, Ended}
 use Rattle.pgp_session.specs.Monitor.{Runs, Begins, Asks, Says, Ran, Stopped, EndsThere}
 use Rattle.pgp_session.proofs.MonitorListed.{named_more}
-
-stands : (k : Kind) → is_aside k ≡ true → StandsAnywhere k
-stands kinds.NoticeResponse e = Notices
-stands kinds.NotificationResponse e = Notifies
-stands kinds.ParameterStatus e = Sets
-stands k e = cc
-
--- one message more, in front of what comes
-one_stripped : (k : Kind) (e : Event) (t next : Talk) (more : List Asked) (all : List Kind) (reported : List Event) → taken t k ≡ Ok (e, next) → (e ≡ Ended → more ≡ [])
-    → Stripped next more all reported → Stripped t more (k ∷ all) (e ∷ reported)
-one_stripped k e t next more all reported is ends rest =
-    let by_aside : (b : Bool) → is_aside k ≡ b → Stripped t more (k ∷ all) (e ∷ reported) = λ b. elim b as (λ v. is_aside k ≡ v → Stripped t more (k ∷ all) (e ∷ reported)) [
-      | true ↦ λ holds.
-          let was : taken t k ≡ Ok (Aside, t) = ap (λ (b : Bool). taken_as b t k) holds in
-          let same : (e ≡ Aside) × (next ≡ t) = ok_parts Aside e t next (taken t k) was is in
-          let here : Stripped t more all reported = subst (λ (u : Talk). Stripped u more all reported) same.1 rest in
-          record {
-            sent = here.sent;
-            belong = here.belong;
-            run = here.run;
-            among = subst (λ (d : Event). Among here.sent here.belong (k ∷ all) (d ∷ reported)) (sym same.0) (OneAside k (stands k holds) here.among);
-          }
-      | false ↦ λ other. record {
-        sent = k ∷ rest.sent;
-        belong = e ∷ rest.belong;
-        run = HearsOne k e next (sym (ap (λ (b : Bool). taken_as b t k) other) ∙ is) ends rest.run;
-        among = OneOfThem k e rest.among;
-      }
-    ] in
-    by_aside (is_aside k) refl
 
 -- what came before, in front of what comes
 before : {rs : List Request} {ks : List Kind} {es : List Event} {t : Talk} → Runs rs ks es t → (more : List Asked) (all : List Kind) (reported : List Event)

@@ -1,15 +1,8 @@
 -- The message at the front of bytes.
 use Rattle.std.proofs.Common.{◌≡◌, ℕ, ◌+◌, ◌-◌, Bool, true, false, List, [], ◌∷◌, ◌++◌, length, take, Result, Some, None, Ok, Err, refl, sym, ap, ◌∙◌, arith, inl, inr, append-nil, length-append}
-use Rattle.pgp_base.specs.declared.error.Error.{Error}
 use Rattle.pgp_base.specs.declared.error.Error.TheVariants as errors
-use Rattle.pgp_client.specs.Kinds.{kind_of}
-use Rattle.pgp_client.specs.declared.event.Event.{Event}
-use Rattle.pgp_client.specs.declared.kind.Kind.{Kind}
-use Rattle.pgp_message.specs.BackendMessage.{Message}
-use Rattle.pgp_message.specs.Stream.{Step, TakesFrame, frame_bytes}
-use Rattle.pgp_session.specs.Answered.{BeginsWithNone, IsFront, IsOne, kind_of_fault}
+use Rattle.pgp_session.proofs.Common.{BeginsWithNone, IsFront, IsOne, kind_of_fault, Kind, Event, Step, TakesFrame, frame_bytes, Stop, Error, kind_of, Message}
 use Rattle.pgp_session.specs.Monitor.{Admits, Passes, Shown, is_end}
-use Rattle.pgp_session.specs.declared.monitor.Stop.{Stop}
 use Rattle.pgp_session.specs.declared.monitor.Stop.TheVariants.{Misplaced, NoMessage, OutOfMemory}
 
 length_left : (all front new rest : ℕ) → all ≡ front + new → rest ≡ new → all - rest ≡ front

@@ -1,8 +1,5 @@
 -- Requests by their places.
-use Rattle.std.proofs.Common.{◌≡◌, ℕ, ◌+◌, List, [], ◌∷◌, ◌++◌, length, suc, ap, ◌∙◌, arith}
-use Rattle.pgp_client.specs.declared.request.Asked.{Asked}
-use Rattle.pgp_client.specs.declared.request.Request.{Request}
-use Rattle.pgp_session.specs.Answered.{named_from}
+use Rattle.pgp_session.proofs.Common.{◌≡◌, ℕ, ◌+◌, List, [], ◌∷◌, ◌++◌, length, suc, ap, ◌∙◌, arith, named_from, Asked, Request}
 
 one : Request → ℕ → List Asked
 one r n = record { request = r; name = n } ∷ []

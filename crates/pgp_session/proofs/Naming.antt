@@ -1,12 +1,6 @@
 -- The names under which messages were asked.
-use Rattle.pgp_session.proofs.Common.{◌≡◌, ℕ, ◌+◌, ◌<◌, ◌≤◌, Bool, if◌then◌else◌, List, [], ◌∷◌, ◌++◌, length, Option, Some, None, refl, sym, ap, subst, ◌∙◌, arith, append-nil, length-append, option_to_list, request_of, Turn, Asks, asked_in, ClientMessage, Request, turns_of}
-use Rattle.std.proofs.Common.{◌^◌}
-use Rattle.std.proofs.lemmas.Bool.{ne_eqb}
+use Rattle.pgp_session.proofs.Common.{◌≡◌, ℕ, ◌+◌, ◌<◌, ◌≤◌, Bool, if◌then◌else◌, List, [], ◌∷◌, ◌++◌, length, Option, Some, None, refl, sym, ap, subst, ◌∙◌, arith, append-nil, length-append, option_to_list, request_of, Turn, Asks, asked_in, ClientMessage, Request, turns_of, ◌^◌, next_name, Kind, Event, AreNamed, Rises, ne_eqb}
 use Rattle.pgp_client.specs.Telling.{Hears, names}
-use Rattle.pgp_client.specs.declared.kind.Kind.{Kind}
-use Rattle.pgp_client.specs.declared.event.Event.{Event}
-use Rattle.pgp_session.specs.Connection.{next_name}
-use Rattle.pgp_session.specs.Session.{AreNamed, Rises}
 
 rises_up : (low : ℕ) (ns : List ℕ) (high more : ℕ) → Rises low ns high → high ≤ more → Rises low ns more
 rises_up low [] high more r le = omega (arith, r, le)

@@ -1,9 +1,7 @@
 -- Where the setting of a name stands among names in order, or where it has its place.
-use Rattle.pgp_session.proofs.Common.{◌≡◌, ℕ, zero, suc, ◌+◌, ◌-◌, ◌≤◌, true, false, List, [], ◌∷◌, length, get_or, Result, Ok, Err, refl, sym, ap, subst, arith, ◌∙◌, inl, inr, AllByRecursion, bytes_eq, cases_Bool, Setting, bytes_eq-Decides, AreInOrder, StandsAt, cost, cost_at, is_before, put_in, replaced, size, without}
+use Rattle.pgp_session.proofs.Common.{◌≡◌, ℕ, zero, suc, ◌+◌, ◌-◌, ◌≤◌, true, false, List, [], ◌∷◌, length, get_or, Result, Ok, Err, refl, sym, ap, subst, arith, ◌∙◌, inl, inr, AllByRecursion, bytes_eq, cases_Bool, Setting, bytes_eq-Decides, AreInOrder, StandsAt, cost, cost_at, is_before, put_in, replaced, size, without, slice_cmp, nat_list_cmp_total, texts_ties, is_eq, is_lt, nat_cmp, ordering_index, ordering_reverse}
 use Rattle.std.proofs.Common.{◌<◌}
-use Rattle.std.specs.Cmp.Lexicographic.{slice_cmp, nat_list_cmp_total, texts_ties}
 use Rattle.std.specs.List.Sorted.{IsSearchInRange, IsBinarySearchResult, IsNonDecreasingBy}
-use Rattle.std.specs.Ordering.{is_eq, is_lt, nat_cmp, ordering_index, ordering_reverse}
 use Rattle.std.specs.declared.cmp.Ordering.{Ordering}
 use Rattle.std.specs.declared.cmp.Ordering.TheVariants.{Less, Equal, Greater}
 use Rattle.std.proofs.lemmas.List.Sorted.{searchable_from_sorted}

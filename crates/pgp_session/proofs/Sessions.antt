@@ -1,17 +1,14 @@
 -- What is known of a connection, after each call, and what follows from it.
-use Rattle.pgp_session.proofs.Common.{◌≡◌, ◌≢◌, ℕ, Bool, true, false, List, [], ◌∷◌, ◌++◌, take, drop, map, Option, Some, None, Result, Ok, refl, sym, ap, subst, ◌∙◌, append_assoc, arith, inl, inr, option_to_list, if◌then◌else◌, ◌&&◌, flat_map, append-nil, take-append-drop, Error, kind_of, request_of, awaits_data, is_copying, taken, Talk, Turn, Asks, asked_in, observed_in, reported_in, start, Event, Ended, Request, ClientMessage, CancelRequest, GssEncRequest, PasswordMessage, SaslInitialResponse, SaslResponse, SslRequest, Startup, Terminate, bytes_of, tag_of, run_more, opened_more, nothing, Message, Frames, TakesFrame, HasStarted, Sent, Shown, Took, Wrote, asked_of, begun, in_phase, is_end, is_logged_in, logged_in_at, may_send, with_incoming, Added, AddsReply, Asking, Login, LogsOn, ByCleartext, ByMd5, ScramBegins, ScramGoesOn, Ways, asking, Follows, History, IsOpenedAt, Known, Plays, Begins, Writes, Hears, and_fed, and_observed, and_sent, and_wrote, good, is_secret, requests_in, requests_of, turns_of, Said, heard, nothing_said, value_of, ConnectionPhase, Encrypting, Started, LoginPhase, Encrypts, told, dropped, fed}
+use Rattle.pgp_session.proofs.Common.{◌≡◌, ◌≢◌, ℕ, Bool, true, false, List, [], ◌∷◌, ◌++◌, take, drop, map, Option, Some, None, Result, Ok, refl, sym, ap, subst, ◌∙◌, append_assoc, arith, inl, inr, option_to_list, if◌then◌else◌, ◌&&◌, flat_map, append-nil, take-append-drop, Error, kind_of, request_of, awaits_data, is_copying, taken, Talk, Turn, Asks, asked_in, observed_in, reported_in, start, Event, Ended, Request, ClientMessage, CancelRequest, GssEncRequest, PasswordMessage, SaslInitialResponse, SaslResponse, SslRequest, Startup, Terminate, bytes_of, tag_of, run_more, opened_more, nothing, Message, Frames, TakesFrame, HasStarted, Sent, Shown, Took, Wrote, asked_of, begun, in_phase, is_end, is_logged_in, logged_in_at, may_send, with_incoming, Added, AddsReply, Asking, Login, LogsOn, ByCleartext, ByMd5, ScramBegins, ScramGoesOn, Ways, asking, Follows, History, IsOpenedAt, Known, Plays, Begins, Writes, Hears, and_fed, and_observed, and_sent, and_wrote, good, is_secret, requests_in, requests_of, turns_of, Said, heard, nothing_said, value_of, ConnectionPhase, Encrypting, Started, LoginPhase, Encrypts, told, dropped, fed, Asked, Belong, AreNamed}
 use Rattle.std.proofs.lemmas.List.Concat.{flat_map-cons}
 use Rattle.std.proofs.lemmas.Grind.{flat_map-append}
-use Rattle.pgp_client.specs.Flow.{Belong}
 use Rattle.pgp_client.specs.InTurns.{BelongInTurns}
 use Rattle.pgp_client.specs.Telling.{Hears as HearsTurn, Follows as FollowsTurns}
-use Rattle.pgp_client.specs.declared.request.Asked.{Asked}
 use Rattle.pgp_frontend.specs.Reading.{IsNamed}
 use Rattle.pgp_frontend.specs.ClientRun.{ClientRun, MayCome, is_opened, is_startup, kinds_of}
 use Rattle.pgp_session.specs.Session.{nothing as no_history}
 use Rattle.pgp_session.proofs.Naming.{named_all, named_heard, named_next, named_still}
 use Rattle.pgp_session.proofs.Reported.{said_more, states_follow, values_follow}
-use Rattle.pgp_session.specs.Session.{AreNamed}
 use Rattle.pgp_session.specs.declared.connection.ConnectionPhase.TheVariants.{Opening, Over as OverPhase}
 use Rattle.pgp_session.proofs.Admissions.{plays_admitted, plays_allowed}
 

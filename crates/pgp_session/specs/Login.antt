@@ -10,7 +10,7 @@ use Rattle.pgp_auth.specs.ScramErrorView.{refusal}
 use Rattle.pgp_auth.specs.ScramRefusal.{AsksFewer, WrongState}
 use Rattle.pgp_frontend.specs.ClientMessage.{ClientMessage, PasswordMessage, SaslResponse}
 use Rattle.pgp_frontend.specs.Payload.{bytes_of, cause, IsInRange}
-use Rattle.pgp_message.specs.BackendMessage.{Message, Authentication, AuthenticationOk, AuthenticationCleartextPassword, AuthenticationMd5Password, AuthenticationSasl, AuthenticationSaslContinue, AuthenticationSaslFinal}
+pub use Rattle.pgp_message.specs.LogIn.{Asking, Nothing, Cleartext, Md5, Sasl, First, Final, Welcome, Other, asking}
 use Rattle.pgp_session.specs.Mechanisms.{IsStripped, Offers, initial}
 use Rattle.pgp_session.specs.declared.connection_error.ConnectionError.{ConnectionError}
 use Rattle.pgp_session.specs.declared.connection_error.ConnectionError.TheVariants.{NotAdmitted, NotOffered, Scram, TooFewRounds, Undue, Unwritten}
@@ -35,28 +35,6 @@ pub record Ways : Type 0 where
 pub record Login : Type 0 where
   pub phase : LoginPhase
   pub ways : Ways
-
--- what a message asks of a client that logs in
-pub data Asking : Type 0 where
-  Nothing : Asking
-  Cleartext : Asking
-  Md5 : (salt : List ℕ) → Asking
-  Sasl : (mechanisms : List ℕ) → Asking
-  First : (text : List ℕ) → Asking
-  Final : (text : List ℕ) → Asking
-  Welcome : Asking
-  -- another way
-  Other : Asking
-
-abbrev pub asking : Message → Asking
-asking (Authentication AuthenticationOk) = Welcome
-asking (Authentication AuthenticationCleartextPassword) = Cleartext
-asking (Authentication (AuthenticationMd5Password salt)) = Md5 salt
-asking (Authentication (AuthenticationSasl mechanisms)) = Sasl mechanisms
-asking (Authentication (AuthenticationSaslContinue text)) = First text
-asking (Authentication (AuthenticationSaslFinal text)) = Final text
-asking (Authentication request) = Other
-asking m = Nothing
 
 abbrev pub is_first : LoginPhase → Bool
 is_first AwaitsOffer = true

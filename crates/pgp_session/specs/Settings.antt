@@ -10,6 +10,7 @@ use Rattle.pgp_base.specs.declared.error.Error.{Error}
 use Rattle.pgp_base.specs.declared.error.Error.TheVariants.{TooLarge}
 use Rattle.pgp_message.specs.BackendMessage.{Message, ParameterStatus}
 use Rattle.pgp_message.specs.Parts.{Setting}
+pub use Rattle.pgp_message.specs.Parts.{value_of, without}
 use Rattle.pgp_session.specs.ServerState.{newer, noted, unsaid}
 use Rattle.pgp_session.specs.declared.server_state.ServerState.{ServerState}
 
@@ -34,16 +35,6 @@ abbrev pub last_reported : List ℕ → List Message → Option (List ℕ)
 last_reported name received = last_after name None received
 
 -- ---- what is kept
-
--- the value that is kept under a name
-abbrev pub value_of : List ℕ → List Setting → Option (List ℕ)
-value_of name [] = None
-value_of name (s ∷ kept) = if bytes_eq s.name name then Some s.value else value_of name kept
-
--- without the setting of this name
-abbrev pub without : List ℕ → List Setting → List Setting
-without name [] = []
-without name (s ∷ kept) = if bytes_eq s.name name then kept else s ∷ without name kept
 
 -- the order of names, byte by byte
 abbrev pub is_before : List ℕ → List ℕ → Bool

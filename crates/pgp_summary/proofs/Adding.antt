@@ -1,7 +1,5 @@
 -- A table that is added to another.
-use Rattle.pgp_summary.proofs.Common.{◌≡◌, ℕ, zero, suc, ◌+◌, ◌^◌, ◌-◌, Bool, true, false, List, [], ◌∷◌, ◌++◌, min, Some, None, Option, refl, sym, ap, arith, ◌∙◌, inl, inr, append_assoc, if◌then◌else◌, bytes_eq, cases_Bool, Tally, begun, capped, grown, tallied, tally, tally_after}
-use Rattle.std.specs.Option.{option_to_list}
-use Rattle.std.specs.Prelude.{slice_get, take}
+use Rattle.pgp_summary.proofs.Common.{◌≡◌, ℕ, zero, suc, ◌+◌, Bool, true, false, List, [], ◌∷◌, ◌++◌, refl, sym, ap, arith, ◌∙◌, inl, inr, append_assoc, if◌then◌else◌, bytes_eq, cases_Bool, Tally, begun, capped, grown, tallied, tally, tally_after, slice_get, take, option_to_list}
 use Rattle.pgp_summary.proofs.Places.{turned}
 use Rattle.pgp_summary.proofs.Tallies.{apart_more, same_text, stands_kept, tally_join}
 use Rattle.pgp_summary.specs.Calls.{AreApart, stands_in}

@@ -1,20 +1,14 @@
 -- The text that a portal has once the requests that wait have succeeded is what the last of them gives it, or what it has.
-use Rattle.pgp_summary.proofs.Common.{◌≡◌, ℕ, zero, suc, ◌≤◌, length, Bool, true, false, List, [], ◌∷◌, Some, None, Option, refl, sym, ap, ◌∙◌, inl, inr, if◌then◌else◌, bytes_eq, cases_Bool, Request, State, done, put, found}
-use Rattle.std.specs.Option.{unwrap_or}
-use Rattle.std.specs.Prelude.{◌&&◌, take, slice_get}
-use Rattle.std.proofs.lemmas.List.{take_all}
+use Rattle.pgp_summary.proofs.Common.{◌≡◌, ℕ, zero, suc, ◌≤◌, length, Bool, true, false, List, [], ◌∷◌, Some, None, Option, refl, sym, ap, ◌∙◌, inl, inr, if◌then◌else◌, bytes_eq, cases_Bool, Request, State, done, put, found, ◌&&◌, take, slice_get, unwrap_or, take_all, did, ends, given, given_at, gives, granted, last_given, text_due, text_under, unknown, Work, Query, Parse, Bind, Execute}
 use Rattle.pgp_names.proofs.FoundLemmas.{found_put}
-use Rattle.pgp_summary.specs.Summary.{did, ends, given, given_at, gives, granted, last_given, text_due, text_under, unknown}
-use Rattle.pgp_summary.specs.declared.work.Work.{Work}
-use Rattle.pgp_summary.specs.declared.work.Work.TheVariants.{Query, Parse, Bind, Execute}
 use Rattle.pgp_summary.specs.declared.work.Reply.TheVariants.{ParseComplete, BindComplete}
 
 -- one request more
-granted_next : (n : ℕ) (waiting : List Request) (s : State) → granted (take (suc n) waiting) s ≡ done (slice_get waiting n) 0 (granted (take n waiting) s)
+granted_next : (n : ℕ) (waiting : List Request) (s : State) → granted (take (suc n) waiting) s ≡ done (slice_get waiting n) 0 0 (granted (take n waiting) s)
 granted_next zero [] s = refl
 granted_next (suc n) [] s = refl
 granted_next zero (r ∷ more) s = refl
-granted_next (suc n) (r ∷ more) s = granted_next n more (did r.work r 0 s)
+granted_next (suc n) (r ∷ more) s = granted_next n more (did r.work r 0 0 s)
 
 under_put : (name other text : List ℕ) (list : List (List ℕ × List ℕ)) → text_under other (put name text list) ≡ (if bytes_eq name other then text else text_under other list)
 under_put name other text list = ap (λ f. unwrap_or f unknown) (found_put name other text list) ∙ both (bytes_eq name other)
@@ -23,13 +17,13 @@ under_put name other text list = ap (λ f. unwrap_or f unknown) (found_put name 
     both true = refl
     both false = refl
 
-parse_step : (w : Work) (r : Request) (name : List ℕ) (s : State) → text_under name (did w r 0 s).statements ≡ (if ends w ParseComplete && bytes_eq r.first name then r.second else text_under name s.statements)
+parse_step : (w : Work) (r : Request) (name : List ℕ) (s : State) → text_under name (did w r 0 0 s).statements ≡ (if ends w ParseComplete && bytes_eq r.first name then r.second else text_under name s.statements)
 parse_step Query r name s = refl
 parse_step Parse r name s = under_put r.first name r.second s.statements
 parse_step Bind r name s = refl
 parse_step Execute r name s = refl
 
-bind_step : (w : Work) (r : Request) (name : List ℕ) (s : State) → text_under name (did w r 0 s).portals ≡ (if ends w BindComplete && bytes_eq r.first name then text_under r.second s.statements else text_under name s.portals)
+bind_step : (w : Work) (r : Request) (name : List ℕ) (s : State) → text_under name (did w r 0 0 s).portals ≡ (if ends w BindComplete && bytes_eq r.first name then text_under r.second s.statements else text_under name s.portals)
 bind_step Query r name s = refl
 bind_step Parse r name s = refl
 bind_step Bind r name s = under_put r.first name (text_under r.second s.statements) s.portals
@@ -44,7 +38,7 @@ module _ (s : State) (name : List ℕ) where
   statement_by None = text_under name s.statements
   statement_by (Some x) = x.1
 
-  statement_next : (n : ℕ) (before : Option (ℕ × List ℕ)) (o : Option Request) → statement_by before ≡ text_under name (here n).statements → statement_by (given_at n (given ParseComplete name o) before) ≡ text_under name (done o 0 (here n)).statements
+  statement_next : (n : ℕ) (before : Option (ℕ × List ℕ)) (o : Option Request) → statement_by before ≡ text_under name (here n).statements → statement_by (given_at n (given ParseComplete name o) before) ≡ text_under name (done o 0 0 (here n)).statements
   statement_next n before None e = e
   statement_next n before (Some r) e =
       let step = parse_step r.work r name (here n) in
@@ -61,7 +55,7 @@ module _ (s : State) (name : List ℕ) where
   portal_by None = text_under name s.portals
   portal_by (Some x) = text_under x.1 (here x.0).statements
 
-  portal_next : (n : ℕ) (before : Option (ℕ × List ℕ)) (o : Option Request) → portal_by before ≡ text_under name (here n).portals → portal_by (given_at n (given BindComplete name o) before) ≡ text_under name (done o 0 (here n)).portals
+  portal_next : (n : ℕ) (before : Option (ℕ × List ℕ)) (o : Option Request) → portal_by before ≡ text_under name (here n).portals → portal_by (given_at n (given BindComplete name o) before) ≡ text_under name (done o 0 0 (here n)).portals
   portal_next n before None e = e
   portal_next n before (Some r) e =
       let step = bind_step r.work r name (here n) in

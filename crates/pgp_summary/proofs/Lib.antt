@@ -1,6 +1,7 @@
 mod Adding
 mod Common
 mod Due
+mod Falling
 mod Places
 pub mod Ranks
 mod Sorting

@@ -1,6 +1,5 @@
 -- One more run of a statement.
-use Rattle.pgp_summary.proofs.Common.{◌≡◌, ℕ, Bool, true, false, Option, List, [], ◌∷◌, Some, None, refl, sym, ap, ◌∙◌, inl, inr, if◌then◌else◌, bytes_eq, bytes_eq-Decides, cases_Bool, found, put, Ran, more_of, no_run, tallies_of, tally_of, tallied}
-use Rattle.std.proofs.lemmas.Cmp.{nat_list_eq_equiv}
+use Rattle.pgp_summary.proofs.Common.{◌≡◌, ℕ, Bool, true, false, List, [], ◌∷◌, Some, None, refl, sym, ap, ◌∙◌, inl, inr, if◌then◌else◌, bytes_eq, bytes_eq-Decides, cases_Bool, found, put, Ran, more_of, no_run, tallies_of, tally_of, tallied, nat_list_eq_equiv}
 
 pub turned : (x y : List ℕ) (b : Bool) → bytes_eq x y ≡ b → bytes_eq y x ≡ b
 turned x y b e = nat_list_eq_equiv.symm y x ∙ e

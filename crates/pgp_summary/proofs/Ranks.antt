@@ -1,15 +1,6 @@
 -- Keys in ascending order have the statements in the order of a table.
-use Rattle.pgp_summary.proofs.Common.{◌≡◌, ℕ, zero, suc, ◌+◌, ◌-◌, ◌^◌, ◌<◌, ◌≤◌, get_or, List, [], ◌∷◌, ◌++◌, length, Some, refl, sym, ap, subst, arith, ◌∙◌, inl, inr, nat_lt, cases_Bool, Tally, capped, ascending, inserted}
-use Rattle.std.specs.Prelude.{⊤, ◌%◌, slice_get, take}
-use Rattle.std.specs.List.{flat_map}
-use Rattle.std.specs.List.Sorted.{IsPermutation, IsSorted}
-use Rattle.std.specs.Option.{option_to_list}
-use Rattle.std.specs.Ordering.{nat_cmp}
-use Rattle.std.proofs.lemmas.Bool.{le-ltb, lt-ltb, ltb-false, ltb-true}
-use Rattle.std.proofs.lemmas.List.Sums.{sum_by_more}
+use Rattle.pgp_summary.proofs.Common.{◌≡◌, ℕ, zero, suc, ◌+◌, ◌-◌, ◌^◌, ◌<◌, ◌≤◌, get_or, List, [], ◌∷◌, ◌++◌, length, Some, refl, sym, ap, subst, arith, ◌∙◌, inl, inr, nat_lt, cases_Bool, Tally, capped, ascending, inserted, ⊤, ◌%◌, slice_get, take, option_to_list, flat_map, AreKeys, Fits, FitsAt, key, key_at, picked, IsPermutation, IsSorted, nat_cmp, le-ltb, lt-ltb, ltb-false, ltb-true, sum_by_more, placed, ranked, sum_of}
 use Rattle.pgp_summary.proofs.Sorting.{sorted_is}
-use Rattle.pgp_summary.specs.Places.{AreKeys, Fits, FitsAt, key, key_at, picked}
-use Rattle.pgp_summary.specs.Runs.{placed, ranked, sum_of}
 
 -- ---- keys so far
 

@@ -1,11 +1,6 @@
 -- Numbers in ascending order have no other one.
-use Rattle.pgp_summary.proofs.Common.{◌≡◌, ℕ, zero, suc, ◌+◌, ◌<◌, ◌≤◌, List, [], ◌∷◌, length, get_or, refl, sym, ap, arith, ◌∙◌, inl, inr, nat_lt, cases_Bool, ascending, inserted}
-use Rattle.std.specs.List.{sum_by}
-use Rattle.std.specs.List.Sorted.{IsNonDecreasing, IsPermutation, IsSorted}
-use Rattle.std.specs.Ordering.{nat_cmp}
+use Rattle.pgp_summary.proofs.Common.{◌≡◌, ℕ, zero, suc, ◌+◌, ◌<◌, ◌≤◌, List, [], ◌∷◌, length, get_or, refl, sym, ap, arith, ◌∙◌, inl, inr, nat_lt, cases_Bool, ascending, inserted, sum_by, IsNonDecreasing, IsPermutation, IsSorted, nat_cmp, ltb-false, ltb-true, sum_by-cons}
 use Rattle.std.proofs.lemmas.List.Sorted.{IsNonDecreasingBy-drop, IsNonDecreasingBy-from_sort, sum_by-IsPermutation}
-use Rattle.std.proofs.lemmas.List.Sums.{sum_by-cons}
-use Rattle.std.proofs.lemmas.Bool.{ltb-false, ltb-true}
 
 -- ---- how often a number stands in a list
 

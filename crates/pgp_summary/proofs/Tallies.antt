@@ -1,27 +1,23 @@
 -- Each run is tallied, among those of its statement.
-use Rattle.pgp_summary.proofs.Common.{◌≡◌, ℕ, ◌+◌, ◌^◌, ◌-◌, Bool, true, false, List, [], ◌∷◌, ◌++◌, min, Option, Some, None, refl, sym, ap, arith, ◌∙◌, inl, inr, append_assoc, if◌then◌else◌, bytes_eq, cases_Bool, bytes_eq-Decides, Tally, begun, capped, grown, tallied, tally, tally_after, Request, State, done, nothing, skipped, taken, with_waiting}
-use Rattle.std.proofs.lemmas.Cmp.{nat_list_eq_equiv}
-use Rattle.std.proofs.lemmas.List.{append-nil}
+use Rattle.pgp_summary.proofs.Common.{◌≡◌, ℕ, ◌+◌, ◌^◌, ◌-◌, Bool, true, false, List, [], ◌∷◌, ◌++◌, min, Option, Some, None, refl, sym, ap, arith, ◌∙◌, inl, inr, append_assoc, if◌then◌else◌, bytes_eq, cases_Bool, bytes_eq-Decides, Tally, begun, capped, grown, tallied, tally, tally_after, Request, State, done, nothing, skipped, taken, with_waiting, append-nil, nat_list_eq_equiv, Work, Query}
 use Rattle.pgp_summary.proofs.Places.{turned}
 use Rattle.pgp_summary.specs.Calls.{AreApart, Call, Ask, Row, End, Fail, after, all_of, called, found, run_by, run_in, run_of, runs_in, said_of, stands_in, times_of}
-use Rattle.pgp_summary.specs.declared.work.Work.{Work}
-use Rattle.pgp_summary.specs.declared.work.Work.TheVariants.{Query}
 
 -- ---- calls
 
-did_tally : (w : Work) (r : Request) (micros : ℕ) (waiting : List Request) (s : State) → (done (Some (record { number = r.number; work = w; first = r.first; second = r.second })) micros (with_waiting waiting s)).tallies ≡ tally_after s.tallies (run_by w r micros s)
-did_tally Query r micros waiting s = refl
-did_tally w r micros waiting s = refl
+did_tally : (w : Work) (r : Request) (sent now : ℕ) (waiting : List Request) (s : State) → (done (Some (record { number = r.number; work = w; first = r.first; second = r.second })) sent now (with_waiting waiting s)).tallies ≡ tally_after s.tallies (run_by w r sent now s)
+did_tally Query r sent now waiting s = refl
+did_tally w r sent now waiting s = refl
 
-done_tally : (o : Option Request) (micros : ℕ) (waiting : List Request) (s : State) → (done o micros (with_waiting waiting s)).tallies ≡ tally_after s.tallies (run_of o micros s)
-done_tally None micros waiting s = refl
-done_tally (Some r) micros waiting s = did_tally r.work r micros waiting s
+done_tally : (o : Option Request) (sent now : ℕ) (waiting : List Request) (s : State) → (done o sent now (with_waiting waiting s)).tallies ≡ tally_after s.tallies (run_of o sent now s)
+done_tally None sent now waiting s = refl
+done_tally (Some r) sent now waiting s = did_tally r.work r sent now waiting s
 
 call_tally : (call : Call) (s : State) → (called call s).tallies ≡ tally_after s.tallies (run_in call s)
 call_tally (Ask request) s = refl
 call_tally (Row number) s = refl
 call_tally (Fail number) s = refl
-call_tally (End number reply micros) s = done_tally (taken number reply (skipped number s.waiting)).0 micros (taken number reply (skipped number s.waiting)).1 s
+call_tally (End number reply sent now) s = done_tally (taken number reply (skipped number s.waiting)).0 sent now (taken number reply (skipped number s.waiting)).1 s
 
 pub tally_join : (tallies : List Tally) (xs ys : List Tally) → tally_after (tally_after tallies xs) ys ≡ tally_after tallies (xs ++ ys)
 tally_join tallies [] ys = refl

@@ -1,8 +1,9 @@
 -- The runs that calls of a summary came to, and what is said of each statement by them alone.
-use Rattle.std.specs.Prelude.{◌≡◌, ⊤, ℕ, ◌+◌, Bool, true, false, if◌then◌else◌, List, [], ◌∷◌, ◌++◌, Option, Some, None}
+use Rattle.std.specs.Prelude.{◌≡◌, ◌≤◌, ◌==◌, ⊤, ℕ, ◌+◌, Bool, true, false, if◌then◌else◌, List, [], ◌∷◌, ◌++◌, Option, Some, None}
+use Rattle.std.specs.List.{AllByRecursion}
 use Rattle.std.specs.Str.{bytes_eq}
 use Rattle.pgp_summary.specs.Runs.{Tally, capped}
-use Rattle.pgp_summary.specs.Summary.{Request, State, asked, ended, error_of, failed, first_of, row, rows_of, skipped, taken, text_under}
+use Rattle.pgp_summary.specs.Summary.{Request, State, asked, ended, error_of, failed, first_of, row, run_at, skipped, taken, text_under}
 use Rattle.pgp_summary.specs.declared.work.Work.{Work}
 use Rattle.pgp_summary.specs.declared.work.Work.TheVariants.{Query, Parse, Bind, Execute}
 use Rattle.pgp_summary.specs.declared.work.Reply.{Reply}
@@ -12,13 +13,13 @@ use Rattle.pgp_summary.specs.declared.work.Reply.{Reply}
 pub data Call : Type 0 where
   Ask : (request : Request) → Call
   Row : (number : ℕ) → Call
-  End : (number : ℕ) (reply : Reply) (micros : ℕ) → Call
+  End : (number : ℕ) (reply : Reply) (sent now : ℕ) → Call
   Fail : (number : ℕ) → Call
 
 abbrev pub called : Call → State → State
 called (Ask request) s = asked request s
 called (Row number) s = row number s
-called (End number reply micros) s = ended number reply micros s
+called (End number reply sent now) s = ended number reply sent now s
 called (Fail number) s = failed number s
 
 abbrev pub after : State → List Call → State
@@ -26,21 +27,21 @@ after s [] = s
 after s (call ∷ more) = after (called call s) more
 
 -- the run that a request is, whose answer is complete
-abbrev pub run_by : Work → Request → (micros : ℕ) → State → List Tally
-run_by Query r micros s = record { text = r.first; rows = rows_of r.number s; times = micros ∷ []; total = micros; errors = 0 } ∷ []
-run_by Parse r micros s = []
-run_by Bind r micros s = []
-run_by Execute r micros s = record { text = text_under r.first s.portals; rows = rows_of r.number s; times = micros ∷ []; total = micros; errors = 0 } ∷ []
+abbrev pub run_by : Work → Request → (sent now : ℕ) → State → List Tally
+run_by Query r sent now s = run_at r.first r.number sent now s ∷ []
+run_by Parse r sent now s = []
+run_by Bind r sent now s = []
+run_by Execute r sent now s = run_at (text_under r.first s.portals) r.number sent now s ∷ []
 
-abbrev pub run_of : Option Request → (micros : ℕ) → State → List Tally
-run_of None micros s = []
-run_of (Some r) micros s = run_by r.work r micros s
+abbrev pub run_of : Option Request → (sent now : ℕ) → State → List Tally
+run_of None sent now s = []
+run_of (Some r) sent now s = run_by r.work r sent now s
 
 -- the run that a call ends, if it does, or the error of one that failed
 abbrev pub run_in : Call → State → List Tally
 run_in (Ask request) s = []
 run_in (Row number) s = []
-run_in (End number reply micros) s = run_of (taken number reply (skipped number s.waiting)).0 micros s
+run_in (End number reply sent now) s = run_of (taken number reply (skipped number s.waiting)).0 sent now s
 run_in (Fail number) s = error_of (first_of number (skipped number s.waiting)) s
 
 -- those that calls end, in order
@@ -77,3 +78,15 @@ found text (e ∷ more) = if bytes_eq e.text text then Some e else found text mo
 abbrev pub AreApart : List Tally → Type 0
 AreApart [] = ⊤
 AreApart (e ∷ more) = (stands_in e.text more ≡ false) × AreApart more
+
+-- ---- the order of a table
+
+-- each total is no less than those behind it
+abbrev pub Falls : List Tally → Type 0
+Falls [] = ⊤
+Falls (e ∷ more) = AllByRecursion (λ (x : Tally). x.total ≤ e.total) more × Falls more
+
+-- the statements of this total, in their order
+abbrev pub of_total : ℕ → List Tally → List Tally
+of_total total [] = []
+of_total total (e ∷ more) = if e.total == total then e ∷ of_total total more else of_total total more

@@ -1,5 +1,5 @@
 -- What requests ran, by the messages that ended their answers.
-use Rattle.std.specs.Prelude.{ℕ, zero, suc, ◌+◌, Bool, true, false, ◌&&◌, ◌==◌, nat_lt, if◌then◌else◌, List, [], ◌∷◌, ◌++◌, Option, None, Some, bytes_eq, codes, slice_get}
+use Rattle.std.specs.Prelude.{ℕ, zero, suc, ◌+◌, ◌-◌, max, Bool, true, false, ◌&&◌, ◌==◌, nat_lt, if◌then◌else◌, List, [], ◌∷◌, ◌++◌, Option, None, Some, bytes_eq, codes, slice_get}
 use Rattle.std.specs.Option.{unwrap_or}
 use Rattle.pgp_names.specs.Names.{found, put}
 use Rattle.pgp_summary.specs.Fold.{folded}
@@ -84,7 +84,7 @@ last_given reply name (suc n) waiting = given_at n (given reply name (slice_get 
 
 -- ---- what is known of the requests
 
--- Whether statements are noted without their literals; the texts of statements and portals; the requests whose answers aren't complete, in order; how many rows of which request came; and the statements that ran.
+-- Whether statements are noted without their literals; the texts of statements and portals; the requests whose answers aren't complete, in order; how many rows of which request came; when the last run ended; and the statements that ran.
 pub record State : Type 0 where
   pub folds : Bool
   pub statements : List (List ℕ × List ℕ)
@@ -92,11 +92,12 @@ pub record State : Type 0 where
   pub waiting : List Request
   pub counted : ℕ
   pub rows : ℕ
+  pub last_end : ℕ
   pub tallies : List Tally
 
 -- before the first request
 abbrev pub nothing : (folds : Bool) → State
-nothing folds = record { folds = folds; statements = []; portals = []; waiting = []; counted = 0; rows = 0; tallies = [] }
+nothing folds = record { folds = folds; statements = []; portals = []; waiting = []; counted = 0; rows = 0; last_end = 0; tallies = [] }
 
 abbrev pub text_in : (folds : Bool) → List ℕ → List ℕ
 text_in true text = folded text
@@ -131,32 +132,37 @@ with_statement name text s = record s { statements = named name text s.statement
 abbrev pub with_portal : (name text : List ℕ) → State → State
 with_portal name text s = record s { portals = named name text s.portals }
 
-abbrev pub with_run : Tally → State → State
-with_run run s = record s { tallies = tallied run s.tallies }
+-- How long a run took whose request was sent and whose answer ended then: it began when the one before it ended, where it was sent earlier. (Where the clock was
+-- set back no time has gone by.)
+abbrev pub lasted : (sent now : ℕ) → State → ℕ
+lasted sent now s = now - max sent s.last_end
 
 -- a run of this text by the request of this number
-abbrev pub ran : (text : List ℕ) (number micros : ℕ) → State → State
-ran text number micros s = with_run (record { text = text; rows = rows_of number s; times = micros ∷ []; total = micros; errors = 0 }) s
+abbrev pub run_at : (text : List ℕ) (number sent now : ℕ) → State → Tally
+run_at text number sent now s = record { text = text; rows = rows_of number s; times = lasted sent now s ∷ []; total = lasted sent now s; errors = 0 }
 
--- what a request did that took so long
-abbrev pub did : Work → Request → (micros : ℕ) → State → State
-did Query r micros s = ran r.first r.number micros s
-did Parse r micros s = with_statement r.first r.second s
-did Bind r micros s = with_portal r.first (text_under r.second s.statements) s
-did Execute r micros s = ran (text_under r.first s.portals) r.number micros s
+abbrev pub ran : (text : List ℕ) (number sent now : ℕ) → State → State
+ran text number sent now s = record s { last_end = now; tallies = tallied (run_at text number sent now s) s.tallies }
+
+-- what a request did that was sent and whose answer ended then
+abbrev pub did : Work → Request → (sent now : ℕ) → State → State
+did Query r sent now s = ran r.first r.number sent now s
+did Parse r sent now s = with_statement r.first r.second s
+did Bind r sent now s = with_portal r.first (text_under r.second s.statements) s
+did Execute r sent now s = ran (text_under r.first s.portals) r.number sent now s
 
 -- what all of these change that succeed
 abbrev pub granted : List Request → State → State
 granted [] s = s
-granted (r ∷ more) s = granted more (did r.work r 0 s)
+granted (r ∷ more) s = granted more (did r.work r 0 0 s)
 
 -- the text that an Execute of this portal runs that is sent now, if all before it succeed
 abbrev pub text_due : (portal : List ℕ) → State → List ℕ
 text_due portal s = text_under portal (granted s.waiting s).portals
 
-abbrev pub done : Option Request → (micros : ℕ) → State → State
-done None micros s = s
-done (Some r) micros s = did r.work r micros s
+abbrev pub done : Option Request → (sent now : ℕ) → State → State
+done None sent now s = s
+done (Some r) sent now s = did r.work r sent now s
 
 -- the text of what a request runs, or is to run
 abbrev pub text_of : Work → Request → (statements portals : List (List ℕ × List ℕ)) → List ℕ
@@ -176,9 +182,9 @@ with_runs runs s = record s { tallies = tally_after s.tallies runs }
 abbrev pub failed : ℕ → State → State
 failed number s = with_runs (error_of (first_of number (skipped number s.waiting)) s) (with_waiting (skipped number s.waiting) s)
 
-abbrev pub ended_by : Option Request × List Request → (micros : ℕ) → State → State
-ended_by x micros s = done x.0 micros (with_waiting x.1 s)
+abbrev pub ended_by : Option Request × List Request → (sent now : ℕ) → State → State
+ended_by x sent now s = done x.0 sent now (with_waiting x.1 s)
 
--- the answer to the request of this number ends so, and it took so long
-abbrev pub ended : (number : ℕ) → Reply → (micros : ℕ) → State → State
-ended number reply micros s = ended_by (taken number reply (skipped number s.waiting)) micros s
+-- the answer to the request of this number, which was sent then, ends so now
+abbrev pub ended : (number : ℕ) → Reply → (sent now : ℕ) → State → State
+ended number reply sent now s = ended_by (taken number reply (skipped number s.waiting)) sent now s

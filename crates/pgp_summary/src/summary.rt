@@ -2,7 +2,7 @@
 
 ghost use Rattle.std.specs.Prelude.{◌≡◌, ◌&&◌, IfErr, IfOk, OnErr, OnOk};
 ghost use Rattle.pgp_summary.specs.Runs.{ranked};
-ghost use Rattle.pgp_summary.specs.Summary.{asked, did, ended, failed, nothing, ran, reached, row, rows_of, text_due, text_in, text_of, text_under, with_portal, with_runs};
+ghost use Rattle.pgp_summary.specs.Summary.{asked, did, ended, failed, lasted, nothing, ran, reached, row, rows_of, text_due, text_in, text_of, text_under, with_portal, with_runs};
 
 use crate::entry::{Entry, More, Ran, plus, tally, tally_all};
 use crate::fold::fold;
@@ -27,6 +27,7 @@ pub struct Summary<A: MapMemory = Global> {
     waiting: VecDeque<Asked<A>, A>,
     counted: u64,
     rows: u64,
+    last_end: u64,
     entries: Names<Ran<A>, A>,
 }
 
@@ -36,7 +37,7 @@ impl<A: MapMemory> Model for Summary<A> {
 
     ghost Value = { State };
 
-    ghost view = { λ x. record { folds = x.folds; statements = x.statements; portals = x.portals; waiting = x.waiting.items; counted = x.counted; rows = x.rows; tallies = tallies_of x.entries } };
+    ghost view = { λ x. record { folds = x.folds; statements = x.statements; portals = x.portals; waiting = x.waiting.items; counted = x.counted; rows = x.rows; last_end = x.last_end; tallies = tallies_of x.entries } };
 }
 
 impl<A: MapMemory> Summary<A> {
@@ -52,6 +53,7 @@ impl<A: MapMemory> Summary<A> {
             waiting: VecDeque::new(alloc),
             counted: 0,
             rows: 0,
+            last_end: 0,
             entries: Names::new(alloc),
         }
     }
@@ -111,33 +113,34 @@ impl<A: MapMemory> Summary<A> {
         if self.counted == number { self.rows } else { 0 }
     }
 
-    /// Takes note of a message that ends the answer to the request of this number, so many microseconds after it. Another request than the one that this
-    /// ends isn't changed.
+    /// Takes note of a message that ends the answer to the request of this number: when that was sent, and now, in microseconds. A run took the time since its
+    /// request was sent, or since the run before it ended, where that was later: in a pipeline it waits for that one. Another request than the one that this ends
+    /// isn't changed.
     ///
     /// # Errors
     ///
     /// Returns `AllocError` if there is no memory for what the request did; then the summary is no longer that of the requests.
-    pub fn end(&mut self, number: u64, reply: Reply, micros: u64) -> Result<(), AllocError>
-        ensures ended { OnOk result (self.new ≡ ended number reply micros self.old) }
+    pub fn end(&mut self, number: u64, reply: Reply, sent: u64, now: u64) -> Result<(), AllocError>
+        ensures ended { OnOk result (self.new ≡ ended number reply sent now self.old) }
         ensures lacks { OnErr result A.Lacks }
     {
         skip(number, &mut self.waiting);
         match take(number, reply, &mut self.waiting) {
-            Some(asked) => self.finish(asked, micros),
+            Some(asked) => self.finish(asked, sent, now),
             None => Ok(()),
         }
     }
 
-    /// Does what a request did that took so long.
-    fn finish(&mut self, asked: Asked<A>, micros: u64) -> Result<(), AllocError>
-        ensures done { OnOk result (self.new ≡ did asked.work asked micros self.old) }
+    /// Does what a request did that was sent and whose answer ended then.
+    fn finish(&mut self, asked: Asked<A>, sent: u64, now: u64) -> Result<(), AllocError>
+        ensures done { OnOk result (self.new ≡ did asked.work asked sent now self.old) }
         ensures lacks { OnErr result A.Lacks }
     {
         match asked.work {
-            Work::Query => self.run(asked.first.as_slice(), asked.number, micros),
+            Work::Query => self.run(asked.first.as_slice(), asked.number, sent, now),
             Work::Parse => put(asked.first, asked.second, &mut self.statements),
             Work::Bind => self.bind(asked.first, asked.second.as_slice()),
-            Work::Execute => self.execute(asked.first.as_slice(), asked.number, micros),
+            Work::Execute => self.execute(asked.first.as_slice(), asked.number, sent, now),
         }
     }
 
@@ -151,24 +154,35 @@ impl<A: MapMemory> Summary<A> {
     }
 
     /// A run of what a portal has.
-    fn execute(&mut self, portal: &[u8], number: u64, micros: u64) -> Result<(), AllocError>
-        ensures ran { OnOk result (self.new ≡ ran (text_under portal.now self.old.portals) number micros self.old) }
+    fn execute(&mut self, portal: &[u8], number: u64, sent: u64, now: u64) -> Result<(), AllocError>
+        ensures ran { OnOk result (self.new ≡ ran (text_under portal.now self.old.portals) number sent now self.old) }
         ensures lacks { OnErr result A.Lacks }
     {
-        let times = [micros];
-        let more = self.run_of(number, micros, &times);
+        let took = self.lasted(sent, now);
+        let times = [took];
+        let more = self.run_of(number, took, &times);
+        self.last_end = now;
         let text = text_under(portal, &self.portals);
         tally(self.alloc, text, more, &mut self.entries)
     }
 
     /// A run of this text.
-    fn run(&mut self, text: &[u8], number: u64, micros: u64) -> Result<(), AllocError>
-        ensures ran { OnOk result (self.new ≡ ran text.now number micros self.old) }
+    fn run(&mut self, text: &[u8], number: u64, sent: u64, now: u64) -> Result<(), AllocError>
+        ensures ran { OnOk result (self.new ≡ ran text.now number sent now self.old) }
         ensures lacks { OnErr result A.Lacks }
     {
-        let times = [micros];
-        let more = self.run_of(number, micros, &times);
+        let took = self.lasted(sent, now);
+        let times = [took];
+        let more = self.run_of(number, took, &times);
+        self.last_end = now;
         tally(self.alloc, text, more, &mut self.entries)
+    }
+
+    /// How long a run took whose request was sent and whose answer ended then.
+    fn lasted(&self, sent: u64, now: u64) -> u64
+        ensures { result ≡ lasted sent now self.now }
+    {
+        now.saturating_sub(sent.max(self.last_end))
     }
 
     /// A run by the request of this number, which took so long.

@@ -99,7 +99,7 @@ static QUERY: &[u8] = b"pgtrace recording 1\n\
     >\x00\x00\x00\x00\x00\x0fB@\x00\x00\x00\x07Q\x00\x00\x00\x06a\x00\
     <\x00\x00\x00\x00\x00\x0fF(\x00\x00\x00\x0bI\x00\x00\x00\x04Z\x00\x00\x00\x05I";
 
-static LISTINGS: [Listed; 7] = [
+static LISTINGS: [Listed; 8] = [
     // A refusal to encrypt, the end of a log-in, a setting, a state and a key, and the front of another state.
     Listed {
         words: &["server"],
@@ -132,6 +132,17 @@ static LISTINGS: [Listed; 7] = [
     >\x00\x00\x00\x00\x00\x0fB?\x00\x00\x00\x08p\x00\x00\x00\x07ab\x00\
     <\x00\x00\x00\x00\x00\x13\xd6!\x00\x00\x00\x0aR\x00\x00\x00\x08\x00\x00\x00\x00Z",
         output: "    0.000000 >          0        8 - SSLRequest\n    0.000312 <          0        1 N SSLResponse\n    0.100000 >          8       16 - StartupMessage       version 196608 parameters \"user\" \"a\"\n    0.200000 <          1        9 R AuthenticationCleartextPassword\n   -0.000001 >         24        8 p PasswordMessage      password (2 bytes)\n    0.300001 <         10        9 R AuthenticationOk\n             < rest 1\n",
+        reported: "",
+    },
+    // A statement that is parsed, bound, described and executed, whose row has its column's name.
+    Listed {
+        words: &["session", "--names", "--only", "DataRow,Execute"],
+        input: b"pgtrace recording 1\n\
+    >\x00\x00\x00\x00\x00\x0fB@\x00\x00\x00\x10\x00\x00\x00\x10\x00\x03\x00\x00user\x00a\x00\x00\
+    <\x00\x00\x00\x00\x00\x0fB@\x00\x00\x00\x0fR\x00\x00\x00\x08\x00\x00\x00\x00Z\x00\x00\x00\x05I\
+    >\x00\x00\x00\x00\x00\x0fB@\x00\x00\x00-P\x00\x00\x00\x09\x00b\x00\x00\x00B\x00\x00\x00\x0c\x00\x00\x00\x00\x00\x00\x00\x00D\x00\x00\x00\x06P\x00E\x00\x00\x00\x09\x00\x00\x00\x00\x00S\x00\x00\x00\x04\
+    <\x00\x00\x00\x00\x00\x0fB@\x00\x00\x00>1\x00\x00\x00\x042\x00\x00\x00\x04T\x00\x00\x00\x1a\x00\x01n\x00\x00\x00\x00\x00\x00\x00\x00\x00\x00\x17\x00\x04\xff\xff\xff\xff\x00\x00D\x00\x00\x00\x0b\x00\x01\x00\x00\x00\x015C\x00\x00\x00\x06x\x00Z\x00\x00\x00\x05I",
+        output: "    0.000000 >         46       10 E Execute              portal \"\" rows 0 query \"b\"\n    0.000000 <         52       12 D DataRow              values 1 \"5\" columns 1 \"n\"\n",
         reported: "",
     },
     // A chunk, and the first two bytes of another.

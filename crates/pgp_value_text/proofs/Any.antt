@@ -1,14 +1,6 @@
 -- A value of each type has one text.
-use Rattle.pgp_value_text.proofs.Common.{◌≡◌, ℕ, List, refl}
-use Rattle.pgp_types.specs.Array.{array}
-use Rattle.pgp_types.specs.Format.{IsSound}
-use Rattle.pgp_values.specs.declared.formats.BinaryFormat.{BinaryFormat}
+use Rattle.pgp_value_text.proofs.Common.{◌≡◌, ℕ, List, refl, ShowsArray, IsElementBy, array, IsSound, BinaryFormat, formats, format_in, IsTextBy, IsTextOf}
 use Rattle.pgp_values.specs.declared.formats.BinaryFormat.TheVariants.{Array}
-use Rattle.pgp_values.specs.Formats.{formats}
-use Rattle.pgp_values.specs.FormatTable.{format_in}
-use Rattle.pgp_value_text.specs.ArrayText.{ShowsArray}
-use Rattle.pgp_value_text.specs.RangeText.{IsElementBy}
-use Rattle.pgp_value_text.specs.TextOf.{IsTextBy, IsTextOf}
 use Rattle.pgp_value_text.proofs.Elements.{one_array}
 use Rattle.pgp_value_text.proofs.Forms.{one_in}
 use Rattle.pgp_value_text.proofs.Ranges.{one_by as one_element}

@@ -1,15 +1,7 @@
 -- A figure's numbers, one at a time.
-use Rattle.pgp_value_text.proofs.Common.{◌≡◌, ℕ, List, Bool, true, false, Result, Ok, Err, refl, sym, ap, ◌∙◌, subst, ◌++◌, [], from_bits, binary64, ShowsFloat, Tells}
-use Rattle.std.specs.Prelude.{◌∷◌, if◌then◌else◌, codes, drop, length, map, ⊤}
-use Rattle.std.proofs.Common.{◌<◌, ◌+◌}
+use Rattle.pgp_value_text.proofs.Common.{◌≡◌, ℕ, List, Bool, true, false, Result, Ok, Err, refl, sym, ap, ◌∙◌, subst, ◌++◌, [], from_bits, binary64, ShowsFloat, Tells, ◌∷◌, if◌then◌else◌, codes, drop, length, map, ⊤, ◌<◌, ◌+◌, shown_number, ShowsBox, ShowsCircle, ShowsLine, ShowsNumbers, ShowsPath, ShowsPoint, ShowsSegment, Pushes, ShowsList, Walk, Box, Point, append_assoc, drop_more, WalkedPath}
 use Rattle.std.proofs.Math.ListN.{get_or}
-use Rattle.std.proofs.lemmas.List.{append_assoc, drop_more}
 use Rattle.std.specs.Borrow.{Bor}
-use Rattle.pgp_value_text.specs.Figure.{shown_number, ShowsBox, ShowsCircle, ShowsLine, ShowsNumbers, ShowsPath, ShowsPoint, ShowsSegment}
-use Rattle.pgp_base.specs.Walk.{Walk}
-use Rattle.pgp_value_text.specs.Parts.{Pushes, ShowsList}
-use Rattle.pgp_types.specs.Geometry.{Box, Point}
-use Rattle.pgp_types.specs.Path.{WalkedPath}
 use Rattle.pgp_values.specs.declared.geometry.Circle.{Circle}
 use Rattle.pgp_values.specs.declared.geometry.Line.{Line}
 use Rattle.pgp_values.specs.declared.geometry.Segment.{Segment}

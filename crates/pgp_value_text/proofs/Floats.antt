@@ -1,16 +1,11 @@
 -- What the bits of a floating-point number say, and what is shown of it.
 use Rattle.std.proofs.Common.{◌≡◌, ◌≢◌, ℕ, zero, suc, ◌+◌, ◌*◌, ◌/◌, ◌%◌, ◌^◌, ◌<◌, ◌++◌, List, Bool, true, false, refl, sym, ap, ◌∙◌, subst, arith}
-use Rattle.std.proofs.lemmas.Bool.{false≢true}
-use Rattle.std.specs.Float.{Float, Format, binary32, binary64}
 unfoldable use Rattle.std.specs.Float.{float_is_finite}
 unfoldable use Rattle.std.specs.Float.{is_sign_negative}
-use Rattle.std.specs.Prelude.{codes}
-use Rattle.std.proofs.Common.{from_bits, ltb}
+use Rattle.pgp_value_text.proofs.Common.{codes, from_bits, ltb, field_value, is_equal, kept, marked, ShowsFloat, ShowsSize, sign_text, Float, Format, binary32, binary64, false≢true}
 use lib.Ieee.{is_nan}
 use lib.Ieee.Bits.{nan_bits_is, nan_bits_above}
 use Rattle.std.specs.Float.Parse.{parse_float}
-use Rattle.std.specs.Fmt.{sign_text}
-use Rattle.pgp_value_text.specs.Float.{field_value, is_equal, kept, marked, ShowsFloat, ShowsSize}
 use Rattle.pgp_value_text.proofs.Sizes.{one_size, same_size}
 use lib.Dec.{leb, eqb}
 use lib.Ieee.{hid, ones, top, low, prec, up, down, of_bits, of_fields, odd, nan, inf, fin}

@@ -1,32 +1,11 @@
 -- A value of each format has one text.
-use Rattle.pgp_value_text.proofs.Common.{◌≡◌, ℕ, ℤ, true, List, Option, Some, None, Ok, Err, refl, sym, ap, ◌∙◌, subst, IfOk, IsErr, false≢true, decimal, signed_decimal, hyphenated_text, lower, bool, bytea, char, int2, int4, int8, float4, float8, from_bits, binary32, binary64, ShowsFloat, oid, lsn, time, fixed_sound, int8_spelling, int16_spelling, int32_spelling, int64_spelling, uint32_spelling, uint64_spelling, numeric_text, date_value, timestamp_value, xid8, interval, timetz, Moment, PosInfinity, NegInfinity, Value, interval_sound, timetz_sound, date_value_sound, timestamp_value_sound, span_text, ShowsDay, ShowsInstant, ShowsMoment, ShowsTime, bool_text, char_text, hex_text, lsn_text, zone_of, As, IsPlainText, IsShown, In, ShowsNumeric, ShowsTimeTz}
+use Rattle.pgp_value_text.proofs.Common.{◌≡◌, ℕ, ℤ, true, List, Option, Some, None, Ok, Err, refl, sym, ap, ◌∙◌, subst, IfOk, IsErr, false≢true, decimal, signed_decimal, hyphenated_text, lower, bool, bytea, char, int2, int4, int8, float4, float8, from_bits, binary32, binary64, ShowsFloat, oid, lsn, time, fixed_sound, int8_spelling, int16_spelling, int32_spelling, int64_spelling, uint32_spelling, uint64_spelling, numeric_text, date_value, timestamp_value, xid8, interval, timetz, Moment, PosInfinity, NegInfinity, Value, interval_sound, timetz_sound, date_value_sound, timestamp_value_sound, span_text, ShowsDay, ShowsInstant, ShowsMoment, ShowsTime, bool_text, char_text, hex_text, lsn_text, zone_of, As, IsPlainText, IsShown, In, ShowsNumeric, ShowsTimeTz, ◌∷◌, ShowsBox, ShowsCircle, ShowsLine, ShowsPath, ShowsPoint, ShowsSegment, circle_sound, line_sound, lseg_sound, tid_sound, has_netmask, network_text, octets_text, box, point, circle, line, lseg, bits_text, tid_text, path, IsSound, BinaryFormat, formats, format_in, box_spelling, point_spelling, inet, macaddr, uuid, inet_sound, money, tid, money_text, path_sound, varbit, varbit_sound, macaddr8}
 use Rattle.pgp_value_text.proofs.Uniqueness.{one_date, one_instant, one_time}
-use Rattle.std.specs.Prelude.{◌∷◌}
 use Rattle.std.specs.Int.{w8, cast_unsigned}
-use Rattle.pgp_types.specs.Format.{IsSound}
-use Rattle.pgp_types.specs.Geometry.{box, point}
-use Rattle.pgp_types.specs.Path.{path}
-use Rattle.pgp_types.proofs.GeometryLemmas.{box_spelling, point_spelling}
-use Rattle.pgp_types.proofs.PathLemmas.{path_sound}
-use Rattle.pgp_types.specs.Network.{inet, macaddr, uuid}
-use Rattle.pgp_types.specs.Varbit.{varbit}
-use Rattle.pgp_types.proofs.InetLemmas.{inet_sound}
-use Rattle.pgp_types.proofs.VarbitLemmas.{varbit_sound}
-use Rattle.pgp_values.proofs.Fixed.{circle_sound, line_sound, lseg_sound, tid_sound}
-use Rattle.pgp_values.specs.Geometry.{circle, line, lseg}
-use Rattle.pgp_values.specs.Network.{macaddr8}
-use Rattle.pgp_values.specs.System.{money, tid}
-use Rattle.pgp_value_text.specs.Bits.{bits_text, tid_text}
-use Rattle.pgp_value_text.specs.Figure.{ShowsBox, ShowsCircle, ShowsLine, ShowsPath, ShowsPoint, ShowsSegment}
-use Rattle.pgp_value_text.specs.Money.{money_text}
-use Rattle.pgp_value_text.specs.Network.{has_netmask, network_text, octets_text}
 use Rattle.pgp_types.specs.Text.{text}
 use Rattle.pgp_types.proofs.Readings.{all_sound, bool_sound, label_sound, text_sound, whole_sound}
-use Rattle.pgp_values.specs.declared.formats.BinaryFormat.{BinaryFormat}
 use Rattle.pgp_values.specs.declared.formats.BinaryFormat.TheVariants.{Bool as BoolFormat, Box as BoxFormat, Bytea as BytesFormat, Char as CharFormat, Cidr, Circle as CircleFormat, Date, Float4, Float8, Inet, Int2, Int4, Int8, Interval, Jsonb, Jsonpath, Line as LineFormat, Lseg, Lsn, Macaddr, Macaddr8, Money, Numeric, Oid, Path, Point as PointFormat, Polygon, Text as TextFormat, Tid, Time, Timestamp, Timetz, Uuid, Varbit, Xid8}
 use Rattle.pgp_values.specs.Decimal.{NumericReads}
-use Rattle.pgp_values.specs.Formats.{formats}
-use Rattle.pgp_values.specs.FormatTable.{format_in}
 use Rattle.pgp_values.specs.Text.{jsonb, jsonpath}
 use Rattle.pgp_values.specs.declared.error.NumericError.{NumericError}
 use Rattle.pgp_values.proofs.DecimalLemmas.{one_numeric}

@@ -1,8 +1,6 @@
 -- Parts of a text, one at a time.
 use Rattle.std.proofs.Common.{◌≡◌, ℕ, ◌+◌, suc, List, [], ◌∷◌, ◌++◌, None, refl, sym, ap, ◌∙◌, subst, arith}
-use Rattle.std.specs.Prelude.{length}
-use Rattle.pgp_base.specs.Walk.{IsFinished, TakesItem, Walk}
-use Rattle.pgp_value_text.specs.Parts.{ShowsEach, ShowsList, listed}
+use Rattle.pgp_value_text.proofs.Common.{length, ShowsEach, ShowsList, listed, IsFinished, TakesItem, Walk}
 
 -- What is still to come makes of the text what all was to make of it, and the other way round.
 abbrev pub Left : {V : Type 0} → (V → List ℕ → Type 0) → (ℕ → List ℕ → List ℕ) → Walk V → List ℕ → ℕ → Walk V → List ℕ → Type 0

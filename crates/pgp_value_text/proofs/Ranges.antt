@@ -1,18 +1,7 @@
 -- A range and a multirange have one text.
-use Rattle.pgp_value_text.proofs.Common.{◌≡◌, ℕ, true, List, Option, Some, None, refl, sym, ap, ◌∙◌, ◌++◌, codes, IsShown, Shows}
-use Rattle.std.specs.Prelude.{◌∷◌, []}
-use Rattle.pgp_base.specs.Walk.{Walk}
-use Rattle.pgp_types.proofs.RangeLemmas.{range_sound}
-use Rattle.pgp_types.specs.Range.{Range, Side, between, empty, range}
+use Rattle.pgp_value_text.proofs.Common.{◌≡◌, ℕ, true, List, Option, Some, None, refl, sym, ap, ◌∙◌, ◌++◌, codes, IsShown, Shows, ◌∷◌, [], IsElementBy, IsElementText, ShowsBound, ShowsMultirange, ShowsRange, ShowsSide, bound_of, closing, opening, Walk, Range, Side, between, empty, range, quoted, BinaryFormat, formats, format_in, multirange, range_sound, multirange_sound}
 use Rattle.pgp_types.specs.declared.range.RangeBound.TheVariants.{Inclusive, Exclusive, Unbounded}
-use Rattle.pgp_values.proofs.Items.{multirange_sound}
-use Rattle.pgp_values.specs.declared.formats.BinaryFormat.{BinaryFormat}
 use Rattle.pgp_values.specs.declared.formats.BinaryFormat.TheVariants.{Multirange, Range as RangeFormat}
-use Rattle.pgp_values.specs.Formats.{formats}
-use Rattle.pgp_values.specs.FormatTable.{format_in}
-use Rattle.pgp_values.specs.Multirange.{multirange}
-use Rattle.pgp_value_text.specs.Quoting.{quoted}
-use Rattle.pgp_value_text.specs.RangeText.{IsElementBy, IsElementText, ShowsBound, ShowsMultirange, ShowsRange, ShowsSide, bound_of, closing, opening}
 use Rattle.pgp_value_text.proofs.Forms.{one_formatted, one_in, one_plain}
 use Rattle.pgp_value_text.proofs.Parts.{one_list}
 use Rattle.pgp_value_text.proofs.Texts.{one_shown}

@@ -1,6 +1,6 @@
 -- Powers, and numbers in a range of them.
 use Rattle.std.proofs.Common.{◌≡◌, ℕ, suc, ◌+◌, ◌-◌, ◌*◌, ◌/◌, ◌%◌, ◌^◌, ◌<◌, ◌≤◌, ◌∷◌, refl, arith}
-use Rattle.pgp_value_text.specs.Float.{last_digits}
+use Rattle.pgp_value_text.proofs.Common.{last_digits}
 use lib.Pow.{pow_mono}
 use native.Mathlib.Nat.{mul-le-mul, one-le-pow, pow-le-pow_right}
 

@@ -1,8 +1,7 @@
 -- A size has one text, however its fraction is written.
 use Rattle.std.proofs.Common.{◌≡◌, ◌≢◌, ℕ, zero, suc, ◌+◌, ◌-◌, ◌*◌, ◌/◌, ◌^◌, ◌<◌, ◌≤◌, List, refl, sym, ap, ◌∙◌, subst, arith}
 use Rattle.std.proofs.Math.Pow.{pow_mono, pow-add}
-use Rattle.std.specs.Fmt.{decimal, digits}
-use Rattle.pgp_value_text.specs.Float.{scaled, trimmed, HasDigits, IsPlaces, ShowsSize}
+use Rattle.pgp_value_text.proofs.Common.{scaled, trimmed, HasDigits, IsPlaces, ShowsSize, decimal, digits}
 use Rattle.pgp_value_text.proofs.Rounding.{tens_pos, product_small}
 use lib.Pow.{pow_pos}
 use lib.Ieee.Nearest.{closest_mono, closest_same, nearest-ge}

@@ -1,11 +1,6 @@
 -- What was written is a text that shows something.
-use Rattle.pgp_value_text.proofs.Common.{◌≡◌, ℕ, ℤ, List, sym, subst, WritesText, ShowsMoment, HasText}
+use Rattle.pgp_value_text.proofs.Common.{◌≡◌, ℕ, ℤ, List, sym, subst, WritesText, ShowsMoment, HasText, Held, TextError, OutOfMemory, OutOfRange, Moment, Value}
 use Rattle.std.specs.Prelude.{⊤, Result, Ok, Err}
-use Rattle.pgp_base.specs.Held.{Held}
-use Rattle.pgp_values.specs.declared.moment.Moment.{Moment}
-use Rattle.pgp_values.specs.declared.moment.Moment.TheVariants.{Value}
-use Rattle.pgp_value_text.specs.declared.error.TextError.{TextError}
-use Rattle.pgp_value_text.specs.declared.error.TextError.TheVariants.{OutOfMemory, OutOfRange}
 
 module _ {K : Type 0} (lacks : Held K → ℕ → Type 0) (old new : Held K) where
   -- the text that was written shows it

@@ -1,6 +1,5 @@
 -- What is read is shown as its value, and what isn't read isn't shown.
-use Rattle.pgp_value_text.proofs.Common.{◌≡◌, ℕ, List, Bool, true, false, Result, Ok, Err, refl, sym, ◌∙◌, subst, IsErr, IfOk, false≢true, Shows, As, Tells}
-use Rattle.pgp_value_text.specs.Parts.{Pushes}
+use Rattle.pgp_value_text.proofs.Common.{◌≡◌, ℕ, List, Bool, true, false, Result, Ok, Err, refl, sym, ◌∙◌, subst, IsErr, IfOk, false≢true, Shows, As, Tells, Pushes}
 use Rattle.pgp_base.specs.declared.error.Error.{Error}
 use Rattle.pgp_types.specs.Format.{Format, IsSound}
 

@@ -1,12 +1,9 @@
 -- A day, an instant and a time have one text.
-use Rattle.pgp_value_text.proofs.Common.{◌≡◌, ℕ, ℤ, pos, ◌*ℤ◌, List, refl, sym, ap, ◌∙◌, arith, inl, inr, era, year_after, day_text, clock_text, later, days_cycle, microseconds_cycle, ShowsDay, ShowsInstant, ShowsTime}
-use Rattle.std.specs.Prelude.{◌+ℤ◌}
+use Rattle.pgp_value_text.proofs.Common.{◌≡◌, ℕ, ℤ, pos, ◌*ℤ◌, List, refl, sym, ap, ◌∙◌, arith, inl, inr, era, year_after, day_text, clock_text, later, days_cycle, microseconds_cycle, ShowsDay, ShowsInstant, ShowsTime, ◌+ℤ◌, signed_arith, epoch_day_injective, time_nanos_injective, civil_nanos_injective, time_nanos_bound}
 use Rattle.jiff_core.specs.declared.civil.date.Date.{Date}
 use Rattle.jiff_core.specs.declared.civil.time.Time.{Time}
 use Rattle.jiff_core.specs.Date.{epoch_day}
 use Rattle.jiff_core.specs.Time.{time_nanos}
-use Rattle.jiff_core.proofs.SignedLemmas.{signed_arith}
-use Rattle.jiff.proofs.Family.{epoch_day_injective, time_nanos_injective, civil_nanos_injective, time_nanos_bound}
 
 same_day : (years : ℕ) (a b : Date) → epoch_day a ≡ epoch_day b → day_text (year_after years a) a ≡ day_text (year_after years b) b
 same_day years a b e = let h = epoch_day_injective a b e in rw (h.0, h.1, h.2) refl

@@ -1,10 +1,5 @@
 -- What writers of days and times wrote.
-use Rattle.pgp_value_text.proofs.Common.{◌≡◌, ℕ, ℤ, ◌<◌, List, Bool, Result, Ok, Err, sym, ap, subst, arith, inl, inr, [], ◌++◌, codes, nat_eq, if◌then◌else◌, false≢true, IsEpochDay, IsCivilNanos, IsShownDay, IsShownInstant, Moment, PosInfinity, NegInfinity, Value, WritesText, ShowsDay, ShowsInstant, ShowsMoment, ShowsTime, IsShownTime, HasText, Tells, zone_of}
-use Rattle.jiff_core.proofs.SignedLemmas.{signed_arith}
-use Rattle.jiff.proofs.Family.{epoch_day_range, civil_nanos_range, time_nanos_bound}
-use Rattle.pgp_base.specs.Held.{items_held, ◌⊕◌, lengthened}
-use Rattle.pgp_value_text.specs.declared.error.TextError.{TextError}
-use Rattle.pgp_value_text.specs.declared.error.TextError.TheVariants.{OutOfMemory, OutOfRange}
+use Rattle.pgp_value_text.proofs.Common.{◌≡◌, ℕ, ℤ, ◌<◌, List, Bool, Result, Ok, Err, sym, ap, subst, arith, inl, inr, [], ◌++◌, codes, nat_eq, if◌then◌else◌, false≢true, IsEpochDay, IsCivilNanos, IsShownDay, IsShownInstant, Moment, PosInfinity, NegInfinity, Value, WritesText, ShowsDay, ShowsInstant, ShowsMoment, ShowsTime, IsShownTime, HasText, Tells, zone_of, signed_arith, epoch_day_range, civil_nanos_range, time_nanos_bound, items_held, ◌⊕◌, lengthened, TextError, OutOfMemory, OutOfRange}
 use Rattle.pgp_value_text.specs.Told.{Told}
 
 -- the bytes that a buffer holds after those that it held

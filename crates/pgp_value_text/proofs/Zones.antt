@@ -1,7 +1,6 @@
 -- A time with its zone.
-use Rattle.pgp_value_text.proofs.Common.{◌≡◌, ℕ, ◌<◌, List, Bool, true, false, Result, Ok, Err, refl, sym, ap, ◌∙◌, subst, ◌++◌, IfOk, IsErr, unsigned_abs, false≢true, ShowsTime, Tells, zone_text, ShowsTimeTz}
+use Rattle.pgp_value_text.proofs.Common.{◌≡◌, ℕ, ◌<◌, List, Bool, true, false, Result, Ok, Err, refl, sym, ap, ◌∙◌, subst, ◌++◌, IfOk, IsErr, unsigned_abs, false≢true, ShowsTime, Tells, zone_text, ShowsTimeTz, append_assoc}
 use Rattle.pgp_value_text.proofs.Uniqueness.{one_time}
-use Rattle.std.proofs.lemmas.List.{append_assoc}
 use Rattle.pgp_values.specs.declared.time.TimeTz.{TimeTz}
 
 module _ {E : Type 0} (lacks : Type 0) (old mid : List ℕ) (v : TimeTz) where

@@ -24,18 +24,26 @@ abbrev pub braces : ℕ → ℕ → List ArrayDimension → ℕ → List ℕ
 braces brace size [] place = []
 braces brace size (d ∷ ds) place = (if begins_row size place then brace ∷ [] else []) ++ braces brace (part_size size d) ds place
 
+-- what stands between two elements: a semicolon between boxes, in whose texts commas stand, and a comma between others (`typdelim` of `pg_type`)
+abbrev pub separator : ℕ → ℕ
+separator type_oid = if type_oid == 603 then 59 else 44
+
+-- the text of an element as it stands there; a box needs no quotes
+abbrev pub within : ℕ → List ℕ → List ℕ
+within type_oid shown = if type_oid == 603 then shown else quoted false shown
+
 -- a null, or an element that has a text
 abbrev pub ShowsElement : ℕ → Option (List ℕ) → List ℕ → Type 0
 ShowsElement type_oid None text = text ≡ codes "NULL"
-ShowsElement type_oid (Some bytes) text = (shown : List ℕ) × IsElementText type_oid bytes shown × (text ≡ quoted false shown)
+ShowsElement type_oid (Some bytes) text = (shown : List ℕ) × IsElementText type_oid bytes shown × (text ≡ within type_oid shown)
 
--- a comma where an element stands before, and a brace for each row that begins
-abbrev pub opening : ℕ → List ArrayDimension → ℕ → List ℕ
-opening size ds place = (if place == 0 then [] else 44 ∷ []) ++ braces 123 size ds place
+-- the separator where an element stands before, and a brace for each row that begins
+abbrev pub opening : (type_oid size : ℕ) → List ArrayDimension → ℕ → List ℕ
+opening type_oid size ds place = (if place == 0 then [] else separator type_oid ∷ []) ++ braces 123 size ds place
 
 -- an element in its rows
-abbrev pub placed : ℕ → List ArrayDimension → ℕ → List ℕ → List ℕ
-placed size ds place text = opening size ds place ++ text ++ braces 125 size ds (place + 1)
+abbrev pub placed : (type_oid size : ℕ) → List ArrayDimension → ℕ → List ℕ → List ℕ
+placed type_oid size ds place text = opening type_oid size ds place ++ text ++ braces 125 size ds (place + 1)
 
 -- `[2:3]`, from the first index to the last
 abbrev pub indexes_text : ℤ → ℤ → List ℕ
@@ -57,7 +65,7 @@ all_bounds ds = if list_all begins_at_one ds then [] else flat_map bounds_text d
 -- of so many elements
 abbrev pub ShowsSome : ℕ → ArrayRead → List ℕ → Type 0
 ShowsSome zero a text = text ≡ codes "{}"
-ShowsSome (suc n) a text = ShowsEach (ShowsElement a.element_type) (placed (suc n) a.dimensions.items) 0 a.values.items (all_bounds a.dimensions.items) text
+ShowsSome (suc n) a text = ShowsEach (ShowsElement a.element_type) (placed a.element_type (suc n) a.dimensions.items) 0 a.values.items (all_bounds a.dimensions.items) text
 
 -- as many elements stand there as its dimensions say, and no more bytes
 abbrev pub ShowsArray : ArrayRead → List ℕ → Type 0

@@ -7,9 +7,9 @@ use Rattle.pgp_value_text.specs.ArrayText.{ShowsArray}
 use Rattle.pgp_value_text.specs.RangeText.{IsElementBy}
 use Rattle.pgp_value_text.specs.ValueText.{OfType, Shows}
 
--- `int2vector` and `oidvector` are sent as arrays, and shown without braces; boxes in an array have semicolons between them
+-- `int2vector` and `oidvector` are sent as arrays, and shown without braces
 abbrev pub is_apart : ℕ → Bool
-is_apart type_oid = nat_eq type_oid 22 || nat_eq type_oid 30 || nat_eq type_oid 1020
+is_apart type_oid = nat_eq type_oid 22 || nat_eq type_oid 30
 
 abbrev pub IsTextBy : BinaryFormat → ℕ → List ℕ → List ℕ → Type 0
 IsTextBy Array type_oid = λ bytes text. (is_apart type_oid ≡ false) × Shows array ShowsArray bytes text

@@ -2,10 +2,10 @@
 
 ghost use Rattle.pgp_types.specs.Array.{array};
 ghost use Rattle.pgp_value_text.specs.TextOf.{is_apart};
-ghost use Rattle.std.specs.Prelude.{◌≡◌, ◌<◌, false, Some};
+ghost use Rattle.std.specs.Prelude.{◌≡◌, ◌<◌, ◌++◌, false, Some, OnOk, OnErr};
 ghost use Rattle.pgp_base.specs.Walk.{hint_of};
 ghost use Rattle.pgp_types.specs.Part.{shown};
-ghost use Rattle.pgp_value_text.specs.ArrayText.{placed, ShowsArray, ShowsElement};
+ghost use Rattle.pgp_value_text.specs.ArrayText.{placed, separator, within, ShowsArray, ShowsElement};
 ghost use Rattle.pgp_value_text.specs.Parts.{Pushes, PushesAll};
 ghost use Rattle.pgp_value_text.specs.ValueText.{Shows, Tells};
 
@@ -18,6 +18,9 @@ use pgp_base::{FallibleIterator, Memory, Oid};
 use pgp_types::laws::arrays;
 use pgp_types::{Array, array_from_sql};
 use std::alloc::AllocError;
+
+// The type `box`.
+const BOX: Oid = 603;
 
 // Adds a null, or an element by way of a buffer for its text.
 fn push_value<A: Memory>(
@@ -47,8 +50,31 @@ fn push_bytes<A: Memory>(
     if !put_element(type_oid, bytes, element)? {
         return Ok(false);
     }
-    push_quoted(false, element.as_slice(), out)?;
+    push_within(type_oid, element.as_slice(), out)?;
     Ok(true)
+}
+
+// Adds the text of an element, in quotes where it needs them.
+fn push_within<A: Memory>(
+    type_oid: Oid,
+    shown: &[u8],
+    out: &mut BytesMut<A>,
+) -> Result<(), AllocError>
+    ensures added { OnOk result (out.new.items ≡ out.old.items ++ within type_oid shown.now) }
+    ensures lacks { OnErr result A.Lacks }
+{
+    if type_oid == BOX {
+        A::append(out, shown)
+    } else {
+        push_quoted(false, shown, out)
+    }
+}
+
+// What stands between two elements.
+fn separator(type_oid: Oid) -> u8
+    ensures { result ≡ separator type_oid }
+{
+    if type_oid == BOX { b';' } else { b',' }
 }
 
 // Adds an element in its rows.
@@ -61,10 +87,10 @@ fn push_placed<A: Memory>(
     out: &mut BytesMut<A>,
 ) -> Result<bool, AllocError>
     requires { place < size }
-    ensures { Pushes (ShowsElement array.now.element_type (shown value.entry)) (placed size array.now.dimensions.items place) A.Lacks out.old.items out.new.items result }
+    ensures { Pushes (ShowsElement array.now.element_type (shown value.entry)) (placed array.now.element_type size array.now.dimensions.items place) A.Lacks out.old.items out.new.items result }
 {
     if place != 0 {
-        A::append(out, b",")?;
+        A::append(out, &[separator(array.element_type())])?;
     }
     push_braces(b'{', size, array.dimensions(), place, out)?;
     if !push_value(array.element_type(), value, element, out)? {
@@ -81,7 +107,7 @@ fn push_elements<A: Memory>(
     element: &mut BytesMut<A>,
     out: &mut BytesMut<A>,
 ) -> Result<bool, AllocError>
-    ensures { PushesAll (ShowsElement array.now.element_type) (placed size array.now.dimensions.items) size array.now.values A.Lacks out.old.items out.new.items result }
+    ensures { PushesAll (ShowsElement array.now.element_type) (placed array.now.element_type size array.now.dimensions.items) size array.now.values A.Lacks out.old.items out.new.items result }
 {
     let mut values = array.values();
     'elements: for place in 0..size {
@@ -133,7 +159,7 @@ fn put_elements<A: Memory>(array: &Array<'_>, text: &mut BytesMut<A>) -> Result<
 fn is_apart(type_oid: Oid) -> bool
     ensures { result ≡ is_apart type_oid }
 {
-    type_oid == 22 || type_oid == 30 || type_oid == 1020
+    type_oid == 22 || type_oid == 30
 }
 
 // Adds the text of bytes that are an array's.

@@ -60,8 +60,7 @@ fn put_known<A: Memory>(
 /// - an array of such values, of any dimensions, as `{1,NULL}`, `{{"a b",""},{c,d}}` or `[0:1]={t,f}`.
 ///
 /// A floating-point number other than 0 has none below 0.0001, and where more digits would stand before the point; nor has a day before the
-/// year -9999, a time in a zone of 16 hours or more, nor have records, the types of text search, and `int2vector`, `oidvector` and
-/// arrays of boxes.
+/// year -9999, a time in a zone of 16 hours or more, nor have records, the types of text search, and `int2vector` and `oidvector`.
 ///
 /// # Errors
 ///

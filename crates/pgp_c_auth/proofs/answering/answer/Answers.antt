@@ -1,4 +1,4 @@
-use Rattle.std.proofs.Common.{rules, refl}
+use Rattle.pgp_c_auth.proofs.Common.{rules, refl}
 use Rattle.pgp_c_auth.proofs.Replies.{ends_so, nothing_asked, welcomes_so}
 use Rattle.pgp_c_auth.proofs.answering.answer.Goals as goal
 

@@ -1,5 +1,4 @@
-use Rattle.std.proofs.Common.{Some, arith, refl}
-use Rattle.pgp_c_auth.specs.Answering.{Begins, initial}
+use Rattle.pgp_c_auth.proofs.Common.{Some, arith, refl, Begins, initial}
 use Rattle.pgp_c_auth.proofs.answering.begin.Goals as goal
 
 pub returns-clause-answered : goal.returns-clause-answered

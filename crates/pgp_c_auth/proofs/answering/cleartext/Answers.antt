@@ -1,6 +1,4 @@
-use Rattle.std.proofs.Common.{Some, arith, refl}
-use Rattle.pgp_frontend.specs.ClientMessage.{PasswordMessage}
-use Rattle.pgp_c_auth.specs.Answering.{ByCleartext}
+use Rattle.pgp_c_auth.proofs.Common.{Some, arith, refl, ByCleartext, PasswordMessage}
 use Rattle.pgp_c_auth.proofs.answering.cleartext.Goals as goal
 
 pub returns-clause-answered : goal.returns-clause-answered

@@ -1,6 +1,4 @@
-use Rattle.std.proofs.Common.{Some, arith, refl, rules, ◌≡◌}
-use Rattle.pgp_frontend.specs.ClientMessage.{SaslResponse}
-use Rattle.pgp_c_auth.specs.Answering.{GoesOn}
+use Rattle.pgp_c_auth.proofs.Common.{Some, arith, refl, rules, ◌≡◌, GoesOn, SaslResponse}
 use Rattle.pgp_c_auth.proofs.answering.go_on.Goals as goal
 
 pub returns-clause-answered : goal.returns-clause-answered

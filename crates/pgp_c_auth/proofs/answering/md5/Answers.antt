@@ -1,7 +1,5 @@
-use Rattle.std.proofs.Common.{Some, arith, refl}
+use Rattle.pgp_c_auth.proofs.Common.{Some, arith, refl, ByMd5, PasswordMessage}
 use Rattle.pgp_auth.specs.Md5Text.{md5_answer}
-use Rattle.pgp_frontend.specs.ClientMessage.{PasswordMessage}
-use Rattle.pgp_c_auth.specs.Answering.{ByMd5}
 use Rattle.pgp_c_auth.proofs.answering.md5.Goals as goal
 
 pub returns-clause-answered : goal.returns-clause-answered

@@ -1,6 +1,5 @@
-use Rattle.std.proofs.Common.{inr, rules}
+use Rattle.pgp_c_auth.proofs.Common.{inr, rules, start_of}
 use Rattle.pgp_c_auth.proofs.Texts.{answers_in}
-use Rattle.pgp_c_auth.specs.Answering.{start_of}
 use Rattle.pgp_c_auth.proofs.answering.send_final.Goals as goal
 
 pub returns-clause-why : goal.returns-clause-why

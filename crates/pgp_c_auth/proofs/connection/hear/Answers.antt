@@ -1,9 +1,5 @@
-use Rattle.std.proofs.Common.{◌≡◌, arith, ap, length, subst}
-use Rattle.pgp_message.specs.Views.{view}
+use Rattle.pgp_c_auth.proofs.Common.{◌≡◌, arith, ap, length, subst, Misplaced, link_of, talk_of, IsFull, view, Delivered}
 use Rattle.pgp_c_auth.proofs.Connections.{lacking, misplaced_so, stops, took}
-use Rattle.pgp_c_auth.specs.Connection.{Misplaced, link_of, talk_of}
-use Rattle.pgp_c_auth.specs.Delivering.{Delivered}
-use Rattle.pgp_c_auth.specs.Settings.{IsFull}
 use Rattle.pgp_c_auth.proofs.connection.hear.Goals as goal
 
 pub returns-then-code-eq-NO_ROOM-clause-none : goal.returns-then-code-eq-NO_ROOM-clause-none

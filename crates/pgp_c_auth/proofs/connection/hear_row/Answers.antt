@@ -1,8 +1,5 @@
-use Rattle.std.proofs.Common.{ap, refl}
-use Rattle.pgp_client.specs.Kinds.{kind_of}
-use Rattle.pgp_message.specs.BackendMessage.{DataRow}
+use Rattle.pgp_c_auth.proofs.Common.{ap, refl, link_of, noted, talk_of, with_talk, DataRow, kind_of}
 use Rattle.pgp_c_auth.proofs.Connections.{misplaced_so, took_row}
-use Rattle.pgp_c_auth.specs.Connection.{link_of, noted, talk_of, with_talk}
 use Rattle.pgp_c_auth.proofs.connection.hear_row.Goals as goal
 
 pub returns-in-Ok-clause-took : goal.returns-in-Ok-clause-took

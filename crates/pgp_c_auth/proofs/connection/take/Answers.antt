@@ -1,7 +1,4 @@
-use Rattle.std.proofs.Common.{Err, false, length, refl, rules, subst, true, ◌-◌}
-use Rattle.pgp_message.specs.BackendMessage.{DataRow}
-use Rattle.pgp_message.specs.Stream.{Step}
-use Rattle.pgp_message.specs.Views.{view}
+use Rattle.pgp_c_auth.proofs.Common.{Err, false, length, refl, rules, subst, true, ◌-◌, DataRow, view, Step}
 use Rattle.pgp_c_auth.proofs.Connections.{framed, step_none, step_row, step_some, within_limit}
 use Rattle.pgp_c_auth.specs.Connection.{Comes, HasNoPlaces, IsCut, IsLonger, IsNone, Misplaced, WasOver, limit_of}
 use Rattle.pgp_c_auth.proofs.connection.take.Goals as goal

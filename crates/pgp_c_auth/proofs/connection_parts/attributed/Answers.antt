@@ -1,6 +1,5 @@
-use Rattle.pgp_c_auth.proofs.Common.{rules}
+use Rattle.pgp_c_auth.proofs.Common.{rules, talk_of}
 use Rattle.pgp_c_auth.proofs.Connections.{misplaced}
-use Rattle.pgp_c_auth.specs.Connection.{talk_of}
 use Rattle.pgp_c_auth.proofs.connection_parts.attributed.Goals as goal
 
 pub returns-in-Err-clause-err : goal.returns-in-Err-clause-err

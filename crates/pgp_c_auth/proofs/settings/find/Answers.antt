@@ -1,4 +1,4 @@
-use Rattle.std.proofs.Common.{refl, rules}
+use Rattle.pgp_c_auth.proofs.Common.{refl, rules}
 use Rattle.pgp_c_auth.proofs.Kept.{passed_one, setting, stands_here}
 use Rattle.pgp_c_auth.proofs.settings.find.Goals as goal
 

@@ -1,6 +1,5 @@
-use Rattle.std.proofs.Common.{◌∷◌, ap, length, sym, ◌∙◌}
+use Rattle.pgp_c_auth.proofs.Common.{◌∷◌, ap, length, sym, ◌∙◌, kept_in, without}
 use Rattle.pgp_c_auth.proofs.Kept.{has_room, not_empty, setting, some_given}
-use Rattle.pgp_c_auth.specs.Settings.{kept_in, without}
 use Rattle.pgp_c_auth.proofs.settings.keep.Goals as goal
 
 pub put_first-requires-clause-room : goal.put_first-requires-clause-room

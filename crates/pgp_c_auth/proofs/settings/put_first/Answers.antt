@@ -1,5 +1,4 @@
-use Rattle.std.proofs.Common.{◌+◌, arith, length, refl}
-use Rattle.std.proofs.lemmas.List.{length-take-le}
+use Rattle.pgp_c_auth.proofs.Common.{◌+◌, arith, length, refl, length-take-le}
 use Rattle.pgp_c_auth.proofs.Kept.{front_put}
 use Rattle.pgp_c_auth.proofs.settings.put_first.Goals as goal
 

@@ -1,4 +1,4 @@
-use Rattle.std.proofs.Common.{◌+◌, length, refl, rules}
+use Rattle.pgp_c_auth.proofs.Common.{◌+◌, length, refl, rules}
 use Rattle.pgp_c_auth.proofs.Kept.{text_put}
 use Rattle.pgp_c_auth.proofs.settings.put_text.Goals as goal
 

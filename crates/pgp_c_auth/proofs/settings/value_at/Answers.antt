@@ -1,6 +1,5 @@
-use Rattle.std.proofs.Common.{◌+◌, length, refl, subst}
+use Rattle.pgp_c_auth.proofs.Common.{◌+◌, length, refl, subst, StandsAt}
 use Rattle.pgp_c_auth.proofs.Kept.{value_found}
-use Rattle.pgp_c_auth.specs.Settings.{StandsAt}
 use Rattle.pgp_c_auth.proofs.settings.value_at.Goals as goal
 
 pub returns-clause-value : goal.returns-clause-value

@@ -1,6 +1,4 @@
-use Rattle.std.proofs.Common.{rules, Ok, Err}
-use Rattle.pgp_message.specs.Stream.{Step, TakesFrame}
-use Rattle.pgp_message.specs.Views.{view}
+use Rattle.pgp_session.proofs.Common.{rules, Ok, Err, Step, TakesFrame, view}
 use Rattle.pgp_session.proofs.MonitorFronts.{front_is, none_there, unread_front}
 use Rattle.pgp_session.proofs.monitor.front_of.Goals as goal
 

@@ -1,6 +1,4 @@
-use Rattle.pgp_session.proofs.Common.{◌≡◌, length}
-use Rattle.std.specs.List.{list_all}
-use Rattle.pgp_session.specs.Connection.{is_among}
+use Rattle.pgp_session.proofs.Common.{◌≡◌, length, is_among, list_all}
 use Rattle.pgp_session.proofs.protocol_options.all_among.Given as goal
 
 abbrev pub invariant-names : goal.invariant-names

@@ -1,8 +1,6 @@
-use Rattle.pgp_session.proofs.Common.{◌≡◌, ℕ, List, Option, None, sym, subst, rules, true, Error}
-use Rattle.std.specs.List.{list_all}
+use Rattle.pgp_session.proofs.Common.{◌≡◌, ℕ, List, Option, None, sym, subst, rules, true, Error, is_among, list_all}
 use Rattle.pgp_base.specs.Items.{CountedItems}
 use Rattle.pgp_message.specs.Items.{StringSpelled, StringRefused}
-use Rattle.pgp_session.specs.Connection.{is_among}
 use Rattle.pgp_session.proofs.protocol_options.is_answered.Goals as goal
 
 pub returns : goal.returns

@@ -1,7 +1,5 @@
-use Rattle.pgp_session.proofs.Common.{◌≡◌, ℕ, List, map, take}
-use Rattle.std.specs.List.{filter}
+use Rattle.pgp_session.proofs.Common.{◌≡◌, ℕ, List, map, take, is_option, filter}
 use Rattle.pgp_frontend.specs.Given.{shown as shown_pair}
-use Rattle.pgp_session.specs.Connection.{is_option}
 use Rattle.pgp_session.proofs.protocol_options.option_names.Given as goal
 
 abbrev pub invariant-each : goal.invariant-each

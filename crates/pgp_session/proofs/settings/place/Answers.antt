@@ -1,7 +1,5 @@
-use Rattle.pgp_session.proofs.Common.{Setting}
+use Rattle.pgp_session.proofs.Common.{Setting, slice_cmp, nat_cmp}
 use Rattle.std.proofs.lemmas.Fn.{always_returns_same}
-use Rattle.std.specs.Cmp.Lexicographic.{slice_cmp}
-use Rattle.std.specs.Ordering.{nat_cmp}
 use Rattle.pgp_session.proofs.Placed.{searched}
 use Rattle.pgp_session.proofs.settings.place.Goals as goal
 

@@ -1,6 +1,4 @@
-use Rattle.pgp_summary.proofs.Common.{◌∙◌, ap, tally_after, tallies_of}
-use Rattle.std.specs.Prelude.{slice_get}
-use Rattle.std.specs.Option.{option_to_list}
+use Rattle.pgp_summary.proofs.Common.{◌∙◌, ap, tally_after, tallies_of, slice_get, option_to_list}
 use Rattle.pgp_summary.proofs.Adding.{add_next}
 use Rattle.pgp_summary.proofs.entry.tally_all.Goals as goal
 

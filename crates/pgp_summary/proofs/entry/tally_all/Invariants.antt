@@ -1,6 +1,5 @@
 -- Those so far were added.
-use Rattle.pgp_summary.proofs.Common.{◌≡◌, tallies_of, tally_after}
-use Rattle.std.specs.Prelude.{take}
+use Rattle.pgp_summary.proofs.Common.{◌≡◌, tallies_of, tally_after, take}
 use Rattle.pgp_summary.proofs.entry.tally_all.Given as goal
 
 abbrev pub invariant-each : goal.invariant-each

@@ -1,5 +1,4 @@
-use Rattle.pgp_summary.proofs.Common.{◌≡◌, length}
-use Rattle.pgp_summary.specs.Fold.{behind_next}
+use Rattle.pgp_summary.proofs.Common.{◌≡◌, length, behind_next}
 use Rattle.pgp_summary.proofs.fold.behind_next.Given as goal
 
 abbrev pub invariant-bytes : goal.invariant-bytes

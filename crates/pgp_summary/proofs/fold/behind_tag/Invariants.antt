@@ -1,5 +1,4 @@
-use Rattle.pgp_summary.proofs.Common.{◌≡◌, length}
-use Rattle.pgp_summary.specs.Fold.{behind_tag}
+use Rattle.pgp_summary.proofs.Common.{◌≡◌, length, behind_tag}
 use Rattle.pgp_summary.proofs.fold.behind_tag.Given as goal
 
 abbrev pub invariant-bytes : goal.invariant-bytes

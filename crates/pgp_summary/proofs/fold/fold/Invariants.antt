@@ -1,6 +1,5 @@
 -- With the rest it makes all of it.
-use Rattle.pgp_summary.proofs.Common.{◌≡◌, ◌++◌, length}
-use Rattle.pgp_summary.specs.Fold.{folded, folded_from}
+use Rattle.pgp_summary.proofs.Common.{◌≡◌, ◌++◌, length, folded, folded_from}
 use Rattle.pgp_summary.proofs.fold.fold.Given as goal
 
 abbrev pub invariant-bytes : goal.invariant-bytes

@@ -1,7 +1,5 @@
 -- With those of the rest they are all.
-use Rattle.pgp_summary.proofs.Common.{◌≡◌, ◌++◌, length, tallies_of}
-use Rattle.std.specs.List.{flat_map}
-use Rattle.pgp_summary.specs.Places.{picked}
+use Rattle.pgp_summary.proofs.Common.{◌≡◌, ◌++◌, length, tallies_of, flat_map, picked}
 use Rattle.pgp_summary.proofs.ranking.entries_by.Given as goal
 
 abbrev pub invariant-keys : goal.invariant-keys

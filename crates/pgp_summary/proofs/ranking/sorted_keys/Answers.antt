@@ -1,6 +1,4 @@
-use Rattle.pgp_summary.proofs.Common.{arith, tallies_of, tally_of}
-use Rattle.std.specs.Prelude.{take}
-use Rattle.std.proofs.lemmas.List.{length-map, take_all}
+use Rattle.pgp_summary.proofs.Common.{arith, tallies_of, tally_of, take, length-map, take_all}
 use Rattle.pgp_summary.proofs.Ranks.{keys_more, ranked_is}
 use Rattle.pgp_summary.proofs.ranking.sorted_keys.Goals as goal
 

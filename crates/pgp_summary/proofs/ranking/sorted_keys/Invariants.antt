@@ -1,7 +1,5 @@
 -- Those so far are the keys of the statements so far.
-use Rattle.pgp_summary.proofs.Common.{tallies_of}
-use Rattle.std.specs.Prelude.{take}
-use Rattle.pgp_summary.specs.Places.{AreKeys}
+use Rattle.pgp_summary.proofs.Common.{tallies_of, take, AreKeys}
 use Rattle.pgp_summary.proofs.ranking.sorted_keys.Given as goal
 
 abbrev pub invariant-each : goal.invariant-each

@@ -1,7 +1,5 @@
 -- The sum so far.
-use Rattle.pgp_summary.proofs.Common.{◌≡◌}
-use Rattle.std.specs.Prelude.{take}
-use Rattle.pgp_summary.specs.Runs.{sum_of}
+use Rattle.pgp_summary.proofs.Common.{◌≡◌, take, sum_of}
 use Rattle.pgp_summary.proofs.ranking.sum_of.Given as goal
 
 abbrev pub invariant-loop-entry : goal.invariant-loop-entry

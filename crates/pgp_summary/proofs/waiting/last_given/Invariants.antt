@@ -1,5 +1,4 @@
-use Rattle.pgp_summary.proofs.Common.{◌≡◌}
-use Rattle.pgp_summary.specs.Summary.{last_given}
+use Rattle.pgp_summary.proofs.Common.{◌≡◌, last_given}
 use Rattle.pgp_summary.proofs.waiting.last_given.Given as goal
 
 abbrev pub invariant-back : goal.invariant-back

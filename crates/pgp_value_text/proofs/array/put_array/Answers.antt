@@ -1,7 +1,4 @@
-use Rattle.pgp_value_text.proofs.Common.{◌≡◌, false, sym, ◌∙◌, Shows}
-use Rattle.pgp_types.specs.Array.{array}
-use Rattle.pgp_value_text.specs.ArrayText.{ShowsArray}
-use Rattle.pgp_value_text.specs.TextOf.{is_apart}
+use Rattle.pgp_value_text.proofs.Common.{◌≡◌, false, sym, ◌∙◌, Shows, ShowsArray, array, is_apart}
 use Rattle.pgp_value_text.proofs.Texts.{tells_if}
 use Rattle.pgp_value_text.proofs.array.put_array.Goals as goal
 

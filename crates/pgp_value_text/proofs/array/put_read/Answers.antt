@@ -1,6 +1,4 @@
-use Rattle.pgp_value_text.proofs.Common.{refl}
-use Rattle.pgp_types.specs.Array.{array}
-use Rattle.pgp_value_text.specs.ArrayText.{ShowsArray}
+use Rattle.pgp_value_text.proofs.Common.{refl, ShowsArray, array}
 use Rattle.pgp_value_text.proofs.Texts.{refused, tells_read}
 use Rattle.pgp_value_text.proofs.array.put_read.Goals as goal
 

@@ -1,7 +1,6 @@
 -- The bits so far were added.
 use Rattle.std.specs.Prelude.{◌≡◌, ◌++◌, take}
-use Rattle.std.specs.List.{flat_map}
-use Rattle.pgp_value_text.specs.Bits.{byte_bits}
+use Rattle.pgp_value_text.proofs.Common.{flat_map, byte_bits}
 use Rattle.pgp_value_text.proofs.bits.push_bytes.Given as goal
 
 abbrev pub invariant-loop-byte : goal.invariant-loop-byte

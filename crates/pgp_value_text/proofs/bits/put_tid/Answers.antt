@@ -1,7 +1,4 @@
-use Rattle.pgp_value_text.proofs.Common.{refl, As}
-use Rattle.pgp_values.proofs.Fixed.{tid_sound}
-use Rattle.pgp_values.specs.System.{tid}
-use Rattle.pgp_value_text.specs.Bits.{tid_text}
+use Rattle.pgp_value_text.proofs.Common.{refl, As, tid_sound, tid_text, tid}
 use Rattle.pgp_value_text.proofs.Texts.{refused}
 use Rattle.pgp_value_text.proofs.bits.put_tid.Goals as goal
 

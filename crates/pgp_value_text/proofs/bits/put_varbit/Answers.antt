@@ -1,7 +1,4 @@
-use Rattle.pgp_value_text.proofs.Common.{refl, As}
-use Rattle.pgp_types.proofs.VarbitLemmas.{varbit_sound}
-use Rattle.pgp_types.specs.Varbit.{varbit}
-use Rattle.pgp_value_text.specs.Bits.{bits_text}
+use Rattle.pgp_value_text.proofs.Common.{refl, As, bits_text, varbit, varbit_sound}
 use Rattle.pgp_value_text.proofs.Texts.{refused}
 use Rattle.pgp_value_text.proofs.bits.put_varbit.Goals as goal
 

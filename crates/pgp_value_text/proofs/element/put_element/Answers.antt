@@ -1,5 +1,4 @@
-use Rattle.pgp_value_text.proofs.Common.{In, subst, Tells}
-use Rattle.pgp_value_text.specs.RangeText.{IsElementBy}
+use Rattle.pgp_value_text.proofs.Common.{In, subst, Tells, IsElementBy}
 use Rattle.pgp_value_text.proofs.element.put_element.Goals as goal
 
 pub returns : goal.returns

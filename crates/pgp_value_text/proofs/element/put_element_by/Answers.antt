@@ -1,6 +1,4 @@
-use Rattle.pgp_value_text.proofs.Common.{ap, sym, subst, ◌∙◌, Shows, Tells}
-use Rattle.pgp_values.specs.Multirange.{multirange}
-use Rattle.pgp_value_text.specs.RangeText.{ShowsMultirange, bound_of}
+use Rattle.pgp_value_text.proofs.Common.{ap, sym, subst, ◌∙◌, Shows, Tells, ShowsMultirange, bound_of, multirange}
 use Rattle.pgp_value_text.proofs.Ranges.{plain_element}
 use Rattle.pgp_value_text.proofs.element.put_element_by.Goals as goal
 

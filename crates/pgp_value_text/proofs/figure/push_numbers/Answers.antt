@@ -1,7 +1,4 @@
-use Rattle.pgp_value_text.proofs.Common.{ap}
-use Rattle.std.specs.Prelude.{drop, map}
-use Rattle.std.proofs.lemmas.List.{drop_all}
-use Rattle.pgp_value_text.specs.Figure.{shown_number}
+use Rattle.pgp_value_text.proofs.Common.{ap, drop, map, shown_number, drop_all}
 use Rattle.pgp_value_text.proofs.Figures.{each_none, each_step, left_end}
 use Rattle.pgp_value_text.proofs.figure.push_numbers.Goals as goal
 

@@ -1,6 +1,5 @@
 -- What was added and what is left make the whole figure.
-use Rattle.std.specs.Prelude.{drop, map}
-use Rattle.pgp_value_text.specs.Figure.{shown_number}
+use Rattle.pgp_value_text.proofs.Common.{drop, map, shown_number}
 use Rattle.pgp_value_text.proofs.Figures.{Left}
 use Rattle.pgp_value_text.proofs.figure.push_numbers.Given as goal
 

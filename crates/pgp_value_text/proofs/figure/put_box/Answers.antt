@@ -1,7 +1,4 @@
-use Rattle.pgp_value_text.proofs.Common.{refl, fixed_sound}
-use Rattle.pgp_types.proofs.GeometryLemmas.{box_spelling}
-use Rattle.pgp_types.specs.Geometry.{box}
-use Rattle.pgp_value_text.specs.Figure.{ShowsBox}
+use Rattle.pgp_value_text.proofs.Common.{refl, fixed_sound, ShowsBox, box, box_spelling}
 use Rattle.pgp_value_text.proofs.Texts.{refused, tells_read}
 use Rattle.pgp_value_text.proofs.figure.put_box.Goals as goal
 

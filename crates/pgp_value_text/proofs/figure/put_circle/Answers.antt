@@ -1,7 +1,4 @@
-use Rattle.pgp_value_text.proofs.Common.{refl}
-use Rattle.pgp_values.proofs.Fixed.{circle_sound}
-use Rattle.pgp_values.specs.Geometry.{circle}
-use Rattle.pgp_value_text.specs.Figure.{ShowsCircle}
+use Rattle.pgp_value_text.proofs.Common.{refl, ShowsCircle, circle_sound, circle}
 use Rattle.pgp_value_text.proofs.Texts.{refused, tells_read}
 use Rattle.pgp_value_text.proofs.figure.put_circle.Goals as goal
 

@@ -1,7 +1,4 @@
-use Rattle.pgp_value_text.proofs.Common.{refl}
-use Rattle.pgp_values.proofs.Fixed.{line_sound}
-use Rattle.pgp_values.specs.Geometry.{line}
-use Rattle.pgp_value_text.specs.Figure.{ShowsLine}
+use Rattle.pgp_value_text.proofs.Common.{refl, ShowsLine, line_sound, line}
 use Rattle.pgp_value_text.proofs.Texts.{refused, tells_read}
 use Rattle.pgp_value_text.proofs.figure.put_line.Goals as goal
 

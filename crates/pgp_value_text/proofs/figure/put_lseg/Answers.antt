@@ -1,7 +1,4 @@
-use Rattle.pgp_value_text.proofs.Common.{refl}
-use Rattle.pgp_values.proofs.Fixed.{lseg_sound}
-use Rattle.pgp_values.specs.Geometry.{lseg}
-use Rattle.pgp_value_text.specs.Figure.{ShowsSegment}
+use Rattle.pgp_value_text.proofs.Common.{refl, ShowsSegment, lseg_sound, lseg}
 use Rattle.pgp_value_text.proofs.Texts.{refused, tells_read}
 use Rattle.pgp_value_text.proofs.figure.put_lseg.Goals as goal
 

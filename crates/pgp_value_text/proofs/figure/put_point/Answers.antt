@@ -1,7 +1,4 @@
-use Rattle.pgp_value_text.proofs.Common.{refl, fixed_sound}
-use Rattle.pgp_types.proofs.GeometryLemmas.{point_spelling}
-use Rattle.pgp_types.specs.Geometry.{point}
-use Rattle.pgp_value_text.specs.Figure.{ShowsPoint}
+use Rattle.pgp_value_text.proofs.Common.{refl, fixed_sound, ShowsPoint, point, point_spelling}
 use Rattle.pgp_value_text.proofs.Texts.{refused, tells_read}
 use Rattle.pgp_value_text.proofs.figure.put_point.Goals as goal
 

@@ -1,5 +1,4 @@
-use Rattle.std.proofs.Common.{◌≡◌, true, subst}
-use Rattle.std.specs.Float.{binary32, float_is_finite}
+use Rattle.pgp_value_text.proofs.Common.{◌≡◌, true, subst, binary32, float_is_finite}
 use Rattle.pgp_value_text.proofs.Floats.{bits_value}
 use Rattle.pgp_value_text.proofs.float.put_finite_single.Goals as goal
 

@@ -1,7 +1,5 @@
 use Rattle.std.proofs.Common.{◌∙◌, sym, subst, refl, ◌*◌, ◌^◌, ◌++◌, arith}
-use Rattle.std.specs.Float.{binary64}
-use Rattle.std.specs.Fmt.{sign_text}
-use Rattle.pgp_value_text.specs.Float.{trimmed, ShowsFloat}
+use Rattle.pgp_value_text.proofs.Common.{trimmed, ShowsFloat, sign_text, binary64}
 use Rattle.pgp_value_text.proofs.Floats.{marked_so, no_value, shows_value}
 use Rattle.pgp_value_text.proofs.Texts.{tells_one}
 use Rattle.pgp_value_text.proofs.float.put_sized_double.Goals as goal

@@ -1,6 +1,6 @@
 -- What is left is to be added.
 use Rattle.std.specs.Prelude.{◌≡◌, ◌++◌, length}
-use Rattle.pgp_value_text.specs.Money.{grouped}
+use Rattle.pgp_value_text.proofs.Common.{grouped}
 use Rattle.pgp_value_text.proofs.money.push_grouped.Given as goal
 
 abbrev pub invariant-digits : goal.invariant-digits

@@ -1,6 +1,4 @@
-use Rattle.pgp_value_text.proofs.Common.{refl, fixed_sound, int64_spelling, As}
-use Rattle.pgp_values.specs.System.{money}
-use Rattle.pgp_value_text.specs.Money.{money_text}
+use Rattle.pgp_value_text.proofs.Common.{refl, fixed_sound, int64_spelling, As, money, money_text}
 use Rattle.pgp_value_text.proofs.Texts.{refused}
 use Rattle.pgp_value_text.proofs.money.put_money.Goals as goal
 

@@ -1,7 +1,6 @@
 -- The octets so far were added.
 use Rattle.std.specs.Prelude.{◌≡◌, ◌++◌, take, string_bytes}
-use Rattle.std.specs.List.{flat_map}
-use Rattle.pgp_value_text.specs.Network.{octet_text}
+use Rattle.pgp_value_text.proofs.Common.{flat_map, octet_text}
 use Rattle.pgp_value_text.proofs.network.push_octets.Given as goal
 
 abbrev pub invariant-loop-octet : goal.invariant-loop-octet

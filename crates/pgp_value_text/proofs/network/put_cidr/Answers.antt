@@ -1,7 +1,4 @@
-use Rattle.pgp_value_text.proofs.Common.{true, refl, As}
-use Rattle.pgp_types.proofs.InetLemmas.{inet_sound}
-use Rattle.pgp_types.specs.Network.{inet}
-use Rattle.pgp_value_text.specs.Network.{network_text}
+use Rattle.pgp_value_text.proofs.Common.{true, refl, As, network_text, inet, inet_sound}
 use Rattle.pgp_value_text.proofs.Texts.{refused}
 use Rattle.pgp_value_text.proofs.network.put_cidr.Goals as goal
 

@@ -1,7 +1,4 @@
-use Rattle.pgp_value_text.proofs.Common.{refl, As}
-use Rattle.pgp_types.proofs.InetLemmas.{inet_sound}
-use Rattle.pgp_types.specs.Network.{inet}
-use Rattle.pgp_value_text.specs.Network.{has_netmask, network_text}
+use Rattle.pgp_value_text.proofs.Common.{refl, As, has_netmask, network_text, inet, inet_sound}
 use Rattle.pgp_value_text.proofs.Texts.{refused}
 use Rattle.pgp_value_text.proofs.network.put_inet.Goals as goal
 

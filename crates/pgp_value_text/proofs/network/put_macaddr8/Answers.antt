@@ -1,6 +1,4 @@
-use Rattle.pgp_value_text.proofs.Common.{refl, As}
-use Rattle.pgp_values.specs.Network.{macaddr8}
-use Rattle.pgp_value_text.specs.Network.{octets_text}
+use Rattle.pgp_value_text.proofs.Common.{refl, As, octets_text, macaddr8}
 use Rattle.pgp_value_text.proofs.Forms.{macaddr8_sound}
 use Rattle.pgp_value_text.proofs.Texts.{refused}
 use Rattle.pgp_value_text.proofs.network.put_macaddr8.Goals as goal

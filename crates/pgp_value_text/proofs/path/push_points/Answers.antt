@@ -1,7 +1,4 @@
-use Rattle.pgp_value_text.proofs.Common.{◌≡◌, ℕ, List, arith, rules, ◌++◌}
-use Rattle.pgp_base.specs.Walk.{IsFinished, TakesItem}
-use Rattle.pgp_value_text.specs.Figure.{ShowsPoint}
-use Rattle.pgp_value_text.specs.Parts.{listed}
+use Rattle.pgp_value_text.proofs.Common.{◌≡◌, ℕ, List, arith, rules, ◌++◌, ShowsPoint, listed, IsFinished, TakesItem}
 use Rattle.pgp_value_text.proofs.Figures.{one_point}
 use Rattle.pgp_value_text.proofs.Parts.{left_end, left_none, left_step}
 use Rattle.pgp_value_text.proofs.path.push_points.Goals as goal

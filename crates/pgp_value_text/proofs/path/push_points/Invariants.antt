@@ -1,5 +1,4 @@
-use Rattle.pgp_value_text.specs.Figure.{ShowsPoint}
-use Rattle.pgp_value_text.specs.Parts.{listed}
+use Rattle.pgp_value_text.proofs.Common.{ShowsPoint, listed}
 use Rattle.pgp_value_text.proofs.Parts.{Left}
 use Rattle.pgp_value_text.proofs.path.push_points.Given as goal
 

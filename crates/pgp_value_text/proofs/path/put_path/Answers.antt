@@ -1,7 +1,4 @@
-use Rattle.pgp_value_text.proofs.Common.{refl}
-use Rattle.pgp_types.proofs.PathLemmas.{path_sound}
-use Rattle.pgp_types.specs.Path.{path}
-use Rattle.pgp_value_text.specs.Figure.{ShowsPath}
+use Rattle.pgp_value_text.proofs.Common.{refl, ShowsPath, path, path_sound}
 use Rattle.pgp_value_text.proofs.Texts.{refused, tells_read}
 use Rattle.pgp_value_text.proofs.path.put_path.Goals as goal
 

@@ -1,7 +1,6 @@
 -- None so far.
 use Rattle.std.specs.Prelude.{◌≡◌, false, take}
-use Rattle.std.specs.List.{list_any}
-use Rattle.pgp_value_text.specs.Quoting.{is_special}
+use Rattle.pgp_value_text.proofs.Common.{list_any, is_special}
 use Rattle.pgp_value_text.proofs.quoting.has_special.Given as goal
 
 abbrev pub invariant-loop-byte : goal.invariant-loop-byte

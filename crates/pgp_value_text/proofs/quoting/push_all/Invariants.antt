@@ -1,7 +1,6 @@
 -- The bytes so far were added.
 use Rattle.std.specs.Prelude.{◌≡◌, ◌++◌, take}
-use Rattle.std.specs.List.{flat_map}
-use Rattle.pgp_value_text.specs.Quoting.{escaped_byte}
+use Rattle.pgp_value_text.proofs.Common.{flat_map, escaped_byte}
 use Rattle.pgp_value_text.proofs.quoting.push_all.Given as goal
 
 abbrev pub invariant-loop-byte : goal.invariant-loop-byte

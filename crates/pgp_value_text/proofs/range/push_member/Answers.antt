@@ -1,7 +1,5 @@
-use Rattle.pgp_types.proofs.RangeLemmas.{range_sound}
-use Rattle.pgp_types.specs.Range.{range}
 use Rattle.pgp_types.specs.RangeReading.{shown_range}
-use Rattle.pgp_value_text.specs.RangeText.{ShowsRange}
+use Rattle.pgp_value_text.proofs.Common.{ShowsRange, range, range_sound}
 use Rattle.pgp_value_text.proofs.Texts.{pushes_read, refused}
 use Rattle.pgp_value_text.proofs.range.push_member.Goals as goal
 

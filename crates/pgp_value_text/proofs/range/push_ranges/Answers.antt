@@ -1,8 +1,4 @@
-use Rattle.pgp_value_text.proofs.Common.{◌≡◌, ℕ, List, arith, rules, ◌++◌, Shows}
-use Rattle.pgp_base.specs.Walk.{IsFinished, TakesItem}
-use Rattle.pgp_types.specs.Range.{range}
-use Rattle.pgp_value_text.specs.Parts.{listed}
-use Rattle.pgp_value_text.specs.RangeText.{ShowsRange}
+use Rattle.pgp_value_text.proofs.Common.{◌≡◌, ℕ, List, arith, rules, ◌++◌, Shows, listed, ShowsRange, IsFinished, TakesItem, range}
 use Rattle.pgp_value_text.proofs.Parts.{left_end, left_none, left_step}
 use Rattle.pgp_value_text.proofs.Ranges.{one_member}
 use Rattle.pgp_value_text.proofs.range.push_ranges.Goals as goal

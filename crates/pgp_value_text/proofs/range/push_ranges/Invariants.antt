@@ -1,7 +1,4 @@
-use Rattle.pgp_types.specs.Range.{range}
-use Rattle.pgp_value_text.specs.Parts.{listed}
-use Rattle.pgp_value_text.specs.RangeText.{ShowsRange}
-use Rattle.pgp_value_text.specs.ValueText.{Shows}
+use Rattle.pgp_value_text.proofs.Common.{listed, ShowsRange, range, Shows}
 use Rattle.pgp_value_text.proofs.Parts.{Left}
 use Rattle.pgp_value_text.proofs.range.push_ranges.Given as goal
 

@@ -1,7 +1,4 @@
-use Rattle.pgp_value_text.proofs.Common.{refl}
-use Rattle.pgp_values.proofs.Items.{multirange_sound}
-use Rattle.pgp_values.specs.Multirange.{multirange}
-use Rattle.pgp_value_text.specs.RangeText.{ShowsMultirange}
+use Rattle.pgp_value_text.proofs.Common.{refl, ShowsMultirange, multirange, multirange_sound}
 use Rattle.pgp_value_text.proofs.Texts.{refused, tells_read}
 use Rattle.pgp_value_text.proofs.range.put_multirange.Goals as goal
 

@@ -1,6 +1,4 @@
-use Rattle.pgp_value_text.proofs.Common.{◌≡◌, ℕ, List, ◌++◌, ap, ◌∙◌, sym, subst, Shows}
-use Rattle.pgp_types.specs.Range.{range}
-use Rattle.pgp_value_text.specs.RangeText.{ShowsRange}
+use Rattle.pgp_value_text.proofs.Common.{◌≡◌, ℕ, List, ◌++◌, ap, ◌∙◌, sym, subst, Shows, ShowsRange, range}
 use Rattle.pgp_value_text.proofs.Texts.{tells_one}
 use Rattle.pgp_value_text.proofs.range.put_range.Goals as goal
 

@@ -1,6 +1,6 @@
 use Rattle.std.proofs.Common.{◌+◌, ◌-◌, ◌/◌, ◌%◌, ◌∷◌, ◌++◌, sym, ap, ◌∙◌, arith}
 use Rattle.std.proofs.Math.Seq.{append_snoc}
-use Rattle.pgp_value_text.specs.Float.{last_digits}
+use Rattle.pgp_value_text.proofs.Common.{last_digits}
 use Rattle.pgp_value_text.proofs.Rounding.{first_digit}
 use Rattle.pgp_value_text.proofs.rounded.put_last.Goals as goal
 

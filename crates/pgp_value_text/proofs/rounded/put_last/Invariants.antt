@@ -1,7 +1,7 @@
 -- The digits so far, and those that are left.
 use Rattle.std.specs.Prelude.{◌≡◌, ◌+◌, ◌-◌, ◌++◌}
 use Rattle.arrayvec.specs.ArrayString.{array_string_len}
-use Rattle.pgp_value_text.specs.Float.{last_digits}
+use Rattle.pgp_value_text.proofs.Common.{last_digits}
 use Rattle.pgp_value_text.proofs.rounded.put_last.Given as goal
 
 abbrev pub invariant-digits : goal.invariant-digits

@@ -1,6 +1,6 @@
 -- With more places it has more digits.
 use Rattle.std.specs.Prelude.{ℕ, ◌+◌, ◌^◌, ◌<◌, ◌≤◌}
-use Rattle.pgp_value_text.specs.Float.{scaled}
+use Rattle.pgp_value_text.proofs.Common.{scaled}
 use Rattle.pgp_value_text.proofs.rounded.rounded.Given as goal
 
 abbrev pub invariant-places : goal.invariant-places

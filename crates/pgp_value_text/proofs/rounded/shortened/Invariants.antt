@@ -1,6 +1,6 @@
 -- What is left is shown alike.
 use Rattle.std.specs.Prelude.{◌≡◌, ◌+◌}
-use Rattle.pgp_value_text.specs.Float.{trimmed}
+use Rattle.pgp_value_text.proofs.Common.{trimmed}
 use Rattle.pgp_value_text.proofs.rounded.shortened.Given as goal
 
 abbrev pub invariant-zeros : goal.invariant-zeros

@@ -1,6 +1,5 @@
 use Rattle.std.proofs.Common.{◌≢◌, ℕ, ◌*◌, ◌^◌, ◌≤◌, ◌-◌, List, Option, Some, None, sym, subst, arith, IfSome, IfNone}
-use Rattle.pgp_value_text.specs.Float.{trimmed, HasDigits, ShowsSize}
-use Rattle.std.specs.Fmt.{decimal}
+use Rattle.pgp_value_text.proofs.Common.{trimmed, HasDigits, ShowsSize, decimal}
 use Rattle.pgp_value_text.specs.declared.rounded.Pointed.{Pointed}
 use Rattle.pgp_value_text.proofs.Sizes.{moved_back, moved_large, moved_shows, moved_small, zero_shows}
 use Rattle.pgp_value_text.proofs.rounded.sized.Goals as goal

@@ -1,7 +1,6 @@
 -- Those so far begin at 1.
 use Rattle.std.specs.Prelude.{◌≡◌, length, None}
-use Rattle.std.specs.List.{list_all}
-use Rattle.pgp_value_text.specs.ArrayText.{begins_at_one}
+use Rattle.pgp_value_text.proofs.Common.{begins_at_one, list_all}
 use Rattle.pgp_value_text.proofs.rows.begin_at_one.Given as goal
 
 abbrev pub invariant-dimensions : goal.invariant-dimensions

@@ -1,6 +1,6 @@
 -- The braces so far, and those of the parts that are left.
 use Rattle.std.specs.Prelude.{◌≡◌, ◌++◌, length, None}
-use Rattle.pgp_value_text.specs.ArrayText.{braces}
+use Rattle.pgp_value_text.proofs.Common.{braces}
 use Rattle.pgp_value_text.proofs.rows.push_braces.Given as goal
 
 abbrev pub invariant-rows : goal.invariant-rows

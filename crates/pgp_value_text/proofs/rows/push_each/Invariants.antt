@@ -1,7 +1,6 @@
 -- The bounds so far, and those that are left.
 use Rattle.std.specs.Prelude.{◌≡◌, ◌++◌, length, None}
-use Rattle.std.specs.List.{flat_map}
-use Rattle.pgp_value_text.specs.ArrayText.{bounds_text}
+use Rattle.pgp_value_text.proofs.Common.{bounds_text, flat_map}
 use Rattle.pgp_value_text.proofs.rows.push_each.Given as goal
 
 abbrev pub invariant-dimensions : goal.invariant-dimensions

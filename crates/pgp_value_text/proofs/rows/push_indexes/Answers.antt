@@ -1,7 +1,5 @@
 use Rattle.std.proofs.Common.{◌≡◌, ◌++◌, ◌∙◌, subst}
-use Rattle.std.proofs.Math.Facts.{to_z-of_z}
-use Rattle.std.specs.Prelude.{OnOk, string_bytes}
-use Rattle.pgp_value_text.specs.ArrayText.{indexes_text}
+use Rattle.pgp_value_text.proofs.Common.{OnOk, string_bytes, indexes_text, to_z-of_z}
 use Rattle.pgp_value_text.proofs.rows.push_indexes.Goals as goal
 
 pub returns-clause-ok : goal.returns-clause-ok

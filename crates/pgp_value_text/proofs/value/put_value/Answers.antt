@@ -1,5 +1,4 @@
-use Rattle.pgp_value_text.proofs.Common.{In, subst, Tells}
-use Rattle.pgp_value_text.specs.TextOf.{IsTextBy}
+use Rattle.pgp_value_text.proofs.Common.{In, subst, Tells, IsTextBy}
 use Rattle.pgp_value_text.proofs.value.put_value.Goals as goal
 
 pub returns : goal.returns

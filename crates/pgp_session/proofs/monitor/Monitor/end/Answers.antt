@@ -1,4 +1,4 @@
-use Rattle.std.proofs.Common.{ap, ℕ, List, true}
+use Rattle.pgp_session.proofs.Common.{ap, ℕ, List, true}
 use Rattle.pgp_session.specs.Monitor.{Shown, shown}
 use Rattle.pgp_session.proofs.MonitorSteps.{ends}
 use Rattle.pgp_session.proofs.monitor.Monitor.end.Goals as goal

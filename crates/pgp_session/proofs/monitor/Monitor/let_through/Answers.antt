@@ -1,5 +1,4 @@
-use Rattle.std.proofs.Common.{rules, ◌≡◌, ◌++◌, take, ap}
-use Rattle.pgp_session.specs.Answered.{IsFront}
+use Rattle.pgp_session.proofs.Common.{rules, ◌≡◌, ◌++◌, take, ap, IsFront}
 use Rattle.pgp_session.specs.Monitor.{Shown, shown}
 use Rattle.pgp_session.proofs.MonitorFronts.{not_admitted, passed_so}
 use Rattle.pgp_session.proofs.monitor.Monitor.let_through.Goals as goal

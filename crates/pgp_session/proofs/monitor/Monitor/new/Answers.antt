@@ -1,4 +1,4 @@
-use Rattle.std.proofs.Common.{rules}
+use Rattle.pgp_session.proofs.Common.{rules}
 use Rattle.pgp_session.proofs.MonitorSteps.{begins}
 use Rattle.pgp_session.proofs.monitor.Monitor.new.Goals as goal
 
