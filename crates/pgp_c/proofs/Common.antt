@@ -24,7 +24,7 @@ pub use Rattle.pgp_base.proofs.Errors.{same_number}
 pub use Rattle.pgp_base.proofs.Needs.{wants_window, counted_length, flat_more, nullable_least, sized_wants, counted_wants, memory_more, memory_then}
 pub use Rattle.pgp_base.proofs.PartLemmas.{front_again, oid_number, uint16_number, int32_number, no_string, some_none, string_none}
 pub use Rattle.pgp_base.proofs.Parts.{length-uint32, length-uint16, wants_here, wants_more, more_twice, null_spelled, more_parts, more_bytes, front_same, if_err_at, wants_then, wants_now}
-pub use Rattle.pgp_base.proofs.Strings.{string_front, string_takes, string_whole}
+pub use Rattle.pgp_base.proofs.Strings.{string_takes, string_whole}
 pub use Rattle.pgp_base.specs.Calls.{Gives, Runs, KeepsValue, Yielded, SoFar}
 pub use Rattle.pgp_base.specs.Cause.{first, length_cause, nullable_cause, Cause, counted_cause, count_cause, either, text_cause, Wants, WantsMemory, Writes}
 pub use Rattle.pgp_base.specs.Error.{number_of, plain}
@@ -34,7 +34,7 @@ pub use Rattle.pgp_base.specs.Items.{Unmarked}
 pub use Rattle.pgp_base.specs.PartReading.{oid_at, string_at, ◌>>=◌, text_at, uint16_at}
 pub use Rattle.pgp_base.specs.Walk.{Walk, hint_of}
 pub use Rattle.pgp_base.specs.Window.{window_held, window_lacks}
-pub use Rattle.pgp_base.specs.Wire.{IsBytes, nullable, counted, oid, text, frame, HasNoZero}
+pub use Rattle.pgp_base.specs.Wire.{IsBytes, nullable, counted, oid, text, frame}
 unfoldable pub use Rattle.pgp_base.specs.Wire.{uint32, int32, int16, uint16, uint64}
 pub use Rattle.pgp_base.specs.declared.error.Error.{Error}
 pub use Rattle.pgp_base.specs.declared.error.Error.TheVariants.{TooLarge, NotDrained, UnexpectedEof, OutOfMemory, UnknownTag, UnknownAuthentication, InvalidValueLength}
@@ -70,7 +70,7 @@ pub use Rattle.pgp_types.specs.Array.{Product, array, array_bytes, dimension_byt
 pub use Rattle.pgp_types.specs.Format.{Format, FixedRefused, IsBlock}
 pub use Rattle.pgp_types.specs.Geometry.{Point, IsPoint, point_bytes}
 pub use Rattle.pgp_types.specs.Hstore.{Entry, entry, entry_count, HstoreReads, IsEntry, IsTextOrNull, entry_cause, hstore}
-pub use Rattle.pgp_types.specs.Network.{Inet, InetReads, inet}
+pub use Rattle.pgp_types.specs.Network.{Inet, InetReads}
 pub use Rattle.pgp_types.specs.Part.{Begins, NullableSpelled, shown}
 pub use Rattle.pgp_types.specs.Path.{PathReads, WalkedPath, header, point_part, path}
 pub use Rattle.pgp_types.specs.Range.{Side, between, RangeReads, SideSpelled, lower_bits, upper_bits, Bits, range_cause, side_cause, range_bytes, side_bytes}

@@ -42,6 +42,10 @@ module _ {F B K : Type 0} (held : B → Held K) (step : F → Bor PgpValue → M
       let rest = all_made (here ⊕ nullable v) r.0 xs vs t r.2 in
       ap (λ y. y ∷ vs) first ∙ ap (λ l. value_of x.now ∷ l) rest
 
+-- an iterator is made of itself
+abbrev pub FromItself : {S : Type 0} → S → S → Type 0
+FromItself source it = it ≡ source
+
 -- all items came of an iterator over a list
 pub all_received : {S A B : Type 0} (steps : S → Option A → S → Type 0) (v : A → B) (s : S) (all : List B) → YieldsList steps v s all → (xs : List A) (left : S) → YieldsThen steps s xs None left → map v xs ≡ all
 all_received steps v s all road xs left received = items_from_drains xs (received.0, received.1, λ _. (left, received.2)) road

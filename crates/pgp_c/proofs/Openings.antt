@@ -1,6 +1,7 @@
 -- The packet of the names and values that C hands over.
 use Rattle.pgp_c.proofs.Common.{◌≡◌, ◌⊎◌, ℕ, ◌≤◌, List, [], ◌∷◌, ◌++◌, map, length, Option, Some, None, Bor, refl, sym, ap, subst, ◌∙◌, inl, inr, arith, length-append, append_assoc, Mut, GName, Called, map_source, map_callee, Map, maps, YieldsList, YieldsList-from_map_by, flat_map, option_to_list, append-nil, map-append, flat_map-append, Yielded, first, Wants, WantsMemory, Held, window_lacks, Error, either_first, first-append, wants_more, Startup, Arrived, StartupWhole, StartupSoFar, Refused, shown_pairs, Int32, minor_of, version_code, pair, pair_cause, parts, parts_cause, bytes_of, cause, ProtocolVersion, last_cause, refused_pairs, startup_length, all_given, some_given, PgpPair, pair_of}
 use Rattle.pgp_frontend.specs.Given.{shown}
+use Rattle.pgp_c.proofs.Lists.{FromItself}
 
 module _ (v : ProtocolVersion) (all : List (List ℕ × List ℕ)) where
   module _ (xs : List (Bor (List ℕ) × Bor (List ℕ))) (more : List (List ℕ × List ℕ)) (is : all ≡ map shown xs ++ more) where
@@ -41,10 +42,6 @@ module _ (v : ProtocolVersion) (all : List (List ℕ × List ℕ)) where
           | inr c ↦ inr (caused xs f.0 f.1 e (ap (λ m. parts_cause (parts m)) (sym k.1.2) ∙ c))
         ]
     startup_refused old e (inr r) = inr (ap (λ l. cause (Startup (minor_of v) l)) (sym (given_all r.1.0 r.1.1)) ∙ ap cause (sym r.1.2) ∙ r.3)
-
--- an iterator is made of itself
-abbrev FromItself : {S : Type 0} → S → S → Type 0
-FromItself source it = it ≡ source
 
 pub pair_is : (r : Bor (List ℕ) × Bor (List ℕ)) (p : PgpPair) → r.0.now ≡ p.name.now → r.1.now ≡ p.value.now → shown r ≡ pair_of p
 pair_is r p e f = rw (e, f) refl

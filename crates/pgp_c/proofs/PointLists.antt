@@ -1,6 +1,7 @@
--- The points of polygons and paths.
+-- The points of polygons and paths, and what they have in common with other values of a fixed size.
 use Rattle.pgp_c.proofs.Common.{◌≡◌, ℕ, ◌+◌, Bool, true, false, List, [], ◌∷◌, ◌++◌, length, map, None, Some, Ok, refl, sym, ap, subst, ◌∙◌, arith, length-append, Cause, either, first, length_cause, StandsAt, hint_of, uint64, Error, length-uint32, FixedRefused, Point, Begins, PathReads, WalkedPath, header, point_part, BoolReads, polygon, BeginsPath, rest_of}
 use Rattle.pgp_base.specs.declared.error.Error.TheVariants as errors
+use Rattle.pgp_types.specs.Part.{Part}
 use Rattle.pgp_c.proofs.Walks.{rest_after}
 
 -- no point has a cause
@@ -15,13 +16,13 @@ alone (Some e) = refl
 pub corner_cause : (ps : List Point) → polygon.cause ps ≡ length_cause (length ps)
 corner_cause ps = ap (λ d. either (length_cause (length ps)) d) (none_first ps) ∙ alone (length_cause (length ps))
 
--- sixteen bytes are a point
-pub never_rejected : (front : List ℕ) (e : Error) → length front ≡ 16 → FixedRefused 16 front e → ⊥
-never_rejected front errors.UnexpectedEof size short = omega (arith, size, short)
-never_rejected front errors.NotDrained size long = omega (arith, size, long)
-never_rejected front e size r = absurd r
+-- bytes of a value's size are a value
+pub never_rejected : (n : ℕ) (front : List ℕ) (e : Error) → length front ≡ n → FixedRefused n front e → ⊥
+never_rejected n front errors.UnexpectedEof size short = omega (arith, size, short)
+never_rejected n front errors.NotDrained size long = omega (arith, size, long)
+never_rejected n front e size r = absurd r
 
-length-uint64 : (n : ℕ) → length (uint64 n) ≡ 8
+pub length-uint64 : (n : ℕ) → length (uint64 n) ≡ 8
 unfolding uint64
 length-uint64 n = refl
 
@@ -29,8 +30,8 @@ pub point_long : (rest more : List ℕ) (p : Point) → Begins point_part rest p
 point_long rest more p b =
     omega (arith, ap length b.whole, length-append b.front more, ap length b.spelled.1, length-append (uint64 p.x) (uint64 p.y), length-uint64 p.x, length-uint64 p.y)
 
-pub point_stands : (at : ℕ) (rest more : List ℕ) (p : Point) → Begins point_part rest p more → StandsAt (λ place. point_part.Spelled) at rest p more
-point_stands at rest more p b = record { front = b.front; whole = b.whole; spelled = b.spelled }
+pub value_stands : {V : Type 0} (part : Part V) (at : ℕ) (rest more : List ℕ) (x : V) → Begins part rest x more → StandsAt (λ place. part.Spelled) at rest x more
+value_stands part at rest more x b = record { front = b.front; whole = b.whole; spelled = b.spelled }
 
 flag_size : (front : List ℕ) (b : Bool) → BoolReads front (Ok b) → length front ≡ 1
 flag_size front false is = ap length is

@@ -3,6 +3,7 @@ use Rattle.pgp_c.proofs.Common.{◌≡◌, ℕ, ℤ, pos, ◌+◌, ◌≤◌, Li
 use Rattle.pgp_message_write.specs.Given.{items_cause}
 use Rattle.pgp_message_write.specs.Reply.{bytes_of}
 use Rattle.pgp_message_write.proofs.Lists.{joined-append}
+use Rattle.pgp_c.proofs.Lists.{FromItself}
 use Rattle.pgp_c.proofs.NeverMemory.{Never, never_none}
 use Rattle.pgp_c.proofs.Replies.{list_replied, list_not_replied}
 
@@ -65,9 +66,6 @@ pub never_uncounted : (n : ℕ) → Never (uncounted n)
 never_uncounted n = never_none
 
 -- ---- items that a function makes of those of a slice
-
-abbrev pub FromItself : {S : Type 0} → S → S → Type 0
-FromItself source it = it ≡ source
 
 module _ {S F C R V : Type 0} (view : R → V) (of : C → V) (number : ℕ → Cause) (ps : List V → List Part) (message : List V → Message) (none_first : items_cause number ps [] ≡ None)
     (longer : (xs more : List V) → length (bytes_of (message xs)) ≤ length (bytes_of (message (xs ++ more)))) (steps : S → Option (Bor C) → S → Type 0) (g : Mut F (Bor C × Unit {0}) R) (source : Map S F) (all : List C)

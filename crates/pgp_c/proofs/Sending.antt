@@ -53,19 +53,19 @@ refuses m n is w old name new e code reported why code_is none = subst (λ k. No
 })
 
 -- both from the core's answer, which the call after it reported
-pub sends_ended : (m n : ClientMessage) → n ≡ m → (w v : Window) (old : List ℕ) (name : GName) → window_held w ≡ record { bytes = []; behind = old; kept = (name, length old) }
-    → (r : Result (Unit {0}) Error) → WritesMessage n window_lacks (window_held w) (window_held v) r
+pub sends_ended : (m : ClientMessage) (w v : Window) (old : List ℕ) (name : GName) → window_held w ≡ record { bytes = []; behind = old; kept = (name, length old) }
+    → (r : Result (Unit {0}) Error) → WritesMessage m window_lacks (window_held w) (window_held v) r
     → (x : List ℕ) → (name ≡ v.room.ghost_name → x ≡ v.room.now) → (reported : ℕ) → (r ≡ Ok tt) × (reported ≡ length (take v.len v.room.now)) → Sent m old x reported
-sends_ended m n is w v old name new r writes x at_last reported ended =
-    let e : WritesMessage n window_lacks (window_held w) (window_held v) (Ok tt) = subst (λ r. WritesMessage n window_lacks (window_held w) (window_held v) r) ended.0 writes in
-    sends m n is w v old name new e.0 e.1.0 e.1.1 x at_last reported ended.1
+sends_ended m w v old name new r writes x at_last reported ended =
+    let e : WritesMessage m window_lacks (window_held w) (window_held v) (Ok tt) = subst (λ r. WritesMessage m window_lacks (window_held w) (window_held v) r) ended.0 writes in
+    sends m m refl w v old name new e.0 e.1.0 e.1.1 x at_last reported ended.1
 
-pub refuses_ended : (m n : ClientMessage) → n ≡ m → (w v : Window) (old : List ℕ) (name : GName) → window_held w ≡ record { bytes = []; behind = old; kept = (name, length old) }
-    → (r : Result (Unit {0}) Error) → WritesMessage n window_lacks (window_held w) (window_held v) r
+pub refuses_ended : (m : ClientMessage) (w v : Window) (old : List ℕ) (name : GName) → window_held w ≡ record { bytes = []; behind = old; kept = (name, length old) }
+    → (r : Result (Unit {0}) Error) → WritesMessage m window_lacks (window_held w) (window_held v) r
     → (code reported : ℕ) → (e : Error) × (r ≡ Err e) × (code ≡ number_of e) × (reported ≡ 0) → NotSent m old reported code
-refuses_ended m n is w v old name new r writes code reported ended =
-    let e : WritesMessage n window_lacks (window_held w) (window_held v) (Err ended.0) = subst (λ r. WritesMessage n window_lacks (window_held w) (window_held v) r) ended.1 writes in
-    refuses m n is w old name new ended.0 code reported e.1.0 ended.2 ended.3
+refuses_ended m w v old name new r writes code reported ended =
+    let e : WritesMessage m window_lacks (window_held w) (window_held v) (Err ended.0) = subst (λ r. WritesMessage m window_lacks (window_held w) (window_held v) r) ended.1 writes in
+    refuses m m refl w old name new ended.0 code reported e.1.0 ended.2 ended.3
 
 -- the same for the spelling of a value
 pub wrote : (p q : List ℕ) → q ≡ p → (w v : Window) (old : List ℕ) (name : GName) → window_held w ≡ record { bytes = []; behind = old; kept = (name, length old) }

@@ -1,23 +1,10 @@
 -- The transactions of a snapshot.
-use Rattle.pgp_c.proofs.Common.{◌≡◌, ℕ, ◌+◌, List, ◌++◌, length, Ok, refl, sym, ap, subst, ◌∙◌, arith, length-append, StandsAt, hint_of, uint64, Error, length-uint32, FixedRefused, Begins, SnapshotReads, WalkedSnapshot, snapshot_head, xid_part, rest_of}
-use Rattle.pgp_base.specs.declared.error.Error.TheVariants as errors
+use Rattle.pgp_c.proofs.Common.{◌≡◌, ℕ, ◌+◌, List, ◌++◌, length, Ok, sym, ap, subst, ◌∙◌, arith, length-append, hint_of, length-uint32, Begins, SnapshotReads, WalkedSnapshot, snapshot_head, xid_part, rest_of}
+use Rattle.pgp_c.proofs.PointLists.{length-uint64}
 use Rattle.pgp_c.proofs.Walks.{rest_after}
-
--- eight bytes are a transaction
-pub no_xid : (front : List ℕ) (e : Error) → length front ≡ 8 → FixedRefused 8 front e → ⊥
-no_xid front errors.UnexpectedEof size short = omega (arith, size, short)
-no_xid front errors.NotDrained size long = omega (arith, size, long)
-no_xid front e size r = absurd r
-
-pub length-uint64 : (n : ℕ) → length (uint64 n) ≡ 8
-unfolding uint64
-length-uint64 n = refl
 
 pub xid_long : (rest more : List ℕ) (n : ℕ) → Begins xid_part rest n more → length rest ≡ 8 + length more
 xid_long rest more n b = omega (arith, ap length b.whole, length-append b.front more, ap length b.spelled.1, length-uint64 n)
-
-pub xid_stands : (at : ℕ) (rest more : List ℕ) (n : ℕ) → Begins xid_part rest n more → StandsAt (λ place. xid_part.Spelled) at rest n more
-xid_stands at rest more n b = record { front = b.front; whole = b.whole; spelled = b.spelled }
 
 -- the transactions that are announced stand after their number and the two bounds
 pub begins_snapshot : (bytes : List ℕ) (n xmin xmax end : ℕ) (w : WalkedSnapshot) → SnapshotReads bytes (Ok w) → xmin ≡ w.xmin → xmax ≡ w.xmax → n ≡ (hint_of w.running.announced).0 → end ≡ length bytes

@@ -7,7 +7,7 @@ ghost use Rattle.pgp_values.specs.Network.{macaddr8};
 ghost use Rattle.pgp_c.specs.Values.{Wrote, Lacks, Refuses};
 
 use crate::scalar::{Scalar, put};
-use crate::status::{failed, refused};
+use crate::status::{read, refused};
 
 /// Writes a `uuid`, which has 16 bytes.
 #[unsafe(no_mangle)]
@@ -27,10 +27,7 @@ pub extern "C" fn pgp_get_uuid(bytes: &[u8]) -> u32
     ensures read { result ≡ 0 → Reads uuid bytes.now (Ok bytes.now) }
     ensures refused { result ≢ 0 → Refuses uuid bytes.now result }
 {
-    match pgp_types::uuid_from_sql(bytes) {
-        Ok(_) => 0,
-        Err(e) => failed(e),
-    }
+    read(pgp_types::uuid_from_sql(bytes), &mut [0; 16])
 }
 
 /// Writes a `macaddr`, which has 6 bytes.
@@ -51,10 +48,7 @@ pub extern "C" fn pgp_get_macaddr(bytes: &[u8]) -> u32
     ensures read { result ≡ 0 → Reads macaddr bytes.now (Ok bytes.now) }
     ensures refused { result ≢ 0 → Refuses macaddr bytes.now result }
 {
-    match pgp_types::macaddr_from_sql(bytes) {
-        Ok(_) => 0,
-        Err(e) => failed(e),
-    }
+    read(pgp_types::macaddr_from_sql(bytes), &mut [0; 6])
 }
 
 /// Writes a `macaddr8`, which has 8 bytes.
@@ -75,8 +69,5 @@ pub extern "C" fn pgp_get_macaddr8(bytes: &[u8]) -> u32
     ensures read { result ≡ 0 → Reads macaddr8 bytes.now (Ok bytes.now) }
     ensures refused { result ≢ 0 → Refuses macaddr8 bytes.now result }
 {
-    match pgp_values::macaddr8_from_sql(bytes) {
-        Ok(_) => 0,
-        Err(e) => failed(e),
-    }
+    read(pgp_values::macaddr8_from_sql(bytes), &mut [0; 8])
 }

@@ -15,6 +15,7 @@ ghost use Rattle.pgp_c.specs.Putting.{IsNoList, elements_cause, elements_of, fla
 ghost use Rattle.pgp_c.specs.Values.{Lacks, Refuses, Wrote};
 ghost use Rattle.pgp_c.specs.Walks.{IsEnded, RefusesItem, Takes, TakesAll};
 
+use crate::array_writing::put_two;
 use crate::cursor::{Listed, PgpCursor, all_counted, next_counted};
 use crate::list_writing::{Written, put_items};
 use crate::listing::PgpValue;
@@ -239,10 +240,8 @@ fn put_list_head<B: Buffer>(
     ensures cause { IfErr result (λ e. WantsMemory (Wants B.Lacks (B.held buf.old) 20) e ⊎ ((e ≡ Error.TooLarge) × (2147483647 < length elements.now))) }
 {
     let count = length_field(elements.len())?;
-    put_u32(buf, 1)?;
-    put_u32(buf, flag(elements))?;
-    put_u32(buf, element_type)?;
-    put_u32(buf, count)?;
+    put_two(1, flag(elements), buf)?;
+    put_two(element_type, count, buf)?;
     put_u32(buf, 1)?;
     Ok(())
 }

@@ -90,7 +90,9 @@ fn put_head<B: Buffer>(count: usize, flag: u32, element_type: u32, buf: &mut B) 
 }
 
 /// Two numbers.
-fn put_two<B: Buffer>(one: u32, two: u32, buf: &mut B) -> Result<(), Error>
+// The hint carries the speed.
+#[inline(always)]
+pub(crate) fn put_two<B: Buffer>(one: u32, two: u32, buf: &mut B) -> Result<(), Error>
     ensures ok { OnOk result (B.held buf.new ≡ B.held buf.old ⊕ (uint32 one ++ uint32 two)) }
     ensures cause { IfErr result (WantsMemory (Wants B.Lacks (B.held buf.old) 8)) }
 {

@@ -9,9 +9,9 @@ ghost use Rattle.pgp_frontend.specs.ClientMessage.{CopyData as DataMessage};
 ghost use Rattle.pgp_c.specs.Copying.{SentHead, NoHead};
 ghost use Rattle.pgp_c.specs.Sending.{Sent, NotSent};
 
+use crate::message::{PlainMessage, send};
 use crate::status::{refused, sent};
 use pgp_base::{Buffer, Error, Window, put_u8, put_u32};
-use pgp_frontend::CopyData;
 
 /// The most data that one message can have.
 const MOST: usize = 2_147_483_643;
@@ -22,15 +22,7 @@ pub extern "C" fn pgp_copy_data(bytes: &[u8], out: &mut [u8], written: &mut usiz
     ensures sent { result ≡ 0 → Sent (DataMessage bytes.now) out.old out.new written.new }
     ensures refused { result ≢ 0 → NotSent (DataMessage bytes.now) out.old written.new result }
 {
-    let piece = match CopyData::new(bytes) {
-        Ok(piece) => piece,
-        Err(e) => return refused(e, written),
-    };
-    let mut window = Window::new(out);
-    match piece.write(&mut window) {
-        Ok(()) => sent(&window, written),
-        Err(_) => refused(Error::OutOfMemory, written),
-    }
+    send(PlainMessage::CopyData(bytes), out, written)
 }
 
 /// The head of a message with so many bytes of data, which stand after it.

@@ -25,6 +25,20 @@ pub struct PgpCursor {
     pub left: usize,
 }
 
+/// Sets the cursor of a list that ends with the bytes, and whose items stand after their number.
+#[inline(always)]
+pub fn begin(bytes: &[u8], count: usize, cursor: &mut PgpCursor) -> u32
+    ensures zero { result ≡ 0 }
+    ensures set { cursor.new ≡ record { at = 4; end = length bytes.now; left = count } }
+{
+    *cursor = PgpCursor {
+        at: 4,
+        end: bytes.len(),
+        left: count,
+    };
+    0
+}
+
 /// A kind of lists.
 pub trait Listed {
     /// An item, by its places among the caller's bytes.

@@ -8,7 +8,7 @@ ghost use Rattle.pgp_c.specs.Geometry.{box_of, circle_of, line_of, point_of, seg
 ghost use Rattle.pgp_c.specs.Values.{Lacks, Refuses, Wrote};
 
 use crate::scalar::{Scalar, put};
-use crate::status::failed;
+use crate::status::{failed, found};
 use pgp_types::Point;
 use pgp_values::{Circle, Line, Segment};
 
@@ -80,10 +80,7 @@ pub extern "C" fn pgp_get_point(bytes: &[u8], value: &mut PgpPoint) -> u32
     ensures left { result ≢ 0 → value.new ≡ value.old }
 {
     match pgp_types::point_from_sql(bytes) {
-        Ok(read) => {
-            *value = shown(read);
-            0
-        }
+        Ok(read) => found(shown(read), value),
         Err(e) => failed(e),
     }
 }
@@ -123,12 +120,8 @@ pub extern "C" fn pgp_put_line(value: &PgpLine, out: &mut [u8], written: &mut us
     ensures wrote { result ≡ 0 → Wrote (line.written (line_of value.now)) out.old out.new written.new }
     ensures lacks { result ≢ 0 → Lacks (line.written (line_of value.now)) out.old written.new result }
 {
-    let line = Line {
-        a: value.a,
-        b: value.b,
-        c: value.c,
-    };
-    put(Scalar::Line(line), out, written)
+    let PgpLine { a, b, c } = *value;
+    put(Scalar::Line(Line { a, b, c }), out, written)
 }
 
 /// Reads a `line`, from all of the bytes.
@@ -139,14 +132,7 @@ pub extern "C" fn pgp_get_line(bytes: &[u8], value: &mut PgpLine) -> u32
     ensures left { result ≢ 0 → value.new ≡ value.old }
 {
     match pgp_values::line_from_sql(bytes) {
-        Ok(line) => {
-            *value = PgpLine {
-                a: line.a,
-                b: line.b,
-                c: line.c,
-            };
-            0
-        }
+        Ok(Line { a, b, c }) => found(PgpLine { a, b, c }, value),
         Err(e) => failed(e),
     }
 }
@@ -157,13 +143,9 @@ pub extern "C" fn pgp_put_lseg(value: &PgpLseg, out: &mut [u8], written: &mut us
     ensures wrote { result ≡ 0 → Wrote (lseg.written (segment_of value.now)) out.old out.new written.new }
     ensures lacks { result ≢ 0 → Lacks (lseg.written (segment_of value.now)) out.old written.new result }
 {
-    let segment = Segment {
-        x1: value.start.x,
-        y1: value.start.y,
-        x2: value.end.x,
-        y2: value.end.y,
-    };
-    put(Scalar::Lseg(segment), out, written)
+    let PgpPoint { x: x1, y: y1 } = value.start;
+    let PgpPoint { x: x2, y: y2 } = value.end;
+    put(Scalar::Lseg(Segment { x1, y1, x2, y2 }), out, written)
 }
 
 /// Reads an `lseg`, from all of the bytes.
@@ -174,18 +156,10 @@ pub extern "C" fn pgp_get_lseg(bytes: &[u8], value: &mut PgpLseg) -> u32
     ensures left { result ≢ 0 → value.new ≡ value.old }
 {
     match pgp_values::lseg_from_sql(bytes) {
-        Ok(lseg) => {
-            *value = PgpLseg {
-                start: PgpPoint {
-                    x: lseg.x1,
-                    y: lseg.y1,
-                },
-                end: PgpPoint {
-                    x: lseg.x2,
-                    y: lseg.y2,
-                },
-            };
-            0
+        Ok(Segment { x1, y1, x2, y2 }) => {
+            let start = PgpPoint { x: x1, y: y1 };
+            let end = PgpPoint { x: x2, y: y2 };
+            found(PgpLseg { start, end }, value)
         }
         Err(e) => failed(e),
     }
@@ -197,12 +171,9 @@ pub extern "C" fn pgp_put_circle(value: &PgpCircle, out: &mut [u8], written: &mu
     ensures wrote { result ≡ 0 → Wrote (circle.written (circle_of value.now)) out.old out.new written.new }
     ensures lacks { result ≢ 0 → Lacks (circle.written (circle_of value.now)) out.old written.new result }
 {
-    let circle = Circle {
-        x: value.center.x,
-        y: value.center.y,
-        radius: value.radius,
-    };
-    put(Scalar::Circle(circle), out, written)
+    let PgpPoint { x, y } = value.center;
+    let radius = value.radius;
+    put(Scalar::Circle(Circle { x, y, radius }), out, written)
 }
 
 /// Reads a `circle`, from all of the bytes.
@@ -213,15 +184,9 @@ pub extern "C" fn pgp_get_circle(bytes: &[u8], value: &mut PgpCircle) -> u32
     ensures left { result ≢ 0 → value.new ≡ value.old }
 {
     match pgp_values::circle_from_sql(bytes) {
-        Ok(circle) => {
-            *value = PgpCircle {
-                center: PgpPoint {
-                    x: circle.x,
-                    y: circle.y,
-                },
-                radius: circle.radius,
-            };
-            0
+        Ok(Circle { x, y, radius }) => {
+            let center = PgpPoint { x, y };
+            found(PgpCircle { center, radius }, value)
         }
         Err(e) => failed(e),
     }

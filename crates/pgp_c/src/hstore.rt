@@ -13,7 +13,7 @@ ghost use Rattle.pgp_c.specs.Putting.{are_texts, entry_of, IsNoHstore};
 ghost use Rattle.pgp_c.specs.Values.{Lacks, Refuses, Wrote};
 ghost use Rattle.pgp_c.specs.Walks.{IsEnded, RefusesItem, Takes};
 
-use crate::cursor::{Listed, PgpCursor, next_counted};
+use crate::cursor::{Listed, PgpCursor, begin, next_counted};
 use crate::front::PgpPart;
 use crate::list_writing::{Written, put_list};
 use crate::listing::PgpValue;
@@ -46,14 +46,7 @@ pub extern "C" fn pgp_get_hstore(bytes: &[u8], entries: &mut PgpCursor) -> u32
     ensures left { result ≢ 0 → entries.new ≡ entries.old }
 {
     match pgp_types::hstore_from_sql(bytes) {
-        Ok(walk) => {
-            *entries = PgpCursor {
-                at: 4,
-                end: bytes.len(),
-                left: walk.size_hint().0,
-            };
-            0
-        }
+        Ok(walk) => begin(bytes, walk.size_hint().0, entries),
         Err(e) => failed(e),
     }
 }

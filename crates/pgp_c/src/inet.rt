@@ -8,8 +8,9 @@ ghost use Rattle.pgp_c.specs.Parts.{IsInside};
 ghost use Rattle.pgp_c.specs.Values.{Lacks, Refuses, Wrote};
 
 use crate::front::PgpPart;
-use crate::status::{failed, refused, sent};
-use pgp_base::{Error, Window};
+use crate::scalar::{Scalar, put};
+use crate::status::{failed, refused};
+use pgp_base::Error;
 use std::net::IpAddr;
 
 /// An `inet` or a `cidr`: the place of the address, its family by PostgreSQL's number, and how many of its first bits name the network.
@@ -74,11 +75,7 @@ pub extern "C" fn pgp_put_inet(
     if netmask as usize > 8 * address.len() {
         return refused(Error::InvalidNetmask, written);
     }
-    let mut window = Window::new(out);
-    match pgp_types::inet_to_sql(addr, netmask, &mut window) {
-        Ok(()) => sent(&window, written),
-        Err(e) => refused(e, written),
-    }
+    put(Scalar::Inet(addr, netmask), out, written)
 }
 
 /// Writes an `inet` whatever its netmask is: a server takes none of more bits than the address has.
@@ -96,11 +93,7 @@ pub extern "C" fn pgp_put_inet_any(
         Ok(addr) => addr,
         Err(e) => return refused(e, written),
     };
-    let mut window = Window::new(out);
-    match pgp_types::inet_to_sql(addr, netmask, &mut window) {
-        Ok(()) => sent(&window, written),
-        Err(e) => refused(e, written),
-    }
+    put(Scalar::Inet(addr, netmask), out, written)
 }
 
 /// Writes a `cidr` of an address of 4 or 16 bytes, of which so many bits name the network. A server takes it only where the others are 0.
@@ -121,11 +114,7 @@ pub extern "C" fn pgp_put_cidr(
     if 8 * address.len() < netmask as usize {
         return refused(Error::InvalidNetmask, written);
     }
-    let mut window = Window::new(out);
-    match pgp_values::cidr_to_sql(addr, netmask, &mut window) {
-        Ok(()) => sent(&window, written),
-        Err(e) => refused(e, written),
-    }
+    put(Scalar::Cidr(addr, netmask), out, written)
 }
 
 /// The address of these bytes.

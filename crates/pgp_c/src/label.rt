@@ -19,7 +19,7 @@ pub extern "C" fn pgp_put_jsonb(text: &[u8], out: &mut [u8], written: &mut usize
     ensures wrote { result ≡ 0 → Wrote (jsonb.written text.now) out.old out.new written.new }
     ensures refused { result ≢ 0 → (written.new ≡ 0) × (((result ≡ 9) × (IsUtf8 text.now → ⊥)) ⊎ Lacks (jsonb.written text.now) out.old written.new result) }
 {
-    put_label(text, out, written)
+    pgp_put_ltree(text, out, written)
 }
 
 /// Finds the JSON of a `jsonb`, which isn't parsed.
@@ -30,71 +30,12 @@ pub extern "C" fn pgp_get_jsonb(bytes: &[u8], text: &mut PgpPart) -> u32
     ensures refused { result ≢ 0 → Refuses jsonb bytes.now result }
     ensures left { result ≢ 0 → text.new ≡ text.old }
 {
-    get_label(bytes, text)
+    pgp_get_ltree(bytes, text)
 }
 
 /// Writes an `ltree`, of its text.
 #[unsafe(no_mangle)]
 pub extern "C" fn pgp_put_ltree(text: &[u8], out: &mut [u8], written: &mut usize) -> u32
-    ensures wrote { result ≡ 0 → Wrote (ltree.written text.now) out.old out.new written.new }
-    ensures refused { result ≢ 0 → (written.new ≡ 0) × (((result ≡ 9) × (IsUtf8 text.now → ⊥)) ⊎ Lacks (ltree.written text.now) out.old written.new result) }
-{
-    put_label(text, out, written)
-}
-
-/// Finds the text of an `ltree`.
-#[unsafe(no_mangle)]
-pub extern "C" fn pgp_get_ltree(bytes: &[u8], text: &mut PgpPart) -> u32
-    ensures read { result ≡ 0 → Reads ltree bytes.now (Ok (stands bytes.now text.new)) }
-    ensures inside { result ≡ 0 → IsInside (length bytes.now) text.new }
-    ensures refused { result ≢ 0 → Refuses ltree bytes.now result }
-    ensures left { result ≢ 0 → text.new ≡ text.old }
-{
-    get_label(bytes, text)
-}
-
-/// Writes an `lquery`, of its text.
-#[unsafe(no_mangle)]
-pub extern "C" fn pgp_put_lquery(text: &[u8], out: &mut [u8], written: &mut usize) -> u32
-    ensures wrote { result ≡ 0 → Wrote (lquery.written text.now) out.old out.new written.new }
-    ensures refused { result ≢ 0 → (written.new ≡ 0) × (((result ≡ 9) × (IsUtf8 text.now → ⊥)) ⊎ Lacks (lquery.written text.now) out.old written.new result) }
-{
-    put_label(text, out, written)
-}
-
-/// Finds the text of an `lquery`.
-#[unsafe(no_mangle)]
-pub extern "C" fn pgp_get_lquery(bytes: &[u8], text: &mut PgpPart) -> u32
-    ensures read { result ≡ 0 → Reads lquery bytes.now (Ok (stands bytes.now text.new)) }
-    ensures inside { result ≡ 0 → IsInside (length bytes.now) text.new }
-    ensures refused { result ≢ 0 → Refuses lquery bytes.now result }
-    ensures left { result ≢ 0 → text.new ≡ text.old }
-{
-    get_label(bytes, text)
-}
-
-/// Writes an `ltxtquery`, of its text.
-#[unsafe(no_mangle)]
-pub extern "C" fn pgp_put_ltxtquery(text: &[u8], out: &mut [u8], written: &mut usize) -> u32
-    ensures wrote { result ≡ 0 → Wrote (ltxtquery.written text.now) out.old out.new written.new }
-    ensures refused { result ≢ 0 → (written.new ≡ 0) × (((result ≡ 9) × (IsUtf8 text.now → ⊥)) ⊎ Lacks (ltxtquery.written text.now) out.old written.new result) }
-{
-    put_label(text, out, written)
-}
-
-/// Finds the text of an `ltxtquery`.
-#[unsafe(no_mangle)]
-pub extern "C" fn pgp_get_ltxtquery(bytes: &[u8], text: &mut PgpPart) -> u32
-    ensures read { result ≡ 0 → Reads ltxtquery bytes.now (Ok (stands bytes.now text.new)) }
-    ensures inside { result ≡ 0 → IsInside (length bytes.now) text.new }
-    ensures refused { result ≢ 0 → Refuses ltxtquery bytes.now result }
-    ensures left { result ≢ 0 → text.new ≡ text.old }
-{
-    get_label(bytes, text)
-}
-
-/// Writes a text after the version, which is 1 of all of these.
-fn put_label(text: &[u8], out: &mut [u8], written: &mut usize) -> u32
     ensures wrote { result ≡ 0 → Wrote (ltree.written text.now) out.old out.new written.new }
     ensures refused { result ≢ 0 → (written.new ≡ 0) × (((result ≡ 9) × (IsUtf8 text.now → ⊥)) ⊎ Lacks (ltree.written text.now) out.old written.new result) }
 {
@@ -108,8 +49,9 @@ fn put_label(text: &[u8], out: &mut [u8], written: &mut usize) -> u32
     }
 }
 
-/// Finds the text after the version.
-fn get_label(bytes: &[u8], text: &mut PgpPart) -> u32
+/// Finds the text of an `ltree`.
+#[unsafe(no_mangle)]
+pub extern "C" fn pgp_get_ltree(bytes: &[u8], text: &mut PgpPart) -> u32
     ensures read { result ≡ 0 → Reads ltree bytes.now (Ok (stands bytes.now text.new)) }
     ensures inside { result ≡ 0 → IsInside (length bytes.now) text.new }
     ensures refused { result ≢ 0 → Refuses ltree bytes.now result }
@@ -125,4 +67,44 @@ fn get_label(bytes: &[u8], text: &mut PgpPart) -> u32
         }
         Err(e) => failed(e),
     }
+}
+
+/// Writes an `lquery`, of its text.
+#[unsafe(no_mangle)]
+pub extern "C" fn pgp_put_lquery(text: &[u8], out: &mut [u8], written: &mut usize) -> u32
+    ensures wrote { result ≡ 0 → Wrote (lquery.written text.now) out.old out.new written.new }
+    ensures refused { result ≢ 0 → (written.new ≡ 0) × (((result ≡ 9) × (IsUtf8 text.now → ⊥)) ⊎ Lacks (lquery.written text.now) out.old written.new result) }
+{
+    pgp_put_ltree(text, out, written)
+}
+
+/// Finds the text of an `lquery`.
+#[unsafe(no_mangle)]
+pub extern "C" fn pgp_get_lquery(bytes: &[u8], text: &mut PgpPart) -> u32
+    ensures read { result ≡ 0 → Reads lquery bytes.now (Ok (stands bytes.now text.new)) }
+    ensures inside { result ≡ 0 → IsInside (length bytes.now) text.new }
+    ensures refused { result ≢ 0 → Refuses lquery bytes.now result }
+    ensures left { result ≢ 0 → text.new ≡ text.old }
+{
+    pgp_get_ltree(bytes, text)
+}
+
+/// Writes an `ltxtquery`, of its text.
+#[unsafe(no_mangle)]
+pub extern "C" fn pgp_put_ltxtquery(text: &[u8], out: &mut [u8], written: &mut usize) -> u32
+    ensures wrote { result ≡ 0 → Wrote (ltxtquery.written text.now) out.old out.new written.new }
+    ensures refused { result ≢ 0 → (written.new ≡ 0) × (((result ≡ 9) × (IsUtf8 text.now → ⊥)) ⊎ Lacks (ltxtquery.written text.now) out.old written.new result) }
+{
+    pgp_put_ltree(text, out, written)
+}
+
+/// Finds the text of an `ltxtquery`.
+#[unsafe(no_mangle)]
+pub extern "C" fn pgp_get_ltxtquery(bytes: &[u8], text: &mut PgpPart) -> u32
+    ensures read { result ≡ 0 → Reads ltxtquery bytes.now (Ok (stands bytes.now text.new)) }
+    ensures inside { result ≡ 0 → IsInside (length bytes.now) text.new }
+    ensures refused { result ≢ 0 → Refuses ltxtquery bytes.now result }
+    ensures left { result ≢ 0 → text.new ≡ text.old }
+{
+    pgp_get_ltree(bytes, text)
 }

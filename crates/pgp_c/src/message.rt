@@ -1,15 +1,13 @@
 //! The messages whose parts are texts, bytes and numbers, as one type: so what adds a message to a stream stands once.
 
 ghost use Rattle.std.specs.Prelude.{◌≡◌, ◌≢◌};
+ghost use Rattle.pgp_frontend.specs.Payload.{WritesMessage};
 ghost use Rattle.pgp_c.specs.Plain.{comes_open, message_of};
 ghost use Rattle.pgp_c.specs.Sending.{Sent, NotSent};
 
-use crate::copying::pgp_copy_data;
-use crate::writing::{
-    close, describe, pgp_cancel_request, pgp_copy_done, pgp_copy_fail, pgp_execute, pgp_flush,
-    pgp_password_message, pgp_query, pgp_sasl_initial_response, pgp_sasl_response, pgp_ssl_request,
-    pgp_sync, pgp_terminate,
-};
+use crate::status::ended;
+use pgp_base::{Buffer, Error, Window};
+use pgp_frontend::{self as writers, CopyData, over_bytes};
 
 /// A message without lists, of the caller's texts and bytes.
 #[derive(Clone, Copy)]
@@ -38,24 +36,37 @@ pub fn send(message: PlainMessage<'_>, out: &mut [u8], written: &mut usize) -> u
     ensures sent { result ≡ 0 → Sent (message_of message.entry) out.old out.new written.new }
     ensures refused { result ≢ 0 → NotSent (message_of message.entry) out.old written.new result }
 {
+    let mut window = Window::new(out);
+    let answer = append(message, &mut window);
+    ended(answer, &window, written)
+}
+
+/// Appends the message.
+#[inline(always)]
+fn append<B: Buffer>(message: PlainMessage<'_>, buf: &mut B) -> Result<(), Error>
+    ensures { WritesMessage (message_of message.entry) B.Lacks (B.held buf.old) (B.held buf.new) result }
+{
     match message {
-        PlainMessage::CancelRequest(id, key) => pgp_cancel_request(id, key, out, written),
-        PlainMessage::Close(variant, name) => close(variant, name, out, written),
-        PlainMessage::CopyData(data) => pgp_copy_data(data, out, written),
-        PlainMessage::CopyDone => pgp_copy_done(out, written),
-        PlainMessage::CopyFail(reason) => pgp_copy_fail(reason, out, written),
-        PlainMessage::Describe(variant, name) => describe(variant, name, out, written),
-        PlainMessage::Execute(portal, rows) => pgp_execute(portal, rows, out, written),
-        PlainMessage::Flush => pgp_flush(out, written),
-        PlainMessage::PasswordMessage(text) => pgp_password_message(text, out, written),
-        PlainMessage::Query(text) => pgp_query(text, out, written),
+        PlainMessage::CancelRequest(id, key) => writers::cancel_request_key(id, key, buf),
+        PlainMessage::Close(variant, name) => over_bytes::close(variant, name, buf),
+        PlainMessage::CopyData(data) => match CopyData::new(data)?.write(buf) {
+            Ok(()) => Ok(()),
+            Err(_) => Err(Error::OutOfMemory),
+        },
+        PlainMessage::CopyDone => writers::copy_done(buf),
+        PlainMessage::CopyFail(reason) => over_bytes::copy_fail(reason, buf),
+        PlainMessage::Describe(variant, name) => over_bytes::describe(variant, name, buf),
+        PlainMessage::Execute(portal, rows) => over_bytes::execute(portal, rows, buf),
+        PlainMessage::Flush => writers::flush(buf),
+        PlainMessage::PasswordMessage(text) => writers::password_message(text, buf),
+        PlainMessage::Query(text) => over_bytes::query(text, buf),
         PlainMessage::SaslInitialResponse(mechanism, text) => {
-            pgp_sasl_initial_response(mechanism, text, out, written)
+            over_bytes::sasl_initial_response(mechanism, text, buf)
         }
-        PlainMessage::SaslResponse(text) => pgp_sasl_response(text, out, written),
-        PlainMessage::SslRequest => pgp_ssl_request(out, written),
-        PlainMessage::Sync => pgp_sync(out, written),
-        PlainMessage::Terminate => pgp_terminate(out, written),
+        PlainMessage::SaslResponse(text) => writers::sasl_response(text, buf),
+        PlainMessage::SslRequest => writers::ssl_request(buf),
+        PlainMessage::Sync => writers::sync(buf),
+        PlainMessage::Terminate => writers::terminate(buf),
     }
 }
 

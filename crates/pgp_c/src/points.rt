@@ -14,7 +14,7 @@ ghost use Rattle.pgp_c.specs.Records.{BeginsList};
 ghost use Rattle.pgp_c.specs.Values.{Refuses};
 ghost use Rattle.pgp_c.specs.Walks.{IsEnded, RefusesItem, Takes};
 
-use crate::cursor::{Listed, PgpCursor, next_counted};
+use crate::cursor::{Listed, PgpCursor, begin, next_counted};
 use crate::geometry::{PgpPoint, shown};
 use crate::list_writing::{Written, put_list, write_list};
 use crate::status::{ended, failed};
@@ -80,14 +80,7 @@ pub extern "C" fn pgp_get_polygon(bytes: &[u8], points: &mut PgpCursor) -> u32
     ensures left { result ≢ 0 → points.new ≡ points.old }
 {
     match pgp_values::polygon_from_sql(bytes) {
-        Ok(walk) => {
-            *points = PgpCursor {
-                at: 4,
-                end: bytes.len(),
-                left: walk.size_hint().0,
-            };
-            0
-        }
+        Ok(walk) => begin(bytes, walk.size_hint().0, points),
         Err(e) => failed(e),
     }
 }

@@ -12,7 +12,7 @@ ghost use Rattle.pgp_c.specs.Records.{BeginsList, member_in};
 ghost use Rattle.pgp_c.specs.Values.{Refuses};
 ghost use Rattle.pgp_c.specs.Walks.{IsEnded, RefusesItem, Takes};
 
-use crate::cursor::{Listed, PgpCursor, next_counted};
+use crate::cursor::{Listed, PgpCursor, begin, next_counted};
 use crate::front::PgpPart;
 use crate::part::{column_before, nullable_at, sized_at};
 use crate::row::PgpColumn;
@@ -36,14 +36,7 @@ pub extern "C" fn pgp_get_record(bytes: &[u8], fields: &mut PgpCursor) -> u32
     ensures left { result ≢ 0 → fields.new ≡ fields.old }
 {
     match pgp_values::record_from_sql(bytes) {
-        Ok(walk) => {
-            *fields = PgpCursor {
-                at: 4,
-                end: bytes.len(),
-                left: walk.size_hint().0,
-            };
-            0
-        }
+        Ok(walk) => begin(bytes, walk.size_hint().0, fields),
         Err(e) => failed(e),
     }
 }
@@ -68,14 +61,7 @@ pub extern "C" fn pgp_get_multirange(bytes: &[u8], ranges: &mut PgpCursor) -> u3
     ensures left { result ≢ 0 → ranges.new ≡ ranges.old }
 {
     match pgp_values::multirange_from_sql(bytes) {
-        Ok(walk) => {
-            *ranges = PgpCursor {
-                at: 4,
-                end: bytes.len(),
-                left: walk.size_hint().0,
-            };
-            0
-        }
+        Ok(walk) => begin(bytes, walk.size_hint().0, ranges),
         Err(e) => failed(e),
     }
 }

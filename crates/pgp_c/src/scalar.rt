@@ -8,6 +8,7 @@ ghost use Rattle.pgp_c.specs.Values.{Lacks, Wrote};
 use crate::status::{refused, sent};
 use pgp_base::{Buffer, Error, Window};
 use pgp_values::{Circle, Interval, Line, Segment, Tid, TimeTz};
+use std::net::IpAddr;
 
 /// A value of a fixed size; a floating-point number by its bits. A box is the coordinates of its upper right corner, and of its lower left.
 #[derive(Clone, Copy)]
@@ -15,11 +16,13 @@ pub enum Scalar {
     Bool(bool),
     Box(u64, u64, u64, u64),
     Char(i8),
+    Cidr(IpAddr, u8),
     Circle(Circle),
     Date(i32),
     EmptyRange,
     Float4(u32),
     Float8(u64),
+    Inet(IpAddr, u8),
     Int2(i16),
     Int4(i32),
     Int8(i64),
@@ -61,11 +64,13 @@ fn append<B: Buffer>(value: Scalar, buf: &mut B) -> Result<(), Error>
         Scalar::Bool(value) => pgp_types::bool_to_sql(value, buf),
         Scalar::Box(x1, y1, x2, y2) => pgp_types::box_to_sql(x1, y1, x2, y2, buf),
         Scalar::Char(value) => pgp_types::char_to_sql(value, buf),
+        Scalar::Cidr(addr, netmask) => pgp_values::cidr_to_sql(addr, netmask, buf),
         Scalar::Circle(circle) => pgp_values::circle_to_sql(circle, buf),
         Scalar::Date(days) => pgp_types::date_to_sql(days, buf),
         Scalar::EmptyRange => pgp_types::empty_range_to_sql(buf),
         Scalar::Float4(bits) => pgp_types::float4_to_sql(bits, buf),
         Scalar::Float8(bits) => pgp_types::float8_to_sql(bits, buf),
+        Scalar::Inet(addr, netmask) => pgp_types::inet_to_sql(addr, netmask, buf),
         Scalar::Int2(value) => pgp_types::int2_to_sql(value, buf),
         Scalar::Int4(value) => pgp_types::int4_to_sql(value, buf),
         Scalar::Int8(value) => pgp_types::int8_to_sql(value, buf),

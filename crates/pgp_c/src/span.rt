@@ -7,7 +7,7 @@ ghost use Rattle.pgp_c.specs.Further.{interval_of, timetz_of};
 ghost use Rattle.pgp_c.specs.Values.{Lacks, Refuses, Wrote};
 
 use crate::scalar::{Scalar, put};
-use crate::status::failed;
+use crate::status::{failed, found};
 use pgp_values::{Interval, TimeTz};
 
 /// An `interval`: months, days and microseconds are apart, as a server keeps them.
@@ -67,11 +67,8 @@ pub extern "C" fn pgp_put_timetz(value: &PgpTimetz, out: &mut [u8], written: &mu
     ensures wrote { result ≡ 0 → Wrote (timetz.written (timetz_of value.now)) out.old out.new written.new }
     ensures lacks { result ≢ 0 → Lacks (timetz.written (timetz_of value.now)) out.old written.new result }
 {
-    let time = TimeTz {
-        microseconds: value.microseconds,
-        zone: value.zone,
-    };
-    put(Scalar::TimeTz(time), out, written)
+    let PgpTimetz { microseconds, zone } = *value;
+    put(Scalar::TimeTz(TimeTz { microseconds, zone }), out, written)
 }
 
 /// Reads a `timetz`, from all of the bytes.
@@ -82,13 +79,7 @@ pub extern "C" fn pgp_get_timetz(bytes: &[u8], value: &mut PgpTimetz) -> u32
     ensures left { result ≢ 0 → value.new ≡ value.old }
 {
     match pgp_values::timetz_from_sql(bytes) {
-        Ok(time) => {
-            *value = PgpTimetz {
-                microseconds: time.microseconds,
-                zone: time.zone,
-            };
-            0
-        }
+        Ok(TimeTz { microseconds, zone }) => found(PgpTimetz { microseconds, zone }, value),
         Err(e) => failed(e),
     }
 }

@@ -63,6 +63,16 @@ pub fn read<T: Copy>(answer: Result<T, Error>, value: &mut T) -> u32
     }
 }
 
+/// This value was read.
+#[inline(always)]
+pub fn found<T: Copy>(read: T, value: &mut T) -> u32
+    ensures zero { result ≡ 0 }
+    ensures reported { value.new ≡ read }
+{
+    *value = read;
+    0
+}
+
 /// A name is empty, which no server reads.
 pub fn nameless(written: &mut usize) -> u32
     ensures code { result ≡ 33 }

@@ -7,7 +7,7 @@ ghost use Rattle.pgp_c.specs.Geometry.{tid_of};
 ghost use Rattle.pgp_c.specs.Values.{Lacks, Refuses, Wrote};
 
 use crate::scalar::{Scalar, put};
-use crate::status::failed;
+use crate::status::{failed, found};
 use pgp_values::Tid;
 
 /// A `tid`: the number of a block, and of a row in it.
@@ -24,11 +24,8 @@ pub extern "C" fn pgp_put_tid(value: &PgpTid, out: &mut [u8], written: &mut usiz
     ensures wrote { result ≡ 0 → Wrote (tid.written (tid_of value.now)) out.old out.new written.new }
     ensures lacks { result ≢ 0 → Lacks (tid.written (tid_of value.now)) out.old written.new result }
 {
-    let tid = Tid {
-        block: value.block,
-        offset: value.offset,
-    };
-    put(Scalar::Tid(tid), out, written)
+    let PgpTid { block, offset } = *value;
+    put(Scalar::Tid(Tid { block, offset }), out, written)
 }
 
 /// Reads a `tid`, from all of the bytes.
@@ -39,13 +36,7 @@ pub extern "C" fn pgp_get_tid(bytes: &[u8], value: &mut PgpTid) -> u32
     ensures left { result ≢ 0 → value.new ≡ value.old }
 {
     match pgp_values::tid_from_sql(bytes) {
-        Ok(tid) => {
-            *value = PgpTid {
-                block: tid.block,
-                offset: tid.offset,
-            };
-            0
-        }
+        Ok(Tid { block, offset }) => found(PgpTid { block, offset }, value),
         Err(e) => failed(e),
     }
 }

@@ -14,7 +14,7 @@ ghost use Rattle.pgp_c.specs.TextSearch.{IsQueryItemInside, is_node, item_before
 ghost use Rattle.pgp_c.specs.Values.{Refuses};
 ghost use Rattle.pgp_c.specs.Walks.{IsEnded, RefusesItem, Takes};
 
-use crate::cursor::{Listed, PgpCursor, next_counted};
+use crate::cursor::{Listed, PgpCursor, begin, next_counted};
 use crate::front::PgpPart;
 use crate::hstore::is_text;
 use crate::list_writing::{Written, write_list};
@@ -54,14 +54,7 @@ pub extern "C" fn pgp_get_tsquery(bytes: &[u8], items: &mut PgpCursor) -> u32
     ensures left { result ≢ 0 → items.new ≡ items.old }
 {
     match pgp_values::tsquery_from_sql(bytes) {
-        Ok(walk) => {
-            *items = PgpCursor {
-                at: 4,
-                end: bytes.len(),
-                left: walk.size_hint().0,
-            };
-            0
-        }
+        Ok(walk) => begin(bytes, walk.size_hint().0, items),
         Err(e) => failed(e),
     }
 }

@@ -17,7 +17,7 @@ ghost use Rattle.pgp_c.specs.TextSearch.{IsLexemeInside, lexeme_in, word_of, wor
 ghost use Rattle.pgp_c.specs.Values.{Refuses};
 ghost use Rattle.pgp_c.specs.Walks.{IsEnded, RefusesItem, Takes};
 
-use crate::cursor::{Listed, PgpCursor, next_counted};
+use crate::cursor::{Listed, PgpCursor, begin, next_counted};
 use crate::front::PgpPart;
 use crate::hstore::is_text;
 use crate::list_writing::{Written, put_items, write_list};
@@ -49,14 +49,7 @@ pub extern "C" fn pgp_get_tsvector(bytes: &[u8], lexemes: &mut PgpCursor) -> u32
     ensures left { result ≢ 0 → lexemes.new ≡ lexemes.old }
 {
     match pgp_values::tsvector_from_sql(bytes) {
-        Ok(walk) => {
-            *lexemes = PgpCursor {
-                at: 4,
-                end: bytes.len(),
-                left: walk.size_hint().0,
-            };
-            0
-        }
+        Ok(walk) => begin(bytes, walk.size_hint().0, lexemes),
         Err(e) => failed(e),
     }
 }

@@ -5,10 +5,9 @@ ghost use Rattle.pgp_frontend.specs.ClientMessage.{CancelRequest, Close, CopyDon
 ghost use Rattle.pgp_c.specs.Requests.{is_target};
 ghost use Rattle.pgp_c.specs.Sending.{Sent, NotSent};
 
+use crate::message::{PlainMessage, send};
 use crate::request::is_target;
-use crate::status::{ended, no_kind};
-use pgp_base::Window;
-use pgp_frontend::over_bytes;
+use crate::status::no_kind;
 
 /// A query of any number of statements.
 #[unsafe(no_mangle)]
@@ -16,9 +15,7 @@ pub extern "C" fn pgp_query(text: &[u8], out: &mut [u8], written: &mut usize) ->
     ensures sent { result ≡ 0 → Sent (Query text.now) out.old out.new written.new }
     ensures refused { result ≢ 0 → NotSent (Query text.now) out.old written.new result }
 {
-    let mut window = Window::new(out);
-    let answer = over_bytes::query(text, &mut window);
-    ended(answer, &window, written)
+    send(PlainMessage::Query(text), out, written)
 }
 
 /// The end of the session.
@@ -27,9 +24,7 @@ pub extern "C" fn pgp_terminate(out: &mut [u8], written: &mut usize) -> u32
     ensures sent { result ≡ 0 → Sent Terminate out.old out.new written.new }
     ensures refused { result ≢ 0 → NotSent Terminate out.old written.new result }
 {
-    let mut window = Window::new(out);
-    let answer = pgp_frontend::terminate(&mut window);
-    ended(answer, &window, written)
+    send(PlainMessage::Terminate, out, written)
 }
 
 /// Closes a statement (`S`) or a portal (`P`).
@@ -42,17 +37,7 @@ pub extern "C" fn pgp_close(variant: u8, name: &[u8], out: &mut [u8], written: &
     if !is_target(variant) {
         return no_kind(written);
     }
-    close(variant, name, out, written)
-}
-
-/// The same message, whatever the letter is.
-pub(crate) fn close(variant: u8, name: &[u8], out: &mut [u8], written: &mut usize) -> u32
-    ensures sent { result ≡ 0 → Sent (Close variant name.now) out.old out.new written.new }
-    ensures refused { result ≢ 0 → NotSent (Close variant name.now) out.old written.new result }
-{
-    let mut window = Window::new(out);
-    let answer = over_bytes::close(variant, name, &mut window);
-    ended(answer, &window, written)
+    send(PlainMessage::Close(variant, name), out, written)
 }
 
 /// Asks what a statement (`S`) or a portal (`P`) gives.
@@ -65,17 +50,7 @@ pub extern "C" fn pgp_describe(variant: u8, name: &[u8], out: &mut [u8], written
     if !is_target(variant) {
         return no_kind(written);
     }
-    describe(variant, name, out, written)
-}
-
-/// The same message, whatever the letter is.
-pub(crate) fn describe(variant: u8, name: &[u8], out: &mut [u8], written: &mut usize) -> u32
-    ensures sent { result ≡ 0 → Sent (Describe variant name.now) out.old out.new written.new }
-    ensures refused { result ≢ 0 → NotSent (Describe variant name.now) out.old written.new result }
-{
-    let mut window = Window::new(out);
-    let answer = over_bytes::describe(variant, name, &mut window);
-    ended(answer, &window, written)
+    send(PlainMessage::Describe(variant, name), out, written)
 }
 
 /// Runs a portal, for at most so many rows; 0 is no limit.
@@ -89,9 +64,7 @@ pub extern "C" fn pgp_execute(
     ensures sent { result ≡ 0 → Sent (Execute portal.now max_rows) out.old out.new written.new }
     ensures refused { result ≢ 0 → NotSent (Execute portal.now max_rows) out.old written.new result }
 {
-    let mut window = Window::new(out);
-    let answer = over_bytes::execute(portal, max_rows, &mut window);
-    ended(answer, &window, written)
+    send(PlainMessage::Execute(portal, max_rows), out, written)
 }
 
 /// Ends a series of extended queries.
@@ -100,9 +73,7 @@ pub extern "C" fn pgp_sync(out: &mut [u8], written: &mut usize) -> u32
     ensures sent { result ≡ 0 → Sent Sync out.old out.new written.new }
     ensures refused { result ≢ 0 → NotSent Sync out.old written.new result }
 {
-    let mut window = Window::new(out);
-    let answer = pgp_frontend::sync(&mut window);
-    ended(answer, &window, written)
+    send(PlainMessage::Sync, out, written)
 }
 
 /// Asks for what the server holds back.
@@ -111,9 +82,7 @@ pub extern "C" fn pgp_flush(out: &mut [u8], written: &mut usize) -> u32
     ensures sent { result ≡ 0 → Sent Flush out.old out.new written.new }
     ensures refused { result ≢ 0 → NotSent Flush out.old written.new result }
 {
-    let mut window = Window::new(out);
-    let answer = pgp_frontend::flush(&mut window);
-    ended(answer, &window, written)
+    send(PlainMessage::Flush, out, written)
 }
 
 /// The end of the data of a copy.
@@ -122,9 +91,7 @@ pub extern "C" fn pgp_copy_done(out: &mut [u8], written: &mut usize) -> u32
     ensures sent { result ≡ 0 → Sent CopyDone out.old out.new written.new }
     ensures refused { result ≢ 0 → NotSent CopyDone out.old written.new result }
 {
-    let mut window = Window::new(out);
-    let answer = pgp_frontend::copy_done(&mut window);
-    ended(answer, &window, written)
+    send(PlainMessage::CopyDone, out, written)
 }
 
 /// Gives a copy up, with a text for the server's report.
@@ -133,9 +100,7 @@ pub extern "C" fn pgp_copy_fail(reason: &[u8], out: &mut [u8], written: &mut usi
     ensures sent { result ≡ 0 → Sent (CopyFail reason.now) out.old out.new written.new }
     ensures refused { result ≢ 0 → NotSent (CopyFail reason.now) out.old written.new result }
 {
-    let mut window = Window::new(out);
-    let answer = over_bytes::copy_fail(reason, &mut window);
-    ended(answer, &window, written)
+    send(PlainMessage::CopyFail(reason), out, written)
 }
 
 /// Asks for an encrypted session.
@@ -144,9 +109,7 @@ pub extern "C" fn pgp_ssl_request(out: &mut [u8], written: &mut usize) -> u32
     ensures sent { result ≡ 0 → Sent SslRequest out.old out.new written.new }
     ensures refused { result ≢ 0 → NotSent SslRequest out.old written.new result }
 {
-    let mut window = Window::new(out);
-    let answer = pgp_frontend::ssl_request(&mut window);
-    ended(answer, &window, written)
+    send(PlainMessage::SslRequest, out, written)
 }
 
 /// Asks for the end of what another session runs, by the number and the key of its BackendKeyData.
@@ -160,9 +123,8 @@ pub extern "C" fn pgp_cancel_request(
     ensures sent { result ≡ 0 → Sent (CancelRequest process_id secret_key.now) out.old out.new written.new }
     ensures refused { result ≢ 0 → NotSent (CancelRequest process_id secret_key.now) out.old written.new result }
 {
-    let mut window = Window::new(out);
-    let answer = pgp_frontend::cancel_request_key(process_id, secret_key, &mut window);
-    ended(answer, &window, written)
+    let message = PlainMessage::CancelRequest(process_id, secret_key);
+    send(message, out, written)
 }
 
 /// A password, or the answer to an MD5 request.
@@ -171,9 +133,7 @@ pub extern "C" fn pgp_password_message(password: &[u8], out: &mut [u8], written:
     ensures sent { result ≡ 0 → Sent (PasswordMessage password.now) out.old out.new written.new }
     ensures refused { result ≢ 0 → NotSent (PasswordMessage password.now) out.old written.new result }
 {
-    let mut window = Window::new(out);
-    let answer = pgp_frontend::password_message(password, &mut window);
-    ended(answer, &window, written)
+    send(PlainMessage::PasswordMessage(password), out, written)
 }
 
 /// The choice of a SASL mechanism, and the first text of its exchange.
@@ -187,9 +147,8 @@ pub extern "C" fn pgp_sasl_initial_response(
     ensures sent { result ≡ 0 → Sent (SaslInitialResponse mechanism.now (Some response.now)) out.old out.new written.new }
     ensures refused { result ≢ 0 → NotSent (SaslInitialResponse mechanism.now (Some response.now)) out.old written.new result }
 {
-    let mut window = Window::new(out);
-    let answer = over_bytes::sasl_initial_response(mechanism, response, &mut window);
-    ended(answer, &window, written)
+    let message = PlainMessage::SaslInitialResponse(mechanism, response);
+    send(message, out, written)
 }
 
 /// A later text of a SASL exchange.
@@ -198,7 +157,5 @@ pub extern "C" fn pgp_sasl_response(response: &[u8], out: &mut [u8], written: &m
     ensures sent { result ≡ 0 → Sent (SaslResponse response.now) out.old out.new written.new }
     ensures refused { result ≢ 0 → NotSent (SaslResponse response.now) out.old written.new result }
 {
-    let mut window = Window::new(out);
-    let answer = pgp_frontend::sasl_response(response, &mut window);
-    ended(answer, &window, written)
+    send(PlainMessage::SaslResponse(response), out, written)
 }

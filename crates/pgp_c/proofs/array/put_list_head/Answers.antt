@@ -1,59 +1,37 @@
-use Rattle.pgp_c.proofs.Common.{◌≡◌, ◌++◌, length, arith, inl, ap, ◌∙◌, length-append, ◌⊕◌, uint32, fits_of, if_err_at, length-uint32, wants_more, wants_then, flag_in, head_of}
+use Rattle.pgp_c.proofs.Common.{◌≡◌, ◌++◌, length, arith, inl, ap, sym, ◌∙◌, length-append, append_assoc, ◌⊕◌, uint32, fits_of, if_err_at, length-uint32, memory_more, memory_then, flag_in, head_of}
 use Rattle.pgp_c.proofs.Elements.{then_more}
 use Rattle.pgp_c.proofs.array.put_list_head.Goals as goal
 
+pub returns-in_err-put_two-clause-cause : goal.returns-in_err-put_two-clause-cause
+returns-in_err-put_two-clause-cause g c = if_err_at _ _ _ c.from_residual-in_err-put_two.ensures.1 (inl (memory_more _ 8 _ _ (omega arith) c.in_err-put_two.ensures.cause))
+
+pub returns-in_err-put_two-2-clause-cause : goal.returns-in_err-put_two-2-clause-cause
+returns-in_err-put_two-2-clause-cause g c =
+    let one = uint32 1 in
+    let f = uint32 c.flag.result in
+    if_err_at _ _ _ c.from_residual-in_err-put_two-2.ensures.1 (inl (memory_then (g.B.Buffer.held c.args.buf.now) _ (one ++ f) 8 _ _ c.in_ok-put_two.ensures.ok (omega (arith, length-append one f, length-uint32 1, length-uint32 c.flag.result)) c.in_err-put_two-2.ensures.cause))
+
 pub returns-in_err-put_u32-clause-cause : goal.returns-in_err-put_u32-clause-cause
 returns-in_err-put_u32-clause-cause g c =
-    let old = g.B.Buffer.held c.args.buf.now in
-    let memory = c.in_err-put_u32.ensures.cause in
-    if_err_at _ _ _ c.from_residual-in_err-put_u32.ensures.1 (inl (memory.0, wants_more _ 4 _ (omega arith) memory.1))
-
-pub returns-in_err-put_u32-2-clause-cause : goal.returns-in_err-put_u32-2-clause-cause
-returns-in_err-put_u32-2-clause-cause g c =
-    let old = g.B.Buffer.held c.args.buf.now in
-    let memory = c.in_err-put_u32-2.ensures.cause in
-    let e1 = c.in_ok-put_u32.ensures.ok in
-    if_err_at _ _ _ c.from_residual-in_err-put_u32-2.ensures.1 (inl (memory.0, wants_then old _ (uint32 1) 4 _ e1 (omega (arith, length-uint32 1)) memory.1))
-
-pub returns-in_err-put_u32-3-clause-cause : goal.returns-in_err-put_u32-3-clause-cause
-returns-in_err-put_u32-3-clause-cause g c =
-    let old = g.B.Buffer.held c.args.buf.now in
-    let memory = c.in_err-put_u32-3.ensures.cause in
-    let e1 = c.in_ok-put_u32.ensures.ok in
-    let e2 = then_more old _ _ (uint32 1) (uint32 c.flag.result) e1 c.in_ok-put_u32-2.ensures.ok in
-    if_err_at _ _ _ c.from_residual-in_err-put_u32-3.ensures.1 (inl (memory.0, wants_then old _ (uint32 1 ++ uint32 c.flag.result) 4 _ e2 (omega (arith, length-uint32 1, length-uint32 c.flag.result, length-append (uint32 1) (uint32 c.flag.result))) memory.1))
-
-pub returns-in_err-put_u32-4-clause-cause : goal.returns-in_err-put_u32-4-clause-cause
-returns-in_err-put_u32-4-clause-cause g c =
-    let old = g.B.Buffer.held c.args.buf.now in
-    let memory = c.in_err-put_u32-4.ensures.cause in
-    let e1 = c.in_ok-put_u32.ensures.ok in
-    let e2 = then_more old _ _ (uint32 1) (uint32 c.flag.result) e1 c.in_ok-put_u32-2.ensures.ok in
-    let e3 = then_more old _ _ (uint32 1 ++ uint32 c.flag.result) (uint32 c.args.element_type) e2 c.in_ok-put_u32-3.ensures.ok in
-    if_err_at _ _ _ c.from_residual-in_err-put_u32-4.ensures.1 (inl (memory.0, wants_then old _ (uint32 1 ++ uint32 c.flag.result ++ uint32 c.args.element_type) 4 _ e3 (omega (arith, length-uint32 1, length-uint32 c.flag.result, length-uint32 c.args.element_type, length-append (uint32 1) (uint32 c.flag.result), length-append (uint32 1 ++ uint32 c.flag.result) (uint32 c.args.element_type))) memory.1))
-
-pub returns-in_err-put_u32-5-clause-cause : goal.returns-in_err-put_u32-5-clause-cause
-returns-in_err-put_u32-5-clause-cause g c =
-    let old = g.B.Buffer.held c.args.buf.now in
-    let memory = c.in_err-put_u32-5.ensures.cause in
-    let e1 = c.in_ok-put_u32.ensures.ok in
-    let e2 = then_more old _ _ (uint32 1) (uint32 c.flag.result) e1 c.in_ok-put_u32-2.ensures.ok in
-    let e3 = then_more old _ _ (uint32 1 ++ uint32 c.flag.result) (uint32 c.args.element_type) e2 c.in_ok-put_u32-3.ensures.ok in
-    let e4 = then_more old _ _ (uint32 1 ++ uint32 c.flag.result ++ uint32 c.args.element_type) (uint32 c.in_ok-count.count) e3 c.in_ok-put_u32-4.ensures.ok in
-    if_err_at _ _ _ c.from_residual-in_err-put_u32-5.ensures.1 (inl (memory.0, wants_then old _ (uint32 1 ++ uint32 c.flag.result ++ uint32 c.args.element_type ++ uint32 c.in_ok-count.count) 4 _ e4 (omega (arith, length-uint32 1, length-uint32 c.flag.result, length-uint32 c.args.element_type, length-uint32 c.in_ok-count.count, length-append (uint32 1) (uint32 c.flag.result), length-append (uint32 1 ++ uint32 c.flag.result) (uint32 c.args.element_type), length-append (uint32 1 ++ uint32 c.flag.result ++ uint32 c.args.element_type) (uint32 c.in_ok-count.count))) memory.1))
+    let one = uint32 1 in
+    let f = uint32 c.flag.result in
+    let t = uint32 c.args.element_type in
+    let n = uint32 c.in_ok-count.count in
+    let four = then_more (g.B.Buffer.held c.args.buf.now) _ _ (one ++ f) (t ++ n) c.in_ok-put_two.ensures.ok c.in_ok-put_two-2.ensures.ok in
+    if_err_at _ _ _ c.from_residual-in_err-put_u32.ensures.1 (inl (memory_then (g.B.Buffer.held c.args.buf.now) _ ((one ++ f) ++ (t ++ n)) 4 _ _ four (omega (arith, length-append (one ++ f) (t ++ n), length-append one f, length-append t n, length-uint32 1, length-uint32 c.flag.result, length-uint32 c.args.element_type, length-uint32 c.in_ok-count.count)) c.in_err-put_u32.ensures.cause))
 
 pub returns-clause-ok : goal.returns-clause-ok
 returns-clause-ok g c =
     let old = g.B.Buffer.held c.args.buf.now in
-    let e1 = c.in_ok-put_u32.ensures.ok in
-    let e2 = then_more old _ _ (uint32 1) (uint32 c.flag.result) e1 c.in_ok-put_u32-2.ensures.ok in
-    let e3 = then_more old _ _ (uint32 1 ++ uint32 c.flag.result) (uint32 c.args.element_type) e2 c.in_ok-put_u32-3.ensures.ok in
-    let e4 = then_more old _ _ (uint32 1 ++ uint32 c.flag.result ++ uint32 c.args.element_type) (uint32 c.in_ok-count.count) e3 c.in_ok-put_u32-4.ensures.ok in
-    let e5 = then_more old _ _ (uint32 1 ++ uint32 c.flag.result ++ uint32 c.args.element_type ++ uint32 c.in_ok-count.count) (uint32 1) e4 c.in_ok-put_u32-5.ensures.ok in
+    let one = uint32 1 in
+    let f = uint32 c.flag.result in
+    let t = uint32 c.args.element_type in
+    let n = uint32 c.in_ok-count.count in
+    let four = then_more old _ _ (one ++ f) (t ++ n) c.in_ok-put_two.ensures.ok c.in_ok-put_two-2.ensures.ok in
+    let five = then_more old _ _ ((one ++ f) ++ (t ++ n)) one four c.in_ok-put_u32.ensures.ok in
     let size = c.in_ok-count.ensures.value in
     let vs = c.args.elements.now in
-    let flagged : old ⊕ (uint32 1 ++ uint32 c.flag.result ++ uint32 c.args.element_type ++ uint32 c.in_ok-count.count ++ uint32 1) ≡ old ⊕ (uint32 1 ++ uint32 (flag_in vs) ++ uint32 c.args.element_type ++ uint32 c.in_ok-count.count ++ uint32 1) =
-    ap (λ f. old ⊕ (uint32 1 ++ uint32 f ++ uint32 c.args.element_type ++ uint32 c.in_ok-count.count ++ uint32 1)) c.flag.ensures in
-    let counted : old ⊕ (uint32 1 ++ uint32 (flag_in vs) ++ uint32 c.args.element_type ++ uint32 c.in_ok-count.count ++ uint32 1) ≡ old ⊕ head_of c.args.element_type vs =
-    ap (λ n. old ⊕ (uint32 1 ++ uint32 (flag_in vs) ++ uint32 c.args.element_type ++ uint32 n ++ uint32 1)) size.0 in
-    (omega (arith, fits_of (length vs) size.1), e5 ∙ (flagged ∙ counted))
+    let apart : old ⊕ ((one ++ f) ++ (t ++ n) ++ one) ≡ old ⊕ (one ++ f ++ t ++ n ++ one) = ap (λ l. old ⊕ (l ++ one)) (sym (append_assoc (one ++ f) t n)) in
+    let flagged : old ⊕ (one ++ f ++ t ++ n ++ one) ≡ old ⊕ (one ++ uint32 (flag_in vs) ++ t ++ n ++ one) = ap (λ i. old ⊕ (one ++ uint32 i ++ t ++ n ++ one)) c.flag.ensures in
+    let counted : old ⊕ (one ++ uint32 (flag_in vs) ++ t ++ n ++ one) ≡ old ⊕ head_of c.args.element_type vs = ap (λ i. old ⊕ (one ++ uint32 (flag_in vs) ++ t ++ uint32 i ++ one)) size.0 in
+    (omega (arith, fits_of (length vs) size.1), five ∙ (apart ∙ (flagged ∙ counted)))

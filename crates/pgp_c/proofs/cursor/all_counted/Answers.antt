@@ -13,35 +13,25 @@ loop-at-preserved g c =
 pub returns-then-code-eq-DONE-clause-items : goal.returns-then-code-eq-DONE-clause-items
 returns-then-code-eq-DONE-clause-items g c =
     let left = c.next_counted-code.ensures.left (search rules) in
-    let s = none_more _ _ _ _ _ _ _ c.loop-at.at c.loop-at.items _ _ left.1 c.loop-at.invariant in
-    rw left.0 s.taken
+    rw left.0 (none_more _ _ _ _ _ _ _ c.loop-at.at c.loop-at.items _ _ left.1 c.loop-at.invariant).taken
 
 pub returns-then-code-eq-DONE-clause-inside : goal.returns-then-code-eq-DONE-clause-inside
 returns-then-code-eq-DONE-clause-inside g c =
-    let left = c.next_counted-code.ensures.left (search rules) in
-    let s = none_more _ _ _ _ _ _ _ c.loop-at.at c.loop-at.items _ _ left.1 c.loop-at.invariant in
-    s.inside
+    (none_more _ _ _ _ _ _ _ c.loop-at.at c.loop-at.items _ _ (c.next_counted-code.ensures.left (search rules)).1 c.loop-at.invariant).inside
 
 pub returns-then-code-eq-DONE-clause-behind : goal.returns-then-code-eq-DONE-clause-behind
 returns-then-code-eq-DONE-clause-behind g c =
-    let left = c.next_counted-code.ensures.left (search rules) in
-    let s = none_more _ _ _ _ _ _ _ c.loop-at.at c.loop-at.items _ _ left.1 c.loop-at.invariant in
-    s.behind
+    (none_more _ _ _ _ _ _ _ c.loop-at.at c.loop-at.items _ _ (c.next_counted-code.ensures.left (search rules)).1 c.loop-at.invariant).behind
 
 pub returns-else-code-eq-DONE-clause-items : goal.returns-else-code-eq-DONE-clause-items
 returns-else-code-eq-DONE-clause-items g c =
     let left = c.next_counted-code.ensures.left (search rules) in
-    let s = none_more _ _ _ _ _ _ _ c.loop-at.at c.loop-at.items _ _ left.1 c.loop-at.invariant in
-    rw left.0 s.taken
+    rw left.0 (none_more _ _ _ _ _ _ _ c.loop-at.at c.loop-at.items _ _ left.1 c.loop-at.invariant).taken
 
 pub returns-else-code-eq-DONE-clause-inside : goal.returns-else-code-eq-DONE-clause-inside
 returns-else-code-eq-DONE-clause-inside g c =
-    let left = c.next_counted-code.ensures.left (search rules) in
-    let s = none_more _ _ _ _ _ _ _ c.loop-at.at c.loop-at.items _ _ left.1 c.loop-at.invariant in
-    s.inside
+    (none_more _ _ _ _ _ _ _ c.loop-at.at c.loop-at.items _ _ (c.next_counted-code.ensures.left (search rules)).1 c.loop-at.invariant).inside
 
 pub returns-else-code-eq-DONE-clause-behind : goal.returns-else-code-eq-DONE-clause-behind
 returns-else-code-eq-DONE-clause-behind g c =
-    let left = c.next_counted-code.ensures.left (search rules) in
-    let s = none_more _ _ _ _ _ _ _ c.loop-at.at c.loop-at.items _ _ left.1 c.loop-at.invariant in
-    s.behind
+    (none_more _ _ _ _ _ _ _ c.loop-at.at c.loop-at.items _ _ (c.next_counted-code.ensures.left (search rules)).1 c.loop-at.invariant).behind

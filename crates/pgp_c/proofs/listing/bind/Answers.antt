@@ -1,7 +1,7 @@
-use Rattle.pgp_c.proofs.Common.{rules, ◌≡◌, map, refl, ap, sym, subst, ◌∙◌, Bor, copies, fronts, YieldsList, YieldsList-from_slice, YieldsList-from_copied, Yielded, number_of, window_held, window_lacks, Bind, all_given, some_given, some_same, PgpValue, error_of, value_of}
+use Rattle.pgp_c.proofs.Common.{rules, map, refl, ap, sym, subst, ◌∙◌, Bor, copies, fronts, YieldsList, YieldsList-from_slice, YieldsList-from_copied, Yielded, number_of, window_held, window_lacks, Bind, all_given, some_given, some_same, PgpValue, error_of, value_of}
 use Rattle.pgp_frontend.proofs.Lists.{all_same as same_given}
 use Rattle.pgp_c.proofs.BindRefusals.{bind_refused}
-use Rattle.pgp_c.proofs.Lists.{keeps, all_made, all_received, all_same, fused, same_bind}
+use Rattle.pgp_c.proofs.Lists.{FromItself, keeps, all_made, all_received, all_same, fused, same_bind}
 use Rattle.pgp_c.proofs.Sending.{sends, refuses}
 use Rattle.pgp_c.proofs.listing.bind.Goals as goal
 
@@ -26,10 +26,6 @@ returns-in-Ok-clause-sent c z =
     sends (Bind c.args.portal.now c.args.statement.now c.args.formats.now (map value_of c.args.values.now) c.args.result_formats.now) e.message
     (w.2.2.2 ∙ same_bind c.args.portal.now c.args.statement.now w.0 c.args.formats.now w.2.0 (map value_of c.args.values.now) w.2.2.0 c.args.result_formats.now fs vs rs)
     c.new-window.result c.bind-answer.new.buf c.args.out.now _ c.new-window.ensures e.in_range e.none e.appended _ (search rules) _ c.sent.ensures.reported
-
--- an iterator is made of itself
-abbrev FromItself : {S : Type 0} → S → S → Type 0
-FromItself source it = it ≡ source
 
 pub returns-in-Err-clause-refused : goal.returns-in-Err-clause-refused
 returns-in-Err-clause-refused c z =

@@ -1,5 +1,5 @@
-use Rattle.pgp_c.proofs.Common.{rules, ◌≡◌, refl, ap, sym, subst, ◌∙◌, copies, fronts, YieldsList, YieldsList-from_slice, YieldsList-from_copied, Parse, Yielded, window_held, window_lacks, some_same, parse_refused}
-use Rattle.pgp_c.proofs.Lists.{all_same}
+use Rattle.pgp_c.proofs.Common.{rules, refl, ap, sym, subst, ◌∙◌, copies, fronts, YieldsList, YieldsList-from_slice, YieldsList-from_copied, Parse, Yielded, window_held, window_lacks, some_same, parse_refused}
+use Rattle.pgp_c.proofs.Lists.{FromItself, all_same}
 use Rattle.pgp_frontend.proofs.Lists.{all_same as all_given}
 use Rattle.pgp_c.proofs.Sending.{sends, refuses}
 use Rattle.pgp_c.proofs.listing.pgp_parse.Goals as goal
@@ -12,10 +12,6 @@ returns-in-Ok-clause-sent c z =
     let ts = all_same (copies fronts) f.iterator c.args.types.now (subst (λ s. YieldsList (copies fronts) (λ x. x) s c.args.types.now) (sym f.from) types) e.whole.0 f.left f.received in
     sends (Parse c.args.name.now c.args.query.now c.args.types.now) e.message (e.whole.2 ∙ ap (λ l. Parse c.args.name.now c.args.query.now l) ts)
     c.new-window.result c.parse.new.buf c.args.out.now _ c.new-window.ensures e.in_range e.none e.appended _ (search rules) _ c.sent.ensures.reported
-
--- an iterator is made of itself
-abbrev FromItself : {S : Type 0} → S → S → Type 0
-FromItself source it = it ≡ source
 
 pub returns-in-Err-clause-refused : goal.returns-in-Err-clause-refused
 returns-in-Err-clause-refused c z =

@@ -10,4 +10,4 @@ returns-in-Ok-clause-point c =
 
 pub returns-in-Err-clause-refused : goal.returns-in-Err-clause-refused
 returns-in-Err-clause-refused c =
-    absurd (never_rejected c.split_at.result.0.now c.in-Err.e (ap length c.split_at.ensures.front ∙ length-take 16 c.args.bytes.now ∙ omega (arith, c.if-bytes-lt16.false)) c.in-Err.ensures)
+    absurd (never_rejected 16 c.split_at.result.0.now c.in-Err.e (ap length c.split_at.ensures.front ∙ length-take 16 c.args.bytes.now ∙ omega (arith, c.if-bytes-lt16.false)) c.in-Err.ensures)

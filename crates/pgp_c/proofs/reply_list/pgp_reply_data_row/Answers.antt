@@ -5,14 +5,10 @@ use Rattle.pgp_c.proofs.reply_list.pgp_reply_data_row.Goals as goal
 
 pub returns-clause-sent : goal.returns-clause-sent
 returns-clause-sent c z =
-    let all = c.args.values.now in
-    let road = YieldsList-at c.map.ensures.source (YieldsList-from_slice all cc) in
-    made_replied lent value_of count_cause (counted_list value_parts) row_of refl row_longer fronts _ c.map.result all road _ c.map.ensures.closure (λ x r q k. (search rules, search rules))
+    made_replied lent value_of count_cause (counted_list value_parts) row_of refl row_longer fronts _ c.map.result c.args.values.now (YieldsList-at c.map.ensures.source (YieldsList-from_slice c.args.values.now cc)) _ c.map.ensures.closure (λ x r q k. (search rules, search rules))
     c.new-window.result c.data_row_of-answer.new.buf c.args.out.now _ c.new-window.ensures c.data_row_of-answer.result c.data_row_of-answer.ensures _ (search rules) _ (c.ended.ensures.sent z)
 
 pub returns-clause-refused : goal.returns-clause-refused
 returns-clause-refused c z =
-    let all = c.args.values.now in
-    let road = YieldsList-at c.map.ensures.source (YieldsList-from_slice all cc) in
-    made_not_replied lent value_of count_cause (counted_list value_parts) row_of refl row_longer fronts _ c.map.result all road _ c.map.ensures.closure (λ x r q k. (search rules, search rules))
+    made_not_replied lent value_of count_cause (counted_list value_parts) row_of refl row_longer fronts _ c.map.result c.args.values.now (YieldsList-at c.map.ensures.source (YieldsList-from_slice c.args.values.now cc)) _ c.map.ensures.closure (λ x r q k. (search rules, search rules))
     c.new-window.result c.data_row_of-answer.new.buf c.args.out.now _ c.new-window.ensures c.data_row_of-answer.result c.data_row_of-answer.ensures never_count _ _ (c.ended.ensures.refused z)

@@ -5,14 +5,10 @@ use Rattle.pgp_c.proofs.reply_list.pgp_reply_row_description.Goals as goal
 
 pub returns-clause-sent : goal.returns-clause-sent
 returns-clause-sent c z =
-    let all = c.args.columns.now in
-    let road = YieldsList-at c.map.ensures.source (YieldsList-from_slice all cc) in
-    made_replied shown_column described count_cause (counted_list column_parts) description_of refl description_longer fronts _ c.map.result all road _ c.map.ensures.closure (λ x r q k. (search rules, search rules))
+    made_replied shown_column described count_cause (counted_list column_parts) description_of refl description_longer fronts _ c.map.result c.args.columns.now (YieldsList-at c.map.ensures.source (YieldsList-from_slice c.args.columns.now cc)) _ c.map.ensures.closure (λ x r q k. (search rules, search rules))
     c.new-window.result c.row_description_of-answer.new.buf c.args.out.now _ c.new-window.ensures c.row_description_of-answer.result c.row_description_of-answer.ensures _ (search rules) _ (c.ended.ensures.sent z)
 
 pub returns-clause-refused : goal.returns-clause-refused
 returns-clause-refused c z =
-    let all = c.args.columns.now in
-    let road = YieldsList-at c.map.ensures.source (YieldsList-from_slice all cc) in
-    made_not_replied shown_column described count_cause (counted_list column_parts) description_of refl description_longer fronts _ c.map.result all road _ c.map.ensures.closure (λ x r q k. (search rules, search rules))
+    made_not_replied shown_column described count_cause (counted_list column_parts) description_of refl description_longer fronts _ c.map.result c.args.columns.now (YieldsList-at c.map.ensures.source (YieldsList-from_slice c.args.columns.now cc)) _ c.map.ensures.closure (λ x r q k. (search rules, search rules))
     c.new-window.result c.row_description_of-answer.new.buf c.args.out.now _ c.new-window.ensures c.row_description_of-answer.result c.row_description_of-answer.ensures never_count _ _ (c.ended.ensures.refused z)

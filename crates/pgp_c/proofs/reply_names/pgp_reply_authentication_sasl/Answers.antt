@@ -4,14 +4,10 @@ use Rattle.pgp_c.proofs.reply_names.pgp_reply_authentication_sasl.Goals as goal
 
 pub returns-clause-sent : goal.returns-clause-sent
 returns-clause-sent c z =
-    let all = c.args.mechanisms.now in
-    let road = YieldsList-at c.map.ensures.source (YieldsList-from_slice all cc) in
-    made_replied (λ name. name.now) name_of uncounted (λ all. Int32 (pos 10) ∷ marked_list text_parts all) (λ all. Authentication (AuthenticationSasl (names_of all))) refl sasl_longer fronts _ c.map.result all road _ c.map.ensures.closure (λ x r q k. (search rules, search rules))
+    made_replied (λ name. name.now) name_of uncounted (λ all. Int32 (pos 10) ∷ marked_list text_parts all) (λ all. Authentication (AuthenticationSasl (names_of all))) refl sasl_longer fronts _ c.map.result c.args.mechanisms.now (YieldsList-at c.map.ensures.source (YieldsList-from_slice c.args.mechanisms.now cc)) _ c.map.ensures.closure (λ x r q k. (search rules, search rules))
     c.new-window.result c.authentication_sasl_of-answer.new.buf c.args.out.now _ c.new-window.ensures c.authentication_sasl_of-answer.result c.authentication_sasl_of-answer.ensures _ (search rules) _ (c.ended.ensures.sent z)
 
 pub returns-clause-refused : goal.returns-clause-refused
 returns-clause-refused c z =
-    let all = c.args.mechanisms.now in
-    let road = YieldsList-at c.map.ensures.source (YieldsList-from_slice all cc) in
-    made_not_replied (λ name. name.now) name_of uncounted (λ all. Int32 (pos 10) ∷ marked_list text_parts all) (λ all. Authentication (AuthenticationSasl (names_of all))) refl sasl_longer fronts _ c.map.result all road _ c.map.ensures.closure (λ x r q k. (search rules, search rules))
+    made_not_replied (λ name. name.now) name_of uncounted (λ all. Int32 (pos 10) ∷ marked_list text_parts all) (λ all. Authentication (AuthenticationSasl (names_of all))) refl sasl_longer fronts _ c.map.result c.args.mechanisms.now (YieldsList-at c.map.ensures.source (YieldsList-from_slice c.args.mechanisms.now cc)) _ c.map.ensures.closure (λ x r q k. (search rules, search rules))
     c.new-window.result c.authentication_sasl_of-answer.new.buf c.args.out.now _ c.new-window.ensures c.authentication_sasl_of-answer.result c.authentication_sasl_of-answer.ensures never_uncounted _ _ (c.ended.ensures.refused z)

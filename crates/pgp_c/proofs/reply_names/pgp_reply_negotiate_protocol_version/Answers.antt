@@ -6,18 +6,14 @@ use Rattle.pgp_c.proofs.reply_names.pgp_reply_negotiate_protocol_version.Goals a
 
 pub returns-clause-sent : goal.returns-clause-sent
 returns-clause-sent c z =
-    let all = c.args.options.now in
     let v = to_z w32 (of_z w32 c.args.version) in
-    let road = YieldsList-at c.map.ensures.source (YieldsList-from_slice all cc) in
-    negotiated c.args.version v (to_z-of_z c.ranges.version) (map name_of all) c.args.out.now _ _
-    (made_replied (λ name. name.now) name_of length_cause (λ all. Int32 v ∷ wide_list text_parts all) (negotiation_of v) refl (negotiation_longer v) fronts _ c.map.result all road _ c.map.ensures.closure (λ x r q k. (search rules, search rules))
+    negotiated c.args.version v (to_z-of_z c.ranges.version) (map name_of c.args.options.now) c.args.out.now _ _
+    (made_replied (λ name. name.now) name_of length_cause (λ all. Int32 v ∷ wide_list text_parts all) (negotiation_of v) refl (negotiation_longer v) fronts _ c.map.result c.args.options.now (YieldsList-at c.map.ensures.source (YieldsList-from_slice c.args.options.now cc)) _ c.map.ensures.closure (λ x r q k. (search rules, search rules))
     c.new-window.result c.negotiate_protocol_version_of-answer.new.buf c.args.out.now _ c.new-window.ensures c.negotiate_protocol_version_of-answer.result c.negotiate_protocol_version_of-answer.ensures _ (search rules) _ (c.ended.ensures.sent z))
 
 pub returns-clause-refused : goal.returns-clause-refused
 returns-clause-refused c z =
-    let all = c.args.options.now in
     let v = to_z w32 (of_z w32 c.args.version) in
-    let road = YieldsList-at c.map.ensures.source (YieldsList-from_slice all cc) in
-    not_negotiated c.args.version v (to_z-of_z c.ranges.version) (map name_of all) c.args.out.now _ _
-    (made_not_replied (λ name. name.now) name_of length_cause (λ all. Int32 v ∷ wide_list text_parts all) (negotiation_of v) refl (negotiation_longer v) fronts _ c.map.result all road _ c.map.ensures.closure (λ x r q k. (search rules, search rules))
+    not_negotiated c.args.version v (to_z-of_z c.ranges.version) (map name_of c.args.options.now) c.args.out.now _ _
+    (made_not_replied (λ name. name.now) name_of length_cause (λ all. Int32 v ∷ wide_list text_parts all) (negotiation_of v) refl (negotiation_longer v) fronts _ c.map.result c.args.options.now (YieldsList-at c.map.ensures.source (YieldsList-from_slice c.args.options.now cc)) _ c.map.ensures.closure (λ x r q k. (search rules, search rules))
     c.new-window.result c.negotiate_protocol_version_of-answer.new.buf c.args.out.now _ c.new-window.ensures c.negotiate_protocol_version_of-answer.result c.negotiate_protocol_version_of-answer.ensures never_length _ _ (c.ended.ensures.refused z))

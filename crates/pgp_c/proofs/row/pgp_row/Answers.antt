@@ -6,7 +6,7 @@ use Rattle.pgp_c.proofs.row.pgp_row.Goals as goal
 pub returns-in_default-clause-refused : goal.returns-in_default-clause-refused
 returns-in_default-clause-refused c some =
     let front = c.no_row.ensures.front in
-    NoRow (record { none = c.in_default.ensures.none (search rules); message = front.0; front_code = front.1; reported = front.2; code_is = front.3 })
+    NoRow (c.in_default.ensures.none (search rules)) front.0 front.1 front.2 front.3
 
 pub returns-then-announced-columns-clause-refused : goal.returns-then-announced-columns-clause-refused
 returns-then-announced-columns-clause-refused c some = Full c.in-Some.ensures.some (search rules)

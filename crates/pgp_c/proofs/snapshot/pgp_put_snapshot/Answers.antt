@@ -1,11 +1,8 @@
-use Rattle.pgp_c.proofs.Common.{rules, ◌≡◌, sym, subst, copies, fronts, YieldsList, YieldsList-from_slice, YieldsList-from_copied, Yielded, all_same, some_same, snapshot, snapshot_of}
+use Rattle.pgp_c.proofs.Common.{rules, sym, subst, copies, fronts, YieldsList, YieldsList-from_slice, YieldsList-from_copied, Yielded, all_same, some_same, snapshot, snapshot_of}
+use Rattle.pgp_c.proofs.Lists.{FromItself}
 use Rattle.pgp_c.proofs.ListWriting.{writes_value, fails_value}
 use Rattle.pgp_c.proofs.SnapshotLists.{wrote_all, why_none}
 use Rattle.pgp_c.proofs.snapshot.pgp_put_snapshot.Goals as goal
-
--- an iterator is made of itself
-abbrev FromItself : {S : Type 0} → S → S → Type 0
-FromItself source it = it ≡ source
 
 pub returns-clause-wrote : goal.returns-clause-wrote
 returns-clause-wrote c z =

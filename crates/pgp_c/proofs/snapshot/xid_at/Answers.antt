@@ -1,6 +1,6 @@
 use Rattle.pgp_c.proofs.Common.{◌≡◌, ◌++◌, arith, sym, ap, ◌∙◌, length, take-append-drop}
 use Rattle.std.proofs.Common.{length-take}
-use Rattle.pgp_c.proofs.SnapshotWalks.{no_xid}
+use Rattle.pgp_c.proofs.PointLists.{never_rejected}
 use Rattle.pgp_c.proofs.snapshot.xid_at.Goals as goal
 
 pub returns-in-Ok-clause-xid : goal.returns-in-Ok-clause-xid
@@ -10,4 +10,4 @@ returns-in-Ok-clause-xid c =
 
 pub returns-in-Err-clause-refused : goal.returns-in-Err-clause-refused
 returns-in-Err-clause-refused c =
-    absurd (no_xid c.split_at.result.0.now c.in-Err.e (ap length c.split_at.ensures.front ∙ length-take 8 c.args.bytes.now ∙ omega (arith, c.if-bytes-lt8.false)) c.in-Err.ensures)
+    absurd (never_rejected 8 c.split_at.result.0.now c.in-Err.e (ap length c.split_at.ensures.front ∙ length-take 8 c.args.bytes.now ∙ omega (arith, c.if-bytes-lt8.false)) c.in-Err.ensures)

@@ -1,4 +1,4 @@
-use Rattle.pgp_c.proofs.Common.{◌<◌, length, refl, sym, subst, ap, ◌∙◌, arith, if_err_at, IsBytes, InvalidValueLength, shown, element_reader, value_in, IsColumnInside}
+use Rattle.pgp_c.proofs.Common.{rules, ◌<◌, length, refl, sym, subst, ap, ◌∙◌, arith, if_err_at, InvalidValueLength, shown, element_reader, value_in, IsColumnInside}
 use Rattle.pgp_types.specs.ArrayReading.{element_at}
 use Rattle.pgp_types.specs.Part.{nullable}
 use Rattle.pgp_c.proofs.Compound.{column_inside, element_in}
@@ -7,28 +7,24 @@ use Rattle.pgp_c.proofs.array.ElementsListed.read.Goals as goal
 
 pub returns-in_err-value-clause-refused : goal.returns-in_err-value-clause-refused
 returns-in_err-value-clause-refused c =
-    let each : IsBytes c.args.rest.now = λ i. omega (arith, c.type_inv.rest i) in
-    if_err_at _ _ _ c.from_residual.ensures.1 (element_reader.refused c.args.at c.args.rest.now _ each c.in_err-value.ensures)
+    if_err_at _ _ _ c.from_residual.ensures.1 (element_reader.refused c.args.at c.args.rest.now _ (search rules) c.in_err-value.ensures)
 
 pub overflow_sub-rest : goal.overflow_sub-rest
 overflow_sub-rest c =
-    let each : IsBytes c.args.rest.now = λ i. omega (arith, c.type_inv.rest i) in
     let shorter : length c.in_ok-value.more.now < length c.args.rest.now =
-    reader_shorter (λ place. (nullable InvalidValueLength).Spelled) (nullable InvalidValueLength).Refused (λ place. element_at) element_reader c.args.at c.args.rest.now _ c.in_ok-value.more.now each c.in_ok-value.ensures in
+    reader_shorter (λ place. (nullable InvalidValueLength).Spelled) (nullable InvalidValueLength).Refused (λ place. element_at) element_reader c.args.at c.args.rest.now _ c.in_ok-value.more.now (search rules) c.in_ok-value.ensures in
     omega (arith, shorter)
 
 pub returns-clause-item : goal.returns-clause-item
 returns-clause-item c bytes from =
-    let each : IsBytes c.args.rest.now = λ i. omega (arith, c.type_inv.rest i) in
-    let s = element_reader.found c.args.at c.args.rest.now _ c.in_ok-value.more.now each c.in_ok-value.ensures in
+    let s = element_reader.found c.args.at c.args.rest.now _ c.in_ok-value.more.now (search rules) c.in_ok-value.ensures in
     let placed = element_in bytes c.args.rest.now s.front c.in_ok-value.more.now (shown c.in_ok-value.value) c.args.at _ from s.spelled s.whole refl in
-    reader_found (λ place. (nullable InvalidValueLength).Spelled) (nullable InvalidValueLength).Refused (λ place. element_at) element_reader c.args.at c.args.rest.now (shown c.in_ok-value.value) _ c.in_ok-value.more.now each c.in_ok-value.ensures
+    reader_found (λ place. (nullable InvalidValueLength).Spelled) (nullable InvalidValueLength).Refused (λ place. element_at) element_reader c.args.at c.args.rest.now (shown c.in_ok-value.value) _ c.in_ok-value.more.now (search rules) c.in_ok-value.ensures
     (ap (λ x. value_in bytes x) c.column_before-column.ensures ∙ placed)
 
 pub returns-clause-shorter : goal.returns-clause-shorter
 returns-clause-shorter c =
-    let each : IsBytes c.args.rest.now = λ i. omega (arith, c.type_inv.rest i) in
-    reader_shorter (λ place. (nullable InvalidValueLength).Spelled) (nullable InvalidValueLength).Refused (λ place. element_at) element_reader c.args.at c.args.rest.now _ c.in_ok-value.more.now each c.in_ok-value.ensures
+    reader_shorter (λ place. (nullable InvalidValueLength).Spelled) (nullable InvalidValueLength).Refused (λ place. element_at) element_reader c.args.at c.args.rest.now _ c.in_ok-value.more.now (search rules) c.in_ok-value.ensures
 
 pub returns-clause-inside : goal.returns-clause-inside
 returns-clause-inside c size within =

@@ -1,29 +1,25 @@
-use Rattle.pgp_c.proofs.Common.{arith, subst, sym, if_err_at, IsBytes, shown, Field, field_item, IsColumnInside}
+use Rattle.pgp_c.proofs.Common.{rules, arith, subst, sym, if_err_at, shown, Field, field_item, IsColumnInside}
 use Rattle.pgp_c.proofs.Compound.{column_inside}
 use Rattle.pgp_c.proofs.RecordWalks.{field_long, field_placed}
 use Rattle.pgp_c.proofs.record.FieldsListed.read.Goals as goal
 
 pub returns-in_err-of_type-clause-refused : goal.returns-in_err-of_type-clause-refused
 returns-in_err-of_type-clause-refused c =
-    let each : IsBytes c.args.rest.now = λ i. omega (arith, c.type_inv.rest i) in
-    if_err_at _ _ _ c.from_residual.ensures.1 (field_item.part.refused c.args.rest.now _ each c.in_err-of_type.ensures)
+    if_err_at _ _ _ c.from_residual.ensures.1 (field_item.part.refused c.args.rest.now _ (search rules) c.in_err-of_type.ensures)
 
 pub overflow_sub-rest : goal.overflow_sub-rest
 overflow_sub-rest c =
-    let each : IsBytes c.args.rest.now = λ i. omega (arith, c.type_inv.rest i) in
-    omega (arith, field_long c.args.rest.now c.in_ok-of_type.more.now _ (field_item.part.found c.args.rest.now _ c.in_ok-of_type.more.now each c.in_ok-of_type.ensures))
+    omega (arith, field_long c.args.rest.now c.in_ok-of_type.more.now _ (field_item.part.found c.args.rest.now _ c.in_ok-of_type.more.now (search rules) c.in_ok-of_type.ensures))
 
 pub returns-clause-item : goal.returns-clause-item
 returns-clause-item c bytes from =
-    let each : IsBytes c.args.rest.now = λ i. omega (arith, c.type_inv.rest i) in
     let x : Field = (c.in_ok-of_type.of_type, shown c.in_ok-of_type.value) in
-    let b = field_item.part.found c.args.rest.now x c.in_ok-of_type.more.now each c.in_ok-of_type.ensures in
+    let b = field_item.part.found c.args.rest.now x c.in_ok-of_type.more.now (search rules) c.in_ok-of_type.ensures in
     field_placed bytes c.args.rest.now c.in_ok-of_type.more.now x c.args.at _ from b c.column_before-value.ensures
 
 pub returns-clause-shorter : goal.returns-clause-shorter
 returns-clause-shorter c =
-    let each : IsBytes c.args.rest.now = λ i. omega (arith, c.type_inv.rest i) in
-    omega (arith, field_long c.args.rest.now c.in_ok-of_type.more.now _ (field_item.part.found c.args.rest.now _ c.in_ok-of_type.more.now each c.in_ok-of_type.ensures))
+    omega (arith, field_long c.args.rest.now c.in_ok-of_type.more.now _ (field_item.part.found c.args.rest.now _ c.in_ok-of_type.more.now (search rules) c.in_ok-of_type.ensures))
 
 pub returns-clause-inside : goal.returns-clause-inside
 returns-clause-inside c size within =

@@ -1,4 +1,4 @@
-use Rattle.pgp_c.proofs.Common.{arith, inl, inr, cases_Bool, if_err_at, IsBytes, range_at, RangeSpelled, RangeRefused, range_of}
+use Rattle.pgp_c.proofs.Common.{rules, arith, inl, inr, cases_Bool, if_err_at, range_at, RangeSpelled, RangeRefused, range_of}
 use Rattle.pgp_message.proofs.RangeLemmas.{range_reader}
 use Rattle.pgp_c.proofs.Compound.{range_inside}
 use Rattle.pgp_c.proofs.Listings.{reader_shorter}
@@ -6,24 +6,20 @@ use Rattle.pgp_c.proofs.row.ValuesListed.read.Goals as goal
 
 pub returns-in_err-more-clause-refused : goal.returns-in_err-more-clause-refused
 returns-in_err-more-clause-refused c =
-    let each : IsBytes c.args.rest.now = λ i. omega (arith, c.type_inv.rest i) in
-    if_err_at _ _ _ c.from_residual.ensures.1 (range_reader.refused c.args.at c.args.rest.now _ each c.in_err-more.ensures.read)
+    if_err_at _ _ _ c.from_residual.ensures.1 (range_reader.refused c.args.at c.args.rest.now _ (search rules) c.in_err-more.ensures.read)
 
 pub returns-clause-item : goal.returns-clause-item
 returns-clause-item c bytes stands =
-    let each : IsBytes c.args.rest.now = λ i. omega (arith, c.type_inv.rest i) in
-    range_reader.found c.args.at c.args.rest.now (range_of c.in_ok-more.column) c.in_ok-more.more.now each c.in_ok-more.ensures.read
+    range_reader.found c.args.at c.args.rest.now (range_of c.in_ok-more.column) c.in_ok-more.more.now (search rules) c.in_ok-more.ensures.read
 
 pub returns-clause-shorter : goal.returns-clause-shorter
 returns-clause-shorter c =
-    let each : IsBytes c.args.rest.now = λ i. omega (arith, c.type_inv.rest i) in
-    reader_shorter RangeSpelled RangeRefused range_at range_reader c.args.at c.args.rest.now (range_of c.in_ok-more.column) c.in_ok-more.more.now each c.in_ok-more.ensures.read
+    reader_shorter RangeSpelled RangeRefused range_at range_reader c.args.at c.args.rest.now (range_of c.in_ok-more.column) c.in_ok-more.more.now (search rules) c.in_ok-more.ensures.read
 
 pub returns-clause-inside : goal.returns-clause-inside
 returns-clause-inside c size within =
-    let each : IsBytes c.args.rest.now = λ i. omega (arith, c.type_inv.rest i) in
     let column = c.in_ok-more.column in
     elim (cases_Bool column.is_null) [
       | inl null ↦ let none = c.in_ok-more.ensures.null null in (omega (arith, none.0, none.1), omega (arith, none.1))
-      | inr full ↦ range_inside c.args.rest.now c.in_ok-more.more.now column c.args.at size full within (range_reader.found c.args.at c.args.rest.now (range_of column) c.in_ok-more.more.now each c.in_ok-more.ensures.read)
+      | inr full ↦ range_inside c.args.rest.now c.in_ok-more.more.now column c.args.at size full within (range_reader.found c.args.at c.args.rest.now (range_of column) c.in_ok-more.more.now (search rules) c.in_ok-more.ensures.read)
     ]

@@ -1,6 +1,6 @@
 use Rattle.pgp_c.proofs.Common.{rules, ap, inl, ◌∷◌, List, ℕ}
 use Rattle.pgp_c.proofs.Sending.{wrote}
-use Rattle.pgp_c.proofs.label.put_label.Goals as goal
+use Rattle.pgp_c.proofs.label.pgp_put_ltree.Goals as goal
 
 pub returns-in_default-clause-refused : goal.returns-in_default-clause-refused
 returns-in_default-clause-refused c z = (c.refused.ensures.reported, inl (c.refused.ensures.code, c.in_default.ensures.cases.0))
