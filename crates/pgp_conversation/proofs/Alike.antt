@@ -1,6 +1,5 @@
 -- Messages that differ in their secrets alone are the same to what doesn't look at these.
-use Rattle.pgp_conversation.proofs.Common.{◌≡◌, ℕ, List, get_or, Result, Ok, Err, Some, refl, ap, ◌∙◌, kind_of, request_of, request_of_tag, Message, Error, ClientMessage, ClientError, AlikeAnswers, AlikeResults, asks, noted_by, requests, asked_by, heard_as, kind_by, asking_from, asking_of, Said}
-use Rattle.pgp_trace.proofs.AlikeCases.{heard_alike, results_alike, sent_alike}
+use Rattle.pgp_conversation.proofs.Common.{◌≡◌, ℕ, List, get_or, Result, Ok, Err, Some, refl, ap, ◌∙◌, kind_of, request_of, request_of_tag, Message, Error, ClientMessage, ClientError, AlikeAnswers, AlikeResults, asks, noted_by, requests, asked_by, heard_as, kind_by, asking_from, asking_of, Said, heard_alike, results_alike, sent_alike}
 use Rattle.pgp_conversation.proofs.TypedAlike.{AlikeSaid, said_alike}
 
 -- ---- what they are to the requests, and what they say of messages to come

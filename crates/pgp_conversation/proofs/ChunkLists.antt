@@ -1,8 +1,6 @@
 -- The lines of a chunk.
-use Rattle.pgp_conversation.proofs.Common.{◌≡◌, ℕ, ◌+◌, ◌≤◌, Bool, true, false, List, [], ◌++◌, length, take, drop, min, Option, Some, Result, Ok, Err, refl, sym, ap, subst, ◌∙◌, arith, length-append, OnOk, append-nil, length-take, greatest, place_behind, Ends, View, stays_ended, Sender, Client, Server, Half, Known, Talk, ListsFrame, ListsFrames, NoLines, first_time, now_at, side_in, with_numbers, mark, since, Numbers, at_time, Chunk, ListsBytes, ListsChunkTo, HeldHalf, HeldTalk, Holds, Keeps, ListsAllFrames, half_in, other, ListsChunk}
+use Rattle.pgp_conversation.proofs.Common.{◌≡◌, ℕ, ◌+◌, ◌≤◌, Bool, true, false, List, [], ◌++◌, length, take, drop, min, Option, Some, Result, Ok, Err, refl, sym, ap, subst, ◌∙◌, arith, length-append, OnOk, append-nil, length-take, greatest, place_behind, Ends, View, stays_ended, Sender, Client, Server, Half, Known, Talk, ListsFrame, ListsFrames, NoLines, first_time, now_at, side_in, with_numbers, mark, since, Numbers, at_time, Chunk, ListsBytes, ListsChunkTo, HeldHalf, HeldTalk, Holds, Keeps, ListsAllFrames, half_in, other, ListsChunk, counted_on, saturates}
 use Rattle.std.proofs.Math.Nat.{min-eq_left}
-use Rattle.pgp_trace.proofs.Parts.{saturates}
-use Rattle.pgp_trace.proofs.Rows.{counted_on}
 use Rattle.pgp_conversation.proofs.FrameLists.{other_ends, timed_side}
 
 not_both : (b : Bool) → b ≡ true → b ≡ false → ⊥

@@ -1,7 +1,6 @@
 -- The lines of a side, a frame at a time.
-use Rattle.pgp_conversation.proofs.Common.{◌≡◌, ℕ, ◌+◌, ◌-◌, ◌<◌, ◌≤◌, Bool, true, false, List, [], ◌++◌, length, min, Option, refl, sym, ap, subst, ◌∙◌, arith, length-append, PasswordKind, greatest, place_behind, name_in, Side, Ends, HasLine, View, Sender, Client, Server, Noted, Asks, Told, Known, ListsFrame, ListsFrames, NoLines, OneLine, as_standby, note, noted_by, noted_in, other, replicates_in, side_in, text_of, told_by, with_kind, with_numbers, with_side, with_types, asking_from, asking_in, summed, Numbers, role_by, told_in, Learns, said_in, Reads, Types, ListsOneFrame, now_at}
+use Rattle.pgp_conversation.proofs.Common.{◌≡◌, ℕ, ◌+◌, ◌-◌, ◌<◌, ◌≤◌, Bool, true, false, List, [], ◌++◌, length, min, Option, refl, sym, ap, subst, ◌∙◌, arith, length-append, PasswordKind, greatest, place_behind, name_in, Side, Ends, HasLine, View, Sender, Client, Server, Noted, Asks, Told, Known, ListsFrame, ListsFrames, NoLines, OneLine, as_standby, note, noted_by, noted_in, other, replicates_in, side_in, text_of, told_by, with_kind, with_numbers, with_side, with_types, asking_from, asking_in, summed, Numbers, role_by, told_in, Learns, said_in, Reads, Types, ListsOneFrame, now_at, RowsTo, one_listed}
 use Rattle.pgp_trace.specs.Sides.{Server as ServerSide, Client as ClientSide}
-use Rattle.pgp_trace.proofs.Rows.{RowsTo, one_listed}
 use Rattle.pgp_trace.proofs.Shorter.{frame_has}
 
 -- what is no side's

@@ -1,6 +1,5 @@
 -- Lines with values as texts are printable.
-use Rattle.pgp_conversation.proofs.Common.{◌≡◌, ℕ, ℤ, Bool, true, false, List, [], ◌∷◌, ◌++◌, drop, length, Option, Some, None, Ok, map, codes, Message, DataRow, CountedBytes, value_at, Part, Count, Length, ListEnds, Name, Tag, Text, closing, followed, key, opening, IsPrinted, Style, ClientMessage, Bind, executed, is_some, names_parts, refl, counted, signed_part, ending, closing_printable, join, opening_printable, parts_printable, Column, Told, Heard, IsBindLine, IsRowLine, Said, Sent, ShowsBound, ShowsFitting, ShowsHeard, ShowsRow, ShowsSent, ShowsTyped, ShowsValues, bind_front, fits, has_binary, row_front, Awaited, Types, first, rows_of}
-use Rattle.pgp_conversation.specs.Common.{Execute, Key, Number, State}
+use Rattle.pgp_conversation.proofs.Common.{◌≡◌, ℕ, ℤ, Bool, true, false, List, [], ◌∷◌, ◌++◌, drop, length, Option, Some, None, Ok, map, codes, Message, DataRow, CountedBytes, value_at, Part, Count, Length, ListEnds, Name, Tag, Text, closing, followed, key, opening, IsPrinted, Style, ClientMessage, Bind, executed, is_some, names_parts, refl, counted, signed_part, ending, closing_printable, join, opening_printable, parts_printable, Column, Told, Heard, IsBindLine, IsRowLine, Said, Sent, ShowsBound, ShowsFitting, ShowsHeard, ShowsRow, ShowsSent, ShowsTyped, ShowsValues, bind_front, fits, has_binary, row_front, Awaited, Types, first, rows_of, Execute, Key, Number, State}
 use Rattle.pgp_conversation.specs.Shelves.{Columns}
 use Rattle.pgp_conversation.specs.declared.placement.Told.TheVariants as told
 use Rattle.pgp_summary.specs.Summary.{text_due}

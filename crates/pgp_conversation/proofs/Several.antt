@@ -1,9 +1,7 @@
 -- Words that name two files or more.
-use Rattle.pgp_conversation.proofs.Common.{◌≡◌, ◌≤◌, ◌++◌, ℕ, List, [], ◌∷◌, length, Option, Result, Ok, Err, IfOk, OnErr, arith, subst, Keeps-refl, Streams, View, Marking}
-use Rattle.std.specs.Prelude.{IfErr}
+use Rattle.pgp_conversation.proofs.Common.{◌≡◌, ◌≤◌, ◌++◌, ℕ, List, [], ◌∷◌, length, Option, Result, Ok, Err, IfOk, OnErr, arith, subst, Keeps-refl, Streams, View, Marking, CutsTable, ListsTable, IfErr}
 use Rattle.pgp_line.specs.declared.fault.Fault.{Fault}
 use Rattle.pgp_conversation.specs.Command.{DoesSession, StopsSession}
-use Rattle.pgp_conversation.specs.Several.{CutsTable, ListsTable}
 use Rattle.pgp_conversation.specs.declared.outcome.Ended.{Ended}
 
 module _ (Gives : List ℕ → List ℕ → Type 0) (view : View) (marking : Marking) (input old new : Option (List ℕ)) where

@@ -1,6 +1,5 @@
 -- Messages that differ in their secrets alone tell the same of types, and have the same lines.
-use Rattle.pgp_conversation.proofs.Common.{◌≡◌, ℕ, List, Option, Some, None, Ok, Err, refl, ap, ◌∙◌, Error, Message, ClientMessage, ClientError, Style, AlikeAnswers, AlikeMessages, Alike, AlikeResults, Told, Heard, Hears, Learns, Said, Sent, ShowsHeard, ShowsSent, ShowsTyped, Unsaid, sends, Types, first, reached}
-use Rattle.pgp_trace.proofs.AlikeCases.{answers_alike, heard_alike, results_alike, sent_alike}
+use Rattle.pgp_conversation.proofs.Common.{◌≡◌, ℕ, List, Option, Some, None, Ok, Err, refl, ap, ◌∙◌, Error, Message, ClientMessage, ClientError, Style, AlikeAnswers, AlikeMessages, Alike, AlikeResults, Told, Heard, Hears, Learns, Said, Sent, ShowsHeard, ShowsSent, ShowsTyped, Unsaid, sends, Types, first, reached, answers_alike, heard_alike, results_alike, sent_alike}
 use Rattle.pgp_conversation.specs.declared.placement.Told.TheVariants as told
 
 -- frames are read as things that differ in their secrets alone

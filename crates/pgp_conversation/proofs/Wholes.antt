@@ -1,9 +1,5 @@
 -- A recording of which all bytes are there.
-use Rattle.pgp_conversation.proofs.Common.{◌≡◌, ◌++◌, inl, Bool, true, false, List, [], ℕ, Option, Some, Result, refl, sym, ap, subst, ◌∙◌, append-nil, IfOk, OnErr, OnOk, Appends, AppendsFront, Consumes, View, Marking, End, Tally, Known, last_lines, ListsAllChunks, ListsPiece, ListsSome, HeldTalk, held_first, held_last, summary_in, complaint_of, EndsBy, IsCutShort, IsReadTo, WritesListing, end_of}
-use Rattle.pgp_summary.specs.Runs.{tally_after}
-use Rattle.pgp_trace.specs.Hints.{hint_of}
-use Rattle.pgp_conversation.specs.Several.{AddsRecording, file_after, file_before, tallies_in}
-use Rattle.pgp_conversation.specs.Pieces.{Tracks}
+use Rattle.pgp_conversation.proofs.Common.{◌≡◌, ◌++◌, inl, Bool, true, false, List, [], ℕ, Option, Some, Result, refl, sym, ap, subst, ◌∙◌, append-nil, IfOk, OnErr, OnOk, Appends, AppendsFront, Consumes, View, Marking, End, Tally, Known, last_lines, ListsAllChunks, ListsPiece, ListsSome, HeldTalk, held_first, held_last, summary_in, complaint_of, EndsBy, IsCutShort, IsReadTo, WritesListing, end_of, AddsRecording, file_after, file_before, tallies_in, hint_of, tally_after, Tracks}
 use Rattle.pgp_conversation.specs.declared.session.Said.{Said}
 use Rattle.pgp_conversation.proofs.Sessions.{ends_by, last_broken, last_listed, none_listed, read_all, read_rest, received}
 

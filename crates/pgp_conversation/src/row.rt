@@ -1,6 +1,6 @@
 //! The line of a row whose columns are known.
 
-ghost use Rattle.std.specs.Prelude.{◌≡◌, ◌≤◌, None, length, drop, map, take, OnErr, OnOk, string_bytes};
+ghost use Rattle.std.specs.Prelude.{◌≡◌, ◌≤◌, None, length, drop, map, OnErr, OnOk, string_bytes};
 ghost use Rattle.std.specs.Option.{option_copied};
 ghost use Rattle.pgp_trace.specs.Shown.{list_of, text_part};
 ghost use Rattle.pgp_conversation.specs.Common.{AllByRecursion, IsPlaceIn, followed, value_at};
@@ -190,6 +190,7 @@ fn put_names<A: MapMemory>(
 }
 
 /// Adds the names of these columns, which stand one after another.
+#[tactic(auto, using(std::proofs::lemmas::List::take_min, std::proofs::lemmas::List::drop_min))]
 fn put_each_name<A: MapMemory>(
     style: Style,
     columns: &[Column],
@@ -202,22 +203,10 @@ fn put_each_name<A: MapMemory>(
     let mut rest = columns;
     let mut left = names;
     'columns: while let Some((column, behind)) = rest.split_first() {
-        let (name, more) = cut(column.len, left);
+        let (name, more) = left.split_at(column.len.min(left.len()));
         put_text(style, name, line)?;
         rest = behind;
         left = more;
     }
     end_list(style, line)
-}
-
-/// So many of the bytes, as far as there are any, and what stands after them.
-fn cut(len: usize, bytes: &[u8]) -> (&[u8], &[u8])
-    ensures front { result.0.now ≡ take len bytes.now }
-    ensures behind { result.1.now ≡ drop len bytes.now }
-{
-    if len < bytes.len() {
-        bytes.split_at(len)
-    } else {
-        (bytes, &[])
-    }
 }

@@ -93,7 +93,7 @@ fn note_told<A: MapMemory>(
 {
     match told {
         Told::Number(number) => note_request(asking, number, summary),
-        Told::Answer { number, sent, now } => { note_answer(name, number, sent, now, summary) }
+        Told::Answer { number, sent, now } => note_answer(name, number, sent, now, summary),
         Told::Lost | Told::Nothing | Told::Uncounted => Ok(()),
     }
 }

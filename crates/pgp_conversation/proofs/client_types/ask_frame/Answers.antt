@@ -1,7 +1,6 @@
-use Rattle.pgp_conversation.proofs.Common.{Ok, None, Some, rules, subst, kind_view, view, Nothing, numbers_in, Tells, types_in}
+use Rattle.pgp_conversation.proofs.Common.{Ok, None, Some, rules, subst, kind_view, view, Nothing, numbers_in, Tells, types_in, Uncounted}
 use Rattle.pgp_frontend_read.specs.Step.{Step}
 use Rattle.pgp_conversation.proofs.Readings.{if_ok, sent_all, silent_all}
-use Rattle.pgp_conversation.specs.declared.placement.Told.TheVariants.{Uncounted}
 use Rattle.pgp_conversation.proofs.client_types.ask_frame.Goals as goal
 
 pub returns-in-Ok-Some-clause-tells : goal.returns-in-Ok-Some-clause-tells

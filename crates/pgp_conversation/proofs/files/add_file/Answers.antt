@@ -1,5 +1,4 @@
-use Rattle.pgp_conversation.proofs.Common.{sym, subst, ◌++◌, ◌∷◌, [], view_of}
-use Rattle.pgp_conversation.specs.Several.{AddsFiles, AddsRecording, OneFile}
+use Rattle.pgp_conversation.proofs.Common.{sym, subst, ◌++◌, ◌∷◌, [], view_of, AddsFiles, AddsRecording, OneFile}
 use Rattle.pgp_conversation.proofs.files.add_file.Goals as goal
 
 pub returns-clause-added : goal.returns-clause-added

@@ -1,6 +1,4 @@
-use Rattle.pgp_conversation.proofs.Common.{[], sym, subst, view_of}
-use Rattle.pgp_conversation.specs.Common.{Whole}
-use Rattle.pgp_conversation.specs.Several.{AddsFiles, NoFile}
+use Rattle.pgp_conversation.proofs.Common.{[], sym, subst, view_of, AddsFiles, NoFile, Whole}
 use Rattle.pgp_conversation.proofs.files.add_files.Goals as goal
 
 pub loop-name-init : goal.loop-name-init

@@ -1,6 +1,5 @@
 -- The recordings so far were added.
-use Rattle.pgp_conversation.proofs.Common.{map, take, view_of}
-use Rattle.pgp_conversation.specs.Several.{AddsFiles}
+use Rattle.pgp_conversation.proofs.Common.{map, take, view_of, AddsFiles}
 use Rattle.pgp_conversation.proofs.files.add_files.Given as goal
 
 abbrev pub invariant-loop-name : goal.invariant-loop-name

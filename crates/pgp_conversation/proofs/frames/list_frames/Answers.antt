@@ -1,7 +1,6 @@
-use Rattle.pgp_conversation.proofs.Common.{refl, rules, subst, ◌∙◌, string_bytes, view_of, ListsFrame, ListsOneFrame, known_of}
+use Rattle.pgp_conversation.proofs.Common.{refl, rules, subst, ◌∙◌, string_bytes, view_of, ListsFrame, ListsOneFrame, known_of, nothing_yet}
 use Rattle.std.specs.Prelude.{List, ℕ}
 use Rattle.pgp_conversation.proofs.FrameLists.{one_more, shorter}
-use Rattle.pgp_trace.proofs.Rows.{nothing_yet}
 use Rattle.pgp_conversation.proofs.frames.list_frames.Goals as goal
 
 pub frames-init : goal.frames-init

@@ -1,6 +1,5 @@
 -- The frames so far have their lines, and the mark is the same.
-use Rattle.pgp_conversation.proofs.Common.{◌≡◌, length, string_bytes, view_of, ListsFrame, known_of}
-use Rattle.pgp_trace.proofs.Rows.{RowsTo}
+use Rattle.pgp_conversation.proofs.Common.{◌≡◌, length, string_bytes, view_of, ListsFrame, known_of, RowsTo}
 use Rattle.pgp_conversation.proofs.frames.list_frames.Given as goal
 
 abbrev pub invariant-frames : goal.invariant-frames

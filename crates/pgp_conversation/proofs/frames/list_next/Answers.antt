@@ -1,6 +1,5 @@
-use Rattle.pgp_conversation.proofs.Common.{◌≡◌, ◌++◌, ◌∙◌, List, ℕ, ap, rules, subst, string_bytes, kind_view, expected, view_of, Line, side_in, text_of, told_by, KnowsNext, known_of, numbers_in, Said, Reads, ReadsSo, types_in}
+use Rattle.pgp_conversation.proofs.Common.{◌≡◌, ◌++◌, ◌∙◌, List, ℕ, ap, rules, subst, string_bytes, kind_view, expected, view_of, Line, side_in, text_of, told_by, KnowsNext, known_of, numbers_in, Said, Reads, ReadsSo, types_in, front_taken}
 use Rattle.pgp_conversation.proofs.FrameLists.{front_long, lists_one}
-use Rattle.pgp_trace.proofs.Parts.{front_taken}
 use Rattle.pgp_conversation.proofs.Sayings.{line_read}
 use Rattle.pgp_conversation.proofs.frames.list_next.Goals as goal
 

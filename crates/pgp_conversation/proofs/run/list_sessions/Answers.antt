@@ -1,7 +1,5 @@
-use Rattle.pgp_conversation.proofs.Common.{◌≡◌, ◌≤◌, ◌++◌, ℕ, List, length, map, arith, ap, subst, IfOk, OnErr, View, view_of}
-use Rattle.std.proofs.lemmas.List.{length-map}
+use Rattle.pgp_conversation.proofs.Common.{◌≡◌, ◌≤◌, ◌++◌, ℕ, List, length, map, arith, ap, subst, IfOk, OnErr, View, view_of, CutsTable, ListsTable, length-map}
 use Rattle.std.specs.Borrow.{Bor}
-use Rattle.pgp_conversation.specs.Several.{CutsTable, ListsTable}
 use Rattle.pgp_conversation.proofs.Several.{several_done, several_stopped}
 use Rattle.pgp_conversation.proofs.run.list_sessions.Goals as goal
 

@@ -1,7 +1,6 @@
-use Rattle.pgp_conversation.proofs.Common.{◌≡◌, ◌∙◌, sym, List, ℕ, get_or, length, None, Ok, Err, refl, rules, subst, string_bytes, Step, TakesFrame, Answers, Nothing, kind_of_tag, heard_as, numbers_in, Heard, Unsaid, Passes, Reads, types_in}
+use Rattle.pgp_conversation.proofs.Common.{◌≡◌, ◌∙◌, sym, List, ℕ, get_or, length, None, Ok, Err, refl, rules, subst, string_bytes, Step, TakesFrame, Answers, Nothing, kind_of_tag, heard_as, numbers_in, Heard, Unsaid, Passes, Reads, types_in, Uncounted}
 use Rattle.pgp_message.specs.Views.{view}
 use Rattle.pgp_conversation.proofs.Readings.{answer_all, fault_all, heard_all, if_ok, none_all, passed_reads, unnoted_reads}
-use Rattle.pgp_conversation.specs.declared.placement.Told.TheVariants.{Uncounted}
 use Rattle.pgp_conversation.proofs.server_types.read_heard.Goals as goal
 
 pub returns-in-Ok-Some-clause-read : goal.returns-in-Ok-Some-clause-read

@@ -1,5 +1,4 @@
-use Rattle.pgp_conversation.proofs.Common.{true, false, ◌++◌, take, arith, rules, refl, subst, inl, inr, Consumes, Consumes-trans, Appends-trans, Keeps-refl, on_err, Streams, view_of, ListsPiece, kept_of}
-use Rattle.pgp_trace.proofs.Traces.{called_more}
+use Rattle.pgp_conversation.proofs.Common.{true, false, ◌++◌, take, arith, rules, refl, subst, inl, inr, Consumes, Consumes-trans, Appends-trans, Keeps-refl, on_err, Streams, view_of, ListsPiece, kept_of, called_more}
 use Rattle.pgp_conversation.proofs.Sessions.{cut_here, cut_piece, first_held, follows_piece, follows_same, follows_start, last_broken, last_listed, none_came, read_all, read_rest, ready, was_listed}
 use Rattle.pgp_conversation.proofs.session.list_pieces.Goals as goal
 use Rattle.pgp_conversation.proofs.session.list_pieces.Goals.{in-Ok+in_ok-list_piece-in-Ok+else-branch, in-Err+in-Interrupted}

@@ -1,7 +1,4 @@
-use Rattle.pgp_conversation.proofs.Common.{[], false, drop, sym, ap, ◌∙◌, subst, string_bytes, view_of, kept_of, first_start, HeldTalk, Tracks}
-use Rattle.std.proofs.lemmas.List.{take_rest}
-use Rattle.pgp_summary.specs.Runs.{tally_after}
-use Rattle.pgp_conversation.specs.Several.{tallies_in}
+use Rattle.pgp_conversation.proofs.Common.{[], false, drop, sym, ap, ◌∙◌, subst, string_bytes, view_of, kept_of, first_start, HeldTalk, Tracks, tallies_in, tally_after, take_rest}
 use Rattle.pgp_conversation.proofs.Sessions.{first_held}
 use Rattle.pgp_conversation.proofs.Wholes.{all_came, whole_added}
 use Rattle.pgp_conversation.proofs.session.sum_held.Goals as goal
