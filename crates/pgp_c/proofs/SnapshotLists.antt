@@ -2,7 +2,7 @@
 use Rattle.pgp_c.proofs.Common.{◌≡◌, ℕ, ◌+◌, ◌*◌, ◌≤◌, List, [], ◌∷◌, ◌++◌, length, Option, None, Some, OnOk, Result, Ok, Err, refl, sym, ap, subst, ◌∙◌, inl, inr, arith, length-append, IfErr, flat_map, cases_lt, SoFar, length_cause, Wants, WantsMemory, Held, ◌⊕◌, uint32, uint64, Error, length_fits, length_past, length-uint32, wants_more, bounds_bytes, snapshot, snapshot_of}
 use Rattle.std.specs.Prelude.{◌⊎◌, option_to_list}
 use Rattle.pgp_types.specs.Given.{WritesAll}
-use Rattle.pgp_c.proofs.SnapshotWalks.{length-uint64}
+use Rattle.pgp_c.proofs.PointLists.{length-uint64}
 
 ids_length : (xs : List ℕ) → length (flat_map uint64 xs) ≡ 8 * length xs
 ids_length [] = refl
