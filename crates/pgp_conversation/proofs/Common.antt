@@ -7,7 +7,7 @@ pub use Rattle.std.proofs.lemmas.Grind.{flat_map-append}
 pub use Rattle.std.proofs.lemmas.List.{append-nil, length-take, take-append-drop, take-append-le, drop-drop, take_rest, length-map}
 pub use Rattle.std.proofs.lemmas.List.Concat.{flat_map-cons}
 pub use Rattle.std.specs.Int.{w32, w64, from_be_bytes}
-pub use Rattle.pgp_conversation.specs.Common.{Appends, Consumes, IsAtEnd, flat_map, AllByRecursion, list_all, option_map, Error, ClientMessage, CancelRequest, PasswordMessage, SaslInitialResponse, SaslResponse, Bind, Response, ClientError, PasswordKind, Part, ListEnds, Value, closing, followed, blanks, Count, Length, Name, Tag, Text, key, opening, IsPrinted, is_visible, is_printable, json_value, quoted, up_to, Form, Json, Columns, Style, Authentication, AuthenticationGssContinue, AuthenticationMd5Password, AuthenticationSaslContinue, AuthenticationSaslFinal, BackendKeyData, Message, DataRow, ParameterDescription, RowDescription, Body, AuthenticationOk, value_at, HasPlaces, IsPlaceIn, Streams, AppendsFront, greatest, Tally, line_of, State, place_behind, name_in, LineOf, IsServerLine, server_name, client_frame_name, ending, refused, Ends, Side, is_password, expected, answered, is_reported, replicates_behind, server_at, View, color_of, has_word, is_listed, painted, shown, Marking, Beginning, Messages, Replicating, Encrypted, Sender, Client, Server, Column, End, Noted, Told, Role, Execute, Key, Number, Whole}
+pub use Rattle.pgp_conversation.specs.Common.{Appends, Consumes, IsAtEnd, flat_map, AllByRecursion, list_all, option_map, Error, ClientMessage, CancelRequest, PasswordMessage, SaslInitialResponse, SaslResponse, Bind, Response, ClientError, PasswordKind, Part, ListEnds, Value, closing, followed, blanks, Count, Length, Name, Tag, Text, key, opening, IsPrinted, is_visible, is_printable, json_value, quoted, up_to, Form, Json, Columns, Style, Authentication, AuthenticationGssContinue, AuthenticationMd5Password, AuthenticationSaslContinue, AuthenticationSaslFinal, BackendKeyData, Message, DataRow, ParameterDescription, RowDescription, Body, AuthenticationOk, value_at, HasPlaces, IsPlaceIn, Streams, AppendsFront, greatest, Tally, line_of, State, place_behind, name_in, LineOf, IsServerLine, server_name, client_frame_name, ending, refused, Ends, Side, is_password, expected, answered, is_reported, replicates_behind, server_at, View, color_of, has_word, is_listed, painted, shown, Marking, Beginning, Messages, Replicating, Encrypted, Sender, Client, Server, Column, End, Noted, Told, Role, Execute, Key, Number, Whole, Cut, NoChunk, NoRecording}
 pub use Rattle.std.specs.Prelude.{OnOk, codes, OnErr, nat_lt, if◌then◌else◌, ◌==◌, map, ◌/◌, ◌%◌, decimal, IfOk, ◌||◌, ◌&&◌, is_some, not, bytes_eq, string_bytes, IfErr}
 pub use Rattle.std.specs.declared.ops.Range.{Range}
 pub use Rattle.pgp_base.proofs.PartLemmas.{IsBytes-drop, IsBytes-take, oid_number, uint64_number}
@@ -35,8 +35,8 @@ pub use Rattle.pgp_trace.specs.declared.frame.Next.TheVariants.{Line, Waits, Sto
 pub use Rattle.pgp_conversation.specs.Conversation.{asks, noted_by, requests, Half, Known, Talk, ListsFrame, ListsFrames, NoLines, OneLine, first_time, now_at, side_in, with_numbers, ListsChunk, ListsChunks, NoChunkListed, OneChunkListed, at_first, begins, half_in, other, as_standby, note, noted_in, replicates_in, text_of, told_by, with_kind, with_side, with_types, last_lines, is_replicating, first_start, last_of, left, answer_to, called, counts, either, relined, waited}
 pub use Rattle.pgp_conversation.specs.Marks.{mark, since, word, marked, between, last_mark, later, member, members, says, width_of}
 unfoldable pub use Rattle.pgp_conversation.specs.Marks.{millis, number}
-pub use Rattle.pgp_conversation.specs.Pieces.{ListsAllChunks, ListsPiece, ListsSome, Stays, Tracks, TracksTo, held_first, held_last}
-pub use Rattle.pgp_conversation.specs.Recording.{Chunk, IsShort, arrow, magic, EndsBy, IsChunk, IsNoChunk, IsPartial, Records, chunk_bytes, beginning, complaint_of}
+pub use Rattle.pgp_conversation.specs.Pieces.{Follows, FollowsInPart, SumsRecording, ListsAllChunks, ListsPiece, ListsSome, Stays, Tracks, TracksTo, held_first, held_last}
+pub use Rattle.pgp_conversation.specs.Recording.{Chunk, IsShort, status_of, arrow, magic, EndsBy, IsChunk, IsNoChunk, IsPartial, Records, chunk_bytes, beginning, complaint_of}
 pub use Rattle.pgp_conversation.specs.Requests.{asked_by, heard_as, kind_by, Numbers, at_time, role_by, told_in, role_in, asking, summary_in, unnumbered, first_numbers, placed, tell, notes_nothing}
 pub use Rattle.pgp_conversation.specs.Session.{HasLines, IsListing, Awaits, IsCutShort, IsReadTo, IsReady, WasListed, WritesListing, summarized}
 pub use Rattle.pgp_conversation.specs.Shelves.{formatted, formatted_from, is_binary}
@@ -48,7 +48,7 @@ pub use Rattle.pgp_conversation.specs.TypedLines.{Reads, Passes, ReadsSo, ShowsR
 pub use Rattle.pgp_conversation.specs.Types.{Types, Awaited, described, first, reached, rows_of, tells}
 pub use Rattle.pgp_conversation.specs.TypesKept.{queue_of, types_of, types_in}
 pub use Rattle.pgp_conversation.specs.declared.expectation.Noted.TheVariants.{Asks, Requests, Answers, Nothing}
-pub use Rattle.pgp_conversation.specs.Several.{AddsRecording, file_after, file_before, tallies_in, CutsTable, ListsTable, AddsFiles, OneFile, NoFile}
+pub use Rattle.pgp_conversation.specs.Several.{AddsRecording, file_after, file_before, tallies_in, CutsFile, CutsTable, ListsFile, ListsTable, AddsFile, AddsFiles, OneFile, NoFile}
 pub use Rattle.pgp_trace.proofs.Rows.{RowsTo, one_listed, counted_on, SameFirst, rows_one, nothing_yet}
 pub use Rattle.pgp_trace.proofs.OneListing.{same_result, one_read, ends_one, line_one, no_line}
 pub use Rattle.pgp_conversation.specs.declared.placement.Told.TheVariants.{Uncounted}

@@ -1,5 +1,5 @@
 -- The listing of a recording, a chunk and a piece at a time.
-use Rattle.pgp_conversation.proofs.Common.{◌≡◌, ◌≢◌, ◌⊎◌, ℕ, ◌+◌, ◌-◌, ◌≤◌, Bool, true, false, List, [], ◌∷◌, ◌++◌, length, drop, Option, Result, Ok, Err, refl, sym, ap, subst, ◌∙◌, arith, inl, inr, append_assoc, length-append, IfOk, OnErr, OnOk, Appends, Consumes, IsAtEnd, flat_map, AllByRecursion, Appends-nil, Appends-trans, Consumes-nil, Consumes-trans, Consumes-kept, append-nil, drop-drop, drop-append_seam, flat_map-cons, flat_map-append, Streams, AppendsFront, View, nothing_ends, none_taken, all_taken, more_taken, Client, Server, End, Marking, Known, NoChunkListed, OneChunkListed, Talk, at_first, begins, first_start, last_lines, last_of, left, told_by, ListsAllChunks, ListsPiece, ListsSome, Stays, Tracks, TracksTo, held_first, held_last, summary_in, unnumbered, ending_by, Chunk, EndsBy, IsChunk, IsPartial, Records, beginning, chunk_bytes, complaint_of, magic, Awaits, IsCutShort, HasLines, IsReadTo, IsReady, WasListed, WritesListing, ListsChunkTo, HeldTalk, Keeps, TakesChunk, TakesPart, chunk_of, end_of, hint_of}
+use Rattle.pgp_conversation.proofs.Common.{◌≡◌, ◌≢◌, ◌⊎◌, ℕ, ◌+◌, ◌-◌, ◌≤◌, Bool, true, false, List, [], ◌∷◌, ◌++◌, length, drop, Option, Result, Ok, Err, refl, sym, ap, subst, ◌∙◌, arith, inl, inr, append_assoc, length-append, IfOk, OnErr, OnOk, Appends, Consumes, IsAtEnd, flat_map, AllByRecursion, Appends-nil, Appends-trans, Consumes-nil, Consumes-trans, Consumes-kept, append-nil, drop-drop, drop-append_seam, flat_map-cons, flat_map-append, Streams, AppendsFront, View, nothing_ends, none_taken, all_taken, more_taken, Client, Server, End, Marking, Known, NoChunkListed, OneChunkListed, Talk, at_first, begins, first_start, last_lines, last_of, left, told_by, Follows, FollowsInPart, ListsAllChunks, ListsPiece, ListsSome, Stays, Tracks, TracksTo, held_first, held_last, summary_in, unnumbered, ending_by, Chunk, EndsBy, IsChunk, IsPartial, Records, beginning, chunk_bytes, complaint_of, magic, Awaits, IsCutShort, HasLines, IsReadTo, IsReady, WasListed, WritesListing, ListsChunkTo, HeldTalk, Keeps, TakesChunk, TakesPart, chunk_of, end_of, hint_of}
 use Rattle.std.specs.Io.KnownBytes.{Keeps as Same}
 use Rattle.pgp_conversation.specs.declared.chunk.Chunk as code
 use Rattle.pgp_conversation.specs.declared.chunk.Part.TheVariants as part
@@ -130,20 +130,19 @@ all_listed view was opened stopped held now bytes rest behind old new so_far sta
 
 -- ---- a piece at a time
 
-pub received : (view : View) (marking : Marking) (bytes lines : List ℕ) (opened : Bool) (held : HeldTalk) (rest piece : List ℕ) → Tracks view marking bytes lines opened held rest → Tracks view marking (bytes ++ piece) lines opened held (rest ++ piece)
-received view marking bytes lines opened held rest piece t = record {
-  talk = t.talk;
-  each = record {
-    chunks = t.each.chunks;
-    records = record {
-      whole = ap (λ l. l ++ piece) t.each.records.whole ∙ append_assoc (beginning opened ++ flat_map chunk_bytes t.each.chunks) rest piece;
-      each = t.each.records.each;
-      none = t.each.records.none;
-    };
-    each = t.each.each;
+pub lines_more : (view : View) (marking : Marking) (bytes piece : List ℕ) (opened : Bool) (rest lines : List ℕ) (talk : Talk) → HasLines view marking bytes opened rest lines talk → HasLines view marking (bytes ++ piece) opened (rest ++ piece) lines talk
+lines_more view marking bytes piece opened rest lines talk h = record {
+  chunks = h.chunks;
+  records = record {
+    whole = ap (λ l. l ++ piece) h.records.whole ∙ append_assoc (beginning opened ++ flat_map chunk_bytes h.chunks) rest piece;
+    each = h.records.each;
+    none = h.records.none;
   };
-  keeps = t.keeps;
+  each = h.each;
 }
+
+received : (view : View) (marking : Marking) (bytes lines : List ℕ) (opened : Bool) (held : HeldTalk) (rest piece : List ℕ) → Tracks view marking bytes lines opened held rest → Tracks view marking (bytes ++ piece) lines opened held (rest ++ piece)
+received view marking bytes lines opened held rest piece t = record { talk = t.talk; each = lines_more view marking bytes piece opened rest lines t.talk t.each; keeps = t.keeps }
 
 -- what a call listed of a slice of the bytes that are kept
 pub all_there : (view : View) (opened now stopped : Bool) (held next : HeldTalk) (slice items behind before text : List ℕ) (n : ℕ) → slice ≡ items → before ≡ [] → behind ≡ drop n items
@@ -187,15 +186,6 @@ piece_lost view marking bytes lines piece opened held rest old t =
 
 -- ---- the whole recording
 
--- what came so far was listed
-pub record Follows (view : View) (marking : Marking) (before after : Streams) (opened : Bool) (held : HeldTalk) (rest : List ℕ) : Type 0 where
-  pub bytes : List ℕ
-  pub lines : List ℕ
-  pub received : Consumes before.input after.input bytes
-  pub tracks : Tracks view marking bytes lines opened held rest
-  pub stays : Stays opened false rest
-  pub written : Appends before.output after.output lines
-
 nothing_kept : (marking : Marking) → Keeps (held_first marking) (begins marking)
 nothing_kept marking = record {
   known = refl;
@@ -208,14 +198,14 @@ no_magic : (rest more : List ℕ) → rest ≡ [] → rest ≢ magic ++ more
 no_magic rest more none = magic_short rest more (omega (arith, ap length none))
 
 -- before the first of its bytes
-pub none_listed : (view : View) (marking : Marking) (opened : Bool) (held : HeldTalk) (rest : List ℕ) → opened ≡ false → held ≡ held_first marking → rest ≡ [] → Tracks view marking [] [] opened held rest
+none_listed : (view : View) (marking : Marking) (opened : Bool) (held : HeldTalk) (rest : List ℕ) → opened ≡ false → held ≡ held_first marking → rest ≡ [] → Tracks view marking [] [] opened held rest
 none_listed view marking opened held rest fresh first none = record {
   talk = begins marking;
   each = record { chunks = []; records = record { whole = sym none ∙ ap (λ b. beginning b ++ [] ++ rest) (sym fresh); each = tt; none = λ e. refl }; each = NoChunkListed };
   keeps = subst (λ h. Keeps h (begins marking)) (sym first) (nothing_kept marking);
 }
 
-pub follows_start : (view : View) (marking : Marking) (s : Streams) (opened : Bool) (held : HeldTalk) (rest : List ℕ) → opened ≡ false → held ≡ held_first marking → rest ≡ [] → Follows view marking s s opened held rest
+pub follows_start : (view : View) (marking : Marking) (s : Streams) (opened : Bool) (held : HeldTalk) (rest : List ℕ) → opened ≡ false → held ≡ held_first marking → rest ≡ [] → Follows view marking s s opened false held rest
 follows_start view marking s opened held rest fresh first none = record {
   bytes = [];
   lines = [];
@@ -229,14 +219,26 @@ follows_start view marking s opened held rest fresh first none = record {
 pub first_held : (marking : Marking) (held : HeldTalk) → held ≡ held_first (record marking { absolute = false }) → record { known = held.known; client = held.client; server = held.server; start = first_start marking.absolute } ≡ held_first marking
 first_held marking held e = ap (λ (h : HeldTalk). record { known = h.known; client = h.client; server = h.server; start = first_start marking.absolute }) e
 
-pub follows_same : (view : View) (marking : Marking) (before after : Streams) (opened : Bool) (held : HeldTalk) (rest : List ℕ) (next : Option (List ℕ)) → Follows view marking before after opened held rest → Same after.input next
-    → Follows view marking before (record { input = next; output = after.output }) opened held rest
+pub follows_same : (view : View) (marking : Marking) (before after : Streams) (opened : Bool) (held : HeldTalk) (rest : List ℕ) (next : Option (List ℕ)) → Follows view marking before after opened false held rest → Same after.input next
+    → Follows view marking before (record { input = next; output = after.output }) opened false held rest
 follows_same view marking before after opened held rest next f kept =
     record { bytes = f.bytes; lines = f.lines; received = Consumes-kept before.input after.input next f.bytes f.received kept; tracks = f.tracks; stays = f.stays; written = f.written }
 
-pub follows_piece : (view : View) (marking : Marking) (before after : Streams) (opened now : Bool) (held new : HeldTalk) (rest behind piece : List ℕ) (next output : Option (List ℕ)) (f : Follows view marking before after opened held rest) → Consumes after.input next piece
-    → ListsPiece view marking (f.bytes ++ piece) f.lines now false new behind after.output output → Follows view marking before (record { input = next; output = output }) now new behind
-follows_piece view marking before after opened now held new rest behind piece next output f came one = record {
+-- nothing more came
+pub follows_end : (view : View) (marking : Marking) (before after : Streams) (opened : Bool) (held : HeldTalk) (rest : List ℕ) (next : Option (List ℕ)) → Follows view marking before after opened false held rest → Consumes after.input next []
+    → Follows view marking before (record { input = next; output = after.output }) opened false held rest
+follows_end view marking before after opened held rest next f none = record {
+  bytes = f.bytes;
+  lines = f.lines;
+  received = subst (Consumes before.input next) (append-nil f.bytes) (Consumes-trans before.input after.input next f.bytes [] f.received none);
+  tracks = f.tracks;
+  stays = f.stays;
+  written = f.written;
+}
+
+pub follows_piece : (view : View) (marking : Marking) (before after : Streams) (opened now stopped : Bool) (held new : HeldTalk) (rest behind piece : List ℕ) (next output : Option (List ℕ)) (f : Follows view marking before after opened false held rest) → Consumes after.input next piece
+    → ListsPiece view marking (f.bytes ++ piece) f.lines now stopped new behind after.output output → Follows view marking before (record { input = next; output = output }) now stopped new behind
+follows_piece view marking before after opened now stopped held new rest behind piece next output f came one = record {
   bytes = f.bytes ++ piece;
   lines = f.lines ++ one.added;
   received = Consumes-trans before.input after.input next f.bytes piece f.received came;
@@ -250,37 +252,40 @@ awaits true rest s = s
 awaits false rest s = s
 
 -- reading failed
-pub was_listed : (view : View) (marking : Marking) (before after : Streams) (opened : Bool) (held : HeldTalk) (rest : List ℕ) → Follows view marking before after opened held rest → WasListed view marking before after
+pub was_listed : (view : View) (marking : Marking) (before after : Streams) (opened : Bool) (held : HeldTalk) (rest : List ℕ) → Follows view marking before after opened false held rest → WasListed view marking before after
 was_listed view marking before after opened held rest f =
     record { bytes = f.bytes; begun = opened; rest = rest; lines = f.lines; talk = f.tracks.talk; received = f.received; each = f.tracks.each; waits = awaits opened rest f.stays; written = f.written }
 
 pub ready : {R W : Type 0} (remaining : R → Option (List ℕ)) (contents : W → Option (List ℕ)) (Passed : W → Type 0) (view : View) (marking : Marking) (reader now : R) (writer out : W) (opened : Bool) (held : HeldTalk) (rest : List ℕ)
-    → Follows view marking (record { input = remaining reader; output = contents writer }) (record { input = remaining now; output = contents out }) opened held rest → Same (contents writer) (contents out) ⊎ Passed out → IsReady remaining contents Passed view marking reader writer now
+    → Follows view marking (record { input = remaining reader; output = contents writer }) (record { input = remaining now; output = contents out }) opened false held rest → Same (contents writer) (contents out) ⊎ Passed out → IsReady remaining contents Passed view marking reader writer now
 ready remaining contents Passed view marking reader now writer out opened held rest f p =
     record { out = out; listed = was_listed view marking (record { input = remaining reader; output = contents writer }) (record { input = remaining now; output = contents out }) opened held rest f; passed = p }
 
-pub cut_here : (view : View) (marking : Marking) (before after : Streams) (opened : Bool) (held : HeldTalk) (rest : List ℕ) → Follows view marking before after opened held rest → IsCutShort view marking before after
-cut_here view marking before after opened held rest f =
-    record { bytes = f.bytes; begun = opened; rest = rest; lines = f.lines; talk = f.tracks.talk; text = f.lines; received = f.received; each = f.tracks.each; due = inl refl; written = all_taken before.output after.output f.lines f.written }
+-- listed in part
 
-pub cut_nothing : (view : View) (marking : Marking) (s : Streams) → IsCutShort view marking s s
-cut_nothing view marking s = cut_here view marking s s false (held_first marking) [] (follows_start view marking s false (held_first marking) [] refl refl refl)
+pub part_here : (view : View) (marking : Marking) (before after : Streams) (opened : Bool) (held : HeldTalk) (rest : List ℕ) → Follows view marking before after opened false held rest → FollowsInPart view marking before after
+part_here view marking before after opened held rest f =
+    record { bytes = f.bytes; begun = opened; rest = rest; lines = f.lines; talk = f.tracks.talk; received = f.received; each = f.tracks.each; written = all_taken before.output after.output f.lines f.written }
 
--- a piece was listed in part
-pub cut_piece : (view : View) (marking : Marking) (before after : Streams) (opened : Bool) (held : HeldTalk) (rest piece : List ℕ) (next output : Option (List ℕ)) (f : Follows view marking before after opened held rest) → Consumes after.input next piece
-    → ListsSome view marking (f.bytes ++ piece) f.lines after.output output → IsCutShort view marking before (record { input = next; output = output })
-cut_piece view marking before after opened held rest piece next output f came some = record {
+pub part_of_piece : (view : View) (marking : Marking) (before after : Streams) (opened : Bool) (held : HeldTalk) (rest piece : List ℕ) (next output : Option (List ℕ)) (f : Follows view marking before after opened false held rest) → Consumes after.input next piece
+    → ListsSome view marking (f.bytes ++ piece) f.lines after.output output → FollowsInPart view marking before (record { input = next; output = output })
+part_of_piece view marking before after opened held rest piece next output f came some = record {
   bytes = f.bytes ++ piece;
   begun = some.begun;
   rest = some.rest;
   lines = f.lines ++ some.added;
   talk = some.talk;
-  text = f.lines ++ some.added;
   received = Consumes-trans before.input after.input next f.bytes piece f.received came;
   each = some.each;
-  due = inl refl;
   written = more_taken before.output after.output output f.lines some.added f.written some.written;
 }
+
+pub cut_inside : (view : View) (marking : Marking) (before after : Streams) → FollowsInPart view marking before after → IsCutShort view marking before after
+cut_inside view marking before after f =
+    record { bytes = f.bytes; begun = f.begun; rest = f.rest; lines = f.lines; talk = f.talk; text = f.lines; received = f.received; each = f.each; due = inl refl; written = f.written }
+
+pub cut_nothing : (view : View) (marking : Marking) (s : Streams) → IsCutShort view marking s s
+cut_nothing view marking s = cut_inside view marking s s (part_here view marking s s false (held_first marking) [] (follows_start view marking s false (held_first marking) [] refl refl refl))
 
 -- ---- the end
 
@@ -291,16 +296,17 @@ some_left (x ∷ xs) p = (omega arith, p)
 pub ends_by : (opened stopped : Bool) (rest : List ℕ) → Stays opened stopped rest → EndsBy opened rest (end_of opened stopped rest)
 ends_by true false rest s = some_left rest s
 ends_by true true rest s = s
-ends_by false stopped rest s = s
+ends_by false false rest s = s
+ends_by false true rest s = s.1
 
-pub read_all : (opened : Bool) (rest : List ℕ) (input : Option (List ℕ)) → IsAtEnd input → IsReadTo (end_of opened false rest) input
-read_all false rest input end = tt
+pub read_all : (opened : Bool) (rest : List ℕ) (input : Option (List ℕ)) → IsAtEnd input → IsReadTo (end_of opened false rest) rest input
+read_all false rest input end = inl end
 read_all true [] input end = end
 read_all true (x ∷ xs) input end = end
 
-pub read_rest : (opened : Bool) (rest : List ℕ) (input : Option (List ℕ)) → IsReadTo (end_of opened true rest) input
-read_rest false rest input = tt
-read_rest true rest input = tt
+pub read_rest : (opened : Bool) (rest : List ℕ) (input : Option (List ℕ)) → Stays opened true rest → IsReadTo (end_of opened true rest) rest input
+read_rest false rest input s = inr s.0
+read_rest true rest input s = tt
 
 -- what is kept says how much is left
 last_is : (view : View) (held : HeldTalk) (talk : Talk) → Keeps held talk → held_last view held ≡ last_lines view talk
@@ -321,58 +327,51 @@ hints_are held talk k = (
 )
 
 -- the last lines were written
-pub listing_written : (view : View) (marking : Marking) (before after : Streams) (opened stopped : Bool) (held : HeldTalk) (rest client server bytes lines : List ℕ) (end : End) (output : Option (List ℕ)) → Consumes before.input after.input bytes
-    → Appends before.output after.output lines → (t : Tracks view marking bytes lines opened held rest) → Stays opened stopped rest → IsReadTo (end_of opened stopped rest) after.input → end ≡ end_of opened stopped rest
-    → client ≡ hint_of true held.known.client held.client.left → server ≡ hint_of true held.known.server held.server.left → Appends after.output output (held_last view held)
-    → WritesListing view marking before (record { input = after.input; output = output }) end (client ++ server ++ complaint_of end)
-listing_written view marking before after opened stopped held rest client server bytes lines end output came written t stays all ended c s last =
-    let hints = hints_are held t.talk t.keeps in
+listing_written : (view : View) (marking : Marking) (before after : Streams) (opened stopped : Bool) (held : HeldTalk) (rest client server : List ℕ) (end : End) (output : Option (List ℕ)) → Follows view marking before after opened stopped held rest
+    → IsReadTo (end_of opened stopped rest) rest after.input → end ≡ end_of opened stopped rest → client ≡ hint_of true held.known.client held.client.left → server ≡ hint_of true held.known.server held.server.left
+    → Appends after.output output (held_last view held) → WritesListing view marking before (record { input = after.input; output = output }) end (client ++ server ++ complaint_of end)
+listing_written view marking before after opened stopped held rest client server end output f all ended c s last =
+    let talk = f.tracks.talk in
+    let hints = hints_are held talk f.tracks.keeps in
     record {
-      bytes = bytes;
-      output = lines ++ last_lines view t.talk;
-      received = came;
-      all = subst (λ e. IsReadTo e after.input) (sym ended) all;
-      is = record { begun = opened; rest = rest; lines = lines; talk = t.talk; each = t.each; ending = subst (EndsBy opened rest) (sym ended) (ends_by opened stopped rest stays); text = refl };
-      written = Appends-trans before.output after.output output lines (last_lines view t.talk) written (subst (Appends after.output output) (last_is view held t.talk t.keeps) last);
-      why = ap (λ l. l ++ server ++ complaint_of end) (c ∙ hints.0) ∙ ap (λ l. hint_of true t.talk.known.client (left t.talk.client) ++ l ++ complaint_of end) (s ∙ hints.1);
+      bytes = f.bytes;
+      output = f.lines ++ last_lines view talk;
+      received = f.received;
+      is = record { begun = opened; rest = rest; lines = f.lines; talk = talk; each = f.tracks.each; ending = subst (EndsBy opened rest) (sym ended) (ends_by opened stopped rest f.stays); text = refl };
+      all = subst (λ e. IsReadTo e rest after.input) (sym ended) all;
+      written = Appends-trans before.output after.output output f.lines (last_lines view talk) f.written (subst (Appends after.output output) (last_is view held talk f.tracks.keeps) last);
+      why = ap (λ l. l ++ server ++ complaint_of end) (c ∙ hints.0) ∙ ap (λ l. hint_of true talk.known.client (left talk.client) ++ l ++ complaint_of end) (s ∙ hints.1);
     }
 
 -- or a front of them
-pub last_cut : (view : View) (marking : Marking) (before after : Streams) (opened stopped : Bool) (held : HeldTalk) (rest bytes lines : List ℕ) (output : Option (List ℕ)) → Consumes before.input after.input bytes
-    → Appends before.output after.output lines → (t : Tracks view marking bytes lines opened held rest) → Stays opened stopped rest → IsReadTo (end_of opened stopped rest) after.input
-    → AppendsFront after.output output (held_last view held) → IsCutShort view marking before (record { input = after.input; output = output })
-last_cut view marking before after opened stopped held rest bytes lines output came written t stays all last = record {
-  bytes = bytes;
+last_cut : (view : View) (marking : Marking) (before after : Streams) (opened stopped : Bool) (held : HeldTalk) (rest : List ℕ) (output : Option (List ℕ)) → Follows view marking before after opened stopped held rest
+    → IsReadTo (end_of opened stopped rest) rest after.input → AppendsFront after.output output (held_last view held) → IsCutShort view marking before (record { input = after.input; output = output })
+last_cut view marking before after opened stopped held rest output f all last = record {
+  bytes = f.bytes;
   begun = opened;
   rest = rest;
-  lines = lines;
-  talk = t.talk;
-  text = lines ++ last_lines view t.talk;
-  received = came;
-  each = t.each;
-  due = inr (record { end = end_of opened stopped rest; ending = ends_by opened stopped rest stays; all = all; is = refl });
-  written = more_taken before.output after.output output lines (last_lines view t.talk) written (subst (AppendsFront after.output output) (last_is view held t.talk t.keeps) last);
+  lines = f.lines;
+  talk = f.tracks.talk;
+  text = f.lines ++ last_lines view f.tracks.talk;
+  received = f.received;
+  each = f.tracks.each;
+  due = inr (record { end = end_of opened stopped rest; ending = ends_by opened stopped rest f.stays; all = all; is = refl });
+  written = more_taken before.output after.output output f.lines (last_lines view f.tracks.talk) f.written (subst (AppendsFront after.output output) (last_is view held f.tracks.talk f.tracks.keeps) last);
 }
 
 -- ---- what calls return of these
 
--- nothing more came
-pub none_came : (before now next : Option (List ℕ)) (bytes : List ℕ) → Consumes before now bytes → Consumes now next [] → Consumes before next bytes
-none_came before now next bytes came none = subst (Consumes before next) (append-nil bytes) (Consumes-trans before now next bytes [] came none)
-
 module _ {E : Type 0} where
-  pub last_listed : (r : Result Said E) (view : View) (marking : Marking) (before : Streams) (next middle output : Option (List ℕ)) (opened stopped : Bool) (held : HeldTalk) (rest bytes lines : List ℕ) → Consumes before.input next bytes
-      → Appends before.output middle lines → Tracks view marking bytes lines opened held rest → Stays opened stopped rest → IsReadTo (end_of opened stopped rest) next
+  pub last_listed : (r : Result Said E) (view : View) (marking : Marking) (before after : Streams) (output : Option (List ℕ)) (opened stopped : Bool) (held : HeldTalk) (rest : List ℕ) → Follows view marking before after opened stopped held rest
+      → IsReadTo (end_of opened stopped rest) rest after.input
       → IfOk r (λ said. said.end ≡ end_of opened stopped rest) → IfOk r (λ said. said.client.now ≡ hint_of true held.known.client held.client.left) → IfOk r (λ said. said.server.now ≡ hint_of true held.known.server held.server.left)
-      → OnOk r (Appends middle output (held_last view held))
-      → IfOk r (λ said. WritesListing view marking before (record { input = next; output = output }) said.end (said.client.now ++ said.server.now ++ complaint_of said.end))
-  last_listed (Err e) view marking before next middle output opened stopped held rest bytes lines came written t stays all ended client server last = tt
-  last_listed (Ok said) view marking before next middle output opened stopped held rest bytes lines came written t stays all ended client server last =
-      listing_written view marking before (record { input = next; output = middle }) opened stopped held rest said.client.now said.server.now bytes lines said.end output came written t stays all ended client server last
+      → OnOk r (Appends after.output output (held_last view held))
+      → IfOk r (λ said. WritesListing view marking before (record { input = after.input; output = output }) said.end (said.client.now ++ said.server.now ++ complaint_of said.end))
+  last_listed (Err e) view marking before after output opened stopped held rest f all ended client server last = tt
+  last_listed (Ok said) view marking before after output opened stopped held rest f all ended client server last =
+      listing_written view marking before after opened stopped held rest said.client.now said.server.now said.end output f all ended client server last
 
-  pub last_broken : (r : Result Said E) (view : View) (marking : Marking) (before : Streams) (next middle output : Option (List ℕ)) (opened stopped : Bool) (held : HeldTalk) (rest bytes lines : List ℕ) → Consumes before.input next bytes
-      → Appends before.output middle lines → Tracks view marking bytes lines opened held rest → Stays opened stopped rest → IsReadTo (end_of opened stopped rest) next
-      → OnErr r (AppendsFront middle output (held_last view held)) → OnErr r (IsCutShort view marking before (record { input = next; output = output }))
-  last_broken (Ok said) view marking before next middle output opened stopped held rest bytes lines came written t stays all last = tt
-  last_broken (Err e) view marking before next middle output opened stopped held rest bytes lines came written t stays all last =
-      last_cut view marking before (record { input = next; output = middle }) opened stopped held rest bytes lines output came written t stays all last
+  pub last_broken : (r : Result Said E) (view : View) (marking : Marking) (before after : Streams) (output : Option (List ℕ)) (opened stopped : Bool) (held : HeldTalk) (rest : List ℕ) → Follows view marking before after opened stopped held rest
+      → IsReadTo (end_of opened stopped rest) rest after.input → OnErr r (AppendsFront after.output output (held_last view held)) → OnErr r (IsCutShort view marking before (record { input = after.input; output = output }))
+  last_broken (Ok said) view marking before after output opened stopped held rest f all last = tt
+  last_broken (Err e) view marking before after output opened stopped held rest f all last = last_cut view marking before after opened stopped held rest output f all last

@@ -80,7 +80,7 @@ frames_none view m who place from [] [] _ NoLines = refl
 frames_none view m who place from _ _ to (OneLine {bytes = bytes} {lines = lines} {here = here} frame text before one) =
     ap (λ l. l ++ text) (frames_none view m who place from bytes lines here before) ∙ frame_none view m who (place_behind (place + length bytes)) here to frame text one
 
-chunks_none : (view : View) (from : Talk) (chunks : List Chunk) (lines : List ℕ) (to : Talk) → ListsChunks (summarized true view) from chunks lines to → lines ≡ []
+pub chunks_none : (view : View) (from : Talk) (chunks : List Chunk) (lines : List ℕ) (to : Talk) → ListsChunks (summarized true view) from chunks lines to → lines ≡ []
 chunks_none view from [] [] _ NoChunkListed = refl
 chunks_none view from _ _ to (OneChunkListed {chunks = chunks} {lines = lines} {here = here} chunk text before one) =
     ap (λ l. l ++ text) (chunks_none view from chunks lines here before)

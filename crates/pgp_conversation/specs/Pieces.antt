@@ -1,10 +1,11 @@
 -- Private: what a piece of a recording adds to its listing.
-use Rattle.std.specs.Prelude.{◌≡◌, ◌≢◌, ℕ, Bool, true, false, List, [], ◌++◌, Option}
-use Rattle.pgp_conversation.specs.Common.{Appends, AppendsFront, View, Client, Server, Marking}
+use Rattle.std.specs.Prelude.{◌≡◌, ◌≢◌, ◌≤◌, ℕ, Bool, true, false, List, [], ◌++◌, length, Option}
+use Rattle.pgp_conversation.specs.Common.{Appends, AppendsFront, Consumes, Streams, View, Client, Server, End, Marking, Tally}
 use Rattle.pgp_conversation.specs.Requests.{summary_in, unnumbered}
 use Rattle.pgp_conversation.specs.Conversation.{Talk, at_first, first_start, last_of, told_by}
 use Rattle.pgp_conversation.specs.Recording.{IsNoChunk, IsPartial, magic}
-use Rattle.pgp_conversation.specs.Session.{HasLines}
+use Rattle.pgp_conversation.specs.Session.{HasLines, IsReadTo}
+use Rattle.pgp_conversation.specs.Several.{AddsRecording}
 use Rattle.pgp_conversation.specs.Steps.{HeldHalf, HeldTalk, Keeps}
 use Rattle.pgp_conversation.specs.Tables.{ending_by}
 
@@ -18,7 +19,8 @@ pub record Tracks (view : View) (marking : Marking) (bytes lines : List ℕ) (be
 abbrev pub Stays : (begun stopped : Bool) → List ℕ → Type 0
 Stays true false rest = IsPartial rest
 Stays true true rest = IsNoChunk rest
-Stays false stopped rest = (more : List ℕ) → rest ≢ magic ++ more
+Stays false false rest = (more : List ℕ) → rest ≢ magic ++ more
+Stays false true rest = (length magic ≤ length rest) × ((more : List ℕ) → rest ≢ magic ++ more)
 
 -- some chunks more were listed, and their lines stand after the old ones
 pub record TracksTo (view : View) (marking : Marking) (bytes lines : List ℕ) (begun : Bool) (held : HeldTalk) (rest old new : List ℕ) : Type 0 where
@@ -46,6 +48,33 @@ pub record ListsSome (view : View) (marking : Marking) (bytes lines : List ℕ) 
   pub added : List ℕ
   pub each : HasLines view marking bytes begun rest (lines ++ added) talk
   pub written : AppendsFront old new added
+
+-- What came so far was listed, and this is kept of it.
+pub record Follows (view : View) (marking : Marking) (before after : Streams) (begun stopped : Bool) (held : HeldTalk) (rest : List ℕ) : Type 0 where
+  pub bytes : List ℕ
+  pub lines : List ℕ
+  pub received : Consumes before.input after.input bytes
+  pub tracks : Tracks view marking bytes lines begun held rest
+  pub stays : Stays begun stopped rest
+  pub written : Appends before.output after.output lines
+
+-- Of the chunks that came some were, and of the last line a front alone.
+pub record FollowsInPart (view : View) (marking : Marking) (before after : Streams) : Type 0 where
+  pub bytes : List ℕ
+  pub begun : Bool
+  pub rest : List ℕ
+  pub lines : List ℕ
+  pub talk : Talk
+  pub received : Consumes before.input after.input bytes
+  pub each : HasLines view marking bytes begun rest lines talk
+  pub written : AppendsFront before.output after.output lines
+
+-- A recording was read to its end, and of its requests what they ran was added to a table.
+pub record SumsRecording (view : View) (marking : Marking) (before after : Option (List ℕ)) (end : End) (old new : List Tally) : Type 0 where
+  pub bytes : List ℕ
+  pub received : Consumes before after bytes
+  pub adds : AddsRecording view marking bytes end old new
+  pub all : IsReadTo end adds.listing.rest after
 
 -- before the first chunk
 abbrev pub held_nothing : HeldHalf

@@ -1,5 +1,5 @@
 -- The listing of a recording, as it comes.
-use Rattle.std.specs.Prelude.{◌≡◌, ◌≢◌, ◌⊎◌, ⊤, ℕ, Bool, true, false, List, [], ◌∷◌, ◌++◌, Option}
+use Rattle.std.specs.Prelude.{◌≡◌, ◌≢◌, ◌≤◌, ◌⊎◌, ⊤, ℕ, Bool, true, false, List, [], ◌∷◌, ◌++◌, length, Option}
 use Rattle.pgp_conversation.specs.Common.{Appends, Consumes, IsAtEnd, Keeps, Streams, AppendsFront, Fault, Read, hint_of, View, End, Whole, Cut, NoChunk, NoRecording, Marking}
 use Rattle.pgp_conversation.specs.Conversation.{ListsChunks, Talk, begins, last_lines, left}
 use Rattle.pgp_conversation.specs.Recording.{Chunk, EndsBy, IsPartial, Records, complaint_of, magic}
@@ -29,20 +29,20 @@ pub record IsListing (view : View) (marking : Marking) (bytes : List ℕ) (end :
 abbrev pub said_of : Talk → End → List ℕ
 said_of talk end = hint_of true talk.known.client (left talk.client) ++ hint_of true talk.known.server (left talk.server) ++ complaint_of end
 
--- nothing more is read where no chunk comes any more
-abbrev pub IsReadTo : End → Option (List ℕ) → Type 0
-IsReadTo Whole input = IsAtEnd input
-IsReadTo Cut input = IsAtEnd input
-IsReadTo NoChunk input = ⊤
-IsReadTo NoRecording input = ⊤
+-- Nothing more is read where no chunk comes any more, nor of what is no recording, once as many of its bytes came as one begins with.
+abbrev pub IsReadTo : End → (rest : List ℕ) → (input : Option (List ℕ)) → Type 0
+IsReadTo Whole rest input = IsAtEnd input
+IsReadTo Cut rest input = IsAtEnd input
+IsReadTo NoChunk rest input = ⊤
+IsReadTo NoRecording rest input = IsAtEnd input ⊎ (length magic ≤ length rest)
 
 -- The recording was read to its end, its listing was written, and nothing else; and this is to be said.
 pub record WritesListing (view : View) (marking : Marking) (before after : Streams) (end : End) (said : List ℕ) : Type 0 where
   pub bytes : List ℕ
   pub output : List ℕ
   pub received : Consumes before.input after.input bytes
-  pub all : IsReadTo end after.input
   pub is : IsListing view marking bytes end output
+  pub all : IsReadTo end is.rest after.input
   pub written : Appends before.output after.output output
   pub why : said ≡ said_of is.talk end
 
@@ -67,7 +67,7 @@ pub record WasListed (view : View) (marking : Marking) (before after : Streams) 
 pub record EndsWith (view : View) (begun : Bool) (rest lines : List ℕ) (talk : Talk) (input : Option (List ℕ)) (text : List ℕ) : Type 0 where
   pub end : End
   pub ending : EndsBy begun rest end
-  pub all : IsReadTo end input
+  pub all : IsReadTo end rest input
   pub is : text ≡ lines ++ last_lines view talk
 
 -- A front of the lines of what came was written, and of the last ones where they are due.

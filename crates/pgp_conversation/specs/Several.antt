@@ -1,10 +1,10 @@
 -- Recordings in files: one that is listed, and several whose statements stand in one table.
-use Rattle.std.specs.Prelude.{◌≡◌, ◌⊎◌, ℕ, List, [], ◌∷◌, ◌++◌, Option, Some, None}
+use Rattle.std.specs.Prelude.{◌≡◌, ◌⊎◌, ℕ, List, [], ◌∷◌, ◌++◌, Option, Some, None, true}
 use Rattle.pgp_conversation.specs.Common.{Appends, AppendsFront, Keeps, Streams, View, Marking, End, Whole, Cut, NoChunk, NoRecording, State, Tally}
 use Rattle.pgp_summary.specs.Runs.{tally_after}
 use Rattle.pgp_conversation.specs.Recording.{complaint_of, status_of}
 use Rattle.pgp_conversation.specs.Requests.{summary_in}
-use Rattle.pgp_conversation.specs.Session.{IsCutShort, IsListing, WritesListing}
+use Rattle.pgp_conversation.specs.Session.{IsCutShort, IsListing, WritesListing, summarized}
 use Rattle.pgp_conversation.specs.Tables.{table}
 
 -- the recording's listing was written, and this is to be said of it
@@ -21,7 +21,7 @@ tallies_in (Some s) = s.tallies
 -- these bytes are a recording that ends so, and what its requests ran was added to a table
 pub record AddsRecording (view : View) (marking : Marking) (bytes : List ℕ) (end : End) (old new : List Tally) : Type 0 where
   pub output : List ℕ
-  pub listing : IsListing view marking bytes end output
+  pub listing : IsListing (summarized true view) marking bytes end output
   pub added : new ≡ tally_after old (tallies_in (summary_in listing.talk.known.numbers))
 
 -- how two end: as the first of which not all could be read, or else inside a chunk where one of them does
@@ -50,11 +50,17 @@ module _ (Gives : List ℕ → List ℕ → Type 0) where
   abbrev pub CutsFile : View → Marking → (name : List ℕ) → (old new : Option (List ℕ)) → Type 0
   CutsFile view marking name old new = Keeps old new ⊎ ((bytes : List ℕ) × Gives name bytes × IsCutShort view marking (file_before bytes old) (file_after new))
 
+  -- the recording in this file was added to a table, and ends so
+  pub record AddsFile (view : View) (marking : Marking) (name : List ℕ) (end : End) (old new : List Tally) : Type 0 where
+    pub bytes : List ℕ
+    pub gives : Gives name bytes
+    pub adds : AddsRecording view marking bytes end old new
+
   -- The table to which the recordings in these files were added, one after another, and how they end.
   pub data AddsFiles (view : View) (marking : Marking) : (names : List (List ℕ)) → List Tally → End → Type 0 where
     NoFile : AddsFiles view marking [] [] Whole
-    OneFile : {names : List (List ℕ)} {old new : List Tally} {end its : End} (name bytes : List ℕ) → AddsFiles view marking names old end → Gives name bytes
-        → AddsRecording view marking bytes its old new → AddsFiles view marking (names ++ name ∷ []) new (worst end its)
+    OneFile : {names : List (List ℕ)} {old new : List Tally} {end its : End} (name : List ℕ) → AddsFiles view marking names old end → AddsFile view marking name its old new
+        → AddsFiles view marking (names ++ name ∷ []) new (worst end its)
 
   -- it was written, and nothing else, and it is said how they end
   pub record ListsTable (view : View) (marking : Marking) (names : List (List ℕ)) (old new : Option (List ℕ)) (status : ℕ) (said : List ℕ) : Type 0 where

@@ -1,5 +1,5 @@
 -- Private: a part of a recording and a frame at a time.
-use Rattle.std.specs.Prelude.{◌≡◌, ◌≢◌, ◌⊎◌, ℕ, ◌<◌, ◌+◌, Bool, true, false, ◌==◌, if◌then◌else◌, List, [], ◌∷◌, ◌++◌, length, Option, None, Some}
+use Rattle.std.specs.Prelude.{◌≡◌, ◌≢◌, ◌⊎◌, ℕ, ◌≤◌, ◌<◌, ◌+◌, Bool, true, false, ◌==◌, if◌then◌else◌, List, [], ◌∷◌, ◌++◌, length, Option, None, Some}
 use Rattle.pgp_client.specs.Talk as dialogue
 use Rattle.pgp_conversation.specs.Common.{Kept, Asked, Style, place_behind, Side, Ends, View, Sender, Client, Server, End, Whole, Cut, NoChunk, NoRecording}
 use Rattle.pgp_trace.specs.declared.frame.Next.{Next}
@@ -45,7 +45,7 @@ abbrev pub TakesPart : (begun : Bool) → List ℕ → Part → List ℕ → Typ
 TakesPart false old part.Magic new = old ≡ magic ++ new
 TakesPart false old (part.Chunk c) new = ⊥
 TakesPart false old part.Waits new = (new ≡ old) × ((more : List ℕ) → old ≢ magic ++ more)
-TakesPart false old part.Stops new = (new ≡ old) × ((more : List ℕ) → old ≢ magic ++ more)
+TakesPart false old part.Stops new = (new ≡ old) × (length magic ≤ length old) × ((more : List ℕ) → old ≢ magic ++ more)
 TakesPart true old part.Magic new = ⊥
 TakesPart true old (part.Chunk c) new = TakesChunk (chunk_of c) old new
 TakesPart true old part.Waits new = (new ≡ old) × IsPartial old

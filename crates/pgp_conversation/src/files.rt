@@ -1,17 +1,16 @@
 //! Recordings in files.
 
-ghost use Rattle.std.specs.Prelude.{◌≡◌, ◌∷◌, ◌++◌, [], ℕ, List, map, IfErr, IfOk, OnErr, OnOk};
-ghost use Rattle.pgp_conversation.specs.Common.{Appends, AppendsFront, Caused, GivesUp};
+ghost use Rattle.std.specs.Prelude.{◌≡◌, ◌++◌, [], ℕ, List, Some, map, IfErr, IfOk, OnErr, OnOk};
+ghost use Rattle.pgp_conversation.specs.Common.{Appends, AppendsFront, Caused, Consumes, GivesUp, Keeps};
 ghost use Rattle.pgp_conversation.specs.Tables.{table};
 ghost use Rattle.pgp_conversation.specs.Recording.{complaint_of, status_of};
-ghost use Rattle.pgp_conversation.specs.Several.{AddsFiles, AddsRecording, CutsFile, CutsTable, ListsFile, ListsTable, worst};
+ghost use Rattle.pgp_conversation.specs.Several.{AddsFile, AddsFiles, CutsFile, CutsTable, ListsFile, ListsTable, worst};
 ghost use Rattle.pgp_trace.specs.Steps.{view_of};
 
 use crate::ending::{End, complaint_of, status_of};
 use crate::outcome::{Ended, with_status};
-use crate::session::{Said, list_whole, put_lines, sum_whole};
+use crate::session::{Said, list_session, put_lines, sum_session};
 use crate::table::put_table;
-use pgp_base::Memory;
 use pgp_line::fault::Fault;
 use pgp_line::ports::Output;
 use pgp_names::MapMemory;
@@ -23,26 +22,33 @@ use std::io::{self, ErrorKind};
 
 /// Where recordings are read from: a reader, and files by their names.
 pub trait Recordings: Input {
+    /// A file, which is read as it comes.
+    type File: Input + Drop;
+
     /// The file of this name gave these bytes.
     ghost Gives: { List ℕ → List ℕ → Type 0 };
 
-    /// All bytes of a file.
+    /// Opens a file.
     ///
     /// # Errors
     ///
-    /// The file can't be read, or there is no memory for its bytes.
-    fn read_whole<A: Memory>(&self, alloc: A, name: &str) -> io::Result<Vec<u8, A>>
-        ensures gives { IfOk result (λ bytes. Self.Gives name.now bytes.items) }
+    /// The file can't be opened.
+    fn open(&self, name: &str) -> io::Result<Self::File>
+        ensures gives { IfOk result (λ file. (bytes : List ℕ) → Consumes (Self.File.remaining file) (Some []) bytes → Gives name.now bytes) }
+        ensures live { OnOk result ((now : Self.File) → Self.File.MayRead now) }
+        ensures gives_up { OnOk result (GivesUp Self.File.Fails Self.File.Called → GivesUp Self.Fails Self.Called) }
         ensures fails { OnErr result Self.Fails };
 }
 
-/// All bytes of a file.
-fn read_file<A: Memory, R: Recordings>(alloc: A, name: &str, input: &R) -> Result<Vec<u8, A>, Fault>
-    ensures gives { IfOk result (λ bytes. R.Gives name.now bytes.items) }
-    ensures cause { IfErr result (Caused A.Lacks (GivesUp R.Fails R.Called) ⊥) }
+/// Opens a file.
+fn open<R: Recordings>(name: &str, input: &R) -> Result<R::File, Fault>
+    ensures gives { IfOk result (λ file. (bytes : List ℕ) → Consumes (R.File.remaining file) (Some []) bytes → R.Gives name.now bytes) }
+    ensures live { OnOk result ((now : R.File) → R.File.MayRead now) }
+    ensures gives_up { OnOk result (GivesUp R.File.Fails R.File.Called → GivesUp R.Fails R.Called) }
+    ensures cause { IfErr result (Caused ⊥ (GivesUp R.Fails R.Called) ⊥) }
 {
-    match input.read_whole(alloc, name) {
-        Ok(bytes) => Ok(bytes),
+    match input.open(name) {
+        Ok(file) => Ok(file),
         Err(e) => match e.kind() {
             ErrorKind::OutOfMemory => Err(Fault::Memory),
             _ => Err(Fault::Read),
@@ -64,8 +70,8 @@ pub fn list_file<A: MapMemory, R: Recordings, W: Output>(
     ensures stops { OnErr result (CutsFile R.Gives (view_of view.entry) marking name.now (W.contents output.old) (W.contents output.new)) }
     ensures cause { IfErr result (Caused A.Lacks (GivesUp R.Fails R.Called) (GivesUp W.Fails W.Interrupted)) }
 {
-    let bytes = read_file(alloc, name, input)?;
-    let said = list_whole(alloc, view, marking, bytes.as_slice(), output)?;
+    let mut file = open(name, input)?;
+    let said = list_session(alloc, view, marking, &mut file, output)?;
     Ok(ended_so(said))
 }
 
@@ -97,27 +103,8 @@ pub fn list_table<A: MapMemory, R: Recordings, W: Output>(
     ensures cause { IfErr result (Caused A.Lacks (GivesUp R.Fails R.Called) (GivesUp W.Fails W.Interrupted)) }
 {
     let mut table = Summary::new(alloc, marking.folded);
-    list_added(alloc, view, marking, names, input, &mut table, output)
-}
-
-/// The same, by a table that has no statement yet.
-fn list_added<A: MapMemory, R: Recordings, W: Output>(
-    alloc: A,
-    view: View<'_>,
-    marking: Marking,
-    names: &[&str],
-    input: &R,
-    table: &mut Summary<A>,
-    output: &mut W,
-) -> Result<Ended, Fault>
-    requires none { table.old.tallies ≡ [] }
-    ensures passed { OnOk result (W.Passed output.new) }
-    ensures done { IfOk result (λ ended. ListsTable R.Gives (view_of view.entry) marking (map (λ name. name.now) names.now) (W.contents output.old) (W.contents output.new) ended.status (ended.first.now ++ ended.second.now ++ ended.third.now)) }
-    ensures stops { OnErr result (CutsTable R.Gives (view_of view.entry) marking (map (λ name. name.now) names.now) (W.contents output.old) (W.contents output.new)) }
-    ensures cause { IfErr result (Caused A.Lacks (GivesUp R.Fails R.Called) (GivesUp W.Fails W.Interrupted)) }
-{
-    let end = add_files(alloc, view, marking, names, input, table)?;
-    write_table(alloc, view, table, output)?;
+    let end = add_files(alloc, view, marking, names, input, &mut table, output)?;
+    write_table(alloc, view, &table, output)?;
     Ok(with_status(status_of(end), complaint_of(end)))
 }
 
@@ -139,42 +126,45 @@ fn write_table<A: MapMemory, W: Output>(
     put_lines(text.as_str(), output)
 }
 
-/// Adds to a table what the requests of these recordings ran. Returns how they end.
-fn add_files<A: MapMemory, R: Recordings>(
+/// Adds to a table what the requests of these recordings ran; nothing is written. Returns how they end.
+fn add_files<A: MapMemory, R: Recordings, W: Output>(
     alloc: A,
     view: View<'_>,
     marking: Marking,
     names: &[&str],
     input: &R,
     table: &mut Summary<A>,
+    output: &mut W,
 ) -> Result<End, Fault>
     requires none { table.old.tallies ≡ [] }
     ensures added { IfOk result (λ end. AddsFiles R.Gives (view_of view.entry) marking (map (λ name. name.now) names.now) table.new.tallies end) }
-    ensures cause { IfErr result (Caused A.Lacks (GivesUp R.Fails R.Called) ⊥) }
+    ensures kept { Keeps (W.contents output.old) (W.contents output.new) }
+    ensures cause { IfErr result (Caused A.Lacks (GivesUp R.Fails R.Called) (GivesUp W.Fails W.Interrupted)) }
 {
     let mut end = End::Whole;
     for name in names {
-        end = add_file(alloc, view, marking, name, input, end, table)?;
+        let its = add_file(alloc, view, marking, name, input, table, output)?;
+        end = worst(end, its);
     }
     Ok(end)
 }
 
-/// Adds what the requests of one recording more ran. Returns how it and those before it end.
-fn add_file<A: MapMemory, R: Recordings>(
+/// Adds what the requests of one recording more ran. Returns how it ends.
+fn add_file<A: MapMemory, R: Recordings, W: Output>(
     alloc: A,
     view: View<'_>,
     marking: Marking,
     name: &str,
     input: &R,
-    end: End,
     table: &mut Summary<A>,
+    output: &mut W,
 ) -> Result<End, Fault>
-    ensures added { IfOk result (λ new. (names : List (List ℕ)) → AddsFiles R.Gives (view_of view.entry) marking names table.old.tallies end → AddsFiles R.Gives (view_of view.entry) marking (names ++ name.now ∷ []) table.new.tallies new) }
-    ensures cause { IfErr result (Caused A.Lacks (GivesUp R.Fails R.Called) ⊥) }
+    ensures added { IfOk result (λ its. AddsFile R.Gives (view_of view.entry) marking name.now its table.old.tallies table.new.tallies) }
+    ensures kept { Keeps (W.contents output.old) (W.contents output.new) }
+    ensures cause { IfErr result (Caused A.Lacks (GivesUp R.Fails R.Called) (GivesUp W.Fails W.Interrupted)) }
 {
-    let bytes = read_file(alloc, name, input)?;
-    let its = sum_whole(alloc, view, marking, bytes.as_slice(), table)?;
-    Ok(worst(end, its))
+    let mut file = open(name, input)?;
+    sum_session(alloc, view, marking, &mut file, table, output)
 }
 
 /// How two recordings end.

@@ -11,7 +11,7 @@ ghost use Rattle.pgp_conversation.specs.Several.{ListsRecording};
 
 use crate::files::{Recordings, ended_so, list_file, list_table};
 use crate::outcome::{Ended, finished, refused, stopped, tell};
-use crate::session::list_session;
+use crate::session::{list_session, summarized};
 use pgp_base::Memory;
 use pgp_line::fault::Fault;
 use pgp_line::ports::{Output, Words};
@@ -117,24 +117,16 @@ fn view_by<'a, A: MapMemory>(options: &'a Options<'_, A>) -> View<'a>
     }
 }
 
-/// No message has this name.
-const NO_NAME: &[&str] = &[""];
-
 /// How the listing of a recording with these options looks. With a summary no line of a message is written.
 fn session_by<'a, A: MapMemory>(options: &'a Options<'_, A>) -> View<'a>
     ensures { view_of result ≡ session_by (chosen_of options.now) }
 {
     let view = view_by(options);
     if options.marking.summed {
-        return View {
-            style: view.style,
-            only: NO_NAME,
-            except: view.except,
-            colored: view.colored,
-            slower: view.slower,
-        };
+        summarized(view)
+    } else {
+        view
     }
-    view
 }
 
 /// Lists what a side sent.

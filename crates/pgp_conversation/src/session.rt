@@ -5,10 +5,10 @@ ghost use Rattle.pgp_conversation.specs.Common.{Appends, Keeps, GivesUp, Caused,
 ghost use Rattle.pgp_trace.specs.Steps.{view_of};
 ghost use Rattle.pgp_trace.specs.declared.marking.Marking.{Marking as Marks};
 ghost use Rattle.pgp_conversation.specs.Conversation.{first_start};
-ghost use Rattle.pgp_conversation.specs.Pieces.{ListsAllChunks, ListsPiece, ListsSome, Tracks, held_first, held_last, held_nothing};
+ghost use Rattle.pgp_conversation.specs.Pieces.{Follows, FollowsInPart, ListsAllChunks, ListsPiece, ListsSome, SumsRecording, Tracks, held_first, held_last, held_nothing};
 ghost use Rattle.pgp_conversation.specs.Recording.{complaint_of};
-ghost use Rattle.pgp_conversation.specs.Session.{IsCutShort, ReadsWhenReady, WasListed, WritesListing};
-ghost use Rattle.pgp_conversation.specs.Several.{AddsRecording, file_after, file_before, tallies_in};
+ghost use Rattle.pgp_conversation.specs.Session.{IsCutShort, IsReadTo, ReadsWhenReady, WasListed, WritesListing, summarized};
+ghost use Rattle.pgp_conversation.specs.Several.{tallies_in};
 ghost use Rattle.pgp_conversation.specs.Steps.{end_of, half_of, kept_of};
 ghost use Rattle.pgp_summary.specs.Runs.{tally_after};
 ghost use Rattle.std.specs.Option.{option_map};
@@ -80,91 +80,63 @@ pub fn list_session<A: MapMemory, R: Input, W: Output>(
 {
     let mut piece = A::list_filled(alloc, 0, PIECE)?;
     let mut held = held_at_first(alloc, marking);
-    list_pieces(
+    let stopped = list_pieces(
         view,
         marking,
         input,
         piece.as_mut_slice(),
         &mut held,
         output,
-    )
+    )?;
+    list_last(view, stopped, &mut held, output)
 }
 
-/// Lists a recording of which all bytes are there.
-pub fn list_whole<A: MapMemory, W: Output>(
+/// Adds to a table what the requests of a recording ran, as it comes; nothing is written. Returns how it ends.
+///
+/// # Errors
+///
+/// Returns `Memory` if an allocation fails, `Read` if reading fails, and `Write` if a flush fails.
+pub fn sum_session<A: MapMemory, R: Input, W: Output>(
     alloc: A,
     view: View<'_>,
     marking: Marking,
-    bytes: &[u8],
-    output: &mut W,
-) -> Result<Said, Fault>
-    ensures listed { IfOk result (λ said. WritesListing (view_of view.entry) marking (file_before bytes.now (W.contents output.old)) (file_after (W.contents output.new)) said.end (said.client.now ++ said.server.now ++ complaint_of said.end)) }
-    ensures passed { OnOk result (W.Passed output.new) }
-    ensures cut { OnErr result (IsCutShort (view_of view.entry) marking (file_before bytes.now (W.contents output.old)) (file_after (W.contents output.new))) }
-    ensures cause { IfErr result (Caused A.Lacks ⊥ (GivesUp W.Fails W.Interrupted)) }
-{
-    let mut held = held_at_first(alloc, marking);
-    list_held(view, marking, bytes, &mut held, output)
-}
-
-/// The same, where nothing was listed.
-fn list_held<A: MapMemory, W: Output>(
-    view: View<'_>,
-    marking: Marking,
-    bytes: &[u8],
-    held: &mut Held<A>,
-    output: &mut W,
-) -> Result<Said, Fault>
-    requires begun { held.old.begun ≡ false }
-    requires talk { kept_of held.old.talk ≡ held_first (record marking { absolute = false }) }
-    requires bytes { held.old.bytes.items ≡ [] }
-    ensures listed { IfOk result (λ said. WritesListing (view_of view.entry) marking (file_before bytes.now (W.contents output.old)) (file_after (W.contents output.new)) said.end (said.client.now ++ said.server.now ++ complaint_of said.end)) }
-    ensures passed { OnOk result (W.Passed output.new) }
-    ensures cut { OnErr result (IsCutShort (view_of view.entry) marking (file_before bytes.now (W.contents output.old)) (file_after (W.contents output.new))) }
-    ensures cause { IfErr result (Caused A.Lacks ⊥ (GivesUp W.Fails W.Interrupted)) }
-{
-    held.talk.start = first_start(marking.absolute);
-    let stopped = list_piece(view, bytes, held, output)?;
-    list_last(view, stopped, held, output)
-}
-
-/// Adds to a table what the requests of a recording ran of which all bytes are there. Returns how it ends.
-pub fn sum_whole<A: MapMemory>(
-    alloc: A,
-    view: View<'_>,
-    marking: Marking,
-    bytes: &[u8],
+    input: &mut R,
     table: &mut Summary<A>,
-) -> Result<End, AllocError>
-    ensures added { IfOk result (λ end. AddsRecording (view_of view.entry) marking bytes.now end table.old.tallies table.new.tallies) }
-    ensures lacks { OnErr result A.Lacks }
+    output: &mut W,
+) -> Result<End, Fault>
+    requires live { ReadsWhenReady R.remaining W.contents W.Passed R.MayRead (summarized true (view_of view)) marking input.old output.old }
+    ensures added { IfOk result (λ end. SumsRecording (view_of view.entry) marking (R.remaining input.old) (R.remaining input.new) end table.old.tallies table.new.tallies) }
+    ensures kept { Keeps (W.contents output.old) (W.contents output.new) }
+    ensures cause { IfErr result (Caused A.Lacks (GivesUp R.Fails R.Called) (GivesUp W.Fails W.Interrupted)) }
 {
+    let mut piece = A::list_filled(alloc, 0, PIECE)?;
     let mut held = held_at_first(alloc, marking);
-    sum_held(view, marking, bytes, &mut held, table)
-}
-
-/// The same, where nothing was listed.
-fn sum_held<A: MapMemory>(
-    view: View<'_>,
-    marking: Marking,
-    bytes: &[u8],
-    held: &mut Held<A>,
-    table: &mut Summary<A>,
-) -> Result<End, AllocError>
-    requires talk { kept_of held.old.talk ≡ held_first (record marking { absolute = false }) }
-    ensures added { IfOk result (λ end. AddsRecording (view_of view.entry) marking bytes.now end table.old.tallies table.new.tallies) }
-    ensures lacks { OnErr result A.Lacks }
-{
-    held.talk.start = first_start(marking.absolute);
-    let (begun, listed, stopped) = list_chunks(
-        view,
-        false,
-        bytes,
-        &mut held.talk,
-        &mut held.texts,
+    let stopped = list_pieces(
+        summarized(view),
+        marking,
+        input,
+        piece.as_mut_slice(),
+        &mut held,
+        output,
     )?;
     add_table(summary_of(&held.talk.known.numbers), table)?;
-    Ok(end_of(begun, stopped, &bytes[listed..]))
+    Ok(end_of(held.begun, stopped, held.bytes.as_slice()))
+}
+
+/// No message has this name.
+const NO_NAME: &[&str] = &[""];
+
+/// How the listing looks of which a table alone is written: no line of a message is.
+pub fn summarized(view: View<'_>) -> View<'_>
+    ensures { view_of result ≡ summarized true (view_of view) }
+{
+    View {
+        style: view.style,
+        only: NO_NAME,
+        except: view.except,
+        colored: view.colored,
+        slower: view.slower,
+    }
 }
 
 /// Adds what requests ran, where that is known.
@@ -225,7 +197,7 @@ fn first_start(absolute: bool) -> Option<u64>
     if absolute { Some(0) } else { None }
 }
 
-/// Lists a recording, a piece at a time.
+/// Lists the chunks of a recording, a piece at a time. Returns whether no chunk comes after them.
 fn list_pieces<A: MapMemory, R: Input, W: Output>(
     view: View<'_>,
     marking: Marking,
@@ -233,27 +205,27 @@ fn list_pieces<A: MapMemory, R: Input, W: Output>(
     piece: &mut [u8],
     held: &mut Held<A>,
     output: &mut W,
-) -> Result<Said, Fault>
+) -> Result<bool, Fault>
     requires some { 0 < length piece.old }
     requires begun { held.old.begun ≡ false }
     requires talk { kept_of held.old.talk ≡ held_first (record marking { absolute = false }) }
     requires bytes { held.old.bytes.items ≡ [] }
     requires live { ReadsWhenReady R.remaining W.contents W.Passed R.MayRead (view_of view) marking input.old output.old }
-    ensures listed { IfOk result (λ said. WritesListing (view_of view.entry) marking (streams (R.remaining input.old) (W.contents output.old)) (streams (R.remaining input.new) (W.contents output.new)) said.end (said.client.now ++ said.server.now ++ complaint_of said.end)) }
+    ensures listed { IfOk result (λ stopped. Follows (view_of view.entry) marking (streams (R.remaining input.old) (W.contents output.old)) (streams (R.remaining input.new) (W.contents output.new)) held.new.begun stopped (kept_of held.new.talk) held.new.bytes.items) }
+    ensures all { IfOk result (λ stopped. IsReadTo (end_of held.new.begun stopped held.new.bytes.items) held.new.bytes.items (R.remaining input.new)) }
     ensures live { IfErr result (λ fault. fault ≡ Fault.Read → WasListed (view_of view.entry) marking (streams (R.remaining input.old) (W.contents output.old)) (streams (R.remaining input.new) (W.contents output.new))) }
     ensures passed { IfErr result (λ fault. fault ≡ Fault.Read → Keeps (W.contents output.old) (W.contents output.new) ⊎ W.Passed output.new) }
-    ensures done { OnOk result (W.Passed output.new) }
-    ensures cut { OnErr result (IsCutShort (view_of view.entry) marking (streams (R.remaining input.old) (W.contents output.old)) (streams (R.remaining input.new) (W.contents output.new))) }
+    ensures cut { OnErr result (FollowsInPart (view_of view.entry) marking (streams (R.remaining input.old) (W.contents output.old)) (streams (R.remaining input.new) (W.contents output.new))) }
     ensures cause { IfErr result (Caused A.Lacks (GivesUp R.Fails R.Called) (GivesUp W.Fails W.Interrupted)) }
 {
     held.talk.start = first_start(marking.absolute);
     // Bounded, since each function has to end, and a reader may give pieces or be interrupted forever.
     'pieces: for _ in 0..u64::MAX {
         match input.read_some(piece) {
-            Ok(0) => return list_last(view, false, held, output),
+            Ok(0) => return Ok(false),
             Ok(n) => {
                 if list_piece(view, &piece[..n], held, output)? {
-                    return list_last(view, true, held, output);
+                    return Ok(true);
                 }
             }
             Err(e) => match e.kind() {

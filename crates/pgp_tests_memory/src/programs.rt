@@ -3,13 +3,12 @@
 
 use crate::checks::{holds, same};
 use crate::process::Words;
-use pgp_base::Memory;
 use pgp_conversation::files::Recordings;
 use pgp_conversation::run::run as trace;
 use pgp_test_alloc::Refusing;
 use pgp_wire::run::run_own as wire;
 use std::alloc::Global;
-use std::io::{self, ErrorKind, Read};
+use std::io::{self, Read};
 use std::process::Abort;
 
 /// Words and an input, and what `pgwire` comes to.
@@ -82,13 +81,12 @@ impl Read for Recorded {
 }
 
 impl Recordings for Recorded {
+    type File = &'static [u8];
+
     ghost Gives = { λ _ _. Unit {0} };
 
-    fn read_whole<A: Memory>(&self, alloc: A, _name: &str) -> io::Result<Vec<u8, A>> {
-        match alloc.list_of(self.file) {
-            Ok(bytes) => Ok(bytes),
-            Err(_) => Err(io::Error::from(ErrorKind::OutOfMemory)),
-        }
+    fn open(&self, _name: &str) -> io::Result<&'static [u8]> {
+        Ok(self.file)
     }
 }
 

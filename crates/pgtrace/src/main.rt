@@ -7,7 +7,7 @@ use pgp_conversation::run::run_own;
 use pgp_trace::pipe::Pipe;
 use std::cell::Cell;
 use std::fs::File;
-use std::io::{self, IsTerminal, Read};
+use std::io::{self, ErrorKind, IsTerminal, Read};
 use std::process::ExitCode;
 
 /// Standard input, and the files of the machine.
@@ -23,27 +23,51 @@ impl<R: Read> Read for Recorded<'_, R> {
     }
 }
 
-/// Of what a file holds nothing is said.
-impl<R: Read> Recordings for Recorded<'_, R> {
-    ghost Gives = { λ _ _. Unit {0} };
+/// A file that says its name where it can't be read.
+#[derive(Drop)]
+struct Named<'a> {
+    file: File,
+    name: String,
+    rt: &'a HostRuntime,
+}
 
-    fn read_whole<A: Memory>(&self, alloc: A, name: &str) -> io::Result<Vec<u8, A>> {
-        let rt = self.rt;
-        let bytes = read_file(rt, alloc, name);
-        if bytes.is_err() {
-            // Where this can't be written, the run still ends with its own complaint.
-            let _ = eprintln!(rt; "pgtrace: {name}: cannot be read");
+impl Read for Named<'_> {
+    fn read(&mut self, buf: &mut [u8]) -> io::Result<usize> {
+        match self.file.read(buf) {
+            Err(e) if e.kind() != ErrorKind::Interrupted => {
+                complain(self.rt, self.name.as_str());
+                Err(e)
+            }
+            read => read,
         }
-        bytes
     }
 }
 
-/// The bytes of a file.
-fn read_file<A: Memory>(rt: &HostRuntime, alloc: A, name: &str) -> io::Result<Vec<u8, A>> {
-    let mut file = File::open(rt, name)?;
-    let mut bytes = Vec::new(alloc);
-    file.read_to_end(&mut bytes)?;
-    Ok(bytes)
+/// Of what a file holds nothing is said.
+impl<'a, R: Read> Recordings for Recorded<'a, R> {
+    type File = Named<'a>;
+
+    ghost Gives = { λ _ _. Unit {0} };
+
+    fn open(&self, name: &str) -> io::Result<Named<'a>> {
+        let rt = self.rt;
+        let file = match File::open(rt, name) {
+            Ok(file) => file,
+            Err(e) => {
+                complain(rt, name);
+                return Err(e);
+            }
+        };
+        match rt.alloc().text_of(name) {
+            Ok(name) => Ok(Named { file, name, rt }),
+            Err(_) => Err(io::Error::from(ErrorKind::OutOfMemory)),
+        }
+    }
+}
+
+/// Says that a file can't be read. Where this can't be written, the run still ends with its own complaint.
+fn complain(rt: &HostRuntime, name: &str) {
+    let _ = eprintln!(rt; "pgtrace: {name}: cannot be read");
 }
 
 fn main(rt: HostRuntime) -> ExitCode {

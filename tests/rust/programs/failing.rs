@@ -1,6 +1,5 @@
 //! Readers and writers for the tests: those that fail, and those that give what they have in pieces.
 
-use erased::kit::Global;
 use erased::proved::pgp_conversation::files::Recordings;
 use std::io::{self, Read, Write};
 
@@ -80,7 +79,9 @@ impl<R: Read> Read for Alone<R> {
 }
 
 impl<R: Read> Recordings for Alone<R> {
-    fn read_whole(&self, _alloc: Global, _name: &str) -> io::Result<Vec<u8>> {
+    type File = io::Empty;
+
+    fn open(&self, _name: &str) -> io::Result<io::Empty> {
         Err(io::Error::from(io::ErrorKind::NotFound))
     }
 }

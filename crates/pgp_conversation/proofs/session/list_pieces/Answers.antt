@@ -1,5 +1,5 @@
-use Rattle.pgp_conversation.proofs.Common.{true, false, ◌++◌, take, arith, rules, refl, subst, inl, inr, Consumes, Consumes-trans, Appends-trans, Keeps-refl, on_err, Streams, view_of, ListsPiece, kept_of, called_more}
-use Rattle.pgp_conversation.proofs.Sessions.{cut_here, cut_piece, first_held, follows_piece, follows_same, follows_start, last_broken, last_listed, none_came, read_all, read_rest, ready, was_listed}
+use Rattle.pgp_conversation.proofs.Common.{true, false, ◌++◌, take, arith, rules, refl, subst, inl, inr, Consumes, Consumes-trans, Appends-trans, Keeps-refl, on_err, Streams, view_of, ListsPiece, Stays, kept_of, called_more}
+use Rattle.pgp_conversation.proofs.Sessions.{first_held, follows_end, follows_piece, follows_same, follows_start, part_here, part_of_piece, read_all, read_rest, ready, was_listed}
 use Rattle.pgp_conversation.proofs.session.list_pieces.Goals as goal
 use Rattle.pgp_conversation.proofs.session.list_pieces.Goals.{in-Ok+in_ok-list_piece-in-Ok+else-branch, in-Err+in-Interrupted}
 
@@ -21,62 +21,38 @@ returns-in-Ok-eq0-clause-listed g c =
     let now = g.R.Read.remaining c.pieces.input in
     let next = g.R.Read.remaining c.read_some.new.self in
     let held = c.pieces.held in
-    let f = c.pieces.invariant.0 in
-    let none = subst (λ k. Consumes now next (take k c.read_some.new.piece)) c.in-Ok-eq0.field-0-test c.in-Ok-eq0.ensures.bytes.0 in
-    let end = c.in-Ok-eq0.ensures.bytes.1 c.in-Ok-eq0.field-0-test (omega (arith, c.requires.some, c.pieces.auto.piece, c.read_some.auto.piece)) in
-    last_listed c.list_last.result (view_of c.args.view) c.args.marking (record { input = g.R.Read.remaining c.args.input.now; output = g.W.Write.contents c.args.output.now }) next (g.W.Write.contents c.pieces.output) (g.W.Write.contents c.list_last.new.output)
-    held.begun false (kept_of held.talk) held.bytes.items f.bytes f.lines (none_came (g.R.Read.remaining c.args.input.now) now next f.bytes f.received none) f.written f.tracks f.stays (read_all held.begun held.bytes.items next end)
-    c.list_last.ensures.end c.list_last.ensures.client c.list_last.ensures.server c.list_last.ensures.all
+    follows_end (view_of c.args.view) c.args.marking (record { input = g.R.Read.remaining c.args.input.now; output = g.W.Write.contents c.args.output.now }) (record { input = now; output = g.W.Write.contents c.pieces.output })
+    held.begun (kept_of held.talk) held.bytes.items next c.pieces.invariant.0 (subst (λ k. Consumes now next (take k c.read_some.new.piece)) c.in-Ok-eq0.field-0-test c.in-Ok-eq0.ensures.bytes.0)
 
-pub returns-in-Ok-eq0-clause-cut : goal.returns-in-Ok-eq0-clause-cut
-returns-in-Ok-eq0-clause-cut g c =
-    let now = g.R.Read.remaining c.pieces.input in
-    let next = g.R.Read.remaining c.read_some.new.self in
-    let held = c.pieces.held in
-    let f = c.pieces.invariant.0 in
-    let none = subst (λ k. Consumes now next (take k c.read_some.new.piece)) c.in-Ok-eq0.field-0-test c.in-Ok-eq0.ensures.bytes.0 in
-    let end = c.in-Ok-eq0.ensures.bytes.1 c.in-Ok-eq0.field-0-test (omega (arith, c.requires.some, c.pieces.auto.piece, c.read_some.auto.piece)) in
-    last_broken c.list_last.result (view_of c.args.view) c.args.marking (record { input = g.R.Read.remaining c.args.input.now; output = g.W.Write.contents c.args.output.now }) next (g.W.Write.contents c.pieces.output) (g.W.Write.contents c.list_last.new.output)
-    held.begun false (kept_of held.talk) held.bytes.items f.bytes f.lines (none_came (g.R.Read.remaining c.args.input.now) now next f.bytes f.received none) f.written f.tracks f.stays (read_all held.begun held.bytes.items next end)
-    c.list_last.ensures.some
+pub returns-in-Ok-eq0-clause-all : goal.returns-in-Ok-eq0-clause-all
+returns-in-Ok-eq0-clause-all g c =
+    read_all c.pieces.held.begun c.pieces.held.bytes.items (g.R.Read.remaining c.read_some.new.self) (c.in-Ok-eq0.ensures.bytes.1 c.in-Ok-eq0.field-0-test (omega (arith, c.requires.some, c.pieces.auto.piece, c.read_some.auto.piece)))
 
 pub returns-in_err-list_piece-in-Ok-clause-cut : goal.returns-in_err-list_piece-in-Ok-clause-cut
 returns-in_err-list_piece-in-Ok-clause-cut g c =
     let f = c.pieces.invariant.0 in
     let held = c.pieces.held in
-    on_err c.from_residual.result _ (cut_piece (view_of c.args.view) c.args.marking (record { input = g.R.Read.remaining c.args.input.now; output = g.W.Write.contents c.args.output.now })
+    on_err c.from_residual.result _ (part_of_piece (view_of c.args.view) c.args.marking (record { input = g.R.Read.remaining c.args.input.now; output = g.W.Write.contents c.args.output.now })
     (record { input = g.R.Read.remaining c.pieces.input; output = g.W.Write.contents c.pieces.output }) held.begun (kept_of held.talk) held.bytes.items (take c.in-Ok.n c.read_some.new.piece) (g.R.Read.remaining c.read_some.new.self) (g.W.Write.contents c.list_piece.new.output)
     f c.in-Ok.ensures.bytes.0 (c.in_err-list_piece-in-Ok.ensures.some c.args.marking f.bytes f.lines f.tracks))
 
 pub returns-then-branch-clause-listed : goal.returns-then-branch-clause-listed
 returns-then-branch-clause-listed g c =
-    let now = g.R.Read.remaining c.pieces.input in
-    let next = g.R.Read.remaining c.read_some.new.self in
-    let middle = g.W.Write.contents c.list_piece.new.output in
-    let held = c.list_piece.new.held in
+    let held = c.pieces.held in
+    let new = c.list_piece.new.held in
     let f = c.pieces.invariant.0 in
     let piece = take c.in-Ok.n c.read_some.new.piece in
-    let one : ListsPiece (view_of c.args.view) c.args.marking (f.bytes ++ piece) f.lines held.begun true (kept_of held.talk) held.bytes.items (g.W.Write.contents c.pieces.output) middle =
-    subst (λ s. ListsPiece (view_of c.args.view) c.args.marking (f.bytes ++ piece) f.lines held.begun s (kept_of held.talk) held.bytes.items (g.W.Write.contents c.pieces.output) middle) c.if-branch.true (c.in_ok-list_piece-in-Ok.ensures.all c.args.marking f.bytes f.lines f.tracks) in
-    last_listed c.list_last-then-branch.result (view_of c.args.view) c.args.marking (record { input = g.R.Read.remaining c.args.input.now; output = g.W.Write.contents c.args.output.now }) next middle (g.W.Write.contents c.list_last-then-branch.new.output)
-    held.begun true (kept_of held.talk) held.bytes.items (f.bytes ++ piece) (f.lines ++ one.added) (Consumes-trans (g.R.Read.remaining c.args.input.now) now next f.bytes piece f.received c.in-Ok.ensures.bytes.0)
-    (Appends-trans (g.W.Write.contents c.args.output.now) (g.W.Write.contents c.pieces.output) middle f.lines one.added f.written one.written) one.tracks one.stays (read_rest held.begun held.bytes.items next)
-    c.list_last-then-branch.ensures.end c.list_last-then-branch.ensures.client c.list_last-then-branch.ensures.server c.list_last-then-branch.ensures.all
+    let out = g.W.Write.contents c.pieces.output in
+    follows_piece (view_of c.args.view) c.args.marking (record { input = g.R.Read.remaining c.args.input.now; output = g.W.Write.contents c.args.output.now }) (record { input = g.R.Read.remaining c.pieces.input; output = out })
+    held.begun new.begun true (kept_of held.talk) (kept_of new.talk) held.bytes.items new.bytes.items piece (g.R.Read.remaining c.read_some.new.self) (g.W.Write.contents c.list_piece.new.output) f c.in-Ok.ensures.bytes.0
+    (subst (λ s. ListsPiece (view_of c.args.view) c.args.marking (f.bytes ++ piece) f.lines new.begun s (kept_of new.talk) new.bytes.items out (g.W.Write.contents c.list_piece.new.output)) c.if-branch.true (c.in_ok-list_piece-in-Ok.ensures.all c.args.marking f.bytes f.lines f.tracks))
 
-pub returns-then-branch-clause-cut : goal.returns-then-branch-clause-cut
-returns-then-branch-clause-cut g c =
-    let now = g.R.Read.remaining c.pieces.input in
-    let next = g.R.Read.remaining c.read_some.new.self in
-    let middle = g.W.Write.contents c.list_piece.new.output in
-    let held = c.list_piece.new.held in
+pub returns-then-branch-clause-all : goal.returns-then-branch-clause-all
+returns-then-branch-clause-all g c =
+    let new = c.list_piece.new.held in
     let f = c.pieces.invariant.0 in
-    let piece = take c.in-Ok.n c.read_some.new.piece in
-    let one : ListsPiece (view_of c.args.view) c.args.marking (f.bytes ++ piece) f.lines held.begun true (kept_of held.talk) held.bytes.items (g.W.Write.contents c.pieces.output) middle =
-    subst (λ s. ListsPiece (view_of c.args.view) c.args.marking (f.bytes ++ piece) f.lines held.begun s (kept_of held.talk) held.bytes.items (g.W.Write.contents c.pieces.output) middle) c.if-branch.true (c.in_ok-list_piece-in-Ok.ensures.all c.args.marking f.bytes f.lines f.tracks) in
-    last_broken c.list_last-then-branch.result (view_of c.args.view) c.args.marking (record { input = g.R.Read.remaining c.args.input.now; output = g.W.Write.contents c.args.output.now }) next middle (g.W.Write.contents c.list_last-then-branch.new.output)
-    held.begun true (kept_of held.talk) held.bytes.items (f.bytes ++ piece) (f.lines ++ one.added) (Consumes-trans (g.R.Read.remaining c.args.input.now) now next f.bytes piece f.received c.in-Ok.ensures.bytes.0)
-    (Appends-trans (g.W.Write.contents c.args.output.now) (g.W.Write.contents c.pieces.output) middle f.lines one.added f.written one.written) one.tracks one.stays (read_rest held.begun held.bytes.items next)
-    c.list_last-then-branch.ensures.some
+    let one = c.in_ok-list_piece-in-Ok.ensures.all c.args.marking f.bytes f.lines f.tracks in
+    read_rest new.begun new.bytes.items (g.R.Read.remaining c.read_some.new.self) (subst (λ s. Stays new.begun s new.bytes.items) c.if-branch.true one.stays)
 
 pub returns-in-OutOfMemory-clause-cut : goal.returns-in-OutOfMemory-clause-cut
 returns-in-OutOfMemory-clause-cut g c =
@@ -84,7 +60,7 @@ returns-in-OutOfMemory-clause-cut g c =
     let out = g.W.Write.contents c.pieces.output in
     let held = c.pieces.held in
     let before : Streams = record { input = g.R.Read.remaining c.args.input.now; output = g.W.Write.contents c.args.output.now } in
-    cut_here (view_of c.args.view) c.args.marking before (record { input = next; output = out }) held.begun (kept_of held.talk) held.bytes.items
+    part_here (view_of c.args.view) c.args.marking before (record { input = next; output = out }) held.begun (kept_of held.talk) held.bytes.items
     (follows_same (view_of c.args.view) c.args.marking before (record { input = g.R.Read.remaining c.pieces.input; output = out }) held.begun (kept_of held.talk) held.bytes.items next c.pieces.invariant.0 c.in-Err.ensures.bytes)
 
 pub returns-in_default : goal.returns-in_default
@@ -97,10 +73,10 @@ returns-in_default g c =
     let fails : g.R.Input.Fails = search rules in
     record {
       listed = tt;
+      all = tt;
       live = λ e. was_listed (view_of c.args.view) c.args.marking before (record { input = next; output = out }) held.begun (kept_of held.talk) held.bytes.items f;
       passed = λ e. c.pieces.invariant.1;
-      done = tt;
-      cut = cut_here (view_of c.args.view) c.args.marking before (record { input = next; output = out }) held.begun (kept_of held.talk) held.bytes.items f;
+      cut = part_here (view_of c.args.view) c.args.marking before (record { input = next; output = out }) held.begun (kept_of held.talk) held.bytes.items f;
       cause = inl fails;
     }
 
@@ -117,7 +93,7 @@ pieces-preserved g c =
       | in-Ok+in_ok-list_piece-in-Ok+else-branch w ↦ rw (w.output-is, w.held-is) (
         let new = w.list_piece.new.held in
             let piece = take w.in-Ok.n c.read_some.new.piece in
-            follows_piece (view_of c.args.view) c.args.marking before (record { input = now; output = out }) held.begun new.begun (kept_of held.talk) (kept_of new.talk) held.bytes.items new.bytes.items piece next (g.W.Write.contents w.list_piece.new.output) f w.in-Ok.ensures.bytes.0
+            follows_piece (view_of c.args.view) c.args.marking before (record { input = now; output = out }) held.begun new.begun false (kept_of held.talk) (kept_of new.talk) held.bytes.items new.bytes.items piece next (g.W.Write.contents w.list_piece.new.output) f w.in-Ok.ensures.bytes.0
             (subst (λ s. ListsPiece (view_of c.args.view) c.args.marking (f.bytes ++ piece) f.lines new.begun s (kept_of new.talk) new.bytes.items out (g.W.Write.contents w.list_piece.new.output)) w.if-branch.false (w.in_ok-list_piece-in-Ok.ensures.all c.args.marking f.bytes f.lines f.tracks)),
         inr w.in_ok-list_piece-in-Ok.ensures.passed,
         counted,
@@ -131,5 +107,5 @@ pieces-preserved g c =
 
 pub returns-clause-cut : goal.returns-clause-cut
 returns-clause-cut g c =
-    cut_here (view_of c.args.view) c.args.marking (record { input = g.R.Read.remaining c.args.input.now; output = g.W.Write.contents c.args.output.now }) (record { input = g.R.Read.remaining c.pieces.input; output = g.W.Write.contents c.pieces.output })
+    part_here (view_of c.args.view) c.args.marking (record { input = g.R.Read.remaining c.args.input.now; output = g.W.Write.contents c.args.output.now }) (record { input = g.R.Read.remaining c.pieces.input; output = g.W.Write.contents c.pieces.output })
     c.pieces.held.begun (kept_of c.pieces.held.talk) c.pieces.held.bytes.items c.pieces.invariant.0
