@@ -6,3 +6,4 @@ mod Places
 pub mod Ranks
 mod Sorting
 mod Tallies
+pub mod Times

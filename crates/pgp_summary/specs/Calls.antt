@@ -1,6 +1,6 @@
 -- The runs that calls of a summary came to, and what is said of each statement by them alone.
 use Rattle.std.specs.Prelude.{◌≡◌, ◌≤◌, ◌==◌, ⊤, ℕ, ◌+◌, Bool, true, false, if◌then◌else◌, List, [], ◌∷◌, ◌++◌, Option, Some, None}
-use Rattle.std.specs.List.{AllByRecursion}
+use Rattle.std.specs.List.{AllByRecursion, sum, sum_by}
 use Rattle.std.specs.Str.{bytes_eq}
 use Rattle.pgp_summary.specs.Runs.{Tally, capped}
 use Rattle.pgp_summary.specs.Summary.{Request, State, asked, ended, error_of, failed, first_of, row, run_at, skipped, taken, text_under}
@@ -48,6 +48,16 @@ run_in (Fail number) s = error_of (first_of number (skipped number s.waiting)) s
 abbrev pub runs_in : State → List Call → List Tally
 runs_in s [] = []
 runs_in s (call ∷ more) = run_in call s ++ runs_in (called call s) more
+
+-- no request was sent earlier than the first, and each answer ended no earlier than the one before it: the clock wasn't set back
+abbrev pub GoesOn : (first before : ℕ) → List Call → Type 0
+GoesOn first before [] = ⊤
+GoesOn first before (End number reply sent now ∷ more) = (first ≤ sent) × (before ≤ now) × GoesOn first now more
+GoesOn first before (call ∷ more) = GoesOn first before more
+
+-- the sum of all their times
+abbrev pub time_of : List Tally → ℕ
+time_of runs = sum_by (λ (run : Tally). sum run.times) runs
 
 -- ---- what is said of a statement
 
