@@ -35,10 +35,10 @@ pub use Rattle.pgp_trace.specs.declared.frame.Next.TheVariants.{Line, Waits, Sto
 pub use Rattle.pgp_conversation.specs.Conversation.{asks, noted_by, requests, Half, Known, Talk, ListsFrame, ListsFrames, NoLines, OneLine, first_time, now_at, side_in, with_numbers, ListsChunk, ListsChunks, NoChunkListed, OneChunkListed, at_first, begins, half_in, other, as_standby, note, noted_in, replicates_in, text_of, told_by, with_kind, with_side, with_types, last_lines, is_replicating, first_start, last_of, left, answer_to, called, counts, either, relined, waited}
 pub use Rattle.pgp_conversation.specs.Marks.{mark, since, word, marked, between, last_mark, later, member, members, says, width_of}
 unfoldable pub use Rattle.pgp_conversation.specs.Marks.{millis, number}
-pub use Rattle.pgp_conversation.specs.Pieces.{Follows, FollowsInPart, SumsRecording, ListsAllChunks, ListsPiece, ListsSome, Stays, Tracks, TracksTo, held_first, held_last}
+pub use Rattle.pgp_conversation.specs.Pieces.{Follows, SumsRecording, ListsAllChunks, ListsPiece, ListsSome, Stays, Tracks, TracksTo, held_first, held_last}
 pub use Rattle.pgp_conversation.specs.Recording.{Chunk, IsShort, status_of, arrow, magic, EndsBy, IsChunk, IsNoChunk, IsPartial, Records, chunk_bytes, beginning, complaint_of}
 pub use Rattle.pgp_conversation.specs.Requests.{asked_by, heard_as, kind_by, Numbers, at_time, role_by, told_in, role_in, asking, summary_in, unnumbered, first_numbers, placed, tell, notes_nothing}
-pub use Rattle.pgp_conversation.specs.Session.{HasLines, IsListing, Awaits, IsCutShort, IsReadTo, IsReady, WasListed, WritesListing, summarized}
+pub use Rattle.pgp_conversation.specs.Session.{CutsLines, CutsListing, HasLines, IsListing, Awaits, IsCutShort, IsReadTo, IsReady, WasListed, WritesListing, summarized}
 pub use Rattle.pgp_conversation.specs.Shelves.{formatted, formatted_from, is_binary}
 pub use Rattle.pgp_conversation.specs.Steps.{ListsBytes, ListsChunkTo, HeldHalf, HeldTalk, Holds, Keeps, ListsAllFrames, TakesChunk, ListsOneFrame, known_of, TakesPart, chunk_of, end_of, numbers_in, half_of, kept_of, KnowsNext}
 pub use Rattle.pgp_conversation.specs.Summing.{asking_from, asking_of, asking_in, summed, Asking, summed_so}

@@ -1,5 +1,5 @@
 -- The listing of a recording, a chunk and a piece at a time.
-use Rattle.pgp_conversation.proofs.Common.{◌≡◌, ◌≢◌, ◌⊎◌, ℕ, ◌+◌, ◌-◌, ◌≤◌, Bool, true, false, List, [], ◌∷◌, ◌++◌, length, drop, Option, Result, Ok, Err, refl, sym, ap, subst, ◌∙◌, arith, inl, inr, append_assoc, length-append, IfOk, OnErr, OnOk, Appends, Consumes, IsAtEnd, flat_map, AllByRecursion, Appends-nil, Appends-trans, Consumes-nil, Consumes-trans, Consumes-kept, append-nil, drop-drop, drop-append_seam, flat_map-cons, flat_map-append, Streams, AppendsFront, View, nothing_ends, none_taken, all_taken, more_taken, Client, Server, End, Marking, Known, NoChunkListed, OneChunkListed, Talk, at_first, begins, first_start, last_lines, last_of, left, told_by, Follows, FollowsInPart, ListsAllChunks, ListsPiece, ListsSome, Stays, Tracks, TracksTo, held_first, held_last, summary_in, unnumbered, ending_by, Chunk, EndsBy, IsChunk, IsPartial, Records, beginning, chunk_bytes, complaint_of, magic, Awaits, IsCutShort, HasLines, IsReadTo, IsReady, WasListed, WritesListing, ListsChunkTo, HeldTalk, Keeps, TakesChunk, TakesPart, chunk_of, end_of, hint_of}
+use Rattle.pgp_conversation.proofs.Common.{◌≡◌, ◌≢◌, ◌⊎◌, ℕ, ◌+◌, ◌-◌, ◌≤◌, Bool, true, false, List, [], ◌∷◌, ◌++◌, length, drop, Option, Result, Ok, Err, refl, sym, ap, subst, ◌∙◌, arith, inl, inr, append_assoc, length-append, IfOk, OnErr, OnOk, Appends, Consumes, IsAtEnd, flat_map, AllByRecursion, Appends-nil, Appends-trans, Consumes-nil, Consumes-trans, Consumes-kept, append-nil, drop-drop, drop-append_seam, flat_map-cons, flat_map-append, Streams, AppendsFront, View, nothing_ends, none_taken, all_taken, more_taken, Client, Server, End, Marking, Known, NoChunkListed, OneChunkListed, Talk, at_first, begins, first_start, last_lines, last_of, left, told_by, Follows, CutsLines, ListsAllChunks, ListsPiece, ListsSome, Stays, Tracks, TracksTo, held_first, held_last, summary_in, unnumbered, ending_by, Chunk, EndsBy, IsChunk, IsPartial, Records, beginning, chunk_bytes, complaint_of, magic, Awaits, IsCutShort, HasLines, IsReadTo, IsReady, WasListed, WritesListing, ListsChunkTo, HeldTalk, Keeps, TakesChunk, TakesPart, chunk_of, end_of, hint_of}
 use Rattle.std.specs.Io.KnownBytes.{Keeps as Same}
 use Rattle.pgp_conversation.specs.declared.chunk.Chunk as code
 use Rattle.pgp_conversation.specs.declared.chunk.Part.TheVariants as part
@@ -263,12 +263,12 @@ ready remaining contents Passed view marking reader now writer out opened held r
 
 -- listed in part
 
-pub part_here : (view : View) (marking : Marking) (before after : Streams) (opened : Bool) (held : HeldTalk) (rest : List ℕ) → Follows view marking before after opened false held rest → FollowsInPart view marking before after
+pub part_here : (view : View) (marking : Marking) (before after : Streams) (opened : Bool) (held : HeldTalk) (rest : List ℕ) → Follows view marking before after opened false held rest → CutsLines view marking before after
 part_here view marking before after opened held rest f =
     record { bytes = f.bytes; begun = opened; rest = rest; lines = f.lines; talk = f.tracks.talk; received = f.received; each = f.tracks.each; written = all_taken before.output after.output f.lines f.written }
 
 pub part_of_piece : (view : View) (marking : Marking) (before after : Streams) (opened : Bool) (held : HeldTalk) (rest piece : List ℕ) (next output : Option (List ℕ)) (f : Follows view marking before after opened false held rest) → Consumes after.input next piece
-    → ListsSome view marking (f.bytes ++ piece) f.lines after.output output → FollowsInPart view marking before (record { input = next; output = output })
+    → ListsSome view marking (f.bytes ++ piece) f.lines after.output output → CutsLines view marking before (record { input = next; output = output })
 part_of_piece view marking before after opened held rest piece next output f came some = record {
   bytes = f.bytes ++ piece;
   begun = some.begun;
@@ -280,12 +280,8 @@ part_of_piece view marking before after opened held rest piece next output f cam
   written = more_taken before.output after.output output f.lines some.added f.written some.written;
 }
 
-pub cut_inside : (view : View) (marking : Marking) (before after : Streams) → FollowsInPart view marking before after → IsCutShort view marking before after
-cut_inside view marking before after f =
-    record { bytes = f.bytes; begun = f.begun; rest = f.rest; lines = f.lines; talk = f.talk; text = f.lines; received = f.received; each = f.each; due = inl refl; written = f.written }
-
 pub cut_nothing : (view : View) (marking : Marking) (s : Streams) → IsCutShort view marking s s
-cut_nothing view marking s = cut_inside view marking s s (part_here view marking s s false (held_first marking) [] (follows_start view marking s false (held_first marking) [] refl refl refl))
+cut_nothing view marking s = inl (part_here view marking s s false (held_first marking) [] (follows_start view marking s false (held_first marking) [] refl refl refl))
 
 -- ---- the end
 
@@ -345,17 +341,14 @@ listing_written view marking before after opened stopped held rest client server
 
 -- or a front of them
 last_cut : (view : View) (marking : Marking) (before after : Streams) (opened stopped : Bool) (held : HeldTalk) (rest : List ℕ) (output : Option (List ℕ)) → Follows view marking before after opened stopped held rest
-    → IsReadTo (end_of opened stopped rest) rest after.input → AppendsFront after.output output (held_last view held) → IsCutShort view marking before (record { input = after.input; output = output })
+    → IsReadTo (end_of opened stopped rest) rest after.input → AppendsFront after.output output (held_last view held) → CutsListing view marking before (record { input = after.input; output = output })
 last_cut view marking before after opened stopped held rest output f all last = record {
   bytes = f.bytes;
-  begun = opened;
-  rest = rest;
-  lines = f.lines;
-  talk = f.tracks.talk;
-  text = f.lines ++ last_lines view f.tracks.talk;
+  end = end_of opened stopped rest;
+  output = f.lines ++ last_lines view f.tracks.talk;
   received = f.received;
-  each = f.tracks.each;
-  due = inr (record { end = end_of opened stopped rest; ending = ends_by opened stopped rest f.stays; all = all; is = refl });
+  is = record { begun = opened; rest = rest; lines = f.lines; talk = f.tracks.talk; each = f.tracks.each; ending = ends_by opened stopped rest f.stays; text = refl };
+  all = all;
   written = more_taken before.output after.output output f.lines (last_lines view f.tracks.talk) f.written (subst (AppendsFront after.output output) (last_is view held f.tracks.talk f.tracks.keeps) last);
 }
 
@@ -374,4 +367,4 @@ module _ {E : Type 0} where
   pub last_broken : (r : Result Said E) (view : View) (marking : Marking) (before after : Streams) (output : Option (List ℕ)) (opened stopped : Bool) (held : HeldTalk) (rest : List ℕ) → Follows view marking before after opened stopped held rest
       → IsReadTo (end_of opened stopped rest) rest after.input → OnErr r (AppendsFront after.output output (held_last view held)) → OnErr r (IsCutShort view marking before (record { input = after.input; output = output }))
   last_broken (Ok said) view marking before after output opened stopped held rest f all last = tt
-  last_broken (Err e) view marking before after output opened stopped held rest f all last = last_cut view marking before after opened stopped held rest output f all last
+  last_broken (Err e) view marking before after output opened stopped held rest f all last = inr (last_cut view marking before after opened stopped held rest output f all last)

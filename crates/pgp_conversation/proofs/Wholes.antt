@@ -1,5 +1,5 @@
 -- A recording in a file: what wasn't read of it changes nothing.
-use Rattle.pgp_conversation.proofs.Common.{◌≡◌, ◌≢◌, ◌≤◌, ◌++◌, ◌⊎◌, inl, inr, Bool, true, false, List, [], ◌∷◌, ℕ, length, take, drop, Option, None, Some, refl, sym, ap, subst, ◌∙◌, append-nil, append_assoc, take-append-drop, take-append-le, take-append_seam, Appends, AppendsFront, Consumes, IsAtEnd, View, Marking, End, Whole, Cut, NoChunk, NoRecording, Tally, Known, Streams, last_lines, magic, HeldTalk, EndsBy, HasLines, IsListing, IsCutShort, IsReadTo, WritesListing, summary_in, summarized, status_of, end_of, AddsFile, CutsFile, ListsFile, SumsRecording, Follows, FollowsInPart, file_after, file_before, tallies_in, tally_after}
+use Rattle.pgp_conversation.proofs.Common.{◌≡◌, ◌≢◌, ◌≤◌, ◌++◌, ◌⊎◌, inl, inr, Bool, true, false, List, [], ◌∷◌, ℕ, length, take, drop, Option, None, Some, refl, sym, ap, subst, ◌∙◌, append-nil, append_assoc, take-append-drop, take-append-le, take-append_seam, Appends, AppendsFront, Consumes, IsAtEnd, View, Marking, End, Whole, Cut, NoChunk, NoRecording, Tally, Known, Streams, last_lines, magic, HeldTalk, EndsBy, HasLines, IsListing, IsCutShort, IsReadTo, WritesListing, summary_in, summarized, status_of, end_of, AddsFile, CutsFile, ListsFile, SumsRecording, Follows, CutsLines, file_after, file_before, tallies_in, tally_after}
 use Rattle.std.specs.Io.KnownBytes.{Keeps}
 use Rattle.pgp_conversation.proofs.Sessions.{ends_by, lines_more}
 use Rattle.pgp_conversation.proofs.Summaries.{chunks_none}
@@ -84,24 +84,16 @@ module _ (Gives : List ℕ → List ℕ → Type 0) (view : View) (marking : Mar
       }
 
   pub file_cut : (old new : Option (List ℕ)) → IsCutShort view marking (record { input = before; output = old }) (record { input = after; output = new }) → CutsFile Gives view marking name old new
-  file_cut old new w =
+  file_cut old new (inl w) =
       let file = file_of before after w.bytes w.received in
       let all = w.bytes ++ file.more in
-      inr (all, gives all file.all, record {
-        bytes = all;
-        begun = w.begun;
-        rest = w.rest ++ file.more;
-        lines = w.lines;
-        talk = w.talk;
-        text = w.text;
-        received = came all;
-        each = lines_more view marking w.bytes file.more w.begun w.rest w.lines w.talk w.each;
-        due = elim w.due [
-          | inl e ↦ inl e
-          | inr d ↦ inr (record { end = d.end; ending = ends_more w.begun w.rest file.more after d.end d.ending d.all file.none; all = all_read d.end (w.rest ++ file.more); is = d.is })
-        ];
-        written = w.written;
-      })
+      let each = lines_more view marking w.bytes file.more w.begun w.rest w.lines w.talk w.each in
+      inr (all, gives all file.all, inl (record { bytes = all; begun = w.begun; rest = w.rest ++ file.more; lines = w.lines; talk = w.talk; received = came all; each = each; written = w.written }))
+  file_cut old new (inr w) =
+      let file = file_of before after w.bytes w.received in
+      let all = w.bytes ++ file.more in
+      let is = listing_more view marking w.bytes file.more after w.end w.output w.is w.all file.none in
+      inr (all, gives all file.all, inr (record { bytes = all; end = w.end; output = w.output; received = came all; is = is; all = all_read w.end (w.is.rest ++ file.more); written = w.written }))
 
   pub file_added : (end : End) (old new : List Tally) → SumsRecording view marking before after end old new → AddsFile Gives view marking name end old new
   file_added end old new s =
@@ -142,6 +134,6 @@ front_of_nothing lines (x ∷ xs) none e = sym e ∙ ap (take (length (x ∷ xs)
 pub sum_kept : (view : View) (marking : Marking) (before after : Streams) (opened stopped : Bool) (held : HeldTalk) (rest : List ℕ) → Follows (summarized true view) marking before after opened stopped held rest → Keeps before.output after.output
 sum_kept view marking before after opened stopped held rest f = nothing_written before.output after.output f.lines (chunks_none view _ f.tracks.each.chunks f.lines f.tracks.talk f.tracks.each.each) f.written
 
-pub part_kept : (view : View) (marking : Marking) (before after : Streams) → FollowsInPart (summarized true view) marking before after → Keeps before.output after.output
+pub part_kept : (view : View) (marking : Marking) (before after : Streams) → CutsLines (summarized true view) marking before after → Keeps before.output after.output
 part_kept view marking before after f =
     nothing_written before.output after.output f.written.taken (front_of_nothing f.lines f.written.taken (chunks_none view _ f.each.chunks f.lines f.talk f.each.each) f.written.is_front) f.written.written

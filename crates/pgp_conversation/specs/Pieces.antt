@@ -58,17 +58,6 @@ pub record Follows (view : View) (marking : Marking) (before after : Streams) (b
   pub stays : Stays begun stopped rest
   pub written : Appends before.output after.output lines
 
--- Of the chunks that came some were, and of the last line a front alone.
-pub record FollowsInPart (view : View) (marking : Marking) (before after : Streams) : Type 0 where
-  pub bytes : List ℕ
-  pub begun : Bool
-  pub rest : List ℕ
-  pub lines : List ℕ
-  pub talk : Talk
-  pub received : Consumes before.input after.input bytes
-  pub each : HasLines view marking bytes begun rest lines talk
-  pub written : AppendsFront before.output after.output lines
-
 -- A recording was read to its end, and of its requests what they ran was added to a table.
 pub record SumsRecording (view : View) (marking : Marking) (before after : Option (List ℕ)) (end : End) (old new : List Tally) : Type 0 where
   pub bytes : List ℕ

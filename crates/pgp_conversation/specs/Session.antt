@@ -63,25 +63,29 @@ pub record WasListed (view : View) (marking : Marking) (before after : Streams) 
   pub waits : Awaits begun rest
   pub written : Appends before.output after.output lines
 
--- the last lines are due
-pub record EndsWith (view : View) (begun : Bool) (rest lines : List ℕ) (talk : Talk) (input : Option (List ℕ)) (text : List ℕ) : Type 0 where
-  pub end : End
-  pub ending : EndsBy begun rest end
-  pub all : IsReadTo end rest input
-  pub is : text ≡ lines ++ last_lines view talk
-
--- A front of the lines of what came was written, and of the last ones where they are due.
-pub record IsCutShort (view : View) (marking : Marking) (before after : Streams) : Type 0 where
+-- A front of the lines of what came was written.
+pub record CutsLines (view : View) (marking : Marking) (before after : Streams) : Type 0 where
   pub bytes : List ℕ
   pub begun : Bool
   pub rest : List ℕ
   pub lines : List ℕ
   pub talk : Talk
-  pub text : List ℕ
   pub received : Consumes before.input after.input bytes
   pub each : HasLines view marking bytes begun rest lines talk
-  pub due : (text ≡ lines) ⊎ EndsWith view begun rest lines talk after.input text
-  pub written : AppendsFront before.output after.output text
+  pub written : AppendsFront before.output after.output lines
+
+-- The recording was read to its end, and a front of its listing was written.
+pub record CutsListing (view : View) (marking : Marking) (before after : Streams) : Type 0 where
+  pub bytes : List ℕ
+  pub end : End
+  pub output : List ℕ
+  pub received : Consumes before.input after.input bytes
+  pub is : IsListing view marking bytes end output
+  pub all : IsReadTo end is.rest after.input
+  pub written : AppendsFront before.output after.output output
+
+abbrev pub IsCutShort : View → Marking → Streams → Streams → Type 0
+IsCutShort view marking before after = CutsLines view marking before after ⊎ CutsListing view marking before after
 
 -- A front of the listing was written; and where a read failed, nothing of what came is held back: its lines were written and passed on.
 abbrev pub BreaksOff : Type 0 → View → (marking : Marking) → Fault → Streams → Streams → Type 0

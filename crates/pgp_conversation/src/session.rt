@@ -5,9 +5,9 @@ ghost use Rattle.pgp_conversation.specs.Common.{Appends, Keeps, GivesUp, Caused,
 ghost use Rattle.pgp_trace.specs.Steps.{view_of};
 ghost use Rattle.pgp_trace.specs.declared.marking.Marking.{Marking as Marks};
 ghost use Rattle.pgp_conversation.specs.Conversation.{first_start};
-ghost use Rattle.pgp_conversation.specs.Pieces.{Follows, FollowsInPart, ListsAllChunks, ListsPiece, ListsSome, SumsRecording, Tracks, held_first, held_last, held_nothing};
+ghost use Rattle.pgp_conversation.specs.Pieces.{Follows, ListsAllChunks, ListsPiece, ListsSome, SumsRecording, Tracks, held_first, held_last, held_nothing};
 ghost use Rattle.pgp_conversation.specs.Recording.{complaint_of};
-ghost use Rattle.pgp_conversation.specs.Session.{IsCutShort, IsReadTo, ReadsWhenReady, WasListed, WritesListing, summarized};
+ghost use Rattle.pgp_conversation.specs.Session.{CutsLines, IsCutShort, IsReadTo, ReadsWhenReady, WasListed, WritesListing, summarized};
 ghost use Rattle.pgp_conversation.specs.Several.{tallies_in};
 ghost use Rattle.pgp_conversation.specs.Steps.{end_of, half_of, kept_of};
 ghost use Rattle.pgp_summary.specs.Runs.{tally_after};
@@ -215,7 +215,7 @@ fn list_pieces<A: MapMemory, R: Input, W: Output>(
     ensures all { IfOk result (λ stopped. IsReadTo (end_of held.new.begun stopped held.new.bytes.items) held.new.bytes.items (R.remaining input.new)) }
     ensures live { IfErr result (λ fault. fault ≡ Fault.Read → WasListed (view_of view.entry) marking (streams (R.remaining input.old) (W.contents output.old)) (streams (R.remaining input.new) (W.contents output.new))) }
     ensures passed { IfErr result (λ fault. fault ≡ Fault.Read → Keeps (W.contents output.old) (W.contents output.new) ⊎ W.Passed output.new) }
-    ensures cut { OnErr result (FollowsInPart (view_of view.entry) marking (streams (R.remaining input.old) (W.contents output.old)) (streams (R.remaining input.new) (W.contents output.new))) }
+    ensures cut { OnErr result (CutsLines (view_of view.entry) marking (streams (R.remaining input.old) (W.contents output.old)) (streams (R.remaining input.new) (W.contents output.new))) }
     ensures cause { IfErr result (Caused A.Lacks (GivesUp R.Fails R.Called) (GivesUp W.Fails W.Interrupted)) }
 {
     held.talk.start = first_start(marking.absolute);

@@ -1,9 +1,6 @@
 -- The times of runs don't overlap.
-use Rattle.pgp_summary.proofs.Common.{ℕ, ◌+◌, ◌≤◌, List, [], ◌∷◌, ◌++◌, Option, Some, None, arith, Tally, Request, State, did, done, skipped, taken, with_waiting, Work, Parse, Bind}
-use Rattle.std.proofs.lemmas.List.Sums.{sum_by-append}
-use Rattle.std.specs.Prelude.{max}
+use Rattle.pgp_summary.proofs.Common.{ℕ, ◌+◌, ◌≤◌, List, [], ◌∷◌, ◌++◌, Option, Some, None, arith, Tally, Request, State, did, done, skipped, taken, with_waiting, Work, Parse, Bind, ended, error_of, failed, first_of, sum_by-append, max}
 use Rattle.pgp_summary.specs.Calls.{Call, End, Fail, GoesOn, after, called, run_by, run_of, runs_in, time_of}
-use Rattle.pgp_summary.specs.Summary.{ended, error_of, failed, first_of}
 
 -- the times of these runs fit between the last ends of two states, and the second is no later than now
 abbrev Fit : (first now : ℕ) → List Tally → (s t : State) → Type 0

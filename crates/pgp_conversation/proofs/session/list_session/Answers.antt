@@ -1,5 +1,5 @@
-use Rattle.pgp_conversation.proofs.Common.{Streams, on_err, view_of, kept_of}
-use Rattle.pgp_conversation.proofs.Sessions.{cut_inside, cut_nothing, last_broken, last_listed}
+use Rattle.pgp_conversation.proofs.Common.{inl, on_err, view_of, kept_of}
+use Rattle.pgp_conversation.proofs.Sessions.{cut_nothing, last_broken, last_listed}
 use Rattle.pgp_conversation.proofs.session.list_session.Goals as goal
 
 pub returns-in_err-piece-clause-cut : goal.returns-in_err-piece-clause-cut
@@ -7,8 +7,7 @@ returns-in_err-piece-clause-cut g c = on_err c.from_residual.result _ (cut_nothi
 
 pub returns-in_err-stopped-clause-cut : goal.returns-in_err-stopped-clause-cut
 returns-in_err-stopped-clause-cut g c =
-    on_err c.from_residual-in_err-stopped.result _ (cut_inside (view_of c.args.view) c.args.marking (record { input = g.R.Read.remaining c.args.input.now; output = g.W.Write.contents c.args.output.now })
-    (record { input = g.R.Read.remaining c.list_pieces.new.input; output = g.W.Write.contents c.list_pieces.new.output }) c.in_err-stopped.ensures.cut)
+    on_err c.from_residual-in_err-stopped.result _ (inl c.in_err-stopped.ensures.cut)
 
 pub returns-clause-listed : goal.returns-clause-listed
 returns-clause-listed g c =
