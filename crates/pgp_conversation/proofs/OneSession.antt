@@ -1,5 +1,5 @@
 -- A recording has one listing.
-use Rattle.pgp_conversation.proofs.Common.{◌≡◌, ◌≢◌, ℕ, suc, ◌+◌, ◌<◌, ◌^◌, Bool, true, false, List, [], ◌∷◌, ◌++◌, length, take, drop, get_or, Option, refl, sym, ap, subst, ◌∙◌, arith, inl, inr, length-append, append_assoc, flat_map, AllByRecursion, append-nil, flat_map-cons, drop-append_seam, take-append_seam, w32, w64, from_be_bytes, uint32, uint64, oid_number, uint64_number, name_in, Ends, View, Sender, Client, Server, End, Half, ListsChunks, NoChunkListed, OneChunkListed, ListsChunk, Known, Talk, ListsFrame, begins, half_in, last_lines, note, noted_by, noted_in, now_at, other, side_in, text_of, told_by, with_numbers, with_side, with_types, Marking, Told, mark, since, word, Numbers, role_by, role_in, told_in, asking_from, asking_in, summed, first_time, Chunk, EndsBy, IsChunk, IsNoChunk, IsPartial, IsShort, Records, arrow, chunk_bytes, magic, HasLines, IsListing, Learns, ShowsTyped, said_in, SameFirst, rows_one, ends_one, line_one, no_line}
+use Rattle.pgp_conversation.proofs.Common.{◌≡◌, ◌≢◌, ℕ, suc, ◌+◌, ◌<◌, ◌^◌, Bool, true, false, List, [], ◌∷◌, ◌++◌, length, take, drop, get_or, Option, refl, sym, ap, subst, ◌∙◌, arith, inl, inr, length-append, append_assoc, flat_map, AllByRecursion, append-nil, flat_map-cons, drop-append_seam, take-append_seam, w32, w64, from_be_bytes, uint32, uint64, oid_number, uint64_number, name_in, Ends, View, Sender, Client, Server, End, Half, ListsChunks, NoChunkListed, OneChunkListed, ListsChunk, Known, Talk, ListsFrame, begins, half_in, last_lines, note, noted_by, noted_in, now_at, other, side_in, text_of, told_by, with_numbers, with_side, with_types, Marking, Told, mark, since, Numbers, role_by, role_in, told_in, asking_from, asking_in, summed, first_time, Chunk, EndsBy, IsChunk, IsNoChunk, IsPartial, IsShort, Records, arrow, chunk_bytes, magic, HasLines, IsListing, Learns, ShowsTyped, said_in, SameFirst, rows_one, ends_one, line_one, no_line}
 use Rattle.pgp_conversation.specs.declared.ending.End.TheVariants.{Whole, Cut, NoChunk, NoRecording}
 use Rattle.pgp_conversation.proofs.OneTyped.{OneText, learns_one, shows_one}
 use Rattle.pgp_conversation.proofs.Sayings.{said_one}

@@ -1,5 +1,5 @@
 -- What a frame is read as, and what holds of that.
-use Rattle.pgp_conversation.proofs.Common.{◌≡◌, ◌≢◌, ℕ, ◌==◌, Bool, true, false, not, get_or, List, [], length, Option, Some, None, Result, Ok, Err, refl, sym, ap, subst, ◌∙◌, arith, IfOk, append-nil, Error, Message, Body, Frame, IsEnding, IsFrame, Step, TakesFrame, frame_bytes, one_body, front_is_one, length-frame, no_ending, ClientMessage, step_of, ClientError, step_one, Style, IsFrameOf, Client, Server, Noted, Told, noted_by, Numbers, role_by, asking_from, summed, Heard, Learns, Said, Sent, ShowsTyped, Unsaid, Passes, Reads, ReadsSo, Tells, lost, Types, Authentication, Nothing, asks, one_read, notes_nothing}
+use Rattle.pgp_conversation.proofs.Common.{◌≡◌, ◌≢◌, ℕ, ◌==◌, Bool, true, false, not, get_or, List, [], length, Option, Some, None, Result, Ok, Err, refl, sym, ap, subst, ◌∙◌, arith, IfOk, append-nil, Error, Message, IsEnding, Step, TakesFrame, frame_bytes, front_is_one, length-frame, no_ending, ClientMessage, step_of, ClientError, step_one, Style, IsFrameOf, Client, Server, Noted, Told, noted_by, Numbers, role_by, asking_from, summed, Heard, Learns, Said, Sent, ShowsTyped, Unsaid, Passes, Reads, ReadsSo, Tells, lost, Types, Authentication, Nothing, asks, one_read, notes_nothing}
 use Rattle.pgp_message.specs.BackendMessage.{tag_of}
 use Rattle.pgp_base.specs.declared.error.Error.TheVariants as errors
 use Rattle.pgp_frontend.specs.ClientMessage.{PasswordKind}

@@ -1,5 +1,5 @@
 -- Values of a row and columns of a description, one at a time.
-use Rattle.pgp_conversation.proofs.Common.{◌≡◌, ℕ, ℤ, List, [], ◌∷◌, ◌++◌, drop, length, Option, Some, None, Result, Ok, Err, refl, sym, ap, subst, ◌∙◌, append_assoc, OnOk, codes, map, option_map, Range, append-nil, Walk, TakesItem, IsFinished, IsRefused, Error, FieldPart, CountedBytes, HasPlaces, value_at, ListEnds, closing, followed, Style, counted, signed_part, ending, refused, IsBindLine, IsRowLine, ShowsValues, bind_front, column_first, columns_from, names_from, names_parts, parameter, parameters_in, row_front, AddsValue, AddsValues, Bool, suc, Column, with_field}
+use Rattle.pgp_conversation.proofs.Common.{◌≡◌, ℕ, ℤ, List, [], ◌∷◌, ◌++◌, drop, length, Option, Some, None, refl, sym, ap, subst, ◌∙◌, append_assoc, codes, map, option_map, Range, append-nil, Walk, TakesItem, IsFinished, IsRefused, Error, FieldPart, CountedBytes, HasPlaces, value_at, ListEnds, closing, followed, Style, counted, signed_part, ending, refused, IsBindLine, IsRowLine, ShowsValues, bind_front, column_first, columns_from, names_from, names_parts, parameter, parameters_in, row_front, AddsValue, AddsValues, Bool, suc, Column, with_field}
 use Rattle.pgp_conversation.specs.Shelves.{Columns}
 
 -- ---- values

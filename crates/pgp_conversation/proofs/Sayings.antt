@@ -1,5 +1,5 @@
 -- What a frame that has a line is read as.
-use Rattle.pgp_conversation.proofs.Common.{◌≡◌, ℕ, Bool, true, false, List, [], length, Option, Some, Result, Ok, Err, inl, inr, refl, sym, ap, subst, ClientMessage, Response, step_of, ClientError, step_one, Style, IsServerLine, LineOf, Side, expected, IsFrameOf, Beginning, Messages, Replicating, Encrypted, Sender, Client, Server, is_replicating, side_in, known_of, Heard, Said, Sent, Unsaid, said_in, ReadsSo, same_result}
+use Rattle.pgp_conversation.proofs.Common.{◌≡◌, ℕ, Bool, true, false, List, [], length, inl, inr, refl, sym, ap, subst, Response, step_of, step_one, Style, IsServerLine, LineOf, Side, expected, IsFrameOf, Beginning, Messages, Replicating, Encrypted, Sender, Client, Server, is_replicating, side_in, known_of, Heard, Said, Sent, Unsaid, said_in, ReadsSo, same_result}
 use Rattle.pgp_frontend.specs.ClientMessage.{PasswordKind}
 use Rattle.pgp_frontend_read.specs.Step as client
 use Rattle.pgp_frontend_read.specs.declared.message.PasswordKind as code

@@ -1,5 +1,5 @@
 -- Frames that differ in their secrets alone have the same text.
-use Rattle.pgp_conversation.proofs.Common.{◌≡◌, ℕ, Bool, true, false, List, [], ◌∷◌, ◌++◌, length, get_or, Result, sym, ap, subst, ◌∙◌, inl, inr, arith, append-nil, Error, Body, Message, Frame, IsFrame, frame_bytes, front_is_one, one_body, length-frame, PasswordKind, Style, ReadsAs, IsServerLine, LineOf, name_in, server_name, AlikeFrames, AlikeResults, quiet, quietly, Side, answered, is_reported, replicates_behind, server_at, Beginning, Messages, Replicating, Encrypted, View, Sender, Known, ListsFrame, note, noted_in, side_in, text_of, told_by, with_numbers, with_side, with_types, asking, role_in, told_in, asking_in, summed, word, ShowsTyped, said_in}
+use Rattle.pgp_conversation.proofs.Common.{◌≡◌, ℕ, Bool, true, false, List, [], ◌∷◌, ◌++◌, length, get_or, Result, sym, ap, subst, ◌∙◌, inl, inr, arith, append-nil, Error, Body, Message, Frame, IsFrame, frame_bytes, front_is_one, one_body, length-frame, PasswordKind, Style, ReadsAs, IsServerLine, LineOf, name_in, server_name, AlikeFrames, AlikeResults, quiet, quietly, Side, answered, is_reported, replicates_behind, server_at, Beginning, Messages, Replicating, Encrypted, View, Sender, Known, ListsFrame, note, noted_in, side_in, text_of, told_by, with_numbers, with_side, with_types, asking, role_in, told_in, asking_in, summed, ShowsTyped, said_in}
 use Rattle.pgp_trace.specs.Sides.{Server, Client}
 use Rattle.pgp_trace.proofs.ClientStreams as sent
 use Rattle.pgp_trace.proofs.Streams.{line_hidden}

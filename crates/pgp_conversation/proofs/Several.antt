@@ -1,5 +1,5 @@
 -- Words that name two files or more.
-use Rattle.pgp_conversation.proofs.Common.{◌≡◌, ◌≤◌, ◌++◌, ℕ, List, [], ◌∷◌, length, Option, Result, Ok, Err, IfOk, OnErr, arith, subst, Keeps-refl, Streams, View, Marking, CutsTable, ListsTable, IfErr}
+use Rattle.pgp_conversation.proofs.Common.{◌≤◌, ◌++◌, ℕ, List, [], ◌∷◌, length, Option, Result, Ok, Err, IfOk, OnErr, arith, Keeps-refl, View, Marking, CutsTable, ListsTable, IfErr}
 use Rattle.pgp_line.specs.declared.fault.Fault.{Fault}
 use Rattle.pgp_conversation.specs.Command.{DoesSession, StopsSession}
 use Rattle.pgp_conversation.specs.declared.outcome.Ended.{Ended}

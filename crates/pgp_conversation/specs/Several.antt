@@ -1,6 +1,6 @@
 -- Recordings in files: one that is listed, and several whose statements stand in one table.
 use Rattle.std.specs.Prelude.{◌≡◌, ◌⊎◌, ℕ, List, [], ◌∷◌, ◌++◌, Option, Some, None, true}
-use Rattle.pgp_conversation.specs.Common.{Appends, AppendsFront, Keeps, Streams, View, Marking, End, Whole, Cut, NoChunk, NoRecording, State, Tally}
+use Rattle.pgp_conversation.specs.Common.{Appends, AppendsFront, Keeps, Streams, View, Marking, End, Whole, NoChunk, NoRecording, State, Tally}
 use Rattle.pgp_summary.specs.Runs.{tally_after}
 use Rattle.pgp_conversation.specs.Recording.{complaint_of, status_of}
 use Rattle.pgp_conversation.specs.Requests.{summary_in}

@@ -1,4 +1,4 @@
-use Rattle.pgp_conversation.proofs.Common.{true, false, ◌++◌, take, arith, rules, refl, subst, inl, inr, Consumes, Consumes-trans, Appends-trans, Keeps-refl, on_err, Streams, view_of, ListsPiece, Stays, kept_of, called_more}
+use Rattle.pgp_conversation.proofs.Common.{true, false, ◌++◌, take, arith, rules, refl, subst, inl, inr, Consumes, Keeps-refl, on_err, Streams, view_of, ListsPiece, Stays, kept_of, called_more}
 use Rattle.pgp_conversation.proofs.Sessions.{first_held, follows_end, follows_piece, follows_same, follows_start, part_here, part_of_piece, read_all, read_rest, ready, was_listed}
 use Rattle.pgp_conversation.proofs.session.list_pieces.Goals as goal
 use Rattle.pgp_conversation.proofs.session.list_pieces.Goals.{in-Ok+in_ok-list_piece-in-Ok+else-branch, in-Err+in-Interrupted}
