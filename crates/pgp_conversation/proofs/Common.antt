@@ -1,6 +1,6 @@
 -- The names of other crates and of this one's specs that several proofs cite, passed on from one place. Declares nothing.
 pub use Rattle.std.proofs.Common.{◌≡◌, ℕ, ℤ, List, get_or, Result, Ok, Err, Some, refl, ap, ◌∙◌, ◌+◌, ◌≤◌, Bool, true, false, [], ◌++◌, length, take, drop, min, Option, sym, subst, arith, length-append, ◌≢◌, ◌<◌, ◌^◌, ◌∷◌, append_assoc, suc, ◌-◌, inl, inr, None, ◌⊎◌, zero, rules}
-pub use Rattle.std.proofs.KnownBytes.{Appends-trans, Appends-nil, Consumes-nil, Consumes-trans, Consumes-kept, Keeps-refl}
+pub use Rattle.std.proofs.KnownBytes.{Appends-trans, Appends-nil, Consumes-nil, Consumes-trans, Consumes-kept, Keeps-refl, Keeps-trans}
 pub use Rattle.std.proofs.Math.Seq.{take-append_seam, drop-append_seam}
 pub use Rattle.std.proofs.lemmas.Bool.{lt-ltb, le-ltb, eqb-true, and_parts}
 pub use Rattle.std.proofs.lemmas.Grind.{flat_map-append}
@@ -24,7 +24,7 @@ pub use Rattle.pgp_message.specs.Items.{FieldSpelled, FieldRefused, RangeSpelled
 pub use Rattle.pgp_message.specs.Parts.{KeyData, CountedBytes}
 pub use Rattle.pgp_message.specs.Stream.{Frame, IsEnding, IsFrame, Step, TakesFrame, frame_bytes}
 pub use Rattle.pgp_trace.proofs.Ends.{stays_ended, nothing_ends}
-pub use Rattle.pgp_trace.proofs.Fronts.{more_taken, none_taken, all_taken}
+pub use Rattle.pgp_trace.proofs.Fronts.{more_taken, none_taken, all_taken, kept_nothing}
 pub use Rattle.pgp_trace.proofs.Printable.{blank, plain, plain_join, plain_number, join, line_printable, cut, json_val, quote, closing_printable, opening_printable, parts_printable}
 pub use Rattle.pgp_trace.proofs.Traces.{ok_then, called_more}
 pub use Rattle.pgp_trace.specs.Client.{counted, signed_part, client_name}
@@ -48,7 +48,7 @@ pub use Rattle.pgp_conversation.specs.TypedLines.{Reads, Passes, ReadsSo, ShowsR
 pub use Rattle.pgp_conversation.specs.Types.{Types, Awaited, described, first, reached, rows_of, tells}
 pub use Rattle.pgp_conversation.specs.TypesKept.{queue_of, types_of, types_in}
 pub use Rattle.pgp_conversation.specs.declared.expectation.Noted.TheVariants.{Asks, Requests, Answers, Nothing}
-pub use Rattle.pgp_conversation.specs.Several.{AddsRecording, file_after, file_before, tallies_in, CutsFile, CutsTable, ListsFile, ListsTable, AddsFile, AddsFiles, OneFile, NoFile}
+pub use Rattle.pgp_conversation.specs.Several.{AddsRecording, file_after, file_before, tallies_in, CutsFile, CutsTable, ListsFile, ListsRecording, ListsTable, AddsFiles, OneFile, NoFile}
 pub use Rattle.pgp_trace.proofs.Rows.{RowsTo, one_listed, counted_on, SameFirst, rows_one, nothing_yet}
 pub use Rattle.pgp_trace.proofs.OneListing.{same_result, one_read, ends_one, line_one, no_line}
 pub use Rattle.pgp_conversation.specs.declared.placement.Told.TheVariants.{Uncounted}

@@ -1,6 +1,9 @@
 -- A recording in a file: what wasn't read of it changes nothing.
-use Rattle.pgp_conversation.proofs.Common.{◌≡◌, ◌≢◌, ◌≤◌, ◌++◌, ◌⊎◌, inl, inr, Bool, true, false, List, [], ◌∷◌, ℕ, length, take, drop, Option, None, Some, refl, sym, ap, subst, ◌∙◌, append-nil, append_assoc, take-append-drop, take-append-le, take-append_seam, Appends, AppendsFront, Consumes, IsAtEnd, View, Marking, End, Whole, Cut, NoChunk, NoRecording, Tally, Known, Streams, last_lines, magic, HeldTalk, EndsBy, HasLines, IsListing, IsCutShort, IsReadTo, WritesListing, summary_in, summarized, status_of, end_of, AddsFile, CutsFile, ListsFile, SumsRecording, Follows, CutsLines, file_after, file_before, tallies_in, tally_after}
+use Rattle.pgp_conversation.proofs.Common.{Result, Ok, Err, IfOk, IfErr, OnErr, ◌≡◌, ◌≢◌, ◌≤◌, ◌++◌, inl, inr, Bool, true, false, List, [], ◌∷◌, ℕ, length, take, drop, Option, None, Some, refl, sym, ap, subst, ◌∙◌, append-nil, take-append-drop, take-append-le, take-append_seam, Appends, Consumes, IsAtEnd, View, Marking, End, Whole, Cut, NoChunk, NoRecording, Tally, Known, Streams, last_lines, magic, HeldTalk, EndsBy, HasLines, IsListing, IsCutShort, IsReadTo, summary_in, summarized, end_of, AddsFiles, OneFile, CutsFile, ListsFile, ListsRecording, SumsRecording, Follows, CutsLines, Talk, begins, tallies_in, tally_after}
 use Rattle.std.specs.Io.KnownBytes.{Keeps}
+use Rattle.pgp_conversation.specs.Common.{Caused, Fault, Memory, Read, Write}
+use Rattle.pgp_conversation.specs.Several.{worst}
+use Rattle.pgp_conversation.specs.declared.outcome.Ended.{Ended}
 use Rattle.pgp_conversation.proofs.Sessions.{ends_by, lines_more}
 use Rattle.pgp_conversation.proofs.Summaries.{chunks_none}
 
@@ -60,67 +63,72 @@ listing_more view marking bytes more input end output l read none = record {
 }
 
 module _ (Gives : List ℕ → List ℕ → Type 0) (view : View) (marking : Marking) (name : List ℕ) (before after : Option (List ℕ)) (gives : (bytes : List ℕ) → Consumes before (Some []) bytes → Gives name bytes) where
-  pub file_listed : (old new : Option (List ℕ)) (end : End) (said text : List ℕ) (status : ℕ) → WritesListing view marking (record { input = before; output = old }) (record { input = after; output = new }) end said → status ≡ status_of end → text ≡ said
-      → ListsFile Gives view marking name old new status text
-  file_listed old new end said text status w fine same =
+  listed : (old new : Option (List ℕ)) (status : ℕ) (said : List ℕ) → ListsRecording view marking (record { input = before; output = old }) (record { input = after; output = new }) status said → ListsFile Gives view marking name old new status said
+  unfolding listing_more
+  listed old new status said r =
+      let w = r.listed in
       let file = file_of before after w.bytes w.received in
       let all = w.bytes ++ file.more in
       record {
         bytes = all;
         gives = gives all file.all;
         lists = record {
-          end = end;
+          end = r.end;
           listed = record {
             bytes = all;
             output = w.output;
             received = came all;
-            is = listing_more view marking w.bytes file.more after end w.output w.is w.all file.none;
-            all = all_read end (w.is.rest ++ file.more);
+            is = listing_more view marking w.bytes file.more after r.end w.output w.is w.all file.none;
+            all = all_read r.end (w.is.rest ++ file.more);
             written = w.written;
-            why = same ∙ w.why;
+            why = w.why;
           };
-          fine = fine;
+          fine = r.fine;
         };
       }
 
-  pub file_cut : (old new : Option (List ℕ)) → IsCutShort view marking (record { input = before; output = old }) (record { input = after; output = new }) → CutsFile Gives view marking name old new
-  file_cut old new (inl w) =
+  pub file_listed : (r : Result Ended Fault) (old new : Option (List ℕ)) → IfOk r (λ ended. ListsRecording view marking (record { input = before; output = old }) (record { input = after; output = new }) ended.status (ended.first.now ++ ended.second.now ++ ended.third.now))
+      → IfOk r (λ ended. ListsFile Gives view marking name old new ended.status (ended.first.now ++ ended.second.now ++ ended.third.now))
+  file_listed (Ok ended) old new lists = listed old new ended.status (ended.first.now ++ ended.second.now ++ ended.third.now) lists
+  file_listed (Err fault) old new lists = tt
+
+  cut : (old new : Option (List ℕ)) → IsCutShort view marking (record { input = before; output = old }) (record { input = after; output = new }) → CutsFile Gives view marking name old new
+  unfolding listing_more
+  cut old new (inl w) =
       let file = file_of before after w.bytes w.received in
       let all = w.bytes ++ file.more in
       let each = lines_more view marking w.bytes file.more w.begun w.rest w.lines w.talk w.each in
       inr (all, gives all file.all, inl (record { bytes = all; begun = w.begun; rest = w.rest ++ file.more; lines = w.lines; talk = w.talk; received = came all; each = each; written = w.written }))
-  file_cut old new (inr w) =
+  cut old new (inr w) =
       let file = file_of before after w.bytes w.received in
       let all = w.bytes ++ file.more in
       let is = listing_more view marking w.bytes file.more after w.end w.output w.is w.all file.none in
       inr (all, gives all file.all, inr (record { bytes = all; end = w.end; output = w.output; received = came all; is = is; all = all_read w.end (w.is.rest ++ file.more); written = w.written }))
 
-  pub file_added : (end : End) (old new : List Tally) → SumsRecording view marking before after end old new → AddsFile Gives view marking name end old new
-  file_added end old new s =
+  pub file_cut : (r : Result Ended Fault) (old new : Option (List ℕ)) → OnErr r (IsCutShort view marking (record { input = before; output = old }) (record { input = after; output = new })) → OnErr r (CutsFile Gives view marking name old new)
+  file_cut (Ok ended) old new w = tt
+  file_cut (Err fault) old new w = cut old new w
+
+  pub file_added : (r : Result End Fault) (old new : List Tally) → IfOk r (λ end. SumsRecording view marking before after end old new)
+      → IfOk r (λ its. (names : List (List ℕ)) (end : End) → AddsFiles Gives view marking names old end → AddsFiles Gives view marking (names ++ name ∷ []) new (worst end its))
+  unfolding listing_more
+  file_added (Err fault) old new s = tt
+  file_added (Ok its) old new s = λ names end so_far.
       let file = file_of before after s.bytes s.received in
       let all = s.bytes ++ file.more in
-      record {
-        bytes = all;
-        gives = gives all file.all;
-        adds = record { output = s.adds.output; listing = listing_more (summarized true view) marking s.bytes file.more after end s.adds.output s.adds.listing s.all file.none; added = s.adds.added };
-      }
+      let listing = listing_more (summarized true view) marking s.bytes file.more after its s.adds.output s.adds.listing s.all file.none in
+      OneFile name all so_far (gives all file.all) (record { output = s.adds.output; listing = listing; added = s.adds.added })
 
--- ---- what its requests ran
+-- reading it fails as reading of the reader does
+so : (lacks fails others writes : Type 0) (fault : Fault) → (fails → others) → Caused lacks fails writes fault → Caused lacks others writes fault
+so lacks fails others writes Memory f (inl l) = inl l
+so lacks fails others writes Memory f (inr x) = inr (f x)
+so lacks fails others writes Read f x = f x
+so lacks fails others writes Write f x = x
 
-pub sum_added : (view : View) (marking : Marking) (before after : Streams) (opened stopped : Bool) (held : HeldTalk) (rest : List ℕ) (end : End) (old new : List Tally) → Follows (summarized true view) marking before after opened stopped held rest
-    → IsReadTo (end_of opened stopped rest) rest after.input → end ≡ end_of opened stopped rest → new ≡ tally_after old (tallies_in (summary_in held.known.numbers)) → SumsRecording view marking before.input after.input end old new
-sum_added view marking before after opened stopped held rest end old new f all ended added =
-    let talk = f.tracks.talk in
-    record {
-      bytes = f.bytes;
-      received = f.received;
-      adds = record {
-        output = f.lines ++ last_lines (summarized true view) talk;
-        listing = record { begun = opened; rest = rest; lines = f.lines; talk = talk; each = f.tracks.each; ending = subst (EndsBy opened rest) (sym ended) (ends_by opened stopped rest f.stays); text = refl };
-        added = added ∙ ap (λ (known : Known). tally_after old (tallies_in (summary_in known.numbers))) f.tracks.keeps.known;
-      };
-      all = subst (λ e. IsReadTo e rest after.input) (sym ended) all;
-    }
+pub caused_so : {X : Type 0} (r : Result X Fault) (lacks fails others writes : Type 0) → (fails → others) → IfErr r (Caused lacks fails writes) → IfErr r (Caused lacks others writes)
+caused_so (Ok x) lacks fails others writes f c = tt
+caused_so (Err fault) lacks fails others writes f c = so lacks fails others writes fault f c
 
 nothing_written : (old new : Option (List ℕ)) (lines : List ℕ) → lines ≡ [] → Appends old new lines → Keeps old new
 nothing_written None new lines none w = tt
@@ -131,9 +139,30 @@ front_of_nothing : (lines taken : List ℕ) → lines ≡ [] → take (length ta
 front_of_nothing lines [] none e = refl
 front_of_nothing lines (x ∷ xs) none e = sym e ∙ ap (take (length (x ∷ xs))) none
 
-pub sum_kept : (view : View) (marking : Marking) (before after : Streams) (opened stopped : Bool) (held : HeldTalk) (rest : List ℕ) → Follows (summarized true view) marking before after opened stopped held rest → Keeps before.output after.output
-sum_kept view marking before after opened stopped held rest f = nothing_written before.output after.output f.lines (chunks_none view _ f.tracks.each.chunks f.lines f.tracks.talk f.tracks.each.each) f.written
+-- ---- what its requests ran, with a view of which no line is written
 
-pub part_kept : (view : View) (marking : Marking) (before after : Streams) → CutsLines (summarized true view) marking before after → Keeps before.output after.output
-part_kept view marking before after f =
-    nothing_written before.output after.output f.written.taken (front_of_nothing f.lines f.written.taken (chunks_none view _ f.each.chunks f.lines f.talk f.each.each) f.written.is_front) f.written.written
+module _ (quiet view : View) (is : quiet ≡ summarized true view) (marking : Marking) (before after : Streams) where
+  pub sum_added : (opened stopped : Bool) (held : HeldTalk) (rest : List ℕ) (end : End) (old new : List Tally) → Follows quiet marking before after opened stopped held rest
+      → IsReadTo (end_of opened stopped rest) rest after.input → end ≡ end_of opened stopped rest → new ≡ tally_after old (tallies_in (summary_in held.known.numbers)) → SumsRecording view marking before.input after.input end old new
+  sum_added opened stopped held rest end old new follows all ended added =
+      let f = subst (λ v. Follows v marking before after opened stopped held rest) is follows in
+      let talk = f.tracks.talk in
+      record {
+        bytes = f.bytes;
+        received = f.received;
+        adds = record {
+          output = f.lines ++ last_lines (summarized true view) talk;
+          listing = record { begun = opened; rest = rest; lines = f.lines; talk = talk; each = f.tracks.each; ending = subst (EndsBy opened rest) (sym ended) (ends_by opened stopped rest f.stays); text = refl };
+          added = added ∙ ap (λ (known : Known). tally_after old (tallies_in (summary_in known.numbers))) f.tracks.keeps.known;
+        };
+        all = subst (λ e. IsReadTo e rest after.input) (sym ended) all;
+      }
+
+  none : (bytes : List ℕ) (opened : Bool) (rest lines : List ℕ) (talk : Talk) → HasLines quiet marking bytes opened rest lines talk → lines ≡ []
+  none bytes opened rest lines talk h = let each = subst (λ v. HasLines v marking bytes opened rest lines talk) is h in chunks_none view (begins marking) each.chunks lines talk each.each
+
+  pub sum_kept : (opened stopped : Bool) (held : HeldTalk) (rest : List ℕ) → Follows quiet marking before after opened stopped held rest → Keeps before.output after.output
+  sum_kept opened stopped held rest f = nothing_written before.output after.output f.lines (none f.bytes opened rest f.lines f.tracks.talk f.tracks.each) f.written
+
+  pub part_kept : CutsLines quiet marking before after → Keeps before.output after.output
+  part_kept f = nothing_written before.output after.output f.written.taken (front_of_nothing f.lines f.written.taken (none f.bytes f.begun f.rest f.lines f.talk f.each) f.written.is_front) f.written.written

@@ -72,6 +72,12 @@ held_nothing = record { bytes = []; place = 0; stopped = false; left = 0 }
 abbrev pub held_first : Marking → HeldTalk
 held_first marking = record { known = at_first marking; client = held_nothing; server = held_nothing; start = first_start marking.absolute }
 
+-- nothing was listed, and no time is counted
+pub record IsFirst (marking : Marking) (begun : Bool) (held : HeldTalk) (rest : List ℕ) : Type 0 where
+  pub begins : begun ≡ false
+  pub nothing : held ≡ held_first (record marking { absolute = false })
+  pub none : rest ≡ []
+
 -- the last lines, by what is kept of both sides
 abbrev pub held_last : View → HeldTalk → List ℕ
 held_last view held = ending_by view (summary_in held.known.numbers)

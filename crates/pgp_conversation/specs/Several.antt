@@ -50,17 +50,11 @@ module _ (Gives : List ℕ → List ℕ → Type 0) where
   abbrev pub CutsFile : View → Marking → (name : List ℕ) → (old new : Option (List ℕ)) → Type 0
   CutsFile view marking name old new = Keeps old new ⊎ ((bytes : List ℕ) × Gives name bytes × IsCutShort view marking (file_before bytes old) (file_after new))
 
-  -- the recording in this file was added to a table, and ends so
-  pub record AddsFile (view : View) (marking : Marking) (name : List ℕ) (end : End) (old new : List Tally) : Type 0 where
-    pub bytes : List ℕ
-    pub gives : Gives name bytes
-    pub adds : AddsRecording view marking bytes end old new
-
   -- The table to which the recordings in these files were added, one after another, and how they end.
   pub data AddsFiles (view : View) (marking : Marking) : (names : List (List ℕ)) → List Tally → End → Type 0 where
     NoFile : AddsFiles view marking [] [] Whole
-    OneFile : {names : List (List ℕ)} {old new : List Tally} {end its : End} (name : List ℕ) → AddsFiles view marking names old end → AddsFile view marking name its old new
-        → AddsFiles view marking (names ++ name ∷ []) new (worst end its)
+    OneFile : {names : List (List ℕ)} {old new : List Tally} {end its : End} (name bytes : List ℕ) → AddsFiles view marking names old end → Gives name bytes
+        → AddsRecording view marking bytes its old new → AddsFiles view marking (names ++ name ∷ []) new (worst end its)
 
   -- it was written, and nothing else, and it is said how they end
   pub record ListsTable (view : View) (marking : Marking) (names : List (List ℕ)) (old new : Option (List ℕ)) (status : ℕ) (said : List ℕ) : Type 0 where

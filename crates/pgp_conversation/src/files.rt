@@ -1,10 +1,11 @@
 //! Recordings in files.
 
-ghost use Rattle.std.specs.Prelude.{◌≡◌, ◌++◌, [], ℕ, List, Some, map, IfErr, IfOk, OnErr, OnOk};
-ghost use Rattle.pgp_conversation.specs.Common.{Appends, AppendsFront, Caused, Consumes, GivesUp, Keeps};
+ghost use Rattle.std.specs.Prelude.{◌≡◌, ◌∷◌, ◌++◌, [], ℕ, List, Some, map, IfErr, IfOk, OnErr, OnOk};
+ghost use Rattle.pgp_conversation.specs.Common.{Appends, AppendsFront, Caused, Consumes, GivesUp, Keeps, streams};
 ghost use Rattle.pgp_conversation.specs.Tables.{table};
 ghost use Rattle.pgp_conversation.specs.Recording.{complaint_of, status_of};
-ghost use Rattle.pgp_conversation.specs.Several.{AddsFile, AddsFiles, CutsFile, CutsTable, ListsFile, ListsTable, worst};
+ghost use Rattle.pgp_conversation.specs.Several.{AddsFiles, CutsFile, CutsTable, ListsFile, ListsRecording, ListsTable, worst};
+ghost use Rattle.pgp_conversation.specs.Session.{BreaksOff, IsCutShort, ReadsWhenReady};
 ghost use Rattle.pgp_trace.specs.Steps.{view_of};
 
 use crate::ending::{End, complaint_of, status_of};
@@ -56,6 +57,27 @@ fn open<R: Recordings>(name: &str, input: &R) -> Result<R::File, Fault>
     }
 }
 
+/// Lists a recording.
+pub fn list_recording<A: MapMemory, R: Input, W: Output>(
+    alloc: A,
+    view: View<'_>,
+    marking: Marking,
+    input: &mut R,
+    output: &mut W,
+) -> Result<Ended, Fault>
+    requires live { ReadsWhenReady R.remaining W.contents W.Passed R.MayRead (view_of view) marking input.old output.old }
+    ensures passed { OnOk result (W.Passed output.new) }
+    ensures done { IfOk result (λ ended. ListsRecording (view_of view.entry) marking (streams (R.remaining input.old) (W.contents output.old)) (streams (R.remaining input.new) (W.contents output.new)) ended.status (ended.first.now ++ ended.second.now ++ ended.third.now)) }
+    ensures stops { IfErr result (λ fault. BreaksOff (W.Passed output.new) (view_of view.entry) marking fault (streams (R.remaining input.old) (W.contents output.old)) (streams (R.remaining input.new) (W.contents output.new))) }
+    ensures cut { OnErr result (IsCutShort (view_of view.entry) marking (streams (R.remaining input.old) (W.contents output.old)) (streams (R.remaining input.new) (W.contents output.new))) }
+    ensures cause { IfErr result (Caused A.Lacks (GivesUp R.Fails R.Called) (GivesUp W.Fails W.Interrupted)) }
+{
+    match list_session(alloc, view, marking, input, output) {
+        Ok(said) => Ok(ended_so(said)),
+        Err(fault) => Err(fault),
+    }
+}
+
 /// Lists the recording in this file.
 pub fn list_file<A: MapMemory, R: Recordings, W: Output>(
     alloc: A,
@@ -71,12 +93,11 @@ pub fn list_file<A: MapMemory, R: Recordings, W: Output>(
     ensures cause { IfErr result (Caused A.Lacks (GivesUp R.Fails R.Called) (GivesUp W.Fails W.Interrupted)) }
 {
     let mut file = open(name, input)?;
-    let said = list_session(alloc, view, marking, &mut file, output)?;
-    Ok(ended_so(said))
+    list_recording(alloc, view, marking, &mut file, output)
 }
 
 /// How the run ends that listed a recording of which this is to be said.
-pub fn ended_so(said: Said) -> Ended
+fn ended_so(said: Said) -> Ended
     ensures status { result.status ≡ status_of said.end }
     ensures complaint { result.first.now ++ result.second.now ++ result.third.now ≡ said.client.now ++ said.server.now ++ complaint_of said.end }
 {
@@ -103,8 +124,27 @@ pub fn list_table<A: MapMemory, R: Recordings, W: Output>(
     ensures cause { IfErr result (Caused A.Lacks (GivesUp R.Fails R.Called) (GivesUp W.Fails W.Interrupted)) }
 {
     let mut table = Summary::new(alloc, marking.folded);
-    let end = add_files(alloc, view, marking, names, input, &mut table, output)?;
-    write_table(alloc, view, &table, output)?;
+    list_added(alloc, view, marking, names, input, &mut table, output)
+}
+
+/// The same, by a table that has no statement yet.
+fn list_added<A: MapMemory, R: Recordings, W: Output>(
+    alloc: A,
+    view: View<'_>,
+    marking: Marking,
+    names: &[&str],
+    input: &R,
+    table: &mut Summary<A>,
+    output: &mut W,
+) -> Result<Ended, Fault>
+    requires none { table.old.tallies ≡ [] }
+    ensures passed { OnOk result (W.Passed output.new) }
+    ensures done { IfOk result (λ ended. ListsTable R.Gives (view_of view.entry) marking (map (λ name. name.now) names.now) (W.contents output.old) (W.contents output.new) ended.status (ended.first.now ++ ended.second.now ++ ended.third.now)) }
+    ensures stops { OnErr result (CutsTable R.Gives (view_of view.entry) marking (map (λ name. name.now) names.now) (W.contents output.old) (W.contents output.new)) }
+    ensures cause { IfErr result (Caused A.Lacks (GivesUp R.Fails R.Called) (GivesUp W.Fails W.Interrupted)) }
+{
+    let end = add_files(alloc, view, marking, names, input, table, output)?;
+    write_table(alloc, view, table, output)?;
     Ok(with_status(status_of(end), complaint_of(end)))
 }
 
@@ -159,7 +199,7 @@ fn add_file<A: MapMemory, R: Recordings, W: Output>(
     table: &mut Summary<A>,
     output: &mut W,
 ) -> Result<End, Fault>
-    ensures added { IfOk result (λ its. AddsFile R.Gives (view_of view.entry) marking name.now its table.old.tallies table.new.tallies) }
+    ensures added { IfOk result (λ its. (names : List (List ℕ)) (end : End) → AddsFiles R.Gives (view_of view.entry) marking names table.old.tallies end → AddsFiles R.Gives (view_of view.entry) marking (names ++ name.now ∷ []) table.new.tallies (worst end its)) }
     ensures kept { Keeps (W.contents output.old) (W.contents output.new) }
     ensures cause { IfErr result (Caused A.Lacks (GivesUp R.Fails R.Called) (GivesUp W.Fails W.Interrupted)) }
 {

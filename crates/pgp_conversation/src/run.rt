@@ -7,11 +7,10 @@ ghost use Rattle.pgp_trace.specs.Steps.{side_of, view_of};
 ghost use Rattle.pgp_conversation.specs.Command.{Asks, AsksSeveral, BreaksOff, Does, DoesSession, IsOther, Lists, Obeys, ObeysOwn, Prints, PrintsFront, ReadsFor, ReadsForOwn, ReadsForSession, ReadsForWords, Runs, RunsOwn, Stops, StopsSession, asked, complaint_of, is_fit, session_by, usage, word_of};
 ghost use Rattle.pgp_conversation.specs.Command as spec;
 ghost use Rattle.pgp_conversation.specs.Session as recording;
-ghost use Rattle.pgp_conversation.specs.Several.{ListsRecording};
 
-use crate::files::{Recordings, ended_so, list_file, list_table};
+use crate::files::{Recordings, list_file, list_recording, list_table};
 use crate::outcome::{Ended, finished, refused, stopped, tell};
-use crate::session::{list_session, summarized};
+use crate::session::summarized;
 use pgp_base::Memory;
 use pgp_line::fault::Fault;
 use pgp_line::ports::{Output, Words};
@@ -145,26 +144,6 @@ fn list_side<A: MapMemory, R: Input, W: Output>(
 {
     match list(alloc, view, side, input, output) {
         Ok(said) => Ok(finished(said)),
-        Err(fault) => Err(fault),
-    }
-}
-
-/// Lists a recording.
-fn list_recording<A: MapMemory, R: Input, W: Output>(
-    alloc: A,
-    view: View<'_>,
-    marking: Marking,
-    input: &mut R,
-    output: &mut W,
-) -> Result<Ended, Fault>
-    requires live { recording.ReadsWhenReady R.remaining W.contents W.Passed R.MayRead (view_of view) marking input.old output.old }
-    ensures passed { OnOk result (W.Passed output.new) }
-    ensures done { IfOk result (λ ended. ListsRecording (view_of view.entry) marking (streams (R.remaining input.old) (W.contents output.old)) (streams (R.remaining input.new) (W.contents output.new)) ended.status (ended.first.now ++ ended.second.now ++ ended.third.now)) }
-    ensures stops { IfErr result (λ fault. recording.BreaksOff (W.Passed output.new) (view_of view.entry) marking fault (streams (R.remaining input.old) (W.contents output.old)) (streams (R.remaining input.new) (W.contents output.new))) }
-    ensures cause { IfErr result (Caused A.Lacks (GivesUp R.Fails R.Called) (GivesUp W.Fails W.Interrupted)) }
-{
-    match list_session(alloc, view, marking, input, output) {
-        Ok(said) => Ok(ended_so(said)),
         Err(fault) => Err(fault),
     }
 }

@@ -5,7 +5,7 @@ ghost use Rattle.pgp_conversation.specs.Common.{Appends, Keeps, GivesUp, Caused,
 ghost use Rattle.pgp_trace.specs.Steps.{view_of};
 ghost use Rattle.pgp_trace.specs.declared.marking.Marking.{Marking as Marks};
 ghost use Rattle.pgp_conversation.specs.Conversation.{first_start};
-ghost use Rattle.pgp_conversation.specs.Pieces.{Follows, ListsAllChunks, ListsPiece, ListsSome, SumsRecording, Tracks, held_first, held_last, held_nothing};
+ghost use Rattle.pgp_conversation.specs.Pieces.{Follows, IsFirst, ListsAllChunks, ListsPiece, ListsSome, SumsRecording, Tracks, held_first, held_last, held_nothing};
 ghost use Rattle.pgp_conversation.specs.Recording.{complaint_of};
 ghost use Rattle.pgp_conversation.specs.Session.{CutsLines, IsCutShort, IsReadTo, ReadsWhenReady, WasListed, WritesListing, summarized};
 ghost use Rattle.pgp_conversation.specs.Several.{tallies_in};
@@ -80,15 +80,37 @@ pub fn list_session<A: MapMemory, R: Input, W: Output>(
 {
     let mut piece = A::list_filled(alloc, 0, PIECE)?;
     let mut held = held_at_first(alloc, marking);
-    let stopped = list_pieces(
+    list_held(
         view,
         marking,
         input,
         piece.as_mut_slice(),
         &mut held,
         output,
-    )?;
-    list_last(view, stopped, &mut held, output)
+    )
+}
+
+/// The same, where nothing was listed.
+fn list_held<A: MapMemory, R: Input, W: Output>(
+    view: View<'_>,
+    marking: Marking,
+    input: &mut R,
+    piece: &mut [u8],
+    held: &mut Held<A>,
+    output: &mut W,
+) -> Result<Said, Fault>
+    requires some { 0 < length piece.old }
+    requires first { IsFirst marking held.old.begun (kept_of held.old.talk) held.old.bytes.items }
+    requires live { ReadsWhenReady R.remaining W.contents W.Passed R.MayRead (view_of view) marking input.old output.old }
+    ensures listed { IfOk result (λ said. WritesListing (view_of view.entry) marking (streams (R.remaining input.old) (W.contents output.old)) (streams (R.remaining input.new) (W.contents output.new)) said.end (said.client.now ++ said.server.now ++ complaint_of said.end)) }
+    ensures live { IfErr result (λ fault. fault ≡ Fault.Read → WasListed (view_of view.entry) marking (streams (R.remaining input.old) (W.contents output.old)) (streams (R.remaining input.new) (W.contents output.new))) }
+    ensures passed { IfErr result (λ fault. fault ≡ Fault.Read → Keeps (W.contents output.old) (W.contents output.new) ⊎ W.Passed output.new) }
+    ensures done { OnOk result (W.Passed output.new) }
+    ensures cut { OnErr result (IsCutShort (view_of view.entry) marking (streams (R.remaining input.old) (W.contents output.old)) (streams (R.remaining input.new) (W.contents output.new))) }
+    ensures cause { IfErr result (Caused A.Lacks (GivesUp R.Fails R.Called) (GivesUp W.Fails W.Interrupted)) }
+{
+    let stopped = list_pieces(view, marking, input, piece, held, output)?;
+    list_last(view, stopped, held, output)
 }
 
 /// Adds to a table what the requests of a recording ran, as it comes; nothing is written. Returns how it ends.
@@ -111,14 +133,36 @@ pub fn sum_session<A: MapMemory, R: Input, W: Output>(
 {
     let mut piece = A::list_filled(alloc, 0, PIECE)?;
     let mut held = held_at_first(alloc, marking);
-    let stopped = list_pieces(
-        summarized(view),
+    sum_held(
+        view,
         marking,
         input,
         piece.as_mut_slice(),
         &mut held,
+        table,
         output,
-    )?;
+    )
+}
+
+/// The same, where nothing was listed.
+fn sum_held<A: MapMemory, R: Input, W: Output>(
+    view: View<'_>,
+    marking: Marking,
+    input: &mut R,
+    piece: &mut [u8],
+    held: &mut Held<A>,
+    table: &mut Summary<A>,
+    output: &mut W,
+) -> Result<End, Fault>
+    requires some { 0 < length piece.old }
+    requires first { IsFirst marking held.old.begun (kept_of held.old.talk) held.old.bytes.items }
+    requires live { ReadsWhenReady R.remaining W.contents W.Passed R.MayRead (summarized true (view_of view)) marking input.old output.old }
+    ensures added { IfOk result (λ end. SumsRecording (view_of view.entry) marking (R.remaining input.old) (R.remaining input.new) end table.old.tallies table.new.tallies) }
+    ensures kept { Keeps (W.contents output.old) (W.contents output.new) }
+    ensures cause { IfErr result (Caused A.Lacks (GivesUp R.Fails R.Called) (GivesUp W.Fails W.Interrupted)) }
+{
+    let quiet = summarized(view);
+    let stopped = list_pieces(quiet, marking, input, piece, held, output)?;
     add_table(summary_of(&held.talk.known.numbers), table)?;
     Ok(end_of(held.begun, stopped, held.bytes.as_slice()))
 }
@@ -128,7 +172,7 @@ const NO_NAME: &[&str] = &[""];
 
 /// How the listing looks of which a table alone is written: no line of a message is.
 pub fn summarized(view: View<'_>) -> View<'_>
-    ensures { view_of result ≡ summarized true (view_of view) }
+    ensures { view_of result ≡ summarized true (view_of view.entry) }
 {
     View {
         style: view.style,
@@ -155,9 +199,7 @@ fn add_table<A: MapMemory>(
 
 /// Before the first byte of a recording.
 fn held_at_first<A: MapMemory>(alloc: A, marking: Marking) -> Held<A>
-    ensures begun { result.begun ≡ false }
-    ensures talk { kept_of result.talk ≡ held_first (record marking { absolute = false }) }
-    ensures bytes { result.bytes.items ≡ [] }
+    ensures { IsFirst marking result.begun (kept_of result.talk) result.bytes.items }
 {
     Held {
         begun: false,
@@ -207,9 +249,7 @@ fn list_pieces<A: MapMemory, R: Input, W: Output>(
     output: &mut W,
 ) -> Result<bool, Fault>
     requires some { 0 < length piece.old }
-    requires begun { held.old.begun ≡ false }
-    requires talk { kept_of held.old.talk ≡ held_first (record marking { absolute = false }) }
-    requires bytes { held.old.bytes.items ≡ [] }
+    requires first { IsFirst marking held.old.begun (kept_of held.old.talk) held.old.bytes.items }
     requires live { ReadsWhenReady R.remaining W.contents W.Passed R.MayRead (view_of view) marking input.old output.old }
     ensures listed { IfOk result (λ stopped. Follows (view_of view.entry) marking (streams (R.remaining input.old) (W.contents output.old)) (streams (R.remaining input.new) (W.contents output.new)) held.new.begun stopped (kept_of held.new.talk) held.new.bytes.items) }
     ensures all { IfOk result (λ stopped. IsReadTo (end_of held.new.begun stopped held.new.bytes.items) held.new.bytes.items (R.remaining input.new)) }

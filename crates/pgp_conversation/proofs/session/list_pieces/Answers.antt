@@ -6,7 +6,7 @@ use Rattle.pgp_conversation.proofs.session.list_pieces.Goals.{in-Ok+in_ok-list_p
 pub pieces-init : goal.pieces-init
 pieces-init g c = (
   follows_start (view_of c.args.view) c.args.marking (record { input = g.R.Read.remaining c.args.input.now; output = g.W.Write.contents c.args.output.now }) c.args.held.now.begun _ c.args.held.now.bytes.items
-      c.requires.begun (rw c.first_start-held.ensures (first_held c.args.marking (kept_of c.args.held.now.talk) c.requires.talk)) c.requires.bytes,
+      c.requires.first.begins (rw c.first_start-held.ensures (first_held c.args.marking (kept_of c.args.held.now.talk) c.requires.first.nothing)) c.requires.first.none,
   inl (Keeps-refl (g.W.Write.contents c.args.output.now)),
   inl refl,
 )
