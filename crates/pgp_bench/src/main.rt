@@ -38,30 +38,29 @@ fn run(rt: &HostRuntime, words: &[String]) -> io::Result<()> {
     if !words.is_empty() && words[0].as_str() == "stdin" {
         return time_given(rt);
     }
-    for work in &Work::ALL {
+    for (work, name) in &Work::ALL {
         if words.is_empty() {
-            time(rt, *work)?;
+            time(rt, *work, name)?;
         }
-        run_work(rt, *work, words)?;
+        run_work(rt, *work, name, words)?;
     }
     Ok(())
 }
 
 /// Does what the words ask for with this work.
-fn run_work(rt: &HostRuntime, work: Work, words: &[String]) -> io::Result<()> {
+fn run_work(rt: &HostRuntime, work: Work, name: &str, words: &[String]) -> io::Result<()> {
     for word in words {
         if word.as_str() == "check" {
-            check(rt, work)?;
-        } else if work.name().starts_with(word.as_str()) {
-            time(rt, work)?;
+            check(rt, work, name)?;
+        } else if name.starts_with(word.as_str()) {
+            time(rt, work, name)?;
         }
     }
     Ok(())
 }
 
 /// Prints the sum of a few units.
-fn check(rt: &HostRuntime, work: Work) -> io::Result<()> {
-    let name = work.name();
+fn check(rt: &HostRuntime, work: Work, name: &str) -> io::Result<()> {
     let mut input = Input::new(rt.alloc(), work, FEW)?;
     match sum_of(rt.alloc(), work, &mut input, FEW) {
         Ok(sum) => println!(rt; "{name} {sum}"),
@@ -103,8 +102,7 @@ fn time_way(rt: &HostRuntime, name: &str, work: Work, input: &mut Input) -> io::
 }
 
 /// Prints the least time of a unit, in nanoseconds.
-fn time(rt: &HostRuntime, work: Work) -> io::Result<()> {
-    let name = work.name();
+fn time(rt: &HostRuntime, work: Work, name: &str) -> io::Result<()> {
     let units = work.units();
     let mut least = u128::MAX;
     for _ in 0..TURNS {

@@ -4,7 +4,6 @@ use bytes::BytesMut;
 use pgp_base::{Error, FallibleIterator};
 use pgp_message::{DataRowRanges, Message};
 use std::alloc::Global;
-use std::ops::Range;
 
 /// Parses all messages, and sums up what each weighs.
 ///
@@ -25,16 +24,8 @@ pub(crate) fn read(buf: &mut BytesMut) -> Result<u64, Error> {
 pub(crate) fn weight(message: &Message) -> u64 {
     match message {
         Message::DataRow(body) => lengths(&mut body.ranges()),
-        Message::CommandComplete(body) => length_of(body.tag()),
+        Message::CommandComplete(body) => body.tag().map_or(0, |tag| tag.len() as u64),
         _ => 1,
-    }
-}
-
-#[inline(always)]
-fn length_of(tag: Result<&str, Error>) -> u64 {
-    match tag {
-        Ok(tag) => tag.len() as u64,
-        Err(_) => 0,
     }
 }
 
@@ -42,17 +33,10 @@ fn length_of(tag: Result<&str, Error>) -> u64 {
 fn lengths(ranges: &mut DataRowRanges<'_>) -> u64 {
     let mut sum = 0u64;
     'values: while let Ok(Some(value)) = ranges.next() {
-        sum = sum.wrapping_add(size_of(value));
+        let len = value.map_or(0, |range| range.end.wrapping_sub(range.start));
+        sum = sum.wrapping_add(len as u64);
     }
     sum
-}
-
-#[inline(always)]
-fn size_of(value: Option<Range<usize>>) -> u64 {
-    match value {
-        Some(range) => range.end.wrapping_sub(range.start) as u64,
-        None => 0,
-    }
 }
 
 /// The same of messages that stand in a slice, which is copied into a buffer first.

@@ -6,7 +6,7 @@ use pgp_base::Error;
 use pgp_types::{inet_from_sql, inet_to_sql, text_from_sql, text_to_sql};
 use std::net::{IpAddr, Ipv4Addr};
 
-/// The sum of the netmasks of IPv4 addresses.
+/// The sum of the netmasks of IPv4 addresses that are written and read again.
 ///
 /// # Errors
 ///
@@ -15,28 +15,14 @@ use std::net::{IpAddr, Ipv4Addr};
 pub(crate) fn inet4s(buf: &mut BytesMut, count: u32) -> Result<u64, Error> {
     let mut sum = 0u64;
     for _round in 0..count {
-        sum = sum.wrapping_add(inet(IpAddr::V4(Ipv4Addr::LOCALHOST), 32, buf)? as u64);
+        buf.clear();
+        inet_to_sql(IpAddr::V4(Ipv4Addr::LOCALHOST), 32, buf)?;
+        sum = sum.wrapping_add(inet_from_sql(buf.as_slice())?.netmask() as u64);
     }
     Ok(sum)
 }
 
-// The netmask of an address that is written and read again.
-#[inline(always)]
-fn inet(address: IpAddr, netmask: u8, buf: &mut BytesMut) -> Result<u8, Error> {
-    buf.clear();
-    inet_to_sql(address, netmask, buf)?;
-    Ok(inet_from_sql(buf.as_slice())?.netmask())
-}
-
-// How long a text is that is written and read again.
-#[inline(always)]
-fn text_len(text: &str, buf: &mut BytesMut) -> Result<usize, Error> {
-    buf.clear();
-    text_to_sql(text, buf)?;
-    Ok(text_from_sql(buf.as_slice())?.len())
-}
-
-/// The bytes of the texts.
+/// The bytes of the texts that are written and read again.
 ///
 /// # Errors
 ///
@@ -46,7 +32,9 @@ pub(crate) fn texts(input: &mut Input, count: u32) -> Result<u64, Error> {
     let Input { buf, short, .. } = input;
     let mut sum = 0u64;
     for _round in 0..count {
-        sum = sum.wrapping_add(text_len(short.as_str(), buf)? as u64);
+        buf.clear();
+        text_to_sql(short.as_str(), buf)?;
+        sum = sum.wrapping_add(text_from_sql(buf.as_slice())?.len() as u64);
     }
     Ok(sum)
 }

@@ -56,54 +56,29 @@ pub(crate) enum Work {
 }
 
 impl Work {
-    pub(crate) const ALL: [Work; 20] = [
-        Work::Bare,
-        Work::Tiny,
-        Work::Kept,
-        Work::Row,
-        Work::RowCopied,
-        Work::FeedRow,
-        Work::Bind,
-        Work::Query,
-        Work::Parse,
-        Work::Startup,
-        Work::Execute,
-        Work::Describe,
-        Work::Close,
-        Work::Cancel,
-        Work::Sync,
-        Work::Inet4,
-        Work::Text,
-        Work::LiteralPlain,
-        Work::LiteralQuotes,
-        Work::Key,
+    /// All works, and the names by which they are asked for.
+    pub(crate) const ALL: [(Work, &'static str); 20] = [
+        (Work::Bare, "read_bare"),
+        (Work::Tiny, "read_tiny"),
+        (Work::Kept, "read_kept"),
+        (Work::Row, "read_row"),
+        (Work::RowCopied, "copied_row"),
+        (Work::FeedRow, "feed_row"),
+        (Work::Bind, "write_bind"),
+        (Work::Query, "write_query"),
+        (Work::Parse, "write_parse"),
+        (Work::Startup, "write_startup"),
+        (Work::Execute, "write_execute"),
+        (Work::Describe, "write_describe"),
+        (Work::Close, "write_close"),
+        (Work::Cancel, "write_cancel"),
+        (Work::Sync, "write_sync"),
+        (Work::Inet4, "value_inet4"),
+        (Work::Text, "value_text"),
+        (Work::LiteralPlain, "escape_literal_plain"),
+        (Work::LiteralQuotes, "escape_literal_quotes"),
+        (Work::Key, "key"),
     ];
-
-    /// The name by which it is asked for.
-    pub(crate) fn name(self) -> &'static str {
-        match self {
-            Work::Bare => "read_bare",
-            Work::Tiny => "read_tiny",
-            Work::Kept => "read_kept",
-            Work::Row => "read_row",
-            Work::RowCopied => "copied_row",
-            Work::FeedRow => "feed_row",
-            Work::Bind => "write_bind",
-            Work::Query => "write_query",
-            Work::Parse => "write_parse",
-            Work::Startup => "write_startup",
-            Work::Execute => "write_execute",
-            Work::Describe => "write_describe",
-            Work::Close => "write_close",
-            Work::Cancel => "write_cancel",
-            Work::Sync => "write_sync",
-            Work::Inet4 => "value_inet4",
-            Work::Text => "value_text",
-            Work::LiteralPlain => "escape_literal_plain",
-            Work::LiteralQuotes => "escape_literal_quotes",
-            Work::Key => "key",
-        }
-    }
 
     /// How many units are timed together: some hundredths of a second.
     pub(crate) fn units(self) -> u32 {

@@ -18,143 +18,63 @@ const TOGETHER: u32 = 1000;
 /// # Errors
 ///
 /// Those of the message's writer.
-pub(crate) fn write(work: Work, input: &mut Input, count: u32) -> Result<u64, Error> {
-    match work {
-        Work::Bind => again::<Bind>(input, count),
-        Work::Query => again::<Query>(input, count),
-        Work::Parse => again::<Parse>(input, count),
-        Work::Startup => again::<Startup>(input, count),
-        Work::Execute => again::<Execute>(input, count),
-        Work::Describe => again::<Describe>(input, count),
-        Work::Close => again::<Close>(input, count),
-        Work::Cancel => again::<Cancel>(input, count),
-        _ => again::<Sync>(input, count),
-    }
-}
-
-trait Writer {
-    // Appends the n-th message.
-    fn write(texts: &Texts<'_>, n: u32, buf: &mut BytesMut) -> Result<(), Error>;
-}
-
-/// What the writers are handed.
-#[derive(Clone, Copy)]
-struct Texts<'a> {
-    name: &'a str,
-    short: &'a str,
-}
-
 #[inline(never)]
-fn again<W: Writer>(input: &mut Input, count: u32) -> Result<u64, Error> {
+pub(crate) fn write(work: Work, input: &mut Input, count: u32) -> Result<u64, Error> {
     let Input {
         buf,
         name,
         short,
         ..
     } = input;
-    let texts = Texts {
-        name: name.as_str(),
-        short: short.as_str(),
-    };
+    let (name, short) = (name.as_str(), short.as_str());
     let mut sum = 0u64;
     for n in 0..count {
         if n % TOGETHER == 0 {
             sum = sum.wrapping_add(buf.len() as u64);
             buf.clear();
         }
-        W::write(&texts, n, buf)?;
+        append(work, name, short, n, buf)?;
     }
     Ok(sum.wrapping_add(buf.len() as u64))
 }
 
-struct Bind;
+static TYPES: [u32; 3] = [23, 25, 1114];
 
-impl Writer for Bind {
-    fn write(texts: &Texts<'_>, n: u32, buf: &mut BytesMut) -> Result<(), Error> {
-        let values = [n, 1, 2, 3, 4];
-        let answer = bind(
-            "",
-            texts.name,
-            Some(1i16),
-            values.as_slice(),
-            |value: &u32, buf: &mut BytesMut| -> Result<IsNull, Error> {
-                int4_to_sql(value.cast_signed(), buf)?;
-                Ok(IsNull::No)
-            },
-            Some(1i16),
-            buf,
-        );
-        match answer {
-            Ok(()) => Ok(()),
-            Err(BindError::Conversion(e) | BindError::Serialization(e)) => Err(e),
-        }
+static PARAMETERS: [(&str, &str); 2] = [("user", "s1"), ("database", "0123456789abcdef")];
+
+/// Appends the n-th message.
+#[inline(always)]
+fn append(work: Work, name: &str, short: &str, n: u32, buf: &mut BytesMut) -> Result<(), Error> {
+    match work {
+        Work::Bind => bind_five(name, n, buf),
+        Work::Query => query("SELECT id, name FROM t WHERE id = 1234567", buf),
+        Work::Parse => parse(name, short, TYPES.as_slice().iter().copied(), buf),
+        Work::Startup => startup_message(PARAMETERS.as_slice().iter().copied(), buf),
+        Work::Execute => execute(name, n.cast_signed(), buf),
+        Work::Describe => describe(b'S', name, buf),
+        Work::Close => close(b'S', name, buf),
+        Work::Cancel => cancel_request(n.cast_signed(), 7, buf),
+        _ => sync(buf),
     }
 }
 
-struct Query;
-
-impl Writer for Query {
-    fn write(_texts: &Texts<'_>, _n: u32, buf: &mut BytesMut) -> Result<(), Error> {
-        query("SELECT id, name FROM t WHERE id = 1234567", buf)
-    }
-}
-
-struct Parse;
-
-impl Writer for Parse {
-    fn write(texts: &Texts<'_>, _n: u32, buf: &mut BytesMut) -> Result<(), Error> {
-        let types = [23u32, 25, 1114];
-        let types = types.as_slice().iter().copied();
-        parse(texts.name, texts.short, types, buf)
-    }
-}
-
-struct Startup;
-
-impl Writer for Startup {
-    fn write(_texts: &Texts<'_>, _n: u32, buf: &mut BytesMut) -> Result<(), Error> {
-        let parameters = [("user", "s1"), ("database", "0123456789abcdef")];
-        let parameters = parameters.as_slice().iter().copied();
-        startup_message(parameters, buf)
-    }
-}
-
-struct Execute;
-
-impl Writer for Execute {
-    fn write(texts: &Texts<'_>, n: u32, buf: &mut BytesMut) -> Result<(), Error> {
-        execute(texts.name, n.cast_signed(), buf)
-    }
-}
-
-struct Describe;
-
-impl Writer for Describe {
-    fn write(texts: &Texts<'_>, _n: u32, buf: &mut BytesMut) -> Result<(), Error> {
-        describe(b'S', texts.name, buf)
-    }
-}
-
-struct Close;
-
-impl Writer for Close {
-    fn write(texts: &Texts<'_>, _n: u32, buf: &mut BytesMut) -> Result<(), Error> {
-        close(b'S', texts.name, buf)
-    }
-}
-
-struct Cancel;
-
-impl Writer for Cancel {
-    fn write(_texts: &Texts<'_>, n: u32, buf: &mut BytesMut) -> Result<(), Error> {
-        cancel_request(n.cast_signed(), 7, buf)
-    }
-}
-
-struct Sync;
-
-impl Writer for Sync {
-    fn write(_texts: &Texts<'_>, _n: u32, buf: &mut BytesMut) -> Result<(), Error> {
-        sync(buf)
+#[inline(always)]
+fn bind_five(name: &str, n: u32, buf: &mut BytesMut) -> Result<(), Error> {
+    let values = [n, 1, 2, 3, 4];
+    let answer = bind(
+        "",
+        name,
+        Some(1i16),
+        values.as_slice(),
+        |value: &u32, buf: &mut BytesMut| -> Result<IsNull, Error> {
+            int4_to_sql(value.cast_signed(), buf)?;
+            Ok(IsNull::No)
+        },
+        Some(1i16),
+        buf,
+    );
+    match answer {
+        Ok(()) => Ok(()),
+        Err(BindError::Conversion(e) | BindError::Serialization(e)) => Err(e),
     }
 }
