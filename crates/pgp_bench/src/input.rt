@@ -7,11 +7,7 @@ use std::alloc::{AllocError, Global};
 /// How many pieces of two bytes a long text has.
 const PIECES: u32 = 512;
 
-const BARE: &[u8] = b"1\0\0\0\x04";
-
 const TINY: &[u8] = b"1\0\0\0\x042\0\0\0\x04C\0\0\0\x0dSELECT 1\0";
-
-const KEPT: &[u8] = b"C\0\0\0\x0dSELECT 1\0";
 
 const ROW: &[u8] =
     b"D\0\0\0\x66\0\x08\0\0\0\x0801234567\0\0\0\x0801234567\0\0\0\x0801234567\0\0\0\x0801234567\0\0\0\x0801234567\0\0\0\x0801234567\0\0\0\x0801234567\0\0\0\x0801234567";
@@ -31,9 +27,9 @@ pub(crate) struct Input {
 // The messages of a unit.
 fn unit(work: Work) -> &'static [u8] {
     match work {
-        Work::Bare => BARE,
+        Work::Bare => b"1\0\0\0\x04",
         Work::Tiny => TINY,
-        Work::Kept => KEPT,
+        Work::Kept => b"C\0\0\0\x0dSELECT 1\0",
         Work::Row | Work::RowCopied | Work::FeedRow => ROW,
         _ => b"",
     }

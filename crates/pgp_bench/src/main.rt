@@ -1,8 +1,7 @@
 //! Times the works that count: parsing and walking, reading a client's messages, writing, values, escaping, the iterated key.
 //!
 //! `pgp_bench` times every work, `pgp_bench NAME..` those whose names begin so, and `pgp_bench check` does
-//! a few units of each, untimed, and prints the sum that its answers come to. `pgp_bench stdin` times the two ways to read
-//! a server's stream out of a slice, which stdin holds.
+//! a few units of each, untimed, and prints the sum that its answers come to.
 #![tactic(auto)]
 
 mod escapes;
@@ -16,9 +15,7 @@ mod writers;
 
 use crate::input::Input;
 use crate::work::{Work, sum_of};
-use bytes::BytesMut;
 use pgp_base::Error;
-use std::io::Read;
 use std::time::Instant;
 use std::{env, io};
 
@@ -35,9 +32,6 @@ fn main(rt: HostRuntime) -> io::Result<()> {
 
 /// Does what the words ask for.
 fn run(rt: &HostRuntime, words: &[String]) -> io::Result<()> {
-    if !words.is_empty() && words[0].as_str() == "stdin" {
-        return time_given(rt);
-    }
     for (work, name) in &Work::ALL {
         if words.is_empty() {
             time(rt, *work, name)?;
@@ -71,34 +65,6 @@ fn check(rt: &HostRuntime, work: Work, name: &str) -> io::Result<()> {
 fn refused(rt: &HostRuntime, name: &str, e: Error) -> io::Result<()> {
     let number = e.number();
     println!(rt; "{name} fault {number}")
-}
-
-/// Prints how many microseconds it takes at the least to copy what stdin holds into one buffer and parse it (`copied`),
-/// and to feed it in pieces (`feed`), and what its messages weigh.
-fn time_given(rt: &HostRuntime) -> io::Result<()> {
-    let mut bytes = Vec::new(rt.alloc());
-    rt.reader().read_to_end(&mut bytes)?;
-    let mut input = Input::new(rt.alloc(), Work::Row, 0)?;
-    input.stream = BytesMut::from_vec(bytes);
-    time_way(rt, "copied", Work::RowCopied, &mut input)?;
-    time_way(rt, "feed", Work::FeedRow, &mut input)
-}
-
-fn time_way(rt: &HostRuntime, name: &str, work: Work, input: &mut Input) -> io::Result<()> {
-    let mut least = u128::MAX;
-    let mut weight = 0u64;
-    for _ in 0..TURNS {
-        let start = Instant::now(rt)?;
-        let answer = sum_of(rt.alloc(), work, input, 0);
-        let nanos = start.elapsed(rt)?.as_nanos();
-        match answer {
-            Ok(sum) => weight = sum,
-            Err(e) => return refused(rt, name, e),
-        }
-        least = least.min(nanos);
-    }
-    let micros = least / 1000;
-    println!(rt; "{name} {micros} {weight}")
 }
 
 /// Prints the least time of a unit, in nanoseconds.
