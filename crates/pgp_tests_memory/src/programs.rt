@@ -81,12 +81,15 @@ impl Read for Recorded {
 }
 
 impl Recordings for Recorded {
-    type File = &'static [u8];
+    type File = Recorded;
 
     ghost Gives = { λ _ _. Unit {0} };
 
-    fn open(&self, _name: &str) -> io::Result<&'static [u8]> {
-        Ok(self.file)
+    fn open(&self, _name: &str) -> io::Result<Recorded> {
+        Ok(Recorded {
+            input: self.file,
+            file: b"",
+        })
     }
 }
 
