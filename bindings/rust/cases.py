@@ -1,5 +1,5 @@
-"""The tests of tests/rust and of crates, as one crate over the generated modules: of the crates' all but those that need an allocator of their own, a law or
-a generator of Rattle's kit, and what calls these."""
+"""The tests of tests/rust and of crates, as one crate over the generated modules: of the crates' all but those that need an allocator of their own or
+a law, and what calls these."""
 import os, re
 import generate
 from asking import answering
@@ -16,7 +16,7 @@ CALLS = {
     ('pgp_rows', 'value_text.rt'): ('if !is_refused(alloc, type_oid, bytes, number, out)', 'if number == 1'),
     ('pgp_rows', 'walks.rt'): ('!is_modest(', '!is_collected('),
 }
-LEFT_OUT = re.compile(r'\b(?:Refusing|LocalHeap|linked_list_allocator|laws|Pcg32|rand_pcg)\b')
+LEFT_OUT = re.compile(r'\b(?:Refusing|LocalHeap|linked_list_allocator|laws)\b')
 ITEM = re.compile(r'\n\n(?=\S)')
 NAMED = re.compile(r'^(?:pub(?:\([\w:]+\))? )?(?:const |unsafe )*(?:fn|const|static|struct|enum|trait|type|macro_rules!) (\w+)', re.M)
 LAW = re.compile(r'^ *(?:\w+::)*laws::\w+(?:::<[^>]*>)?\([^;]*\);\n', re.M)
@@ -59,7 +59,7 @@ def apart(modules):
     for name, parts in items.items():
         lone = re.compile(r'\b(?:%s)\b(?:, )?' % '|'.join(sorted(gone[name] | {'Refusing'})))
         parts = [re.sub(r'^use [^;]*;', lambda m: lone.sub('', m[0]), part, flags=re.M) if USE.match(part) else part for part in parts]
-        items[name] = re.sub(r'^use (?:linked_list_allocator|rand_pcg|[\w:]*\blaws)::[^;]*;\n|^use [\w:]*(?:\{\s*\}|::);\n', '', '\n\n'.join(parts), flags=re.M)
+        items[name] = re.sub(r'^use (?:linked_list_allocator|[\w:]*\blaws)::[^;]*;\n|^use [\w:]*(?:\{\s*\}|::);\n', '', '\n\n'.join(parts), flags=re.M)
     return items, count
 
 

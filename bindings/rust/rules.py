@@ -70,6 +70,8 @@ PLACES = [
     # Before Rust 1.89 these temporaries don't outlive their `let`.
     ('pgp_message_write/row', 1, '        let fields = [\n', '        put_fields(&[\n'),
     ('pgp_message_write/row', 1, '        ];\n        put_fields(&fields, buf)\n', '        ], buf)\n'),
+    # The public crate's own call has no answer.
+    ('pgp_message/parser', 1, 'buf.reserve(room(header, buf.len()))', 'Global::reserve_ahead(buf, room(header, buf.len()))'),
     # What C hands over is taken out and put back.
     ('pgp_c/dialogue', 1, 'mem::replace(&mut dialogue.room, &mut [])', 'dialogue.room.take()'),
     ('pgp_c_auth/talk', 1, 'mem::replace(&mut dialogue.room, &mut [])', 'dialogue.room.take()'),

@@ -1,4 +1,4 @@
-//! Tests of public calls, those that cross crates, those of large values with ample memory, of clients, servers and poolers, and of what the programs run.
+//! Tests of public calls, those that cross crates, those of large values with ample memory and of refused memory, of clients, servers and poolers, and of what the programs run.
 //! `bindings/rust/cases.py` adds the table of them. They run one after another: all, or those whose names have the word. One that fails ends the program,
 //! which says its name.
 
@@ -9,12 +9,14 @@ mod checks;
 mod client_pieces;
 mod days;
 mod hostile;
+mod memory;
 mod programs;
 mod reads;
 mod session;
 mod uses;
 mod values;
 
+use erased::kit::asking::disarm;
 use erased::kit::calls::Ended;
 use std::sync::atomic::{AtomicUsize, Ordering};
 
@@ -25,6 +27,7 @@ fn main() {
     let chosen: Vec<_> = TESTS.iter().filter(|(name, _)| name.contains(&word)).collect();
     let names: Vec<_> = chosen.iter().map(|(name, _)| *name).collect();
     std::panic::set_hook(Box::new(move |why| {
+        disarm();
         let passed = PASSED.load(Ordering::Relaxed);
         println!(
             "{}: {why}\n{passed} passed, 1 failed, {} not tried",

@@ -1,4 +1,4 @@
-//! What the programs `pgwire` and `pgtrace` run, with their input cut, and with their readers, writers and memory failing.
+//! What the programs `pgwire` and `pgtrace` run, with their input cut, and with their readers and writers failing.
 
 mod failing;
 mod listing;

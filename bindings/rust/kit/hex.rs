@@ -23,13 +23,22 @@ pub enum FromHexError {
 }
 
 /// The bytes of digits in lower or upper case.
-pub fn decoded(_alloc: super::Global, text: impl AsRef<[u8]>) -> Result<Vec<u8>, FromHexError> {
+pub fn decoded(alloc: super::Global, text: impl AsRef<[u8]>) -> Result<Vec<u8>, FromHexError> {
+    let len = text.as_ref().len() / 2;
+    let mut bytes = alloc.list_filled(0, len).map_err(|_| FromHexError::OutOfMemory)?;
+    decode_to_slice(text.as_ref(), &mut bytes)?;
+    Ok(bytes)
+}
+
+fn decode_to_slice(text: &[u8], out: &mut [u8]) -> Result<(), FromHexError> {
     let value = |digit: u8| char::from(digit).to_digit(16).ok_or(FromHexError::Other);
-    let text = text.as_ref();
-    if text.len() % 2 != 0 {
+    if text.len() != 2 * out.len() {
         return Err(FromHexError::Other);
     }
-    text.chunks(2).map(|two| Ok((value(two[0])? << 4 | value(two[1])?) as u8)).collect()
+    for (two, byte) in text.chunks(2).zip(out) {
+        *byte = (value(two[0])? << 4 | value(two[1])?) as u8;
+    }
+    Ok(())
 }
 
 pub fn encoded(alloc: super::Global, bytes: impl AsRef<[u8]>) -> Result<String, super::AllocError> {
@@ -42,7 +51,9 @@ pub trait FromHex: Sized {
 
 impl<const N: usize> FromHex for [u8; N] {
     fn from_hex(text: &str) -> Result<[u8; N], FromHexError> {
-        decoded(super::Global, text)?.try_into().map_err(|_| FromHexError::Other)
+        let mut bytes = [0; N];
+        decode_to_slice(text.as_bytes(), &mut bytes)?;
+        Ok(bytes)
     }
 }
 

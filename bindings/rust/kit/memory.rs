@@ -1,5 +1,6 @@
 //! The methods of the sources' trait `Memory`, at the global allocator.
 
+use super::asking::{asked, reserved};
 use super::base64::{self, DecodeAllocError};
 use super::later::DividedUp as _;
 use super::{hex, AllocError, AllocFailed, Global};
@@ -15,6 +16,15 @@ fn made(room: Result<(), TryReserveError>) -> Made<()> {
     match room {
         Ok(()) => Ok(()),
         Err(_) => Err(AllocError),
+    }
+}
+
+/// A text that a value is written to, unless memory lacks.
+struct Growing<'a>(&'a mut String);
+
+impl std::fmt::Write for Growing<'_> {
+    fn write_str(&mut self, more: &str) -> std::fmt::Result {
+        Global::push_str(self.0, more).map_err(|_| std::fmt::Error)
     }
 }
 
@@ -104,7 +114,7 @@ impl Global {
     }
 
     pub fn push_shown<D: Display>(text: &mut String, value: D) -> Made<()> {
-        write!(text, "{value}").map_err(|_| AllocError)
+        write!(Growing(text), "{value}").map_err(|_| AllocError)
     }
 
     pub fn hex_of(self, bytes: &[u8]) -> Made<String> {
@@ -115,55 +125,59 @@ impl Global {
 
     pub fn push_base64(text: &mut String, bytes: &[u8]) -> Made<()> {
         made(text.try_reserve(bytes.len().divided_up(3).saturating_mul(4)))?;
-        base64::append(bytes, text);
-        Ok(())
+        asked(false, || base64::append(bytes, text))
     }
 
     pub fn base64_shown(self, text: &[u8]) -> Result<Vec<u8>, DecodeAllocError> {
-        base64::decode(text).map_err(DecodeAllocError::DecodeError)
+        match asked(true, || base64::decode(text)) {
+            Ok(bytes) => bytes.map_err(DecodeAllocError::DecodeError),
+            Err(_) => Err(DecodeAllocError::OutOfMemory),
+        }
     }
 
     #[inline]
     pub fn shared_of(self, bytes: &[u8]) -> Made<Bytes> {
-        Ok(Bytes::copy_from_slice(bytes))
+        asked(!bytes.is_empty(), || Bytes::copy_from_slice(bytes))
     }
 
     #[inline]
     pub fn share(list: &mut Vec<u8>) -> Made<Bytes> {
-        Ok(Bytes::from(mem::take(list)))
+        asked(true, || Bytes::from(mem::take(list)))
     }
 
     #[inline]
     pub fn clone_shared(bytes: &Bytes) -> Made<Bytes> {
-        Ok(bytes.clone())
+        asked(false, || bytes.clone())
     }
 
     #[inline]
     pub fn slice_shared(bytes: &Bytes, start: usize, end: usize) -> Made<Bytes> {
-        Ok(bytes.slice(start..end))
+        asked(true, || bytes.slice(start..end))
     }
 
     #[inline]
     pub fn freeze_to(buf: &mut BytesMut, at: usize) -> Made<Bytes> {
-        Ok(buf.split_to(at).freeze())
+        asked(true, || buf.split_to(at).freeze())
     }
 
-    /// Asks for nothing: each append asks for its own room, and where there is none the program ends either way.
     #[inline]
-    pub fn reserve_bytes(_buf: &mut BytesMut, _additional: usize) -> Made<()> {
-        Ok(())
+    pub fn reserve_bytes(buf: &mut BytesMut, additional: usize) -> Made<()> {
+        reserved(buf, additional)
+    }
+
+    #[inline]
+    pub fn reserve_ahead(buf: &mut BytesMut, additional: usize) -> Made<()> {
+        asked(additional > buf.capacity() - buf.len(), || buf.reserve(additional))
     }
 
     #[inline]
     pub fn append(buf: &mut BytesMut, more: &[u8]) -> Made<()> {
-        buf.put_slice(more);
-        Ok(())
+        asked(more.len() > buf.capacity() - buf.len(), || buf.put_slice(more))
     }
 
     #[inline]
     pub fn append_from<T: Buf>(buf: &mut BytesMut, more: &mut T) -> Made<()> {
-        buf.put(more);
-        Ok(())
+        asked(more.remaining() > buf.capacity() - buf.len(), || buf.put(more))
     }
 }
 

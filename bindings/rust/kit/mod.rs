@@ -2,6 +2,7 @@
 //! It stands for the kit's statements, and isn't proved.
 #![allow(unused, missing_docs)]
 
+mod asking;
 pub mod base64;
 pub mod digests;
 pub mod hex;

@@ -10,20 +10,20 @@ use std::cell::Cell;
 use std::io::{Read, Write};
 
 /// Bytes, and what is listed of them.
-struct Listing {
-    words: &'static [&'static str],
-    bytes: &'static [u8],
+pub(crate) struct Listing {
+    pub(crate) words: &'static [&'static str],
+    pub(crate) bytes: &'static [u8],
     lines: &'static [&'static str],
     /// The place behind which each is written.
     places: &'static [usize],
     last: &'static str,
-    reported: &'static str,
+    pub(crate) reported: &'static str,
     /// The cuts that are there in each cutting, and the place of the first of nine that may be.
     cuts: u64,
     place: u32,
 }
 
-static LISTINGS: [Listing; 5] = [
+pub(crate) static LISTINGS: [Listing; 5] = [
     // A refusal to encrypt, the end of a log-in, a setting, a state and a key, and the front of another state.
     Listing {
         words: &["server"],
@@ -116,7 +116,7 @@ impl Listing {
     }
 
     /// All lines.
-    fn whole(&self) -> Vec<u8> {
+    pub(crate) fn whole(&self) -> Vec<u8> {
         [self.front(self.bytes.len()).as_slice(), self.last.as_bytes()].concat()
     }
 

@@ -8,15 +8,15 @@ use erased::proved::pgp_wire::run::{run, run_own};
 use std::io::{Read, Write};
 
 /// Words and an input, and what they come to.
-struct Ran {
-    words: &'static [&'static str],
-    input: &'static [u8],
-    output: &'static str,
-    status: u8,
+pub(crate) struct Ran {
+    pub(crate) words: &'static [&'static str],
+    pub(crate) input: &'static [u8],
+    pub(crate) output: &'static str,
+    pub(crate) status: u8,
 }
 
 /// Frames with a length fault behind them, and scripts.
-static READ: [Ran; 4] = [
+pub(crate) static READ: [Ran; 4] = [
     Ran {
         words: &["backend"],
         input: b"\x5a\0\0\0\x06\x49\0\x31\0\0\0\x04\x64\0\0\0\x06ab\x57\0\0\0\x04\x5a\0\0\0\x03",
@@ -44,7 +44,7 @@ static READ: [Ran; 4] = [
 ];
 
 /// What nothing is read for.
-static TEXTS: [Ran; 2] = [
+pub(crate) static TEXTS: [Ran; 2] = [
     Ran {
         words: &["verifier", "secret", "0102030405060708090a0b0c0d0e0f10"],
         input: b"",

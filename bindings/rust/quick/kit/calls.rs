@@ -1,5 +1,6 @@
 //! Calls of Rattle's `std` that ask for memory or for a host, under its names or those that a rule gives them.
 
+use super::asking::{asked, is_refused, uncounted};
 use super::{AllocError, AllocFailed, Global};
 use ::bytes::{Bytes, BytesMut};
 
@@ -18,7 +19,7 @@ pub fn text_of(alloc: Global, text: &str) -> Result<String, AllocError> {
 }
 
 pub fn room_for(_alloc: Global, len: usize) -> Result<BytesMut, AllocError> {
-    Ok(BytesMut::with_capacity(len))
+    asked(len > 0, || BytesMut::with_capacity(len))
 }
 
 impl super::base64::Standard {
@@ -89,7 +90,7 @@ pub trait ShownIn {
 
 impl<T: std::fmt::Display + ?Sized> ShownIn for T {
     fn shown_in(&self, _alloc: Global) -> Result<String, AllocError> {
-        Ok(self.to_string())
+        asked(true, || self.to_string())
     }
 }
 
@@ -224,7 +225,12 @@ pub fn show_wide<T: Show>(value: &T, width: usize, out: &mut String) {
 impl Global {
     #[inline]
     pub fn push_parts(text: &mut String, parts: impl FnOnce(&mut String)) -> Result<(), AllocError> {
-        parts(text);
+        let (len, room) = (text.len(), text.capacity());
+        uncounted(|| parts(text));
+        if text.capacity() != room && is_refused() {
+            text.truncate(len);
+            return Err(AllocError);
+        }
         Ok(())
     }
 }

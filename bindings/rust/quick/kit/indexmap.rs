@@ -1,5 +1,6 @@
 //! A map that keeps its keys in the order in which they came.
 
+use super::asking::uncounted;
 use super::{AllocFailed, Global};
 use std::borrow::Borrow;
 use std::cell::Cell;
@@ -61,7 +62,7 @@ impl<K: Clone + Eq + Hash, V> IndexMap<K, V> {
         let place = self.places.remove(key)?;
         let (_, value) = self.pairs.swap_remove(place);
         if let Some((moved, _)) = self.pairs.get(place) {
-            self.places.insert(moved.clone(), place);
+            uncounted(|| self.places.insert(moved.clone(), place));
         }
         Some(value)
     }
@@ -80,7 +81,7 @@ impl Global {
         if map.pairs.try_reserve(1).is_err() || map.places.try_reserve(1).is_err() {
             return Err(AllocFailed { value: (key, value) });
         }
-        map.places.insert(key.clone(), map.pairs.len());
+        uncounted(|| map.places.insert(key.clone(), map.pairs.len()));
         map.pairs.push((key, value));
         Ok(None)
     }

@@ -1,4 +1,4 @@
-//! Calls of a client's stream that are rejected (`pgp_tests_memory` has those that aren't).
+//! Calls of a client's stream that are rejected (`memory::client_stream` has those that aren't).
 
 use bytes::BytesMut;
 use erased::kit::Global;
@@ -25,7 +25,7 @@ fn bind_rejected<B: Buffer>(stream: &mut ClientStream<B>) -> Result<(), BindErro
 }
 
 /// The error of a call, whoever rejected.
-fn plain(answer: Result<(), BindError<Error>>) -> Result<(), Error> {
+pub(crate) fn plain(answer: Result<(), BindError<Error>>) -> Result<(), Error> {
     match answer {
         Ok(()) => Ok(()),
         Err(BindError::Conversion(e)) | Err(BindError::Serialization(e)) => Err(e),
