@@ -1,6 +1,6 @@
-//! Tests of public calls, those that cross crates, those of large values with ample memory and of refused memory, of clients, servers and poolers, and of what the programs run.
-//! `bindings/rust/cases.py` adds the table of them. They run one after another: all, or those whose names have the word. One that fails ends the program,
-//! which says its name.
+//! Tests of public calls, those that cross crates, those of large values with ample memory and of refused memory, of clients, servers and poolers, and of what
+//! the programs run. `bindings/rust/cases.py` adds the table of them. They run one after another: all, or those whose names have the word. One that fails ends
+//! the program, which says its name.
 
 mod ample;
 mod ample_values;

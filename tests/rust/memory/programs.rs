@@ -58,15 +58,17 @@ fn pgwire_writes_nothing_with_each_request_refused() {
     }
 }
 
-/// An input, beside which each file has these bytes.
+/// An input that gives so many bytes at a time, beside which each file has these bytes.
 struct Recorded {
     input: &'static [u8],
     file: &'static [u8],
+    step: usize,
 }
 
 impl Read for Recorded {
     fn read(&mut self, buf: &mut [u8]) -> io::Result<usize> {
-        self.input.read(buf)
+        let step = self.step.min(buf.len());
+        self.input.read(&mut buf[..step])
     }
 }
 
@@ -77,6 +79,7 @@ impl Recordings for Recorded {
         Ok(Recorded {
             input: self.file,
             file: b"",
+            step: self.step,
         })
     }
 }
@@ -114,9 +117,8 @@ const LISTED: [(&[&str], &[u8], &str); 3] = [
     ),
 ];
 
-/// Whether the request of memory of this number is refused: then a front is written, and that is reported.
-fn is_refused((words, input): (&[&str], &'static [u8]), lines: &[u8], reported: &str, number: u64) -> bool {
-    let mut input = Recorded { input, file: QUERY };
+/// Runs where the request of memory of this number is refused: then whole lines are written of the front, so many bytes as are returned, and that is reported.
+fn front_at(words: &[&str], mut input: Recorded, (lines, reported): (&[u8], &str), number: u64) -> Option<usize> {
     let (mut output, mut errors) = (room(), room());
     refuse(number);
     let status = counted(|| trace(Global, false, words, &mut input, &mut output, &mut errors));
@@ -132,9 +134,11 @@ fn is_refused((words, input): (&[&str], &'static [u8]), lines: &[u8], reported: 
         (number, u8::from(is_refused), said.as_bytes())
     );
     assert!(lines.starts_with(&output) && (is_refused || output.len() == lines.len()));
-    is_refused
+    assert!(output.is_empty() || output.ends_with(b"\n"));
+    is_refused.then_some(output.len())
 }
 
+/// Where the bytes come one at a time, some lines are written before memory lacks.
 #[test]
 fn pgtrace_writes_a_front_with_each_request_refused() {
     let told = listing::LISTINGS
@@ -143,10 +147,19 @@ fn pgtrace_writes_a_front_with_each_request_refused() {
     let more = LISTED
         .iter()
         .map(|(words, input, output)| (*words, *input, output.as_bytes().to_vec(), ""));
+    let mut longest = 0;
     for (words, input, lines, reported) in told.chain(more) {
-        let refusals = (1..)
-            .take_while(|number| is_refused((words, input), &lines, reported, *number))
-            .count();
-        assert!(refusals > 2, "{words:?}: {refusals}");
+        for step in [10_000, 1] {
+            let recorded = || Recorded {
+                input,
+                file: QUERY,
+                step,
+            };
+            let fronts = (1..).map_while(|number| front_at(words, recorded(), (&lines, reported), number));
+            let fronts: Vec<_> = fronts.collect();
+            assert!(fronts.len() > 2, "{words:?}: {}", fronts.len());
+            longest = longest.max(fronts[fronts.len() - 1]);
+        }
     }
+    assert!(longest > 0);
 }
