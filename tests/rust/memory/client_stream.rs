@@ -87,22 +87,22 @@ fn copy_data(stream: &mut Stream) -> Result<(), Error> {
     stream.copy_data(piece).map_err(|_| Error::OutOfMemory)
 }
 
-/// A stream in which a call can be made: new, or of a session, with no room left.
-fn stream(in_session: bool) -> Stream {
+/// A stream in which a call can be made: new, or of a session, with so much room left.
+fn stream(in_session: bool, room: usize) -> Stream {
     if !in_session {
-        return ClientStream::new(Global);
+        return ClientStream::over(BytesMut::with_capacity(room));
     }
-    let mut stream = ClientStream::over(BytesMut::with_capacity(STARTUP.len()));
+    let mut stream = ClientStream::over(BytesMut::with_capacity(STARTUP.len() + room));
     assert_eq!(stream.startup_message(&[]), Ok(()));
     stream
 }
 
-/// A call writes its bytes, and is behind a session's beginning or not. Where a request is refused, which happens at least once, it changes neither the bytes
-/// nor the phase, and can be made again.
-fn is_refused_memory((call, written): Call, in_session: bool, is_open: bool) {
+/// A call writes its bytes, and the stream is open then or not. Where a request is refused, it changes neither the bytes nor the phase, and can be made again.
+/// Returns how many were.
+fn refused_in(room: usize, (call, written): Call, in_session: bool, is_open: bool) -> u64 {
     let front = if in_session { STARTUP } else { b"" };
-    let asked = refused(|| {
-        let mut stream = stream(in_session);
+    refused(|| {
+        let mut stream = stream(in_session, room);
         let answer = counted(|| call(&mut stream));
         if answer.is_err() {
             assert_eq!((stream.bytes(), stream.is_open()), (front, in_session));
@@ -111,8 +111,15 @@ fn is_refused_memory((call, written): Call, in_session: bool, is_open: bool) {
         assert_eq!(stream.bytes(), [front, written].concat());
         assert_eq!(stream.is_open(), is_open);
         answer
-    });
-    assert!(asked > 0);
+    })
+}
+
+/// A request is refused at least once where there is no room, and growth comes at the end of each front of what is written.
+fn is_refused_memory(call: Call, in_session: bool, is_open: bool) {
+    for room in 0..=call.1.len() {
+        let asked = refused_in(room, call, in_session, is_open);
+        assert!(asked > 0 || room > 0);
+    }
 }
 
 #[test]

@@ -1,4 +1,4 @@
-//! The writers that all messages are made of, each on a buffer that holds a message and has no room left. Those of messages are tried by their rows
+//! The writers that all messages are made of, each on a buffer that holds a message and has no room left, or some. Those of messages are tried by their rows
 //! (`pgp_rows`).
 
 use crate::calls::protocol::calls::plain;
@@ -25,17 +25,25 @@ pub(crate) fn holding(room: usize) -> BytesMut {
     buf
 }
 
-/// How often the writer was refused memory before the bytes stood there that it writes with ample memory.
-fn refused_writer(write: fn(&mut BytesMut) -> Result<(), Error>) -> u64 {
-    let mut ample = holding(SYNC.len());
+/// How often the writer was refused memory, with this much room, before the bytes stood there that it writes with ample memory.
+fn refused_in(room: usize, write: fn(&mut BytesMut) -> Result<(), Error>) -> u64 {
+    let mut ample = holding(100);
     assert_eq!(write(&mut ample), Ok(()));
     assert!(ample.len() > SYNC.len());
     refused(|| {
-        let mut buf = holding(SYNC.len());
+        let mut buf = holding(room);
         let answer = counted(|| write(&mut buf));
         assert_eq!(buf.as_slice(), if answer.is_ok() { ample.as_slice() } else { SYNC });
         answer
     })
+}
+
+/// The same without room. With room for each front of what is written, growth comes at its end.
+fn refused_writer(write: fn(&mut BytesMut) -> Result<(), Error>) -> u64 {
+    for room in SYNC.len()..100 {
+        refused_in(room, write);
+    }
+    refused_in(SYNC.len(), write)
 }
 
 fn put_nullable(buf: &mut BytesMut) -> Result<IsNull, Error> {
