@@ -112,6 +112,15 @@ pub(crate) struct Refusals {
     pub(crate) reported: u64,
 }
 
+/// Makes a call whose request of this number is refused, and says whether there was one.
+pub(crate) fn refused_at<T>(number: u64, call: impl FnOnce() -> T) -> (T, bool) {
+    refuse(number);
+    let made = counted(call);
+    let is_refused = !is_due();
+    refuse(0);
+    (made, is_refused)
+}
+
 /// Tries something, of which the first request is refused, then the second, until none is. It comes to its end, or says that memory lacks.
 pub(crate) fn refusals_of(mut tried: impl FnMut() -> Result<(), Error>) -> Refusals {
     let mut reported = 0;

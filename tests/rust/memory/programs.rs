@@ -1,10 +1,10 @@
 //! What `pgwire` and `pgtrace` come to where a request of memory is refused: the first, then the second, until none is. What is listed here stands in
 //! tests/programs/*.runs too, with where it is from.
 
+use crate::memory::refused_at;
 use crate::programs::listing;
 use crate::programs::process::Words;
 use crate::programs::wire;
-use erased::kit::asking::{counted, is_due, refuse};
 use erased::kit::Global;
 use erased::proved::pgp_conversation::files::Recordings;
 use erased::proved::pgp_conversation::run::run as trace;
@@ -18,16 +18,14 @@ fn room() -> Vec<u8> {
 
 /// Runs on the words of a process, whose name is no text, where the request of memory of this number is refused. Whether one is, and whether that was
 /// reported, with nothing written.
-fn refused_at(ran: &wire::Ran, number: u64) -> (bool, bool) {
+fn wire_at(ran: &wire::Ran, number: u64) -> (bool, bool) {
     let env = Words {
         name: Some(b"\xff"),
         words: ran.words,
     };
     let (mut input, mut output, mut errors) = (ran.input, room(), room());
-    refuse(number);
-    let status = counted(|| run_own(Global, &env, &mut input, &mut output, &mut errors));
-    let is_refused = !is_due();
-    refuse(0);
+    let run = || run_own(Global, &env, &mut input, &mut output, &mut errors);
+    let (status, is_refused) = refused_at(number, run);
     let is_reported = status == 1 && !errors.is_empty();
     let wanted: (u8, &[u8], &[u8]) = match is_reported {
         true => (1, b"", b"pgwire: out of memory\n"),
@@ -47,7 +45,7 @@ fn pgwire_writes_nothing_with_each_request_refused() {
         let asks_ahead = ran.words == ["backend"];
         let mut reports = 0;
         for number in 1.. {
-            let (is_refused, is_reported) = refused_at(ran, number);
+            let (is_refused, is_reported) = wire_at(ran, number);
             assert!(is_refused == is_reported || is_refused && asks_ahead);
             if !is_refused {
                 break;
@@ -120,10 +118,8 @@ const LISTED: [(&[&str], &[u8], &str); 3] = [
 /// Runs where the request of memory of this number is refused: then whole lines are written of the front, so many bytes as are returned, and that is reported.
 fn front_at(words: &[&str], mut input: Recorded, (lines, reported): (&[u8], &str), number: u64) -> Option<usize> {
     let (mut output, mut errors) = (room(), room());
-    refuse(number);
-    let status = counted(|| trace(Global, false, words, &mut input, &mut output, &mut errors));
-    let is_refused = !is_due();
-    refuse(0);
+    let run = || trace(Global, false, words, &mut input, &mut output, &mut errors);
+    let (status, is_refused) = refused_at(number, run);
     let said = if is_refused {
         "pgtrace: out of memory\n"
     } else {

@@ -1,8 +1,8 @@
 //! Serializers that refuse, and writers that are refused memory: which of the two is reported.
 
+use crate::memory::refused_at;
 use crate::memory::writers::{holding, SYNC};
 use bytes::BytesMut;
-use erased::kit::asking::{counted, is_due, refuse};
 use erased::proved::pgp_base::{BindError, Buffer, Error, IsNull};
 use erased::proved::pgp_frontend::bind;
 use erased::proved::pgp_types::{array_to_sql, range_to_sql, ArrayDimension, RangeBound};
@@ -70,10 +70,7 @@ fn a_serializer_without_memory_is_reported_apart() {
         let (mut by_serializer, mut by_writer) = (0, 0);
         for room in 5..200 {
             let mut buf = holding(room);
-            refuse(1);
-            let answer = counted(|| write(&mut buf));
-            let is_refused = !is_due();
-            refuse(0);
+            let (answer, is_refused) = refused_at(1, || write(&mut buf));
             assert_eq!(answer.is_err(), is_refused);
             assert!(!is_refused || &buf[..] == SYNC);
             match answer {

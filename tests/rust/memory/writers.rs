@@ -2,9 +2,9 @@
 //! (`pgp_rows`).
 
 use crate::calls::protocol::calls::plain;
-use crate::memory::refused;
+use crate::memory::{refused, refused_at};
 use bytes::BytesMut;
-use erased::kit::asking::{counted, is_due, refuse};
+use erased::kit::asking::counted;
 use erased::kit::{AsSlice as _, Global};
 use erased::proved::pgp_base::{
     put_u8, write_body, write_counted, write_cstr, write_nullable, BindError, Error, IsNull,
@@ -104,10 +104,7 @@ fn a_statement_without_memory_is_not_passed_on() {
         let mut out = BytesMut::with_capacity(64);
         let mut messages = ClientMessages::resume(b"D\0\0\0\x07Ss\0", true);
         let message = messages.next(PasswordKind::Password).unwrap().unwrap();
-        refuse(number);
-        let passed = counted(|| pass_on(Global, 12, message, &mut out));
-        let refused = !is_due();
-        refuse(0);
+        let (passed, refused) = refused_at(number, || pass_on(Global, 12, message, &mut out));
         assert_eq!((passed.is_err(), out.is_empty()), (refused, refused));
         assert!(refused || number > 1);
     }
