@@ -1,5 +1,7 @@
-"""run.py PLACE VERSION: runs programs on the runs that are stored here (NAME.runs of the program NAME) and on those that crates/pgtrace/expected works
-out of its tables, and compares what each comes to: its output, what it says on standard error, and its status. PLACE has `%s` where the name stands.
+"""run.py PLACE VERSION [refused]: runs programs on the runs that are stored here (NAME.runs of the program NAME) and on those that crates/pgtrace/expected
+works out of its tables, and compares what each comes to: its output, what it says on standard error, and its status. PLACE has `%s` where the name stands.
+With `refused`, a request of memory of each run is refused, the first, then the second, until none is: a front of the output is written and the lack is
+reported, or the run ends as ever, where room was asked for ahead. (That is for programs of Rattle's compilers: Rust's own `std` aborts.)
 
 A file of runs has blocks, a word at the front of each, with lines of four spaces under it; a line that begins with `#` is a comment:
     bytes NAME     bytes that have a name, over lines: `\\0`, `\\n`, `\\\\` and `\\x` with two digits stand for a byte, and `*N ` at the front of a line for N times
@@ -11,6 +13,7 @@ A file of runs has blocks, a word at the front of each, with lines of four space
     output NAME, error NAME, status N     the output by its name; what is said on standard error, and the status, where there are such
 {VERSION} in a line stands for the version.
 """
+import functools
 import os
 import pty
 import re
@@ -43,22 +46,25 @@ class Run:
     def __init__(self, words, is_terminal=False, given=b'', output=b''):
         self.words, self.is_terminal, self.given, self.output, self.error, self.status, self.files = words, is_terminal, given, output, b'', 0, {}
 
-    def comes_to(self, program):
+    def wanted(self):
+        return self.output, self.error, self.status
+
+    def comes_to(self, program, **more):
         if not self.files:
-            return self.comes_there(program, None)
+            return self.comes_there(program, cwd=None, **more)
         with tempfile.TemporaryDirectory() as place:
             for name, given in self.files.items():
                 with open(os.path.join(os.fsencode(place), name), 'wb') as file:
                     file.write(given)
-            return self.comes_there(program, place)
+            return self.comes_there(program, cwd=place, **more)
 
-    def comes_there(self, program, place):
+    def comes_there(self, program, **more):
         shown = {'stdout': subprocess.PIPE}
         if self.is_terminal:
             ours, theirs = pty.openpty()
             tty.setraw(theirs)
             shown = {'stdout': theirs}
-        ran = subprocess.Popen([program, *self.words], stdin=subprocess.PIPE, stderr=subprocess.PIPE, cwd=place, **shown)
+        ran = subprocess.Popen([program, *self.words], stdin=subprocess.PIPE, stderr=subprocess.PIPE, **shown, **more)
         if not self.is_terminal:
             return (*ran.communicate(self.given, timeout=60), ran.wait())
         # (what is shown there is less than what a terminal holds)
@@ -123,18 +129,50 @@ def stored(path, version):
     return runs
 
 
-def main(place, version):
-    passed = failed = 0
+def runs_of(version):
+    """Each run, and its program's name."""
     for name in sorted(it[:-5] for it in os.listdir(HERE) if it.endswith('.runs')):
         runs = stored(os.path.join(HERE, name + '.runs'), version)
         if name == 'pgtrace':
             runs += [Run(words, given=given, output=output) for words, given, output in client.runs() + objects.runs()]
         for run in runs:
-            came, wanted = run.comes_to(os.path.abspath(place.replace('%s', name))), (run.output, run.error, run.status)
-            passed += came == wanted
-            failed += came != wanted
-            if came != wanted:
-                print('FAIL %s %s, on %r:\n%s\nnot\n%s' % (name, b' '.join(run.words)[:200], run.given[:200], *(it[0].decode(errors='replace')[:2000] + repr(it[1:])[:500] for it in (came, wanted))))
+            yield name, run
+
+
+def outcomes(name, run, program):
+    """What a run comes to, and whether that is as it has to be."""
+    came = run.comes_to(program)
+    yield came, came == run.wanted()
+
+
+def refused(library, name, run, program):
+    """The same where a request of memory is refused: each of the first 32, and then ever fewer."""
+    number, is_refused = 1, True
+    while is_refused and not run.is_terminal:
+        told, tells = os.pipe()
+        came = run.comes_to(program, env={**os.environ, 'LD_PRELOAD': library, 'REFUSED': str(number), 'REFUSED_TO': str(tells)}, pass_fds=[tells])
+        os.close(tells)
+        is_refused = os.read(told, 1) == b'!'
+        os.close(told)
+        reports = came[1:] == (b'%s: out of memory\n' % name.encode(), 1) and run.output.startswith(came[0])
+        yield came, came == run.wanted() or is_refused and reports
+        number += 1 + number // 32
+
+
+def main(place, version, kind='plain'):
+    passed = failed = 0
+    with tempfile.TemporaryDirectory() as room:
+        tried = outcomes
+        if kind == 'refused':
+            library = os.path.join(room, 'refuse.so')
+            subprocess.run(['cc', '-shared', '-fPIC', '-o', library, os.path.join(HERE, 'refuse.c')], check=True)
+            tried = functools.partial(refused, library)
+        for name, run in runs_of(version):
+            for came, is_well in tried(name, run, os.path.abspath(place.replace('%s', name))):
+                passed += is_well
+                failed += not is_well
+                if not is_well:
+                    print('FAIL %s %s, on %r:\n%s\nnot\n%s' % (name, b' '.join(run.words)[:200], run.given[:200], *(it[0].decode(errors='replace')[:2000] + repr(it[1:])[:500] for it in (came, run.wanted()))))
     print('%d passed, %d failed' % (passed, failed))
     sys.exit(failed != 0)
 
