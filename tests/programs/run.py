@@ -30,6 +30,8 @@ import client  # noqa: E402
 import objects  # noqa: E402
 
 ESCAPE = re.compile(rb'\\(?:(0)|(n)|(\\)|x([0-9a-f]{2}))')
+# What is said where a request of memory is refused: of pgserve also by clap, and by what shows the error of a `main`.
+LACKS = {'pgserve': rb'(?:pgserve|error): out of memory\n|Error: Kind\(OutOfMemory\)\n'}
 PART = re.compile(rb'\{(\w+)(?:\[(\d*):(-?\d*)\])?\}')
 
 
@@ -154,8 +156,8 @@ def refused(library, name, run, program):
         os.close(tells)
         is_refused = os.read(told, 1) == b'!'
         os.close(told)
-        reports = came[1:] == (b'%s: out of memory\n' % name.encode(), 1) and run.output.startswith(came[0])
-        yield came, came == run.wanted() or is_refused and reports
+        lacks = re.fullmatch(LACKS.get(name, rb'%s: out of memory\n' % name.encode()), came[1]) and came[2] == (2 if came[1].startswith(b'error') else 1)
+        yield came, came == run.wanted() or is_refused and lacks and run.output.startswith(came[0])
         number += 1 + number // 32
 
 
@@ -169,7 +171,7 @@ def main(place, version, kind='plain'):
             tried = functools.partial(refused, library)
         for name, run in runs_of(version):
             for came, is_well in tried(name, run, os.path.abspath(place.replace('%s', name))):
-                passed += is_well
+                passed += bool(is_well)
                 failed += not is_well
                 if not is_well:
                     print('FAIL %s %s, on %r:\n%s\nnot\n%s' % (name, b' '.join(run.words)[:200], run.given[:200], *(it[0].decode(errors='replace')[:2000] + repr(it[1:])[:500] for it in (came, run.wanted()))))
