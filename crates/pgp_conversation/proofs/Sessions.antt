@@ -1,9 +1,14 @@
 -- The listing of a recording, a chunk and a piece at a time.
-use Rattle.pgp_conversation.proofs.Common.{◌≡◌, ◌≢◌, ◌⊎◌, ℕ, ◌+◌, ◌-◌, ◌≤◌, Bool, true, false, List, [], ◌∷◌, ◌++◌, length, drop, Option, Result, Ok, Err, refl, sym, ap, subst, ◌∙◌, arith, inl, inr, append_assoc, length-append, IfOk, OnErr, OnOk, Appends, Consumes, IsAtEnd, flat_map, AllByRecursion, Appends-nil, Appends-trans, Consumes-nil, Consumes-trans, Consumes-kept, append-nil, drop-drop, drop-append_seam, flat_map-cons, flat_map-append, Streams, AppendsFront, View, nothing_ends, none_taken, all_taken, more_taken, Client, Server, End, Marking, Known, NoChunkListed, OneChunkListed, Talk, at_first, begins, first_start, last_lines, last_of, left, told_by, Follows, ListsAllChunks, ListsPiece, ListsSome, Stays, Tracks, TracksTo, held_first, held_last, summary_in, unnumbered, ending_by, Chunk, EndsBy, IsChunk, IsPartial, Records, beginning, chunk_bytes, complaint_of, magic, Awaits, CutsLines, CutsListing, IsCutShort, HasLines, IsReadTo, IsReady, WasListed, WritesListing, ListsChunkTo, HeldTalk, Keeps, TakesChunk, TakesPart, chunk_of, end_of, hint_of}
+use Rattle.pgp_conversation.proofs.Common.{◌≡◌, ◌≢◌, ◌⊎◌, ℕ, ◌+◌, ◌-◌, ◌≤◌, Bool, true, false, List, [], ◌∷◌, ◌++◌, length, drop, Option, Result, Ok, Err, refl, sym, ap, subst, ◌∙◌, arith, inl, inr, append_assoc, length-append, IfErr, IfOk, OnErr, OnOk, Appends, Consumes, IsAtEnd, flat_map, AllByRecursion, Appends-nil, Appends-trans, Consumes-nil, Consumes-trans, Consumes-kept, append-nil, drop-drop, drop-append_seam, flat_map-cons, flat_map-append, Streams, AppendsFront, View, nothing_ends, none_taken, all_taken, more_taken, Client, Server, End, Marking, Known, NoChunkListed, OneChunkListed, Talk, at_first, begins, first_start, last_lines, last_of, left, told_by, Follows, ListsAllChunks, ListsPiece, ListsSome, Stays, Tracks, TracksTo, held_first, held_last, summary_in, unnumbered, ending_by, Chunk, EndsBy, IsChunk, IsPartial, Records, beginning, chunk_bytes, complaint_of, magic, Awaits, CutsLines, CutsListing, IsCutShort, HasLines, IsReadTo, IsReady, WasListed, WritesListing, ListsChunkTo, HeldTalk, Keeps, TakesChunk, TakesPart, chunk_of, end_of, hint_of}
 use Rattle.std.specs.Io.KnownBytes.{Keeps as Same}
 use Rattle.pgp_conversation.specs.declared.chunk.Chunk as code
 use Rattle.pgp_conversation.specs.declared.chunk.Part.TheVariants as part
-use Rattle.pgp_conversation.specs.declared.session.Said.{Said}
+use Rattle.pgp_conversation.specs.declared.outcome.Ended.{Ended}
+use Rattle.pgp_conversation.specs.Pieces.{held_said}
+use Rattle.pgp_conversation.specs.Recording.{status_of}
+use Rattle.pgp_conversation.specs.Common.{Caused, Fault, Memory, Read, Write}
+use Rattle.pgp_conversation.specs.Session.{BreaksOff, said_of}
+use Rattle.pgp_conversation.specs.Several.{ListsRecording}
 use Rattle.pgp_conversation.proofs.Chunks.{magic_short}
 
 -- ---- a chunk at a time
@@ -316,27 +321,31 @@ last_is view held talk k =
     ∙ ap (λ (known : Known). ending_by view (summary_in known.numbers)
     (last_of view (told_by known.marked (unnumbered known.numbers)) Client talk.client.stopped (left talk.client) ++ last_of view (told_by known.marked (unnumbered known.numbers)) Server talk.server.stopped (left talk.server))) k.known
 
-hints_are : (held : HeldTalk) (talk : Talk) → Keeps held talk → (hint_of true held.known.client held.client.left ≡ hint_of true talk.known.client (left talk.client)) × (hint_of true held.known.server held.server.left ≡ hint_of true talk.known.server (left talk.server))
-hints_are held talk k = (
-  ap (λ n. hint_of true held.known.client n) k.client.count ∙ ap (λ known. hint_of true known.client (left talk.client)) k.known,
-  ap (λ n. hint_of true held.known.server n) k.server.count ∙ ap (λ known. hint_of true known.server (left talk.server)) k.known,
-)
+said_is : (held : HeldTalk) (talk : Talk) (end : End) → Keeps held talk → held_said held end ≡ said_of talk end
+said_is held talk end k =
+    ap (λ n. hint_of true held.known.client n ++ hint_of true held.known.server held.server.left ++ complaint_of end) k.client.count
+    ∙ ap (λ n. hint_of true held.known.client (left talk.client) ++ hint_of true held.known.server n ++ complaint_of end) k.server.count
+    ∙ ap (λ (known : Known). hint_of true known.client (left talk.client) ++ hint_of true known.server (left talk.server) ++ complaint_of end) k.known
 
 -- the last lines were written
-listing_written : (view : View) (marking : Marking) (before after : Streams) (opened stopped : Bool) (held : HeldTalk) (rest client server : List ℕ) (end : End) (output : Option (List ℕ)) → Follows view marking before after opened stopped held rest
-    → IsReadTo (end_of opened stopped rest) rest after.input → end ≡ end_of opened stopped rest → client ≡ hint_of true held.known.client held.client.left → server ≡ hint_of true held.known.server held.server.left
-    → Appends after.output output (held_last view held) → WritesListing view marking before (record { input = after.input; output = output }) end (client ++ server ++ complaint_of end)
-listing_written view marking before after opened stopped held rest client server end output f all ended c s last =
+listing_written : (view : View) (marking : Marking) (before after : Streams) (opened stopped : Bool) (held : HeldTalk) (rest said : List ℕ) (status : ℕ) (output : Option (List ℕ)) → Follows view marking before after opened stopped held rest
+    → IsReadTo (end_of opened stopped rest) rest after.input → status ≡ status_of (end_of opened stopped rest) → said ≡ held_said held (end_of opened stopped rest)
+    → Appends after.output output (held_last view held) → ListsRecording view marking before (record { input = after.input; output = output }) status said
+listing_written view marking before after opened stopped held rest said status output f all fine why last =
     let talk = f.tracks.talk in
-    let hints = hints_are held talk f.tracks.keeps in
+    let end = end_of opened stopped rest in
     record {
-      bytes = f.bytes;
-      output = f.lines ++ last_lines view talk;
-      received = f.received;
-      is = record { begun = opened; rest = rest; lines = f.lines; talk = talk; each = f.tracks.each; ending = subst (EndsBy opened rest) (sym ended) (ends_by opened stopped rest f.stays); text = refl };
-      all = subst (λ e. IsReadTo e rest after.input) (sym ended) all;
-      written = Appends-trans before.output after.output output f.lines (last_lines view talk) f.written (subst (Appends after.output output) (last_is view held talk f.tracks.keeps) last);
-      why = ap (λ l. l ++ server ++ complaint_of end) (c ∙ hints.0) ∙ ap (λ l. hint_of true talk.known.client (left talk.client) ++ l ++ complaint_of end) (s ∙ hints.1);
+      end = end;
+      listed = record {
+        bytes = f.bytes;
+        output = f.lines ++ last_lines view talk;
+        received = f.received;
+        is = record { begun = opened; rest = rest; lines = f.lines; talk = talk; each = f.tracks.each; ending = ends_by opened stopped rest f.stays; text = refl };
+        all = all;
+        written = Appends-trans before.output after.output output f.lines (last_lines view talk) f.written (subst (Appends after.output output) (last_is view held talk f.tracks.keeps) last);
+        why = why ∙ said_is held talk end f.tracks.keeps;
+      };
+      fine = fine;
     }
 
 -- or a front of them
@@ -355,16 +364,30 @@ last_cut view marking before after opened stopped held rest output f all last = 
 -- ---- what calls return of these
 
 module _ {E : Type 0} where
-  pub last_listed : (r : Result Said E) (view : View) (marking : Marking) (before after : Streams) (output : Option (List ℕ)) (opened stopped : Bool) (held : HeldTalk) (rest : List ℕ) → Follows view marking before after opened stopped held rest
+  pub last_listed : (r : Result Ended E) (view : View) (marking : Marking) (before after : Streams) (output : Option (List ℕ)) (opened stopped : Bool) (held : HeldTalk) (rest : List ℕ) → Follows view marking before after opened stopped held rest
       → IsReadTo (end_of opened stopped rest) rest after.input
-      → IfOk r (λ said. said.end ≡ end_of opened stopped rest) → IfOk r (λ said. said.client.now ≡ hint_of true held.known.client held.client.left) → IfOk r (λ said. said.server.now ≡ hint_of true held.known.server held.server.left)
+      → IfOk r (λ ended. ended.status ≡ status_of (end_of opened stopped rest)) → IfOk r (λ ended. ended.first.now ++ ended.second.now ++ ended.third.now ≡ held_said held (end_of opened stopped rest))
       → OnOk r (Appends after.output output (held_last view held))
-      → IfOk r (λ said. WritesListing view marking before (record { input = after.input; output = output }) said.end (said.client.now ++ said.server.now ++ complaint_of said.end))
-  last_listed (Err e) view marking before after output opened stopped held rest f all ended client server last = tt
-  last_listed (Ok said) view marking before after output opened stopped held rest f all ended client server last =
-      listing_written view marking before after opened stopped held rest said.client.now said.server.now said.end output f all ended client server last
+      → IfOk r (λ ended. ListsRecording view marking before (record { input = after.input; output = output }) ended.status (ended.first.now ++ ended.second.now ++ ended.third.now))
+  last_listed (Err e) view marking before after output opened stopped held rest f all fine said last = tt
+  last_listed (Ok ended) view marking before after output opened stopped held rest f all fine said last =
+      listing_written view marking before after opened stopped held rest (ended.first.now ++ ended.second.now ++ ended.third.now) ended.status output f all fine said last
 
-  pub last_broken : (r : Result Said E) (view : View) (marking : Marking) (before after : Streams) (output : Option (List ℕ)) (opened stopped : Bool) (held : HeldTalk) (rest : List ℕ) → Follows view marking before after opened stopped held rest
+  pub last_broken : (r : Result Ended E) (view : View) (marking : Marking) (before after : Streams) (output : Option (List ℕ)) (opened stopped : Bool) (held : HeldTalk) (rest : List ℕ) → Follows view marking before after opened stopped held rest
       → IsReadTo (end_of opened stopped rest) rest after.input → OnErr r (AppendsFront after.output output (held_last view held)) → OnErr r (IsCutShort view marking before (record { input = after.input; output = output }))
-  last_broken (Ok said) view marking before after output opened stopped held rest f all last = tt
+  last_broken (Ok ended) view marking before after output opened stopped held rest f all last = tt
   last_broken (Err e) view marking before after output opened stopped held rest f all last = inr (last_cut view marking before after opened stopped held rest output f all last)
+
+-- nothing is read any more
+pub last_breaks : (r : Result Ended Fault) (passed lacks gives_up : Type 0) (view : View) (marking : Marking) (before after : Streams) → OnErr r (IsCutShort view marking before after) → IfErr r (Caused lacks ⊥ gives_up)
+    → IfErr r (λ fault. BreaksOff passed view marking fault before after)
+last_breaks (Ok ended) passed lacks gives_up view marking before after cut cause = tt
+last_breaks (Err Memory) passed lacks gives_up view marking before after cut cause = cut
+last_breaks (Err Read) passed lacks gives_up view marking before after cut cause = absurd cause
+last_breaks (Err Write) passed lacks gives_up view marking before after cut cause = cut
+
+pub memory_breaks : (r : Result Ended Fault) (passed : Type 0) (view : View) (marking : Marking) (before after : Streams) → IfErr r (λ fault. fault ≡ Memory) → IsCutShort view marking before after → IfErr r (λ fault. BreaksOff passed view marking fault before after)
+memory_breaks (Ok ended) passed view marking before after lacks cut = tt
+memory_breaks (Err Memory) passed view marking before after lacks cut = cut
+memory_breaks (Err Read) passed view marking before after lacks cut = absurd cc
+memory_breaks (Err Write) passed view marking before after lacks cut = cut

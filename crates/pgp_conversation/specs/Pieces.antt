@@ -1,9 +1,9 @@
 -- Private: what a piece of a recording adds to its listing.
 use Rattle.std.specs.Prelude.{◌≡◌, ◌≢◌, ◌≤◌, ℕ, Bool, true, false, List, [], ◌++◌, length, Option}
-use Rattle.pgp_conversation.specs.Common.{Appends, AppendsFront, Consumes, Streams, View, Client, Server, End, Marking, Tally}
+use Rattle.pgp_conversation.specs.Common.{Appends, AppendsFront, Consumes, Streams, View, Client, Server, End, Marking, Tally, hint_of}
 use Rattle.pgp_conversation.specs.Requests.{summary_in, unnumbered}
 use Rattle.pgp_conversation.specs.Conversation.{Talk, at_first, first_start, last_of, told_by}
-use Rattle.pgp_conversation.specs.Recording.{IsNoChunk, IsPartial, magic}
+use Rattle.pgp_conversation.specs.Recording.{IsNoChunk, IsPartial, complaint_of, magic}
 use Rattle.pgp_conversation.specs.Session.{HasLines, IsReadTo}
 use Rattle.pgp_conversation.specs.Several.{AddsRecording}
 use Rattle.pgp_conversation.specs.Steps.{HeldHalf, HeldTalk, Keeps}
@@ -82,3 +82,7 @@ pub record IsFirst (marking : Marking) (begun : Bool) (held : HeldTalk) (rest : 
 abbrev pub held_last : View → HeldTalk → List ℕ
 held_last view held = ending_by view (summary_in held.known.numbers)
     (last_of view (told_by held.known.marked (unnumbered held.known.numbers)) Client held.client.stopped held.client.left ++ last_of view (told_by held.known.marked (unnumbered held.known.numbers)) Server held.server.stopped held.server.left)
+
+-- and what is to be said then
+abbrev pub held_said : HeldTalk → End → List ℕ
+held_said held end = hint_of true held.known.client held.client.left ++ hint_of true held.known.server held.server.left ++ complaint_of end

@@ -1,16 +1,15 @@
 //! Recordings in files.
 
 ghost use Rattle.std.specs.Prelude.{◌≡◌, ◌∷◌, ◌++◌, [], ℕ, List, Some, map, IfErr, IfOk, OnErr, OnOk};
-ghost use Rattle.pgp_conversation.specs.Common.{Appends, AppendsFront, Caused, Consumes, GivesUp, Keeps, streams};
+ghost use Rattle.pgp_conversation.specs.Common.{Appends, AppendsFront, Caused, Consumes, GivesUp, Keeps};
 ghost use Rattle.pgp_conversation.specs.Tables.{table};
 ghost use Rattle.pgp_conversation.specs.Recording.{complaint_of, status_of};
-ghost use Rattle.pgp_conversation.specs.Several.{AddsFiles, CutsFile, CutsTable, ListsFile, ListsRecording, ListsTable, worst};
-ghost use Rattle.pgp_conversation.specs.Session.{BreaksOff, IsCutShort, ReadsWhenReady};
+ghost use Rattle.pgp_conversation.specs.Several.{AddsFiles, CutsFile, CutsTable, ListsFile, ListsTable, worst};
 ghost use Rattle.pgp_trace.specs.Steps.{view_of};
 
 use crate::ending::{End, complaint_of, status_of};
 use crate::outcome::{Ended, with_status};
-use crate::session::{Said, list_session, put_lines, sum_session};
+use crate::session::{list_session, put_lines, sum_session};
 use crate::table::put_table;
 use pgp_line::fault::Fault;
 use pgp_line::ports::Output;
@@ -57,27 +56,6 @@ fn open<R: Recordings>(name: &str, input: &R) -> Result<R::File, Fault>
     }
 }
 
-/// Lists a recording.
-pub fn list_recording<A: MapMemory, R: Input, W: Output>(
-    alloc: A,
-    view: View<'_>,
-    marking: Marking,
-    input: &mut R,
-    output: &mut W,
-) -> Result<Ended, Fault>
-    requires live { ReadsWhenReady R.remaining W.contents W.Passed R.MayRead (view_of view) marking input.old output.old }
-    ensures passed { OnOk result (W.Passed output.new) }
-    ensures done { IfOk result (λ ended. ListsRecording (view_of view.entry) marking (streams (R.remaining input.old) (W.contents output.old)) (streams (R.remaining input.new) (W.contents output.new)) ended.status (ended.first.now ++ ended.second.now ++ ended.third.now)) }
-    ensures stops { IfErr result (λ fault. BreaksOff (W.Passed output.new) (view_of view.entry) marking fault (streams (R.remaining input.old) (W.contents output.old)) (streams (R.remaining input.new) (W.contents output.new))) }
-    ensures cut { OnErr result (IsCutShort (view_of view.entry) marking (streams (R.remaining input.old) (W.contents output.old)) (streams (R.remaining input.new) (W.contents output.new))) }
-    ensures cause { IfErr result (Caused A.Lacks (GivesUp R.Fails R.Called) (GivesUp W.Fails W.Interrupted)) }
-{
-    match list_session(alloc, view, marking, input, output) {
-        Ok(said) => Ok(ended_so(said)),
-        Err(fault) => Err(fault),
-    }
-}
-
 /// Lists the recording in this file.
 pub fn list_file<A: MapMemory, R: Recordings, W: Output>(
     alloc: A,
@@ -93,20 +71,7 @@ pub fn list_file<A: MapMemory, R: Recordings, W: Output>(
     ensures cause { IfErr result (Caused A.Lacks (GivesUp R.Fails R.Called) (GivesUp W.Fails W.Interrupted)) }
 {
     let mut file = open(name, input)?;
-    list_recording(alloc, view, marking, &mut file, output)
-}
-
-/// How the run ends that listed a recording of which this is to be said.
-fn ended_so(said: Said) -> Ended
-    ensures status { result.status ≡ status_of said.end }
-    ensures complaint { result.first.now ++ result.second.now ++ result.third.now ≡ said.client.now ++ said.server.now ++ complaint_of said.end }
-{
-    Ended {
-        status: status_of(said.end),
-        first: said.client,
-        second: said.server,
-        third: complaint_of(said.end),
-    }
+    list_session(alloc, view, marking, &mut file, output)
 }
 
 /// Writes the table of the recordings in these files.

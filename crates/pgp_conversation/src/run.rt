@@ -8,9 +8,9 @@ ghost use Rattle.pgp_conversation.specs.Command.{Asks, AsksSeveral, BreaksOff, D
 ghost use Rattle.pgp_conversation.specs.Command as spec;
 ghost use Rattle.pgp_conversation.specs.Session as recording;
 
-use crate::files::{Recordings, list_file, list_recording, list_table};
+use crate::files::{Recordings, list_file, list_table};
 use crate::outcome::{Ended, finished, refused, stopped, tell};
-use crate::session::summarized;
+use crate::session::{list_session, summarized};
 use pgp_base::Memory;
 use pgp_line::fault::Fault;
 use pgp_line::ports::{Output, Words};
@@ -209,7 +209,7 @@ fn list_sessions<A: MapMemory, R: Recordings, W: Output>(
     let view = session_by(options);
     let marking = options.marking;
     match options.files.as_slice() {
-        [] => list_recording(alloc, view, marking, input, output),
+        [] => list_session(alloc, view, marking, input, output),
         [name] => list_file(alloc, view, marking, name, input, output),
         names => list_table(alloc, view, marking, names, input, output),
     }

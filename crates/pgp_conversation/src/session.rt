@@ -1,24 +1,25 @@
 //! The listing of a recording, as it comes.
 
 ghost use Rattle.std.specs.Prelude.{◌≡◌, ◌≤◌, ◌<◌, ◌++◌, ◌⊎◌, ℕ, Bool, List, [], false, true, drop, length, IfErr, IfOk, OnErr, OnOk, string_bytes};
-ghost use Rattle.pgp_conversation.specs.Common.{Appends, Keeps, GivesUp, Caused, AppendsFront, hint_of, streams};
+ghost use Rattle.pgp_conversation.specs.Common.{Appends, Keeps, GivesUp, Caused, AppendsFront, streams};
 ghost use Rattle.pgp_trace.specs.Steps.{view_of};
 ghost use Rattle.pgp_trace.specs.declared.marking.Marking.{Marking as Marks};
 ghost use Rattle.pgp_conversation.specs.Conversation.{first_start};
-ghost use Rattle.pgp_conversation.specs.Pieces.{Follows, IsFirst, ListsAllChunks, ListsPiece, ListsSome, SumsRecording, Tracks, held_first, held_last, held_nothing};
-ghost use Rattle.pgp_conversation.specs.Recording.{complaint_of};
-ghost use Rattle.pgp_conversation.specs.Session.{CutsLines, IsCutShort, IsReadTo, ReadsWhenReady, WasListed, WritesListing, summarized};
-ghost use Rattle.pgp_conversation.specs.Several.{tallies_in};
+ghost use Rattle.pgp_conversation.specs.Pieces.{Follows, IsFirst, ListsAllChunks, ListsPiece, ListsSome, SumsRecording, Tracks, held_first, held_last, held_nothing, held_said};
+ghost use Rattle.pgp_conversation.specs.Recording.{status_of};
+ghost use Rattle.pgp_conversation.specs.Session.{BreaksOff, CutsLines, IsCutShort, IsReadTo, ReadsWhenReady, WasListed, summarized};
+ghost use Rattle.pgp_conversation.specs.Several.{ListsRecording, tallies_in};
 ghost use Rattle.pgp_conversation.specs.Steps.{end_of, half_of, kept_of};
 ghost use Rattle.pgp_summary.specs.Runs.{tally_after};
 ghost use Rattle.std.specs.Option.{option_map};
 
 use crate::chunk::{Part, first_part};
 use crate::connection::{Half, Talk, list_chunk};
-use crate::ending::{End, end_of};
+use crate::ending::{End, complaint_of, end_of, status_of};
 use crate::frames::{Texts, no_texts};
 use crate::last::add_end;
 use crate::numbers::summary_of;
+use crate::outcome::Ended;
 use crate::state::{at_first, is_replicating};
 use bytes::{Buf, BytesMut};
 use pgp_base::Memory;
@@ -49,14 +50,6 @@ struct Held<A: MapMemory> {
     texts: Texts<A>,
 }
 
-/// How a recording ends, and what is to be said of bytes of both sides that are left.
-#[derive(Debug, Clone, Copy)]
-pub struct Said {
-    pub client: &'static str,
-    pub server: &'static str,
-    pub end: End,
-}
-
 /// Lists a recording, as it comes: the lines of all frames that are whole with a chunk are written and passed on before more is read. Of what is no
 /// recording, and of what comes after the last chunk where no other follows, no more is read.
 ///
@@ -69,12 +62,11 @@ pub fn list_session<A: MapMemory, R: Input, W: Output>(
     marking: Marking,
     input: &mut R,
     output: &mut W,
-) -> Result<Said, Fault>
+) -> Result<Ended, Fault>
     requires live { ReadsWhenReady R.remaining W.contents W.Passed R.MayRead (view_of view) marking input.old output.old }
-    ensures listed { IfOk result (λ said. WritesListing (view_of view.entry) marking (streams (R.remaining input.old) (W.contents output.old)) (streams (R.remaining input.new) (W.contents output.new)) said.end (said.client.now ++ said.server.now ++ complaint_of said.end)) }
-    ensures live { IfErr result (λ fault. fault ≡ Fault.Read → WasListed (view_of view.entry) marking (streams (R.remaining input.old) (W.contents output.old)) (streams (R.remaining input.new) (W.contents output.new))) }
-    ensures passed { IfErr result (λ fault. fault ≡ Fault.Read → Keeps (W.contents output.old) (W.contents output.new) ⊎ W.Passed output.new) }
-    ensures done { OnOk result (W.Passed output.new) }
+    ensures passed { OnOk result (W.Passed output.new) }
+    ensures done { IfOk result (λ ended. ListsRecording (view_of view.entry) marking (streams (R.remaining input.old) (W.contents output.old)) (streams (R.remaining input.new) (W.contents output.new)) ended.status (ended.first.now ++ ended.second.now ++ ended.third.now)) }
+    ensures stops { IfErr result (λ fault. BreaksOff (W.Passed output.new) (view_of view.entry) marking fault (streams (R.remaining input.old) (W.contents output.old)) (streams (R.remaining input.new) (W.contents output.new))) }
     ensures cut { OnErr result (IsCutShort (view_of view.entry) marking (streams (R.remaining input.old) (W.contents output.old)) (streams (R.remaining input.new) (W.contents output.new))) }
     ensures cause { IfErr result (Caused A.Lacks (GivesUp R.Fails R.Called) (GivesUp W.Fails W.Interrupted)) }
 {
@@ -98,14 +90,13 @@ fn list_held<A: MapMemory, R: Input, W: Output>(
     piece: &mut [u8],
     held: &mut Held<A>,
     output: &mut W,
-) -> Result<Said, Fault>
+) -> Result<Ended, Fault>
     requires some { 0 < length piece.old }
     requires first { IsFirst marking held.old.begun (kept_of held.old.talk) held.old.bytes.items }
     requires live { ReadsWhenReady R.remaining W.contents W.Passed R.MayRead (view_of view) marking input.old output.old }
-    ensures listed { IfOk result (λ said. WritesListing (view_of view.entry) marking (streams (R.remaining input.old) (W.contents output.old)) (streams (R.remaining input.new) (W.contents output.new)) said.end (said.client.now ++ said.server.now ++ complaint_of said.end)) }
-    ensures live { IfErr result (λ fault. fault ≡ Fault.Read → WasListed (view_of view.entry) marking (streams (R.remaining input.old) (W.contents output.old)) (streams (R.remaining input.new) (W.contents output.new))) }
-    ensures passed { IfErr result (λ fault. fault ≡ Fault.Read → Keeps (W.contents output.old) (W.contents output.new) ⊎ W.Passed output.new) }
-    ensures done { OnOk result (W.Passed output.new) }
+    ensures passed { OnOk result (W.Passed output.new) }
+    ensures done { IfOk result (λ ended. ListsRecording (view_of view.entry) marking (streams (R.remaining input.old) (W.contents output.old)) (streams (R.remaining input.new) (W.contents output.new)) ended.status (ended.first.now ++ ended.second.now ++ ended.third.now)) }
+    ensures stops { IfErr result (λ fault. BreaksOff (W.Passed output.new) (view_of view.entry) marking fault (streams (R.remaining input.old) (W.contents output.old)) (streams (R.remaining input.new) (W.contents output.new))) }
     ensures cut { OnErr result (IsCutShort (view_of view.entry) marking (streams (R.remaining input.old) (W.contents output.old)) (streams (R.remaining input.new) (W.contents output.new))) }
     ensures cause { IfErr result (Caused A.Lacks (GivesUp R.Fails R.Called) (GivesUp W.Fails W.Interrupted)) }
 {
@@ -357,10 +348,9 @@ fn list_last<A: MapMemory, W: Output>(
     stopped: bool,
     held: &mut Held<A>,
     output: &mut W,
-) -> Result<Said, Fault>
-    ensures end { IfOk result (λ said. said.end ≡ end_of held.old.begun stopped held.old.bytes.items) }
-    ensures client { IfOk result (λ said. said.client.now ≡ hint_of true (kept_of held.old.talk).known.client held.old.talk.client.left) }
-    ensures server { IfOk result (λ said. said.server.now ≡ hint_of true (kept_of held.old.talk).known.server held.old.talk.server.left) }
+) -> Result<Ended, Fault>
+    ensures status { IfOk result (λ ended. ended.status ≡ status_of (end_of held.old.begun stopped held.old.bytes.items)) }
+    ensures said { IfOk result (λ ended. ended.first.now ++ ended.second.now ++ ended.third.now ≡ held_said (kept_of held.old.talk) (end_of held.old.begun stopped held.old.bytes.items)) }
     ensures all { OnOk result (Appends (W.contents output.old) (W.contents output.new) (held_last (view_of view.entry) (kept_of held.old.talk))) }
     ensures some { OnErr result (AppendsFront (W.contents output.old) (W.contents output.new) (held_last (view_of view.entry) (kept_of held.old.talk))) }
     ensures passed { OnOk result (W.Passed output.new) }
@@ -375,9 +365,11 @@ fn list_last<A: MapMemory, W: Output>(
         kinds: known.kinds.as_slice(),
         replicating: is_replicating(known.phase),
     };
-    Ok(Said {
-        client: hint_of(true, client, held.talk.client.left),
-        server: hint_of(true, Side::Server(known.phase), held.talk.server.left),
-        end: end_of(held.begun, stopped, held.bytes.as_slice()),
+    let end = end_of(held.begun, stopped, held.bytes.as_slice());
+    Ok(Ended {
+        status: status_of(end),
+        first: hint_of(true, client, held.talk.client.left),
+        second: hint_of(true, Side::Server(known.phase), held.talk.server.left),
+        third: complaint_of(end),
     })
 }

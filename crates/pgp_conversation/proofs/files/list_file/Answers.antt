@@ -4,11 +4,11 @@ use Rattle.pgp_conversation.proofs.files.list_file.Goals as goal
 
 pub returns-clause-done : goal.returns-clause-done
 returns-clause-done g c =
-    file_listed g.R.Recordings.Gives (view_of c.args.view) c.args.marking c.args.name.now _ _ c.in_ok-file.ensures.gives c.list_recording.result (g.W.Write.contents c.args.output.now) (g.W.Write.contents c.list_recording.new.output) c.list_recording.ensures.done
+    file_listed g.R.Recordings.Gives (view_of c.args.view) c.args.marking c.args.name.now _ _ c.in_ok-file.ensures.gives c.list_session.result (g.W.Write.contents c.args.output.now) (g.W.Write.contents c.list_session.new.output) c.list_session.ensures.done
 
 pub returns-clause-stops : goal.returns-clause-stops
 returns-clause-stops g c =
-    file_cut g.R.Recordings.Gives (view_of c.args.view) c.args.marking c.args.name.now _ _ c.in_ok-file.ensures.gives c.list_recording.result (g.W.Write.contents c.args.output.now) (g.W.Write.contents c.list_recording.new.output) c.list_recording.ensures.cut
+    file_cut g.R.Recordings.Gives (view_of c.args.view) c.args.marking c.args.name.now _ _ c.in_ok-file.ensures.gives c.list_session.result (g.W.Write.contents c.args.output.now) (g.W.Write.contents c.list_session.new.output) c.list_session.ensures.cut
 
 pub returns-clause-cause : goal.returns-clause-cause
-returns-clause-cause g c = caused_so c.list_recording.result _ _ _ _ c.in_ok-file.ensures.gives_up c.list_recording.ensures.cause
+returns-clause-cause g c = caused_so c.list_session.result _ _ _ _ c.in_ok-file.ensures.gives_up c.list_session.ensures.cause
