@@ -38,7 +38,7 @@ unfoldable pub use Rattle.pgp_conversation.specs.Marks.{millis, number}
 pub use Rattle.pgp_conversation.specs.Pieces.{Follows, SumsRecording, ListsAllChunks, ListsPiece, ListsSome, Stays, Tracks, TracksTo, held_first, held_last}
 pub use Rattle.pgp_conversation.specs.Recording.{Chunk, IsShort, status_of, arrow, magic, EndsBy, IsChunk, IsNoChunk, IsPartial, Records, chunk_bytes, beginning, complaint_of}
 pub use Rattle.pgp_conversation.specs.Requests.{asked_by, heard_as, kind_by, Numbers, at_time, role_by, told_in, role_in, asking, summary_in, unnumbered, first_numbers, placed, tell, notes_nothing}
-pub use Rattle.pgp_conversation.specs.Session.{CutsLines, CutsListing, HasLines, IsListing, Awaits, IsCutShort, IsReadTo, IsReady, WasListed, WritesListing, summarized}
+pub use Rattle.pgp_conversation.specs.Session.{CutsLines, CutsListing, HasLines, IsListing, Awaits, IsCutShort, IsReadTo, IsReady, WasListed, summarized}
 pub use Rattle.pgp_conversation.specs.Shelves.{formatted, formatted_from, is_binary}
 pub use Rattle.pgp_conversation.specs.Steps.{ListsBytes, ListsChunkTo, HeldHalf, HeldTalk, Holds, Keeps, ListsAllFrames, TakesChunk, ListsOneFrame, known_of, TakesPart, chunk_of, end_of, numbers_in, half_of, kept_of, KnowsNext}
 pub use Rattle.pgp_conversation.specs.Summing.{asking_from, asking_of, asking_in, summed, Asking, summed_so}

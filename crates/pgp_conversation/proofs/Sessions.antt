@@ -1,5 +1,5 @@
 -- The listing of a recording, a chunk and a piece at a time.
-use Rattle.pgp_conversation.proofs.Common.{◌≡◌, ◌≢◌, ◌⊎◌, ℕ, ◌+◌, ◌-◌, ◌≤◌, Bool, true, false, List, [], ◌∷◌, ◌++◌, length, drop, Option, Result, Ok, Err, refl, sym, ap, subst, ◌∙◌, arith, inl, inr, append_assoc, length-append, IfErr, IfOk, OnErr, OnOk, Appends, Consumes, IsAtEnd, flat_map, AllByRecursion, Appends-nil, Appends-trans, Consumes-nil, Consumes-trans, Consumes-kept, append-nil, drop-drop, drop-append_seam, flat_map-cons, flat_map-append, Streams, AppendsFront, View, nothing_ends, none_taken, all_taken, more_taken, Client, Server, End, Marking, Known, NoChunkListed, OneChunkListed, Talk, at_first, begins, first_start, last_lines, last_of, left, told_by, Follows, ListsAllChunks, ListsPiece, ListsSome, Stays, Tracks, TracksTo, held_first, held_last, summary_in, unnumbered, ending_by, Chunk, EndsBy, IsChunk, IsPartial, Records, beginning, chunk_bytes, complaint_of, magic, Awaits, CutsLines, CutsListing, IsCutShort, HasLines, IsReadTo, IsReady, WasListed, WritesListing, ListsChunkTo, HeldTalk, Keeps, TakesChunk, TakesPart, chunk_of, end_of, hint_of}
+use Rattle.pgp_conversation.proofs.Common.{◌≡◌, ◌≢◌, ◌⊎◌, ℕ, ◌+◌, ◌-◌, ◌≤◌, Bool, true, false, List, [], ◌∷◌, ◌++◌, length, drop, Option, Result, Ok, Err, refl, sym, ap, subst, ◌∙◌, arith, inl, inr, append_assoc, length-append, IfErr, IfOk, OnErr, OnOk, Appends, Consumes, IsAtEnd, flat_map, AllByRecursion, Appends-nil, Appends-trans, Consumes-nil, Consumes-trans, Consumes-kept, append-nil, drop-drop, drop-append_seam, flat_map-cons, flat_map-append, Streams, AppendsFront, View, nothing_ends, none_taken, all_taken, more_taken, Client, Server, End, Marking, Known, NoChunkListed, OneChunkListed, Talk, at_first, begins, first_start, last_lines, last_of, left, told_by, Follows, ListsAllChunks, ListsPiece, ListsSome, Stays, Tracks, TracksTo, held_first, held_last, summary_in, unnumbered, ending_by, Chunk, EndsBy, IsChunk, IsPartial, Records, beginning, chunk_bytes, complaint_of, magic, Awaits, CutsLines, CutsListing, IsCutShort, HasLines, IsReadTo, IsReady, WasListed, ListsChunkTo, HeldTalk, Keeps, TakesChunk, TakesPart, chunk_of, end_of, hint_of}
 use Rattle.std.specs.Io.KnownBytes.{Keeps as Same}
 use Rattle.pgp_conversation.specs.declared.chunk.Chunk as code
 use Rattle.pgp_conversation.specs.declared.chunk.Part.TheVariants as part
