@@ -1,7 +1,7 @@
 """run.py PLACE VERSION [refused]: runs programs on the runs that are stored here (NAME.runs of the program NAME) and on those that crates/pgtrace/expected
 works out of its tables, and compares what each comes to: its output, what it says on standard error, and its status. PLACE has `%s` where the name stands.
-With `refused`, a request of memory of each run is refused, the first, then the second, until none is: a front of the output is written and the lack is
-reported, or the run ends as ever, where room was asked for ahead. (That is for programs of Rattle's compilers: Rust's own `std` aborts.)
+With `refused` they are run with one request of memory refused, each of the first 32 in turn and then fewer, but not on a terminal: a front of the output is
+written and the lack is reported, or the run ends as ever, where room was asked for ahead. (For programs of Rattle's compilers: Rust's own `std` aborts.)
 
 A file of runs has blocks, a word at the front of each, with lines of four spaces under it; a line that begins with `#` is a comment:
     bytes NAME     bytes that have a name, over lines: `\\0`, `\\n`, `\\\\` and `\\x` with two digits stand for a byte, and `*N ` at the front of a line for N times
