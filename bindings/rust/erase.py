@@ -58,7 +58,7 @@ def erase(text):
     text = TACTIC.sub('', GHOST_USE.sub('', text))
     text = without_blocks(text, GHOST, r'[;,]?\n?')
     text = without_blocks(text, MODEL, r'\n?')
-    text = text.replace('use std::marker::Model;\n', '')
+    text = text.replace('use std::marker::Model;\n', '').replace('marker::{Model, ', 'marker::{')
     return without_drop(without_clauses(text))
 
 

@@ -30,8 +30,6 @@ import client  # noqa: E402
 import objects  # noqa: E402
 
 ESCAPE = re.compile(rb'\\(?:(0)|(n)|(\\)|x([0-9a-f]{2}))')
-# What is said where a request of memory is refused: of pgserve also by clap, and by what shows the error of a `main`.
-LACKS = {'pgserve': rb'(?:pgserve|error): out of memory\n|Error: Kind\(OutOfMemory\)\n'}
 PART = re.compile(rb'\{(\w+)(?:\[(\d*):(-?\d*)\])?\}')
 
 
@@ -156,7 +154,7 @@ def refused(library, name, run, program):
         os.close(tells)
         is_refused = os.read(told, 1) == b'!'
         os.close(told)
-        lacks = re.fullmatch(LACKS.get(name, rb'%s: out of memory\n' % name.encode()), came[1]) and came[2] == (2 if came[1].startswith(b'error') else 1)
+        lacks = came[1:] == (b'%s: out of memory\n' % name.encode(), 1)
         yield came, came == run.wanted() or is_refused and lacks and run.output.startswith(came[0])
         number += 1 + number // 32
 

@@ -55,8 +55,8 @@ pub use Rattle.pgp_message.proofs.ErrorFieldLemmas.{error_field_reader, error_fi
 pub use Rattle.pgp_message.proofs.NumberLemmas.{format_reader, type_reader}
 pub use Rattle.pgp_message.proofs.TextLemmas.{text_reader}
 pub use Rattle.pgp_message.specs.BackendMessage.{AuthenticationOk, AuthenticationKerberosV5, AuthenticationCleartextPassword, AuthenticationMd5Password, AuthenticationScmCredential, AuthenticationGss, AuthenticationGssContinue, AuthenticationSspi, AuthenticationSasl, AuthenticationSaslContinue, AuthenticationSaslFinal, Message, NegotiateProtocolVersion, NotificationResponse, CommandComplete, DataRow, ErrorResponse, CopyInResponse, CopyOutResponse, BackendKeyData, NoticeResponse, Authentication, ParameterStatus, RowDescription, ReadyForQuery, ParameterDescription, payload_of}
-pub use Rattle.pgp_message.specs.ItemReading.{error_field_at, format_at, type_at, range_at}
-unfoldable pub use Rattle.pgp_message.specs.ItemReading.{field_at}
+pub use Rattle.pgp_message.specs.ItemReading.{error_field_at, field_at, format_at, type_at, range_at}
+unfoldable pub use Rattle.pgp_message.specs.ItemReading.{column_at}
 pub use Rattle.pgp_message.specs.Items.{IsValue, RangeSpelled, ErrorPart, FieldPart, FieldSpelled, FieldRefused, TextSpelled, TextRefused, FormatSpelled, FormatRefused, TypeSpelled, TypeRefused, ErrorFieldSpelled, ErrorFieldRefused, RangeRefused}
 pub use Rattle.pgp_message_write.specs.Given.{GivenRefused, WritesGiven, uncounted}
 pub use Rattle.pgp_message_write.specs.Lists.{format_parts, type_parts, with_list, column_parts, field_parts, text_parts, value_parts, wide_list, counted_list, lent, marked_list}

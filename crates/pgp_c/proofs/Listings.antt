@@ -1,5 +1,5 @@
 -- The items that are read at the front stand at their places among the bytes.
-use Rattle.pgp_c.proofs.Common.{◌≡◌, ℕ, ◌+◌, ◌<◌, ◌≤◌, List, [], ◌∷◌, ◌++◌, length, take, drop, Option, Some, None, Result, Ok, Err, refl, sym, ap, subst, ◌∙◌, arith, take-append-drop, drop-append_seam, take-append_seam, StandsAt, IsReader, ◌>>=◌, text_at, IsBytes, text, Error, UnexpectedEof, error_field_at, field_at, ErrorPart, FieldPart, error_field_reader, text_reader, StandsFrom}
+use Rattle.pgp_c.proofs.Common.{◌≡◌, ℕ, ◌+◌, ◌<◌, ◌≤◌, List, [], ◌∷◌, ◌++◌, length, take, drop, Option, Some, None, Result, Ok, Err, refl, sym, ap, subst, ◌∙◌, arith, take-append-drop, drop-append_seam, take-append_seam, StandsAt, IsReader, ◌>>=◌, text_at, IsBytes, text, Error, UnexpectedEof, error_field_at, column_at, field_at, ErrorPart, FieldPart, error_field_reader, text_reader, StandsFrom}
 use Rattle.std.proofs.lemmas.List.{length-append, append_assoc}
 use Rattle.pgp_message.specs.ItemReading.{numbers_at}
 use Rattle.pgp_c.proofs.Walks.{drop-drop}
@@ -50,11 +50,11 @@ error_value_fits rest x more each is =
 
 -- a column's description: the name, and the numbers after it
 pub field_of_parts : (rest name behind : List ℕ) (r : Result (FieldPart × List ℕ) Error) → text_at rest ≡ Ok (name, behind) → numbers_at name behind ≡ r → field_at rest ≡ r
-unfolding field_at
+unfolding column_at
 field_of_parts rest name behind r text numbers = rw text numbers
 
 pub field_of_no_text : (rest : List ℕ) (e : Error) → text_at rest ≡ Err e → field_at rest ≡ Err e
-unfolding field_at
+unfolding column_at
 field_of_no_text rest e text = rw text refl
 
 -- a number alone is an item

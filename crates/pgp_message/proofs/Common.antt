@@ -8,6 +8,7 @@ pub use Rattle.std.proofs.lemmas.List.Concat.{flat_map-cons}
 pub use Rattle.std.proofs.lemmas.Nat.{be_bytes_4, from_be_bytes-to_be_bytes_4}
 pub use Rattle.std.specs.Int.{w32, from_be_bytes, w16, cast_signed, cast_unsigned}
 pub use Rattle.std.specs.Int.Signed.{lt_z, lt_z_yes, lt_z_no}
+pub use Rattle.std.specs.Str.{IsUtf8}
 pub use Rattle.std.specs.List.{slice_get, AllByRecursion, flat_map, concat}
 pub use Rattle.std.specs.Prelude.{nat_lt, if◌then◌else◌, IfSome, ◌⊎◌, not, ◌<ℤ◌, ◌≤ℤ◌, MatchResult, IsOkAnd}
 pub use Rattle.std.specs.declared.ops.Range.{Range}
@@ -30,9 +31,9 @@ pub use Rattle.pgp_message.specs.Found.{Found, FindsFrames, FindsAll, AreFrames,
 pub use Rattle.pgp_message.specs.FrameSteps.{TakesOnto}
 pub use Rattle.pgp_message.specs.FrontReading.{Front, IsFront, announced, front_frame, Finds}
 pub use Rattle.pgp_message.specs.Header.{HeaderPart, IsHeader}
-pub use Rattle.pgp_message.specs.ItemReading.{numbers_after, format_at, type_at, range_after, numbers_behind, raw_string_at, whole_string}
-unfoldable pub use Rattle.pgp_message.specs.ItemReading.{error_field_at, numbers_at, field_at, range_at, raw_field_at}
-pub use Rattle.pgp_message.specs.Items.{ErrorPart, ErrorFieldSpelled, ErrorFieldRefused, TextRefused, FieldPart, numbers_of, NumbersFit, FieldSpelled, FieldRefused, FormatSpelled, FormatRefused, TypeSpelled, TypeRefused, RangeSpelled, RangeRefused, StringSpelled, StringRefused, RawFieldSpelled, RawFieldRefused, TextSpelled}
+pub use Rattle.pgp_message.specs.ItemReading.{numbers_after, format_at, type_at, range_after, raw_string_at, whole_string, field_at, raw_field_at}
+unfoldable pub use Rattle.pgp_message.specs.ItemReading.{error_field_at, numbers_at, column_at, range_at}
+pub use Rattle.pgp_message.specs.Items.{AnyBytes, ErrorPart, ErrorFieldSpelled, ErrorFieldRefused, NameSpelled, NameRefused, TextRefused, FieldPart, numbers_of, NumbersFit, ColumnSpelled, ColumnRefused, FieldSpelled, FieldRefused, FormatSpelled, FormatRefused, TypeSpelled, TypeRefused, RangeSpelled, RangeRefused, StringSpelled, StringRefused, RawFieldSpelled, RawFieldRefused, TextSpelled}
 pub use Rattle.pgp_message.specs.Parts.{KeyData, CountedBytes, Negotiation, CopyFormats, Notification, Setting}
 pub use Rattle.pgp_message.specs.Reading.{ended, made, key_of, options_of}
 unfoldable pub use Rattle.pgp_message.specs.Reading.{byte_of, string_of, setting_of, notification_of, key_data_of, negotiation_of, counted_of, copy_of, request_of, bare_of, body_of, salt_of, count_at, bare_request, by_code}

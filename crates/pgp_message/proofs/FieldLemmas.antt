@@ -1,6 +1,7 @@
 -- The columns of a row are read as they are spelled.
-use Rattle.pgp_message.proofs.Common.{◌≡◌, ℕ, ℤ, ◌+◌, ◌<◌, ◌^◌, List, [], ◌∷◌, ◌++◌, length, Some, Result, Ok, Err, refl, sym, ap, subst, ◌∙◌, append_assoc, arith, inl, inr, length-append, FitsSigned, w16, w32, from_be_bytes, cast_signed, Error, UnexpectedEof, NotUtf8, int16, int32, oid, text, IsBytes, StandsAt, IsReader, ◌>>=◌, oid_at, int16_at, int32_at, text_at, ok_is, differ, IsBytes-after, err, err_is, bind_ok, bind_err, oid_number, int16_number, int32_number, number_takes, number_again, number_short, front_falls, TextRefused, FieldPart, numbers_of, NumbersFit, FieldSpelled, FieldRefused, numbers_at, numbers_after, field_at}
-use Rattle.pgp_message.proofs.TextLemmas.{text_reader, text_is_refused, text_refuses}
+use Rattle.pgp_message.proofs.Common.{◌≡◌, ℕ, ℤ, ◌+◌, ◌<◌, ◌^◌, List, [], ◌∷◌, ◌++◌, length, Some, Result, Ok, Err, refl, sym, ap, subst, ◌∙◌, append_assoc, arith, inl, inr, length-append, FitsSigned, w16, w32, from_be_bytes, cast_signed, Error, UnexpectedEof, NotUtf8, int16, int32, oid, text, IsBytes, StandsAt, IsReader, ◌>>=◌, oid_at, int16_at, int32_at, text_at, ok_is, differ, IsBytes-after, err, err_is, bind_ok, bind_err, oid_number, int16_number, int32_number, number_takes, number_again, number_short, front_falls, AnyBytes, NameSpelled, NameRefused, FieldPart, numbers_of, NumbersFit, ColumnSpelled, ColumnRefused, FieldSpelled, FieldRefused, RawFieldSpelled, RawFieldRefused, numbers_at, numbers_after, column_at, field_at, raw_field_at, raw_string_at, IsUtf8}
+use Rattle.pgp_message.proofs.RawLemmas.{string_reader}
+use Rattle.pgp_message.proofs.TextLemmas.{text_reader}
 
 abbrev oid_value : List ℕ → ℕ
 oid_value l = from_be_bytes w32 l
@@ -151,59 +152,66 @@ short_numbers name rest short =
     by_result (numbers_at name rest) refl
 
 -- a name first, then the numbers
-after_found : (place : ℕ) (bytes : List ℕ) (t : Result (List ℕ × List ℕ) Error) (x : FieldPart) (after : List ℕ) → IsBytes bytes → text_at bytes ≡ t → numbers_after t ≡ Ok (x, after) → StandsAt FieldSpelled place bytes x after
-after_found place bytes (Err e) x after h is e' = absurd (differ (x, after) e (sym e'))
-after_found place bytes (Ok s) x after h is e' =
-    let named = text_reader.found place bytes s.0 s.1 h is in
-    let name : named.front ≡ text s.0 = named.spelled.parts in
-    let tail : IsBytes s.1 = IsBytes-after named.front s.1 bytes named.whole h in
-    let n = numbers_found s.0 s.1 x after tail e' in
-    record {
-      front = text s.0 ++ numbers_of x;
-      whole = named.whole ∙ ap (λ l. l ++ s.1) name ∙ ap (λ l. text s.0 ++ l) n.parts ∙ sym (append_assoc (text s.0) (numbers_of x) after);
-      spelled = record { no_zero = rw n.name_is named.spelled.no_zero; utf8 = rw n.name_is named.spelled.utf8; fits = n.fits; parts = ap (λ z. text z ++ numbers_of x) (sym n.name_is) };
-    }
+module _ (IsName : List ℕ → Type 0) (name_at : List ℕ → Result (List ℕ × List ℕ) Error) (names : IsReader (NameSpelled IsName) (NameRefused IsName) (λ place. name_at)) where
+  after_found : (place : ℕ) (bytes : List ℕ) (t : Result (List ℕ × List ℕ) Error) (x : FieldPart) (after : List ℕ) → IsBytes bytes → name_at bytes ≡ t → numbers_after t ≡ Ok (x, after) → StandsAt (ColumnSpelled IsName) place bytes x after
+  after_found place bytes (Err e) x after h is e' = absurd (differ (x, after) e (sym e'))
+  after_found place bytes (Ok s) x after h is e' =
+      let named = names.found place bytes s.0 s.1 h is in
+      let name : named.front ≡ text s.0 = named.spelled.parts in
+      let tail : IsBytes s.1 = IsBytes-after named.front s.1 bytes named.whole h in
+      let n = numbers_found s.0 s.1 x after tail e' in
+      record {
+        front = text s.0 ++ numbers_of x;
+        whole = named.whole ∙ ap (λ l. l ++ s.1) name ∙ ap (λ l. text s.0 ++ l) n.parts ∙ sym (append_assoc (text s.0) (numbers_of x) after);
+        spelled = record { no_zero = rw n.name_is named.spelled.no_zero; is = rw n.name_is named.spelled.is; fits = n.fits; parts = ap (λ z. text z ++ numbers_of x) (sym n.name_is) };
+      }
 
-found : (place : ℕ) (bytes : List ℕ) (x : FieldPart) (after : List ℕ) → IsBytes bytes → field_at bytes ≡ Ok (x, after) → StandsAt FieldSpelled place bytes x after
-unfolding field_at
-found place bytes x after h e = after_found place bytes (text_at bytes) x after h refl e
+  found : (place : ℕ) (bytes : List ℕ) (x : FieldPart) (after : List ℕ) → IsBytes bytes → column_at name_at bytes ≡ Ok (x, after) → StandsAt (ColumnSpelled IsName) place bytes x after
+  unfolding column_at
+  found place bytes x after h e = after_found place bytes (name_at bytes) x after h refl e
 
-again : (place : ℕ) (x : FieldPart) (front after : List ℕ) → FieldSpelled place x front → field_at (front ++ after) ≡ Ok (x, after)
-unfolding field_at
-again place x front after s =
-    let whole : front ++ after ≡ text x.name ++ (numbers_of x ++ after) = ap (λ l. l ++ after) s.parts ∙ append_assoc (text x.name) (numbers_of x) after in
-    let name : text_at (front ++ after) ≡ Ok (x.name, numbers_of x ++ after) =
-    rw whole (text_reader.again place x.name (text x.name) (numbers_of x ++ after) (record { no_zero = s.no_zero; utf8 = s.utf8; parts = refl })) in
-    ap numbers_after name ∙ numbers_again x after s.fits
+  again : (place : ℕ) (x : FieldPart) (front after : List ℕ) → ColumnSpelled IsName place x front → column_at name_at (front ++ after) ≡ Ok (x, after)
+  unfolding column_at
+  again place x front after s =
+      let whole : front ++ after ≡ text x.name ++ (numbers_of x ++ after) = ap (λ l. l ++ after) s.parts ∙ append_assoc (text x.name) (numbers_of x) after in
+      let name : name_at (front ++ after) ≡ Ok (x.name, numbers_of x ++ after) =
+      rw whole (names.again place x.name (text x.name) (numbers_of x ++ after) (record { no_zero = s.no_zero; is = s.is; parts = refl })) in
+      ap numbers_after name ∙ numbers_again x after s.fits
 
--- what rejects a text rejects a field
-of_name : (bytes : List ℕ) (e : Error) → TextRefused bytes e → FieldRefused bytes e
-of_name bytes UnexpectedEof h = inl h
-of_name bytes NotUtf8 h = h
-of_name bytes e h = absurd h
+  -- what rejects a name rejects a column
+  of_name : (bytes : List ℕ) (e : Error) → NameRefused IsName bytes e → ColumnRefused IsName bytes e
+  of_name bytes UnexpectedEof h = inl h
+  of_name bytes NotUtf8 h = h
+  of_name bytes e h = absurd h
 
-after_refused : (place : ℕ) (bytes : List ℕ) (t : Result (List ℕ × List ℕ) Error) (e : Error) → IsBytes bytes → text_at bytes ≡ t → numbers_after t ≡ Err e → FieldRefused bytes e
-after_refused place bytes (Err d) e h is e' = of_name bytes e (text_is_refused place bytes e h (is ∙ ap err (err_is {A = FieldPart × List ℕ} d e e')))
-after_refused place bytes (Ok s) e h is e' =
-    let named = text_reader.found place bytes s.0 s.1 h is in
-    let cut = numbers_refused s.0 s.1 e e' in
-    subst (FieldRefused bytes) (sym cut.is) (inr (record { name = s.0; more = s.1; no_zero = named.spelled.no_zero; utf8 = named.spelled.utf8; parts = named.whole ∙ ap (λ l. l ++ s.1) named.spelled.parts; short = cut.short }))
+  after_refused : (place : ℕ) (bytes : List ℕ) (t : Result (List ℕ × List ℕ) Error) (e : Error) → IsBytes bytes → name_at bytes ≡ t → numbers_after t ≡ Err e → ColumnRefused IsName bytes e
+  after_refused place bytes (Err d) e h is e' = of_name bytes e (names.refused place bytes e h (is ∙ ap err (err_is {A = FieldPart × List ℕ} d e e')))
+  after_refused place bytes (Ok s) e h is e' =
+      let named = names.found place bytes s.0 s.1 h is in
+      let cut = numbers_refused s.0 s.1 e e' in
+      subst (ColumnRefused IsName bytes) (sym cut.is) (inr (record { name = s.0; more = s.1; no_zero = named.spelled.no_zero; is = named.spelled.is; parts = named.whole ∙ ap (λ l. l ++ s.1) named.spelled.parts; short = cut.short }))
 
-refused : (place : ℕ) (bytes : List ℕ) (e : Error) → IsBytes bytes → field_at bytes ≡ Err e → FieldRefused bytes e
-unfolding field_at
-refused place bytes e h is = after_refused place bytes (text_at bytes) e h refl is
+  refused : (place : ℕ) (bytes : List ℕ) (e : Error) → IsBytes bytes → column_at name_at bytes ≡ Err e → ColumnRefused IsName bytes e
+  unfolding column_at
+  refused place bytes e h is = after_refused place bytes (name_at bytes) e h refl is
 
-refuses : (place : ℕ) (bytes : List ℕ) (e : Error) → FieldRefused bytes e → field_at bytes ≡ Err e
-unfolding field_at
-refuses place bytes UnexpectedEof (inl h) = ap numbers_after (text_refuses place bytes UnexpectedEof h)
-refuses place bytes UnexpectedEof (inr s) =
-    let name : text_at bytes ≡ Ok (s.name, s.more) = rw s.parts (text_reader.again place s.name (text s.name) s.more (record { no_zero = s.no_zero; utf8 = s.utf8; parts = refl })) in
-    ap numbers_after name ∙ short_numbers s.name s.more s.short
-refuses place bytes NotUtf8 h = ap numbers_after (text_refuses place bytes NotUtf8 h)
-refuses place bytes e h = absurd h
+  refuses : (place : ℕ) (bytes : List ℕ) (e : Error) → ColumnRefused IsName bytes e → column_at name_at bytes ≡ Err e
+  unfolding column_at
+  refuses place bytes UnexpectedEof (inl h) = ap numbers_after (names.refuses place bytes UnexpectedEof h)
+  refuses place bytes UnexpectedEof (inr s) =
+      let name : name_at bytes ≡ Ok (s.name, s.more) = rw s.parts (names.again place s.name (text s.name) s.more (record { no_zero = s.no_zero; is = s.is; parts = refl })) in
+      ap numbers_after name ∙ short_numbers s.name s.more s.short
+  refuses place bytes NotUtf8 h = ap numbers_after (names.refuses place bytes NotUtf8 h)
+  refuses place bytes e h = absurd h
 
-some_bytes : (place : ℕ) (x : FieldPart) (front : List ℕ) → FieldSpelled place x front → 0 < length front
-some_bytes place x front s = omega (arith, ap length s.parts, length-append (text x.name) (numbers_of x), length-append x.name (0 ∷ []))
+  some_bytes : (place : ℕ) (x : FieldPart) (front : List ℕ) → ColumnSpelled IsName place x front → 0 < length front
+  some_bytes place x front s = omega (arith, ap length s.parts, length-append (text x.name) (numbers_of x), length-append x.name (0 ∷ []))
+
+  pub column_reader : IsReader (ColumnSpelled IsName) (ColumnRefused IsName) (λ place. column_at name_at)
+  column_reader = record { found = found; again = again; refused = refused; refuses = refuses; some = some_bytes; own = λ bytes h. h }
 
 pub field_reader : IsReader FieldSpelled FieldRefused (λ place. field_at)
-field_reader = record { found = found; again = again; refused = refused; refuses = refuses; some = some_bytes; own = λ bytes h. h }
+field_reader = column_reader IsUtf8 text_at text_reader
+
+pub raw_field_reader : IsReader RawFieldSpelled RawFieldRefused (λ place. raw_field_at)
+raw_field_reader = column_reader AnyBytes raw_string_at string_reader

@@ -4,10 +4,10 @@ use Rattle.pgp_message.proofs.Common.{◌≡◌, ℕ, ◌<◌, List, [], ◌∷�
 found : (place : ℕ) (bytes : List ℕ) (x : List ℕ) (after : List ℕ) → IsBytes bytes → text_at bytes ≡ Ok (x, after) → StandsAt TextSpelled place bytes x after
 found place bytes x after h e =
     let t : TextFound bytes (Ok (x, after)) = subst (TextFound bytes) e (text_found bytes) in
-    record { front = text x; whole = string_whole bytes x after t.0.parts; spelled = record { no_zero = t.0.no_zero; utf8 = t.1; parts = refl } }
+    record { front = text x; whole = string_whole bytes x after t.0.parts; spelled = record { no_zero = t.0.no_zero; is = t.1; parts = refl } }
 
 again : (place : ℕ) (x : List ℕ) (front after : List ℕ) → TextSpelled place x front → text_at (front ++ after) ≡ Ok (x, after)
-again place x front after s = rw s.parts (text_read (text x ++ after) x after (string_front x after s.no_zero) s.utf8)
+again place x front after s = rw s.parts (text_read (text x ++ after) x after (string_front x after s.no_zero) s.is)
 
 refused_as : (bytes : List ℕ) (e : Error) → TextFound bytes (Err e) → TextRefused bytes e
 refused_as bytes UnexpectedEof t = t

@@ -1,5 +1,5 @@
 -- Private: reading an item from the left, as the code does it. what it returns is what the item's grammar says.
-use Rattle.std.specs.Prelude.{ℕ, ℤ, pos, negsuc, ◌+◌, List, [], ◌∷◌, length, drop, Option, Some, None, Result, Ok, Err, nat_lt, if◌then◌else◌}
+use Rattle.std.specs.Prelude.{◌≡◌, ℕ, ℤ, pos, negsuc, ◌+◌, ◌<◌, List, [], ◌∷◌, length, drop, Option, Some, None, Result, Ok, Err, nat_lt, if◌then◌else◌}
 use Rattle.std.specs.declared.ops.Range.{Range}
 use Rattle.pgp_base.specs.declared.error.Error.{Error}
 use Rattle.pgp_base.specs.declared.error.Error.TheVariants.{UnexpectedEof}
@@ -19,6 +19,10 @@ range_after place (pos n) rest = if nat_lt (length rest) n then Err UnexpectedEo
 unfoldable pub range_at : ℕ → List ℕ → Result (Option (Range ℕ) × List ℕ) Error
 range_at place bytes = int32_at bytes >>= λ len. range_after place len.0 len.1
 
+-- what is read takes a byte at least
+abbrev pub TakesBytes : (List ℕ → Result (List ℕ × List ℕ) Error) → Type 0
+TakesBytes read = (bytes x after : List ℕ) → read bytes ≡ Ok (x, after) → length after < length bytes
+
 -- the numbers after a name
 unfoldable pub numbers_at : List ℕ → List ℕ → Result (FieldPart × List ℕ) Error
 numbers_at name rest = do
@@ -36,18 +40,18 @@ whole_string s = Ok s
 abbrev pub raw_string_at : List ℕ → Result (List ℕ × List ℕ) Error
 raw_string_at bytes = string_at bytes >>= whole_string
 
-abbrev pub numbers_behind : List ℕ × List ℕ → Result (FieldPart × List ℕ) Error
-numbers_behind s = numbers_at s.0 s.1
-
-unfoldable pub raw_field_at : List ℕ → Result (FieldPart × List ℕ) Error
-raw_field_at bytes = string_at bytes >>= numbers_behind
-
 abbrev pub numbers_after : Result (List ℕ × List ℕ) Error → Result (FieldPart × List ℕ) Error
 numbers_after (Ok s) = numbers_at s.0 s.1
 numbers_after (Err e) = Err e
 
-unfoldable pub field_at : List ℕ → Result (FieldPart × List ℕ) Error
-field_at bytes = numbers_after (text_at bytes)
+unfoldable pub column_at : (List ℕ → Result (List ℕ × List ℕ) Error) → List ℕ → Result (FieldPart × List ℕ) Error
+column_at name_at bytes = numbers_after (name_at bytes)
+
+abbrev pub field_at : List ℕ → Result (FieldPart × List ℕ) Error
+field_at = column_at text_at
+
+abbrev pub raw_field_at : List ℕ → Result (FieldPart × List ℕ) Error
+raw_field_at = column_at raw_string_at
 
 unfoldable pub error_field_at : List ℕ → Result (ErrorPart × List ℕ) Error
 error_field_at [] = Err UnexpectedEof

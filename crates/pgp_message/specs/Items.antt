@@ -1,6 +1,6 @@
 -- The items of each walk: how one is spelled at a place of its buffer, and why none stands there.
 -- PostgreSQL manual, "Message Formats", the repeated parts.
-use Rattle.std.specs.Prelude.{FitsSigned, ◌≡◌, ◌⊎◌, ℕ, ℤ, pos, negsuc, ◌+◌, ◌<◌, ◌^◌, List, [], ◌∷◌, ◌++◌, length, Option, Some, None}
+use Rattle.std.specs.Prelude.{FitsSigned, ⊤, ◌≡◌, ◌⊎◌, ℕ, ℤ, pos, negsuc, ◌+◌, ◌<◌, ◌^◌, List, [], ◌∷◌, ◌++◌, length, Option, Some, None}
 use Rattle.std.specs.Int.{w16, w32}
 use Rattle.std.specs.Str.{IsUtf8}
 use Rattle.std.specs.declared.ops.Range.{Range}
@@ -8,37 +8,41 @@ use Rattle.pgp_base.specs.declared.error.Error.{Error}
 use Rattle.pgp_base.specs.declared.error.Error.TheVariants.{UnexpectedEof, NotUtf8}
 use Rattle.pgp_base.specs.Wire.{int16, int32, uint16, oid, text, HasNoZero}
 
--- Texts, of which `SaslMechanisms` and `ProtocolOptions` are lists.
+-- Names: texts, of which `SaslMechanisms` and `ProtocolOptions` are lists, or strings of any bytes, of which `RawMechanisms` and `RawOptions` are.
 
--- a text and the 0 that ends it
-pub record TextSpelled (place : ℕ) (x : List ℕ) (front : List ℕ) : Type 0 where
+abbrev pub AnyBytes : List ℕ → Type 0
+AnyBytes bytes = ⊤
+
+-- a string that is such a name, and the 0 that ends it
+pub record NameSpelled (IsName : List ℕ → Type 0) (place : ℕ) (x : List ℕ) (front : List ℕ) : Type 0 where
   pub no_zero : HasNoZero x
-  pub utf8 : IsUtf8 x
+  pub is : IsName x
   pub parts : front ≡ text x
 
--- a string that is not text
-pub record BeginsWithNoText (rest : List ℕ) : Type 0 where
+-- a string that is no such name
+pub record BeginsWithNoName (IsName : List ℕ → Type 0) (rest : List ℕ) : Type 0 where
   pub string : List ℕ
   pub more : List ℕ
   pub no_zero : HasNoZero string
-  pub bad : ¬ IsUtf8 string
+  pub bad : ¬ IsName string
   pub parts : rest ≡ text string ++ more
 
+abbrev pub NameRefused : (List ℕ → Type 0) → List ℕ → Error → Type 0
+NameRefused IsName rest UnexpectedEof = HasNoZero rest
+NameRefused IsName rest NotUtf8 = BeginsWithNoName IsName rest
+NameRefused IsName rest e = ⊥
+
+abbrev pub TextSpelled : ℕ → List ℕ → List ℕ → Type 0
+TextSpelled = NameSpelled IsUtf8
+
 abbrev pub TextRefused : List ℕ → Error → Type 0
-TextRefused rest UnexpectedEof = HasNoZero rest
-TextRefused rest NotUtf8 = BeginsWithNoText rest
-TextRefused rest e = ⊥
+TextRefused = NameRefused IsUtf8
 
--- Strings, text or not, of which `RawMechanisms` and `RawOptions` are lists.
-
--- a string and the 0 that ends it
-pub record StringSpelled (place : ℕ) (x : List ℕ) (front : List ℕ) : Type 0 where
-  pub no_zero : HasNoZero x
-  pub parts : front ≡ text x
+abbrev pub StringSpelled : ℕ → List ℕ → List ℕ → Type 0
+StringSpelled = NameSpelled AnyBytes
 
 abbrev pub StringRefused : List ℕ → Error → Type 0
-StringRefused rest UnexpectedEof = HasNoZero rest
-StringRefused rest e = ⊥
+StringRefused = NameRefused AnyBytes
 
 -- Numbers, of which `ColumnFormats` and `Parameters` are lists.
 
@@ -92,7 +96,7 @@ abbrev pub RangeRefused : List ℕ → Error → Type 0
 RangeRefused rest UnexpectedEof = (length rest < 4) ⊎ IsShortValue rest
 RangeRefused rest e = ⊥
 
--- The columns of a row description, `Fields`.
+-- The columns of a row description, `Fields` and `RawFields`.
 
 -- what a column's description says
 pub record FieldPart : Type 0 where
@@ -117,44 +121,38 @@ pub record NumbersFit (x : FieldPart) : Type 0 where
   pub format : FitsSigned w16 x.format
 
 -- a name, and the numbers
-pub record FieldSpelled (place : ℕ) (x : FieldPart) (front : List ℕ) : Type 0 where
+pub record ColumnSpelled (IsName : List ℕ → Type 0) (place : ℕ) (x : FieldPart) (front : List ℕ) : Type 0 where
   pub no_zero : HasNoZero x.name
-  pub utf8 : IsUtf8 x.name
+  pub is : IsName x.name
   pub fits : NumbersFit x
   pub parts : front ≡ text x.name ++ numbers_of x
 
 -- a name, and fewer bytes than the numbers take
-pub record IsShortField (rest : List ℕ) : Type 0 where
+pub record IsShortColumn (IsName : List ℕ → Type 0) (rest : List ℕ) : Type 0 where
   pub name : List ℕ
   pub more : List ℕ
   pub no_zero : HasNoZero name
-  pub utf8 : IsUtf8 name
+  pub is : IsName name
   pub parts : rest ≡ text name ++ more
   pub short : length more < 18
+
+abbrev pub ColumnRefused : (List ℕ → Type 0) → List ℕ → Error → Type 0
+ColumnRefused IsName rest UnexpectedEof = HasNoZero rest ⊎ IsShortColumn IsName rest
+ColumnRefused IsName rest NotUtf8 = BeginsWithNoName IsName rest
+ColumnRefused IsName rest e = ⊥
+
+abbrev pub FieldSpelled : ℕ → FieldPart → List ℕ → Type 0
+FieldSpelled = ColumnSpelled IsUtf8
 
 abbrev pub FieldRefused : List ℕ → Error → Type 0
-FieldRefused rest UnexpectedEof = HasNoZero rest ⊎ IsShortField rest
-FieldRefused rest NotUtf8 = BeginsWithNoText rest
-FieldRefused rest e = ⊥
+FieldRefused = ColumnRefused IsUtf8
 
--- The same columns where a name may be no text, `RawFields`.
-
-pub record RawFieldSpelled (place : ℕ) (x : FieldPart) (front : List ℕ) : Type 0 where
-  pub no_zero : HasNoZero x.name
-  pub fits : NumbersFit x
-  pub parts : front ≡ text x.name ++ numbers_of x
-
--- a name, and fewer bytes than the numbers take
-pub record IsShortRawField (rest : List ℕ) : Type 0 where
-  pub name : List ℕ
-  pub more : List ℕ
-  pub no_zero : HasNoZero name
-  pub parts : rest ≡ text name ++ more
-  pub short : length more < 18
+-- where a name may be no text
+abbrev pub RawFieldSpelled : ℕ → FieldPart → List ℕ → Type 0
+RawFieldSpelled = ColumnSpelled AnyBytes
 
 abbrev pub RawFieldRefused : List ℕ → Error → Type 0
-RawFieldRefused rest UnexpectedEof = HasNoZero rest ⊎ IsShortRawField rest
-RawFieldRefused rest e = ⊥
+RawFieldRefused = ColumnRefused AnyBytes
 
 -- The fields of an error or a notice, `ErrorFields`.
 

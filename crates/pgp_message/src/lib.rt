@@ -43,6 +43,7 @@ pub use tag::{
     READY_FOR_QUERY_TAG, ROW_DESCRIPTION_TAG,
 };
 pub use walk::{
-    ColumnFormats, DataRowRanges, ErrorField, ErrorFields, Field, Fields, Parameters,
-    ProtocolOptions, RawField, RawFields, RawMechanisms, RawOptions, SaslMechanisms, range_at,
+    ColumnFormats, DataRowRanges, ErrorField, ErrorFields, Field, Fields, Name, Parameters,
+    ProtocolOptions, RawField, RawFields, RawMechanisms, RawOptions, ReadName, SaslMechanisms,
+    range_at,
 };

@@ -43,7 +43,7 @@ module _ {V : Type 0} (Spelled : ℕ → V → List ℕ → Type 0) (Refused : L
 
 -- the items, each by itself
 column_spelled : (place : ℕ) (x : FieldPart) → IsColumn x → FieldSpelled place x (spelled column_parts x)
-column_spelled place x h = record { no_zero = h.0; utf8 = h.1; fits = h.2; parts = ap (λ z. text x.name ++ (oid x.table_oid ++ (int16 x.column_id ++ (oid x.type_oid ++ (int16 x.type_size ++ (int32 x.type_modifier ++ z)))))) (append-nil (int16 x.format)) }
+column_spelled place x h = record { no_zero = h.0; is = h.1; fits = h.2; parts = ap (λ z. text x.name ++ (oid x.table_oid ++ (int16 x.column_id ++ (oid x.type_oid ++ (int16 x.type_size ++ (int32 x.type_modifier ++ z)))))) (append-nil (int16 x.format)) }
 
 type_spelled : (place n : ℕ) → n < 2 ^ 32 → TypeSpelled place n (spelled type_parts n)
 type_spelled place n h = record { fits = h; parts = append-nil _ }
@@ -52,7 +52,7 @@ format_spelled : (place n : ℕ) → n < 2 ^ 16 → FormatSpelled place n (spell
 format_spelled place n h = record { fits = h; parts = append-nil _ }
 
 text_spelled : (place : ℕ) (z : List ℕ) → IsOption z → TextSpelled place z (spelled text_parts z)
-text_spelled place z h = record { no_zero = h.0; utf8 = h.1; parts = append-nil (text z) }
+text_spelled place z h = record { no_zero = h.0; is = h.1; parts = append-nil (text z) }
 
 name_spelled : (place : ℕ) (z : List ℕ) → IsMechanism z → Unmarked TextSpelled place z (spelled text_parts z)
 name_spelled place [] h = absurd (h.2 refl)

@@ -47,6 +47,7 @@ mod wording;
 mod words;
 mod wrong;
 
+use clap::error::ErrorKind;
 use fault::Fault;
 use host::Host;
 use reading::{script_of, unmarked};
@@ -122,10 +123,15 @@ fn obey(rt: &HostRuntime, words: &Words<'_>) -> io::Result<u8> {
 
 /// Says what is wrong with the words, or the help that they ask for, and returns the status.
 fn explain(rt: &HostRuntime, refusal: &clap::Error) -> io::Result<u8> {
+    if refusal.kind() == ErrorKind::OutOfMemory {
+        complain(rt, "", "", Fault::Memory)?;
+        return Ok(1);
+    }
     refusal.print(rt)?;
     Ok(if refusal.use_stderr() { 2 } else { 0 })
 }
 
+/// Does what these words say.
 fn run(rt: &HostRuntime, args: &[String]) -> io::Result<u8> {
     let Ok(command) = words::command(rt.alloc()) else {
         complain(rt, "", "", Fault::Memory)?;
@@ -137,7 +143,21 @@ fn run(rt: &HostRuntime, args: &[String]) -> io::Result<u8> {
     }
 }
 
-fn main(rt: HostRuntime) -> io::Result<ExitCode> {
-    let args: Vec<String> = std::env::args(&rt)?.collect(rt.alloc())?;
-    Ok(ExitCode::from(run(&rt, &args)?))
+/// The same with the words that the program was started with.
+fn start(rt: &HostRuntime) -> io::Result<u8> {
+    let args: Vec<String> = std::env::args(rt)?.collect(rt.alloc())?;
+    run(rt, &args)
+}
+
+fn main(rt: HostRuntime) -> ExitCode {
+    let status = start(&rt).unwrap_or_else(|why| {
+        let fault = match why.kind() {
+            io::ErrorKind::OutOfMemory => Fault::Memory,
+            _ => Fault::Write,
+        };
+        // Where this can't be written either, the status is all that tells.
+        let _ = complain(&rt, "", "", fault);
+        1
+    });
+    ExitCode::from(status)
 }

@@ -76,7 +76,24 @@ impl<'a> ArgMatches<'a> {
     }
 }
 
+/// The kinds of what is said. That memory lacks isn't among what comes: the host's own allocator stops then.
+pub mod error {
+    #[derive(Clone, Copy, PartialEq, Eq)]
+    pub enum ErrorKind {
+        UnknownArgument,
+        DisplayHelp,
+        OutOfMemory,
+    }
+}
+
 impl Error {
+    pub fn kind(&self) -> error::ErrorKind {
+        match self.is_refusal {
+            true => error::ErrorKind::UnknownArgument,
+            false => error::ErrorKind::DisplayHelp,
+        }
+    }
+
     pub fn print(&self, _rt: &HostRuntime) -> io::Result<()> {
         match self.is_refusal {
             true => io::stderr().write_all(self.text.as_bytes()),

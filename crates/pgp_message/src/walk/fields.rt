@@ -1,34 +1,40 @@
 //! The columns of a row description.
 
-ghost use Rattle.std.specs.Prelude.{◌≡◌, ◌≤◌, length, Some};
+ghost use Rattle.std.specs.Prelude.{◌≡◌, ◌≤◌, length, MatchResult, Some};
+ghost use Rattle.std.specs.Str.{IsUtf8};
 ghost use Rattle.pgp_base.specs.Items.{CountedItems};
 ghost use Rattle.pgp_base.specs.PartReading.{Answers};
-ghost use Rattle.pgp_message.specs.Items.{FieldPart, FieldSpelled, FieldRefused};
-ghost use Rattle.pgp_message.specs.ItemReading.{field_at};
+ghost use Rattle.pgp_message.specs.Items.{ColumnRefused, ColumnSpelled, FieldPart};
+ghost use Rattle.pgp_message.specs.ItemReading.{column_at};
 
-use pgp_base::reading::{int16_at, int32_at, oid_at, text_at};
-use pgp_base::{Counted, Error, FallibleIterator, Oid};
-use std::marker::Model;
+use crate::walk::{Name, ReadName};
+use pgp_base::reading::{int16_at, int32_at, oid_at};
+use pgp_base::{Counted, Error, FallibleIterator, Oid, text};
+use std::marker::{Model, PhantomData};
 
 /// A column of a row.
 #[derive(Drop)]
-pub struct Field<'a> {
-    name: &'a str,
+pub struct Field<'a, T: Name = &'a str> {
+    name: T,
     table_oid: Oid,
     column_id: i16,
     type_oid: Oid,
     type_size: i16,
     type_modifier: i32,
     format: i16,
+    bytes: PhantomData<&'a [u8]>,
 }
 
-impl<'a> Model for Field<'a> {
+/// A column of a row, whose name need not be text.
+pub type RawField<'a> = Field<'a, &'a [u8]>;
+
+impl<'a, T: Name> Model for Field<'a, T> {
     ghost use Rattle.pgp_message.specs.Items.{FieldPart};
 
     ghost Value = { FieldPart };
 
     ghost view = { λ field. record {
-      name = field.name.now;
+      name = T.bytes_of field.name;
       table_oid = field.table_oid;
       column_id = field.column_id;
       type_oid = field.type_oid;
@@ -38,14 +44,36 @@ impl<'a> Model for Field<'a> {
     } };
 }
 
-impl<'a> Field<'a> {
+impl<'a> Field<'a, &'a str> {
     /// The column's name.
     pub fn name(&self) -> &'a str
         ensures { result.now ≡ self.now.name }
     {
         self.name
     }
+}
 
+impl<'a> Field<'a, &'a [u8]> {
+    /// The column's name, whether it is text or not.
+    pub fn name_bytes(&self) -> &'a [u8]
+        ensures { result.now ≡ self.now.name }
+    {
+        self.name
+    }
+
+    /// The column's name as text.
+    ///
+    /// # Errors
+    ///
+    /// Returns `NotUtf8` if it isn't text.
+    pub fn name(&self) -> Result<&'a str, Error>
+        ensures { MatchResult result (λ text. text.now ≡ self.now.name) (λ e. (e ≡ Error.NotUtf8) × ¬ IsUtf8 self.now.name) }
+    {
+        text(self.name)
+    }
+}
+
+impl<'a, T: Name> Field<'a, T> {
     /// The table that the column stands in, or 0.
     pub fn table_oid(&self) -> Oid
         ensures { result ≡ self.now.table_oid }
@@ -91,31 +119,35 @@ impl<'a> Field<'a> {
 
 /// The columns of a row.
 #[derive(Drop)]
-pub struct Fields<'a>(Counted<'a>);
+pub struct Fields<'a, T: Name = &'a str>(Counted<'a>, PhantomData<T>);
 
-impl<'a> Model for Fields<'a> {
+/// The columns of a row, whose names need not be text.
+pub type RawFields<'a> = Fields<'a, &'a [u8]>;
+
+impl<'a, T: Name> Model for Fields<'a, T> {
     ghost use Rattle.pgp_base.specs.Walk.{Walk};
     ghost use Rattle.pgp_base.specs.CountedRest.{walk_of};
     ghost use Rattle.pgp_message.specs.Items.{FieldPart};
-    ghost use Rattle.pgp_message.specs.ItemReading.{field_at};
+    ghost use Rattle.pgp_message.specs.ItemReading.{column_at};
 
     ghost Value = { Walk FieldPart };
 
-    ghost view = { λ walk. walk_of field_at walk.0 };
+    ghost view = { λ walk. walk_of (column_at T.name_at) walk.0 };
 }
 
-impl<'a> Fields<'a> {
-    pub(crate) fn over(buf: &'a [u8], count: u16) -> Fields<'a>
-        ensures items { CountedItems FieldSpelled FieldRefused count buf.now result.items result.end }
+impl<'a, T: Name> Fields<'a, T> {
+    pub(crate) fn over(buf: &'a [u8], count: u16) -> Fields<'a, T>
+        ensures items { CountedItems (ColumnSpelled T.IsName) (ColumnRefused T.IsName) count buf.now result.items result.end }
         ensures announced { result.announced ≡ Some count }
         ensures few { length result.items ≤ length buf.now }
     {
-        Fields(Counted::new(buf, count as usize))
+        T::is_read();
+        Fields(Counted::new(buf, count as usize), PhantomData)
     }
 }
 
-impl<'a> FallibleIterator for Fields<'a> {
-    type Item = Field<'a>;
+impl<'a, T: ReadName<'a> + Drop> FallibleIterator for Fields<'a, T> {
+    type Item = Field<'a, T>;
 
     ghost Meaning = { FieldPart };
 
@@ -123,9 +155,9 @@ impl<'a> FallibleIterator for Fields<'a> {
 
     ghost walk = { λ s. s };
 
-    fn next(&mut self) -> Result<Option<Field<'a>>, Error> {
+    fn next(&mut self) -> Result<Option<Field<'a, T>>, Error> {
         match self.0.due()? {
-            Some(buf) => self.0.take(field_at(buf)),
+            Some(buf) => self.0.take(column_at(buf)),
             None => Ok(None),
         }
     }
@@ -136,11 +168,11 @@ impl<'a> FallibleIterator for Fields<'a> {
 }
 
 /// The column that is described at the front.
-#[tactic(auto, unfolding(crate::specs::ItemReading::numbers_at, crate::specs::ItemReading::field_at))]
-fn field_at(bytes: &[u8]) -> Result<(Field<'_>, &[u8]), Error>
-    ensures { Answers (λ x. (x.0, x.1.now)) result (field_at bytes.now) }
+#[tactic(auto, unfolding(crate::specs::ItemReading::numbers_at, crate::specs::ItemReading::column_at))]
+fn column_at<'a, T: ReadName<'a> + Drop>(bytes: &'a [u8]) -> Result<(Field<'a, T>, &'a [u8]), Error>
+    ensures { Answers (λ x. (x.0, x.1.now)) result (column_at T.name_at bytes.now) }
 {
-    let (name, rest) = text_at(bytes)?;
+    let (name, rest) = T::read(bytes)?;
     let (table_oid, rest) = oid_at(rest)?;
     let (column_id, rest) = int16_at(rest)?;
     let (type_oid, rest) = oid_at(rest)?;
@@ -156,6 +188,7 @@ fn field_at(bytes: &[u8]) -> Result<(Field<'_>, &[u8]), Error>
             type_size,
             type_modifier,
             format,
+            bytes: PhantomData,
         },
         rest,
     ))

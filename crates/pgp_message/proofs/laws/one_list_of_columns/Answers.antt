@@ -1,6 +1,5 @@
 use Rattle.pgp_message.proofs.Common.{one_counted_list, FieldSpelled, FieldRefused, RawFieldSpelled, RawFieldRefused, field_at, raw_field_at}
-use Rattle.pgp_message.proofs.FieldLemmas.{field_reader}
-use Rattle.pgp_message.proofs.RawLemmas.{raw_field_reader}
+use Rattle.pgp_message.proofs.FieldLemmas.{field_reader, raw_field_reader}
 use Rattle.pgp_message.proofs.laws.one_list_of_columns.Goals as goal
 
 pub returns-clause-texts : goal.returns-clause-texts

@@ -1,6 +1,6 @@
 use Rattle.pgp_message.proofs.Common.{length}
 use Rattle.pgp_message.proofs.Mechanisms.{HasSought}
-use Rattle.pgp_message.proofs.walk.sasl_mechanisms.SaslMechanisms.offer.Given as goal
+use Rattle.pgp_message.proofs.walk.mechanisms.SaslMechanisms+ref+str.offer.Given as goal
 
 abbrev pub invariant-names : goal.invariant-names
 invariant-names l = HasSought l.fn.sought l.fn.self l.found l.self

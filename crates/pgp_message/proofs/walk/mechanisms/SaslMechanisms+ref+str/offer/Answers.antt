@@ -1,7 +1,7 @@
 use Rattle.pgp_message.proofs.Common.{rules}
 use Rattle.pgp_base.proofs.Walks.{one_fewer}
 use Rattle.pgp_message.proofs.Mechanisms.{none_sought, one_sought, all_sought, refused_sought}
-use Rattle.pgp_message.proofs.walk.sasl_mechanisms.SaslMechanisms.offer.Goals as goal
+use Rattle.pgp_message.proofs.walk.mechanisms.SaslMechanisms+ref+str.offer.Goals as goal
 
 pub names-init : goal.names-init
 names-init c = none_sought c.args.sought.now c.args.self
