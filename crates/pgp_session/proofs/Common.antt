@@ -1,6 +1,7 @@
 -- The names of other crates and of this one's specs that several proofs cite, passed on from one place. Declares nothing.
 pub use Rattle.std.proofs.Common.{◌≡◌, ℕ, true, false, List, [], ◌∷◌, ◌++◌, Option, Some, None, refl, sym, ap, subst, ◌∙◌, inl, inr, ◌⊎◌, ◌+◌, ◌≤◌, length, arith, ◌-◌, get_or, Result, Ok, Err, ap₂, Bool, not, take, drop, ◌||◌, zero, suc, map, Contains, append_assoc, ◌≢◌, rules, codes, ◌^◌}
-pub use Rattle.std.proofs.lemmas.Bool.{cond-true, cond-false, cases_Bool, ne_eqb}
+pub use Rattle.std.proofs.Math.Seq.{take-append_seam, drop-append_seam}
+pub use Rattle.std.proofs.lemmas.Bool.{cond-true, cond-false, cases_Bool, ne_eqb, and_parts, true≢false}
 pub use Rattle.std.proofs.lemmas.Bool.Decides.{nat_tests, Decides-eqb}
 pub use Rattle.std.proofs.lemmas.List.{append-nil, length-append, take-append-drop}
 pub use Rattle.std.proofs.lemmas.List.Elements.{filter-append, Contains-append_left, Contains-append_right, Contains-append_cases}
