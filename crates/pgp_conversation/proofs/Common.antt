@@ -2,7 +2,7 @@
 pub use Rattle.std.proofs.Common.{◌≡◌, ℕ, ℤ, List, get_or, Result, Ok, Err, Some, refl, ap, ◌∙◌, ◌+◌, ◌≤◌, Bool, true, false, [], ◌++◌, length, take, drop, min, Option, sym, subst, arith, length-append, ◌≢◌, ◌<◌, ◌^◌, ◌∷◌, append_assoc, suc, ◌-◌, inl, inr, None, ◌⊎◌, zero, rules}
 pub use Rattle.std.proofs.KnownBytes.{Appends-trans, Appends-nil, Consumes-nil, Consumes-trans, Consumes-kept, Keeps-refl, Keeps-trans}
 pub use Rattle.std.proofs.Math.Seq.{take-append_seam, drop-append_seam}
-pub use Rattle.std.proofs.lemmas.Bool.{lt-ltb, le-ltb, eqb-true, and_parts}
+pub use Rattle.std.proofs.lemmas.Bool.{lt-ltb, le-ltb, eqb-true, and_parts, true≢false, false≢true}
 pub use Rattle.std.proofs.lemmas.Grind.{flat_map-append}
 pub use Rattle.std.proofs.lemmas.List.{append-nil, length-take, take-append-drop, take-append-le, drop-drop, take_rest, length-map}
 pub use Rattle.std.proofs.lemmas.List.Concat.{flat_map-cons}
@@ -25,7 +25,7 @@ pub use Rattle.pgp_message.specs.Parts.{KeyData, CountedBytes}
 pub use Rattle.pgp_message.specs.Stream.{Frame, IsEnding, IsFrame, Step, TakesFrame, frame_bytes}
 pub use Rattle.pgp_trace.proofs.Ends.{stays_ended, nothing_ends}
 pub use Rattle.pgp_trace.proofs.Fronts.{more_taken, none_taken, all_taken, kept_nothing}
-pub use Rattle.pgp_trace.proofs.Printable.{blank, plain, plain_join, plain_number, join, line_printable, cut, json_val, quote, closing_printable, opening_printable, parts_printable}
+pub use Rattle.pgp_trace.proofs.Printable.{blank, plain, plain_join, plain_number, join, line_printable, cut, json_val, quote, closing_printable, opening_printable, parts_printable, Plain}
 pub use Rattle.pgp_trace.proofs.Traces.{ok_then, called_more}
 pub use Rattle.pgp_trace.specs.Client.{counted, signed_part, client_name}
 pub use Rattle.pgp_trace.specs.ClientSecrets.{AlikeAnswers, AlikeMessages, ReadsAs}
