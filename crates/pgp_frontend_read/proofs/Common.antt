@@ -29,7 +29,7 @@ pub use Rattle.pgp_frontend.specs.ClientRun.{ClientRun, is_startup, IsRequest, I
 pub use Rattle.pgp_frontend.specs.Payload.{Values, key_cause, pair, pair_cause, spelling, part_cause, joined, Part, Int32, Key, Pairs, parts, tag_of, kind_of, HasMinor, payload, parts_cause, EachInRange, bytes_of, framed, minor_code, Rest, Text, Int16, Int16s, Oid, Oids, WritesFrame, WritesMessage, cause}
 pub use Rattle.pgp_frontend.specs.Reading.{Shape, AByte, AnInt16, AnInt32, AnOid, AText, SomeInt16s, SomeOids, SomeValues, ANullable, AllBytes, AKey, SomePairs, HasSpelling, shape, IsNamed, IsSpelled}
 pub use Rattle.pgp_frontend_read.specs.Content.{Content, Contents, Then, part, parts_of}
-pub use Rattle.pgp_frontend_read.specs.Faults.{IsPair, TakesAll, IsShort, HasWrongLength, LacksSized, LacksValue, LacksItems, IsCutPair, LacksEnd, Lacks, Faulty}
+pub use Rattle.pgp_frontend_read.specs.Faults.{IsPair, TakesAll, IsShort, HasWrongLength, LacksValue, LacksItems, IsCutPair, LacksEnd, Lacks, Faulty}
 pub use Rattle.pgp_frontend_read.specs.Forwards.{Forwards, WritesAll, Appends}
 pub use Rattle.pgp_frontend_read.specs.Holding.{HasSize, IsReadAs, IsFrameOf, header, Fits, IsWanted, wanted, is_whole, Sizes, Fills, IsLeft, Opens, StandsInPiece, TakesOff, Holds, Completes}
 pub use Rattle.pgp_frontend_read.specs.Pieces.{IsWhole, HandsOut, step_of, IsWithin, limit_of, Waiting, Parses, unread}
