@@ -9,7 +9,9 @@ pub use Rattle.std.specs.Int.{w16, w32, from_be_bytes, cast_signed, cast_unsigne
 pub use Rattle.std.specs.List.{flat_map, AllByRecursion}
 pub use Rattle.std.specs.Prelude.{◌==◌, ◌⊎◌, nat_lt, nat_le, IfSome, ◌||◌, IfOk, IsErr, is_some, option_to_list, slice_index, if◌then◌else◌}
 pub use Rattle.std.specs.Result.{IsErrAnd}
+pub use Rattle.pgp_base.proofs.Binds.{err, err_is}
 pub use Rattle.pgp_base.proofs.Causes.{count_fits, counts_of, either_left, either_right, either_none, length_fits, fits_of}
+pub use Rattle.pgp_base.proofs.CountedLemmas.{ok, ok_is, differ}
 pub use Rattle.pgp_base.proofs.PartLemmas.{IsNumber, int16_number, int32_number, oid_number, uint16_number, number_takes, number_again, number_short, no_string, IsBytes-take, IsBytes-drop, front_again, short_number, string_none, string_falls}
 pub use Rattle.pgp_base.proofs.Parts.{null_spelled, int32_spelled, nothing_more, more_twice, length-uint32}
 pub use Rattle.pgp_base.proofs.Prefixes.{uint32_begins, fronts}

@@ -1,8 +1,6 @@
 -- Why a body is rejected: what the code says is what the grammar says.
-use Rattle.pgp_frontend_read.proofs.Common.{◌≡◌, ◌≢◌, ℕ, ℤ, pos, zero, suc, ◌+◌, ◌-◌, ◌<◌, ◌≤◌, ◌^◌, true, false, List, [], ◌∷◌, ◌++◌, length, map, Option, Some, None, Result, Ok, Err, refl, sym, ap, subst, ◌∙◌, append_assoc, arith, inl, inr, FitsSigned, length-append, ◌==◌, ◌⊎◌, nat_lt, nat_le, IfSome, w16, w32, from_be_bytes, cast_signed, cast_unsigned, flat_map, AllByRecursion, eqb-true, eq-eqb, ltb-true, ltb-false, leb-true, to_z_pos, of_z-to_z, IsBytes, oid, int16, int32, uint16, uint32, text, nullable, Cause, ◌>>=◌, front_at, byte_at, uint16_at, oid_at, string_at, marked_run, read_on, drained, Error, UnknownTag, UnexpectedEof, NotDrained, InvalidValueLength, IsNumber, oid_number, int16_number, int32_number, uint16_number, number_takes, number_short, no_string, null_spelled, int32_spelled, uint32_begins, string_takes, string_whole, ClientMessage, Bind, Close, CopyData, CopyDone, CopyFail, Describe, Execute, Flush, Parse, PasswordMessage, Query, SaslInitialResponse, SaslResponse, Sync, Terminate, Startup, CancelRequest, SslRequest, GssEncRequest, FunctionCall, PasswordKind, Password, Initial, Response, Part, Int32, Key, Pairs, pair, parts, tag_of, kind_of, key_cause, HasMinor, Shape, AByte, AnInt16, AnInt32, AnOid, AText, SomeInt16s, SomeOids, SomeValues, ANullable, AllBytes, AKey, SomePairs, shape, null_length, Content, Contents, IsShort, HasWrongLength, LacksValue, LacksItems, IsCutPair, LacksEnd, Lacks, Faulty, items_at, items_on, with_front, counted_at, format_at, type_at, value_at, value_after, pair_at, all_of, pairs_at, unless, key_at, content_at, contents_at, contents_on, before, ended, made, bind_of, close_of, describe_of, execute_of, function_call_of, parse_of, query_of, copy_fail_of, password_of, sasl_initial_of, reported_of, body_of, startup_of, cancel_of, named, by_code, by_front, packet_of, BlamesFrame, BlamesPacket, ClientError, UnknownPacket, Reading}
+use Rattle.pgp_frontend_read.proofs.Common.{◌≡◌, ◌≢◌, ℕ, ℤ, pos, zero, suc, ◌+◌, ◌-◌, ◌<◌, ◌≤◌, ◌^◌, true, false, List, [], ◌∷◌, ◌++◌, length, map, Option, Some, None, Result, Ok, Err, refl, sym, ap, subst, ◌∙◌, append_assoc, arith, inl, inr, FitsSigned, length-append, ◌==◌, ◌⊎◌, nat_lt, nat_le, IfSome, w16, w32, from_be_bytes, cast_signed, cast_unsigned, flat_map, AllByRecursion, eqb-true, eq-eqb, ltb-true, ltb-false, leb-true, to_z_pos, of_z-to_z, IsBytes, oid, int16, int32, uint16, uint32, text, nullable, Cause, ◌>>=◌, front_at, byte_at, uint16_at, oid_at, string_at, marked_run, read_on, drained, Error, UnknownTag, UnexpectedEof, NotDrained, InvalidValueLength, IsNumber, oid_number, int16_number, int32_number, uint16_number, number_takes, number_short, no_string, null_spelled, int32_spelled, uint32_begins, string_takes, string_whole, ClientMessage, Bind, Close, CopyData, CopyDone, CopyFail, Describe, Execute, Flush, Parse, PasswordMessage, Query, SaslInitialResponse, SaslResponse, Sync, Terminate, Startup, CancelRequest, SslRequest, GssEncRequest, FunctionCall, PasswordKind, Password, Initial, Response, Part, Int32, Key, Pairs, pair, parts, tag_of, kind_of, key_cause, HasMinor, Shape, AByte, AnInt16, AnInt32, AnOid, AText, SomeInt16s, SomeOids, SomeValues, ANullable, AllBytes, AKey, SomePairs, shape, null_length, Content, Contents, IsShort, HasWrongLength, LacksValue, LacksItems, IsCutPair, LacksEnd, Lacks, Faulty, items_at, items_on, with_front, counted_at, format_at, type_at, value_at, value_after, pair_at, all_of, pairs_at, unless, key_at, content_at, contents_at, contents_on, before, ended, made, bind_of, close_of, describe_of, execute_of, function_call_of, parse_of, query_of, copy_fail_of, password_of, sasl_initial_of, reported_of, body_of, startup_of, cancel_of, named, by_code, by_front, packet_of, BlamesFrame, BlamesPacket, ClientError, UnknownPacket, Reading, differ, err, err_is}
 use borrow.Author.Gap.{read_sfits}
-use Rattle.pgp_base.proofs.Binds.{err, err_is}
-use Rattle.pgp_base.proofs.CountedLemmas.{differ}
 use Rattle.pgp_frontend_read.proofs.Items.{IsItem, bytes_behind}
 use Rattle.pgp_frontend_read.proofs.Contents.{content_found, content_all, number_item}
 use Rattle.pgp_frontend_read.proofs.Forms.{plain_code, version_there, unknown}

@@ -1,7 +1,6 @@
 -- Messages: what is read from a payload is the message of that payload, and each message is read from its own.
-use Rattle.pgp_frontend_read.proofs.Common.{◌≡◌, ℕ, ◌+◌, ◌-◌, ◌<◌, ◌^◌, true, false, List, [], ◌∷◌, ◌++◌, length, Option, Some, None, Result, Ok, Err, refl, sym, ap, subst, ◌∙◌, arith, inl, inr, FitsSigned, IfSome, ◌==◌, nat_lt, nat_le, w32, from_be_bytes, cast_signed, cast_unsigned, eqb-true, ne_eqb, le-ltb, ltb-false, leb-false, lt-leb, to_z_pos, of_z-to_z, append-nil, IsBytes, oid, int32, uint32, length_cause, oid_at, Error, UnknownTag, length_fits, either_none, int32_spelled, oid_number, number_takes, number_again, ClientMessage, Bind, Close, CopyData, CopyDone, CopyFail, Describe, Execute, Flush, Parse, PasswordMessage, Query, SaslInitialResponse, SaslResponse, Sync, Terminate, Startup, CancelRequest, SslRequest, GssEncRequest, FunctionCall, PasswordKind, Password, Initial, Response, Part, Int32, Key, Pairs, joined, parts, payload, tag_of, kind_of, part_cause, parts_cause, EachInRange, HasMinor, Shape, AByte, AnInt16, AnInt32, AnOid, AText, SomeInt16s, SomeOids, SomeValues, ANullable, AKey, SomePairs, IsNamed, IsSpelled, EachHasSpelling, spelled_parts, Contents, parts_of, contents_at, made, ended, bind_of, close_of, describe_of, execute_of, function_call_of, parse_of, query_of, copy_fail_of, password_of, sasl_initial_of, reported_of, body_of, startup_of, cancel_of, named, by_code, by_front, packet_of, ClientError, UnknownPacket}
+use Rattle.pgp_frontend_read.proofs.Common.{◌≡◌, ℕ, ◌+◌, ◌-◌, ◌<◌, ◌^◌, true, false, List, [], ◌∷◌, ◌++◌, length, Option, Some, None, Result, Ok, Err, refl, sym, ap, subst, ◌∙◌, arith, inl, inr, FitsSigned, IfSome, ◌==◌, nat_lt, nat_le, w32, from_be_bytes, cast_signed, cast_unsigned, eqb-true, ne_eqb, le-ltb, ltb-false, leb-false, lt-leb, to_z_pos, of_z-to_z, append-nil, IsBytes, oid, int32, uint32, length_cause, oid_at, Error, UnknownTag, length_fits, either_none, int32_spelled, oid_number, number_takes, number_again, ClientMessage, Bind, Close, CopyData, CopyDone, CopyFail, Describe, Execute, Flush, Parse, PasswordMessage, Query, SaslInitialResponse, SaslResponse, Sync, Terminate, Startup, CancelRequest, SslRequest, GssEncRequest, FunctionCall, PasswordKind, Password, Initial, Response, Part, Int32, Key, Pairs, joined, parts, payload, tag_of, kind_of, part_cause, parts_cause, EachInRange, HasMinor, Shape, AByte, AnInt16, AnInt32, AnOid, AText, SomeInt16s, SomeOids, SomeValues, ANullable, AKey, SomePairs, IsNamed, IsSpelled, EachHasSpelling, spelled_parts, Contents, parts_of, contents_at, made, ended, bind_of, close_of, describe_of, execute_of, function_call_of, parse_of, query_of, copy_fail_of, password_of, sasl_initial_of, reported_of, body_of, startup_of, cancel_of, named, by_code, by_front, packet_of, ClientError, UnknownPacket, ok, ok_is}
 use Rattle.std.specs.Prelude.{pos}
-use Rattle.pgp_base.proofs.CountedLemmas.{ok, ok_is}
 use Rattle.pgp_frontend_read.proofs.Contents.{contents_found, contents_again, TakesAllLast}
 use Rattle.pgp_frontend_read.proofs.ValueLemmas.{chosen}
 

@@ -1,7 +1,6 @@
 -- Items of a list, one after another: what is read is spelled so, and what is spelled so is read.
-use Rattle.pgp_frontend_read.proofs.Common.{◌≡◌, ℕ, zero, suc, ◌+◌, ◌-◌, ◌*◌, ◌<◌, List, [], ◌∷◌, ◌++◌, length, take, drop, Some, Result, Ok, Err, refl, sym, ap, subst, ◌∙◌, append_assoc, arith, length-append, length-take, length-drop, flat_map, AllByRecursion, append-nil, take-append-drop, drop_at, take_at, IsBytes, ◌>>=◌, front_at, uint16_at, Error, UnexpectedEof, inl, inr, cases_lt, lt-ltb, IsBytes-drop, front_again, items_at, items_on, with_front, counted_at, Left, AreLeft, items_of}
+use Rattle.pgp_frontend_read.proofs.Common.{◌≡◌, ℕ, zero, suc, ◌+◌, ◌-◌, ◌*◌, ◌<◌, List, [], ◌∷◌, ◌++◌, length, take, drop, Some, Result, Ok, Err, refl, sym, ap, subst, ◌∙◌, append_assoc, arith, length-append, length-take, length-drop, flat_map, AllByRecursion, append-nil, take-append-drop, drop_at, take_at, IsBytes, ◌>>=◌, front_at, uint16_at, Error, UnexpectedEof, inl, inr, cases_lt, lt-ltb, IsBytes-drop, front_again, items_at, items_on, with_front, counted_at, Left, AreLeft, items_of, ok_is}
 use Rattle.std.proofs.Math.Nat.{mul-suc}
-use Rattle.pgp_base.proofs.CountedLemmas.{ok_is}
 
 -- so many items, in these bytes
 abbrev pub left : List ℕ → ℕ → Left

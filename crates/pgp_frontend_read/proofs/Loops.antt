@@ -1,8 +1,7 @@
 -- A loop over items: one more after those that were read.
-use Rattle.pgp_frontend_read.proofs.Common.{◌≡◌, ℕ, suc, ◌+◌, ◌-◌, ◌<◌, ◌≤◌, List, [], ◌∷◌, ◌++◌, length, take, Option, Some, Result, Ok, Err, refl, sym, ap, ◌∙◌, append_assoc, arith, IsErrAnd, w16, from_be_bytes, number_takes, uint16_number, IsBytes, nullable, uint16, uint16_at, Error, flat_map, items_at, items_on, with_front, value_at, counted_at, Left, AreLeft, items_of, behind, RestOf}
+use Rattle.pgp_frontend_read.proofs.Common.{◌≡◌, ℕ, suc, ◌+◌, ◌-◌, ◌<◌, ◌≤◌, List, [], ◌∷◌, ◌++◌, length, take, Option, Some, Result, Ok, Err, refl, sym, ap, ◌∙◌, append_assoc, arith, IsErrAnd, w16, from_be_bytes, number_takes, uint16_number, IsBytes, nullable, uint16, uint16_at, Error, flat_map, items_at, items_on, with_front, value_at, counted_at, Left, AreLeft, items_of, behind, RestOf, err}
 use Rattle.std.specs.Prelude.{◌^◌}
 use Rattle.std.proofs.lemmas.List.{length-append}
-use Rattle.pgp_base.proofs.Binds.{err}
 use Rattle.pgp_frontend_read.proofs.Items.{left, items_found, cut_alone, counted_found}
 use Rattle.pgp_frontend_read.proofs.ValueLemmas.{HasLength, value_item}
 

@@ -1,7 +1,6 @@
 -- A body has one first fault: what the grammar says is what the code reads.
-use Rattle.pgp_frontend_read.proofs.Common.{◌≡◌, ◌≢◌, ℕ, zero, suc, ◌<◌, ◌≤◌, ◌^◌, true, false, List, [], ◌∷◌, ◌++◌, length, Option, Some, None, Result, Ok, Err, refl, sym, ap, ◌∙◌, append_assoc, arith, inl, inr, FitsSigned, ◌==◌, ◌⊎◌, nat_lt, w16, w32, from_be_bytes, cast_signed, flat_map, AllByRecursion, ne_eqb, lt-ltb, le-ltb, oid, int16, int32, uint16, uint32, text, nullable, Cause, ◌>>=◌, front_at, uint16_at, oid_at, string_at, is_marked, marked_run, Error, UnexpectedEof, NotDrained, InvalidValueLength, IsNumber, oid_number, int16_number, int32_number, uint16_number, number_again, short_number, string_none, null_spelled, string_front, pair, key_cause, Shape, AByte, AnInt16, AnInt32, AnOid, AText, SomeInt16s, SomeOids, SomeValues, ANullable, AllBytes, AKey, SomePairs, IsShort, LacksValue, LacksItems, IsPair, IsCutPair, LacksEnd, Lacks, Faulty, items_at, items_on, with_front, counted_at, format_at, type_at, value_at, value_after, pair_at, all_of, pairs_at, unless, key_at, content_at, contents_at, contents_on, before}
+use Rattle.pgp_frontend_read.proofs.Common.{◌≡◌, ◌≢◌, ℕ, zero, suc, ◌<◌, ◌≤◌, ◌^◌, true, false, List, [], ◌∷◌, ◌++◌, length, Option, Some, None, Result, Ok, Err, refl, sym, ap, ◌∙◌, append_assoc, arith, inl, inr, FitsSigned, ◌==◌, ◌⊎◌, nat_lt, w16, w32, from_be_bytes, cast_signed, flat_map, AllByRecursion, ne_eqb, lt-ltb, le-ltb, oid, int16, int32, uint16, uint32, text, nullable, Cause, ◌>>=◌, front_at, uint16_at, oid_at, string_at, is_marked, marked_run, Error, UnexpectedEof, NotDrained, InvalidValueLength, IsNumber, oid_number, int16_number, int32_number, uint16_number, number_again, short_number, string_none, null_spelled, string_front, pair, key_cause, Shape, AByte, AnInt16, AnInt32, AnOid, AText, SomeInt16s, SomeOids, SomeValues, ANullable, AllBytes, AKey, SomePairs, IsShort, LacksValue, LacksItems, IsPair, IsCutPair, LacksEnd, Lacks, Faulty, items_at, items_on, with_front, counted_at, format_at, type_at, value_at, value_after, pair_at, all_of, pairs_at, unless, key_at, content_at, contents_at, contents_on, before, err, err_is}
 use Rattle.std.proofs.lemmas.List.{length-append}
-use Rattle.pgp_base.proofs.Binds.{err, err_is}
 use Rattle.pgp_frontend_read.proofs.Items.{IsItem}
 use Rattle.pgp_frontend_read.proofs.Contents.{content_again, number_item}
 use Rattle.pgp_frontend_read.proofs.PairLemmas.{pair_again, marked_by}
