@@ -1,8 +1,8 @@
 -- The message at the front of bytes.
 use Rattle.std.proofs.Common.{◌≡◌, ℕ, ◌+◌, ◌-◌, Bool, true, false, List, [], ◌++◌, length, take, Result, Some, None, Ok, Err, sym, ap, ◌∙◌, arith, inl, inr, append-nil, length-append}
 use Rattle.pgp_base.specs.declared.error.Error.TheVariants as errors
-use Rattle.pgp_session.proofs.Common.{BeginsWithNone, IsFront, IsOne, kind_of_fault, Kind, Event, Step, TakesFrame, frame_bytes, Stop, Error, kind_of, Message, take-append_seam}
-use Rattle.pgp_session.specs.Monitor.{Admits, Passes, Shown, is_end}
+use Rattle.pgp_session.proofs.Common.{BeginsWithNone, IsFront, IsOne, kind_of_fault, Kind, Event, Step, TakesFrame, frame_bytes, Stop, Error, kind_of, Message, take-append_seam, is_end}
+use Rattle.pgp_session.specs.Monitor.{Admits, Passes, Shown}
 use Rattle.pgp_session.specs.declared.monitor.Stop.TheVariants.{Misplaced, NoMessage, OutOfMemory}
 
 length_left : (all front new rest : ℕ) → all ≡ front + new → rest ≡ new → all - rest ≡ front

@@ -36,6 +36,8 @@ pub use Rattle.pgp_base.specs.declared.error.BindError.TheVariants.{Conversion, 
 pub use Rattle.pgp_base.specs.declared.error.Error.{Error}
 pub use Rattle.pgp_base.specs.declared.number.IsNull.{IsNull}
 pub use Rattle.pgp_base.specs.declared.number.IsNull.TheVariants.{Yes, No}
+pub use Rattle.pgp_client.specs.Limits.{lacks_status}
+pub use Rattle.pgp_client.specs.Taking.{is_end}
 pub use Rattle.pgp_client.specs.declared.event.Event.{Event}
 pub use Rattle.pgp_frontend.proofs.Lists.{all_given, some_given, all_same, some_same}
 pub use Rattle.pgp_frontend.specs.ClientMessage.{ClientMessage, Parse, SaslInitialResponse, Startup, Describe, Execute, Sync, Query}
@@ -48,7 +50,7 @@ pub use Rattle.pgp_message.specs.Stream.{Frames, TakesFrame, IsPartial, Step, Fr
 pub use Rattle.pgp_message.specs.Views.{view, parsed}
 pub use Rattle.pgp_message_write.proofs.Lists.{same_more}
 pub use Rattle.pgp_message_write.specs.Reply.{IsInRange, IsMechanism, IsReply, names_of}
-pub use Rattle.pgp_session.specs.Connection.{IsCut, Nexts, Shown, nexted, Took, TookEnd, with_incoming, Hears, IsUnfit, ComesInTime, is_end, is_logged_in, lacks_status, logged_in_at, begun, shown}
+pub use Rattle.pgp_session.specs.Connection.{IsCut, Nexts, Shown, nexted, Took, TookEnd, with_incoming, Hears, IsUnfit, ComesInTime, is_logged_in, logged_in_at, begun, shown}
 pub use Rattle.pgp_session.specs.Mechanisms.{Lists, Offers, initial, mechanism_by, mechanism_of}
 pub use Rattle.pgp_session.specs.Serving.{Comes, Outcome, Challenge, Denied, Signed, IsAdmitted, IsChallenged, IsNoFinal, IsNoFirst, admission, cause_of, challenge, due, final_message, first_message, kind_in, scram, scram_offer, signature, spelled}
 pub use Rattle.pgp_session.specs.declared.connection_error.ConnectionError.{ConnectionError}
