@@ -2,7 +2,7 @@
 use Rattle.pgp_c.proofs.Common.{◌≡◌, ◌⊎◌, ℕ, ◌+◌, ◌-◌, ◌<◌, ◌≤◌, ◌^◌, ℤ, pos, negsuc, true, false, ◌&&◌, List, [], ◌∷◌, ◌++◌, length, take, drop, map, Option, Some, None, Result, Ok, Err, refl, sym, ap, subst, ◌∙◌, inl, inr, arith, append_assoc, length-append, GName, FitsSigned, All, IfErr, min, w16, cast_unsigned, AllByRecursion, flat_map, list_all, cases_lt, ltb-true, append-nil, length-drop, length-take, take-append-le, drop-append-le, drop-drop, take_all, flat_map-append, All-from_recursion, take-append_seam, drop-append_seam, Cause, counted_cause, count_cause, either, first, length_cause, nullable_cause, text_cause, Wants, WantsMemory, number_of, Held, ◌⊕◌, window_held, window_lacks, Error, Window, counted, int16, nullable, uint16, uint32, TooLarge, count_fits, count_past, either_first, either_left, either_none, either_right, either_then, wants_window, length-uint16, length-uint32, ClientMessage, Bind, Int16s, Text, Values, bytes_of, cause, joined, parts, parts_cause, payload, spelling, items_cause, are_bound, is_format, suits, NotSent, Sent, Wrote, PgpItems}
 use Rattle.std.specs.Prelude.{OnOk}
 use Rattle.pgp_c.specs.BindItems.{BindSoFar, Ends, WhyNoFormats, WhyNotEnded, bind_head, format_item}
-use Rattle.pgp_c.proofs.Extensions.{both}
+use Rattle.pgp_c.proofs.Extensions.{both, min_left}
 use Rattle.pgp_c.proofs.Sending.{wrote}
 
 -- a format is a number of its field
@@ -170,9 +170,6 @@ module _ (zs : List ℤ) (w : Window) (old : List ℕ) (name : GName) (new : win
       ]
 
 -- ---- what was written at a place
-
-min_left : (a b : ℕ) → a ≤ b → min a b ≡ a
-min_left a b le = omega (arith, le)
 
 module _ (at : ℕ) (old out post now : List ℕ) (is : now ≡ take at old ++ (out ++ post)) (within : at ≤ length old) (same : length out ≡ length old - at) (parts : take (length old - at) (drop at old) ++ post ≡ drop at old) where
   abbrev before : List ℕ

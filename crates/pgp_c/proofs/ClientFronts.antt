@@ -8,6 +8,7 @@ use Rattle.pgp_c.proofs.Announced.{of_client}
 use Rattle.pgp_c.specs.declared.client_front.PgpClientMessage.{PgpClientMessage}
 use Rattle.pgp_c.specs.declared.client_places.PgpClientParts.{PgpClientParts}
 use Rattle.pgp_c.proofs.ClientPlaces.{At, after_text_is, here, int16s_length, items_at, listed, next, numbers_begin, numbers_end, past_is, text_here}
+use Rattle.pgp_c.proofs.Fronts.{none_left}
 
 -- ---- where a payload begins
 
@@ -318,9 +319,6 @@ front_left : (bytes front new : List ℕ) → bytes ≡ front ++ new → drop (l
 front_left bytes front new whole =
     let count : length bytes - length new ≡ length front = omega (arith, ap length whole, length-append front new) in
     ap (λ i. drop i bytes) count ∙ (ap (λ l. drop (length front) l) whole ∙ drop-append_seam front new)
-
-none_left : (bytes new : List ℕ) → new ≡ bytes → drop (length bytes - length new) bytes ≡ new
-none_left bytes new e = let none : length bytes - length new ≡ 0 = omega (arith, ap length e) in ap (λ i. drop i bytes) none ∙ sym e
 
 bytes_in : Unread → List ℕ
 bytes_in u = u.bytes

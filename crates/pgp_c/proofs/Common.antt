@@ -6,7 +6,7 @@ pub use Rattle.std.proofs.iter.Yields.{copies, fronts}
 pub use Rattle.std.proofs.lemmas.Bool.{lt-ltb, cases_lt, ltb-true, le-leb, cases_Bool, leb-true}
 pub use Rattle.std.proofs.lemmas.Iterator.{YieldsList, items_from_drains, maps, YieldsList-from_map_by, YieldsList-from_slice}
 pub use Rattle.std.proofs.lemmas.Iterator.Consumers.{YieldsList-from_copied, YieldsList-at}
-pub use Rattle.std.proofs.lemmas.List.{map-append, take_more_set, drop-set-lt, set-get_or, drop-drop, length-drop, append-nil, length-take, take-append-drop, take_more, drop_more, length-map, take-append-le, drop-append-le, take_all, map-id, append_cancel_left, drop-take}
+pub use Rattle.std.proofs.lemmas.List.{map-append, take_more_set, drop-set-lt, set-get_or, drop-drop, length-drop, append-nil, length-take, take-append-drop, take_more, drop_more, length-map, take-append-le, drop-append-le, take_all, map-id, drop-take}
 pub use Rattle.std.proofs.lemmas.List.Concat.{flat_map-append}
 pub use Rattle.std.proofs.lemmas.List.Elements.{All-append, All-cons, All-nil, All-from_recursion}
 pub use Rattle.std.specs.Borrow.{GName}
@@ -23,7 +23,7 @@ pub use Rattle.pgp_base.proofs.Causes.{either_left, either_none, count_fits, cou
 pub use Rattle.pgp_base.proofs.Errors.{same_number}
 pub use Rattle.pgp_base.proofs.Needs.{wants_window, counted_length, flat_more, nullable_least, sized_wants, counted_wants, memory_more, memory_then}
 pub use Rattle.pgp_base.proofs.PartLemmas.{front_again, oid_number, uint16_number, int32_number, no_string, some_none, string_none}
-pub use Rattle.pgp_base.proofs.Parts.{length-uint32, length-uint16, wants_here, wants_more, more_twice, null_spelled, more_parts, more_bytes, front_same, if_err_at, wants_then, wants_now}
+pub use Rattle.pgp_base.proofs.Parts.{length-uint32, length-uint16, wants_here, wants_more, more_twice, null_spelled, more_parts, front_same, if_err_at, wants_then, wants_now}
 pub use Rattle.pgp_base.proofs.Strings.{string_takes, string_whole}
 pub use Rattle.pgp_base.specs.Calls.{Gives, Runs, KeepsValue, Yielded, SoFar}
 pub use Rattle.pgp_base.specs.Cause.{first, length_cause, nullable_cause, Cause, counted_cause, count_cause, either, text_cause, Wants, WantsMemory, Writes}
@@ -58,6 +58,7 @@ pub use Rattle.pgp_message.specs.BackendMessage.{AuthenticationOk, Authenticatio
 pub use Rattle.pgp_message.specs.ItemReading.{error_field_at, field_at, format_at, type_at, range_at}
 unfoldable pub use Rattle.pgp_message.specs.ItemReading.{column_at}
 pub use Rattle.pgp_message.specs.Items.{IsValue, RangeSpelled, ErrorPart, FieldPart, FieldSpelled, FieldRefused, TextSpelled, TextRefused, FormatSpelled, FormatRefused, TypeSpelled, TypeRefused, ErrorFieldSpelled, ErrorFieldRefused, RangeRefused}
+pub use Rattle.pgp_message_write.proofs.GivenLists.{FromItself}
 pub use Rattle.pgp_message_write.specs.Given.{GivenRefused, WritesGiven, uncounted}
 pub use Rattle.pgp_message_write.specs.Lists.{format_parts, type_parts, with_list, column_parts, field_parts, text_parts, value_parts, wide_list, counted_list, lent, marked_list}
 pub use Rattle.pgp_message_write.specs.Reply.{WritesReply, description_of, fields_of, names_of, negotiation_of, row_of, formats_of, types_of}

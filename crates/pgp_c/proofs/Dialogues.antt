@@ -1,10 +1,11 @@
 -- A dialogue in memory of the caller's: what a message came to.
 use Rattle.pgp_c.proofs.Common.{◌≡◌, ℕ, Some, Ok, Err, Result, subst, sym, OnErr, Talk}
+use Rattle.pgp_client.specs.Codes.{refusal_at}
 use Rattle.pgp_client.specs.Taking.{Takes, taken}
 use Rattle.pgp_client.specs.declared.event.Event.{Event}
 use Rattle.pgp_client.specs.declared.event.Refusal.{Refusal}
 use Rattle.pgp_client.specs.declared.kind.Kind.{Kind}
-use Rattle.pgp_c.specs.Dialogue.{RejectsMessage, TakesMessage, event_of, kind_at, refusal_at, talk_of}
+use Rattle.pgp_c.specs.Dialogue.{RejectsMessage, TakesMessage, event_of, kind_at, talk_of}
 use Rattle.pgp_c.specs.declared.dialogue.PgpDialogue.{PgpDialogue}
 use Rattle.pgp_c.specs.declared.dialogue.PgpEvent.{PgpEvent}
 

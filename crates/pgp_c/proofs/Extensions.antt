@@ -9,7 +9,7 @@ use Rattle.pgp_c.specs.Streams.{Extends, ExtendsByHead, free}
 pub parts_of : (s : PgpStream) → take (length s.room.now - s.len) (drop s.len s.room.now) ++ drop (length s.room.now - s.len) (drop s.len s.room.now) ≡ drop s.len s.room.now
 parts_of s = take-append-drop (length s.room.now - s.len) (drop s.len s.room.now)
 
-min_left : (a b : ℕ) → a ≤ b → min a b ≡ a
+pub min_left : (a b : ℕ) → a ≤ b → min a b ≡ a
 min_left a b le = omega (arith, le)
 
 -- bytes that were written after what was to be sent

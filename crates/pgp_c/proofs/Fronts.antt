@@ -186,7 +186,7 @@ left_of bytes new m t =
     let count : length bytes - length new ≡ length (frame_bytes t.first) = omega (arith, ap length t.whole, length-append (frame_bytes t.first) new) in
     ap (λ i. drop i bytes) count ∙ ap (λ l. drop (length (frame_bytes t.first)) l) t.whole ∙ drop-append_seam (frame_bytes t.first) new
 
-none_left : (bytes new : List ℕ) → new ≡ bytes → drop (length bytes - length new) bytes ≡ new
+pub none_left : (bytes new : List ℕ) → new ≡ bytes → drop (length bytes - length new) bytes ≡ new
 none_left bytes new e = let none : length bytes - length new ≡ 0 = omega (arith, ap length e) in ap (λ i. drop i bytes) none ∙ sym e
 
 rest_is : (bytes new : List ℕ) (r : Result (Option Message) Error) → Step ⊥ bytes r new → drop (length bytes - length new) bytes ≡ new

@@ -1,17 +1,14 @@
 -- What the lists that C hands over make of a message.
-use Rattle.pgp_c.proofs.Common.{◌≡◌, ℕ, ℤ, List, [], ◌∷◌, map, Option, None, Result, Ok, Err, Bor, MutBor, refl, sym, ap, subst, ◌∙◌, map-id, append_cancel_left, YieldsList, items_from_drains, Error, IsNull, Yes, No, uint32, nullable, Held, ◌⊕◌, Gives, Runs, KeepsValue, more_bytes, front_same, Bind, PgpValue, value_of, Puts}
+use Rattle.pgp_c.proofs.Common.{◌≡◌, ℕ, ℤ, List, [], ◌∷◌, map, Option, None, Result, Ok, Err, Bor, MutBor, refl, sym, ap, subst, ◌∙◌, map-id, YieldsList, items_from_drains, Error, IsNull, Yes, No, uint32, nullable, Held, ◌⊕◌, Gives, Runs, KeepsValue, front_same, Bind, PgpValue, value_of, Puts}
 use Rattle.std.specs.Iterator.{YieldsThen}
 use Rattle.pgp_base.specs.Calls.{value_of as value_made, Puts as Put}
+use Rattle.pgp_message_write.proofs.Lists.{same_more}
 
 -- a call of the serializer keeps the bytes that stood there
 pub keeps : {K : Type 0} (p : PgpValue) (lacks : Held K → ℕ → Type 0) (old new : Held K) (r : Result IsNull Error) → Puts p lacks old new r → KeepsValue r old new
 keeps p lacks old new (Ok Yes) d = d.1
 keeps p lacks old new (Ok No) d = (p.bytes.now, d.1)
 keeps p lacks old new (Err e) d = front_same old new d.2
-
--- what stands after the same bytes is the same
-same_more : {K : Type 0} (a b : Held K) (p q : List ℕ) → b ≡ a ⊕ p → b ≡ a ⊕ q → p ≡ q
-same_more a b p q e f = append_cancel_left a.bytes p q (sym (more_bytes a p) ∙ (ap (λ h. h.bytes) (sym e ∙ f) ∙ more_bytes a q))
 
 -- the value that a call made
 made : {K : Type 0} (p : PgpValue) (lacks : Held K → ℕ → Type 0) (null : IsNull) (bytes : List ℕ) (before after : Held K) (v : Option (List ℕ)) → v ≡ value_made null bytes → Puts p lacks before after (Ok null) → after ≡ before ⊕ bytes → v ≡ value_of p
@@ -41,10 +38,6 @@ module _ {F B K : Type 0} (held : B → Held K) (step : F → Bor PgpValue → M
       let first = one (here ⊕ uint32 0) f x m.null m.bytes r.0 v m.value m.put in
       let rest = all_made (here ⊕ nullable v) r.0 xs vs t r.2 in
       ap (λ y. y ∷ vs) first ∙ ap (λ l. value_of x.now ∷ l) rest
-
--- an iterator is made of itself
-abbrev pub FromItself : {S : Type 0} → S → S → Type 0
-FromItself source it = it ≡ source
 
 -- all items came of an iterator over a list
 pub all_received : {S A B : Type 0} (steps : S → Option A → S → Type 0) (v : A → B) (s : S) (all : List B) → YieldsList steps v s all → (xs : List A) (left : S) → YieldsThen steps s xs None left → map v xs ≡ all

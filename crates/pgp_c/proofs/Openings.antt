@@ -1,7 +1,6 @@
 -- The packet of the names and values that C hands over.
-use Rattle.pgp_c.proofs.Common.{◌≡◌, ◌⊎◌, ℕ, ◌≤◌, List, [], ◌∷◌, ◌++◌, map, length, Option, Some, None, Bor, refl, sym, ap, subst, ◌∙◌, inl, inr, arith, length-append, append_assoc, Mut, GName, Called, map_source, map_callee, Map, maps, YieldsList, YieldsList-from_map_by, flat_map, option_to_list, append-nil, map-append, flat_map-append, Yielded, first, Wants, WantsMemory, Held, window_lacks, Error, either_first, first-append, wants_more, Startup, Arrived, StartupWhole, StartupSoFar, Refused, shown_pairs, Int32, minor_of, version_code, pair, pair_cause, parts, parts_cause, bytes_of, cause, ProtocolVersion, last_cause, refused_pairs, startup_length, all_given, some_given, PgpPair, pair_of}
+use Rattle.pgp_c.proofs.Common.{◌≡◌, ◌⊎◌, ℕ, ◌≤◌, List, [], ◌∷◌, ◌++◌, map, length, Option, Some, None, Bor, refl, sym, ap, subst, ◌∙◌, inl, inr, arith, length-append, append_assoc, Mut, GName, Called, map_source, map_callee, Map, maps, YieldsList, YieldsList-from_map_by, flat_map, option_to_list, append-nil, map-append, flat_map-append, Yielded, first, Wants, WantsMemory, Held, window_lacks, Error, either_first, first-append, wants_more, Startup, Arrived, StartupWhole, StartupSoFar, Refused, shown_pairs, Int32, minor_of, version_code, pair, pair_cause, parts, parts_cause, bytes_of, cause, ProtocolVersion, last_cause, refused_pairs, startup_length, all_given, some_given, PgpPair, pair_of, FromItself}
 use Rattle.pgp_frontend.specs.Given.{shown}
-use Rattle.pgp_c.proofs.Lists.{FromItself}
 
 module _ (v : ProtocolVersion) (all : List (List ℕ × List ℕ)) where
   module _ (xs : List (Bor (List ℕ) × Bor (List ℕ))) (more : List (List ℕ × List ℕ)) (is : all ≡ map shown xs ++ more) where

@@ -1,9 +1,8 @@
 -- The messages of the lists that C hands over.
-use Rattle.pgp_c.proofs.Common.{◌≡◌, ℕ, ℤ, pos, ◌+◌, ◌≤◌, List, [], ◌∷◌, ◌++◌, map, length, take, Option, Some, None, Result, Ok, Err, Bor, sym, ap, subst, ◌∙◌, arith, length-append, Mut, GName, Called, map_source, map_callee, Map, flat_map, maps, YieldsList, YieldsList-from_map_by, flat_map-append, Yielded, Cause, length_cause, number_of, int32, uint16, frame, window_held, window_lacks, Error, Window, length-uint16, Part, Int32, joined, all_given, some_given, int32_length, tagged_length, Message, Authentication, AuthenticationSasl, ErrorResponse, NoticeResponse, ErrorPart, FieldPart, WritesGiven, uncounted, column_parts, field_parts, text_parts, value_parts, wide_list, description_of, fields_of, names_of, negotiation_of, row_of, NotRepliedList, RepliedList}
+use Rattle.pgp_c.proofs.Common.{◌≡◌, ℕ, ℤ, pos, ◌+◌, ◌≤◌, List, [], ◌∷◌, ◌++◌, map, length, take, Option, Some, None, Result, Ok, Err, Bor, sym, ap, subst, ◌∙◌, arith, length-append, Mut, GName, Called, map_source, map_callee, Map, flat_map, maps, YieldsList, YieldsList-from_map_by, flat_map-append, Yielded, Cause, length_cause, number_of, int32, uint16, frame, window_held, window_lacks, Error, Window, length-uint16, Part, Int32, joined, all_given, some_given, int32_length, tagged_length, Message, Authentication, AuthenticationSasl, ErrorResponse, NoticeResponse, ErrorPart, FieldPart, WritesGiven, uncounted, column_parts, field_parts, text_parts, value_parts, wide_list, description_of, fields_of, names_of, negotiation_of, row_of, NotRepliedList, RepliedList, FromItself}
 use Rattle.pgp_message_write.specs.Given.{items_cause}
 use Rattle.pgp_message_write.specs.Reply.{bytes_of}
 use Rattle.pgp_message_write.proofs.Lists.{joined-append}
-use Rattle.pgp_c.proofs.Lists.{FromItself}
 use Rattle.pgp_c.proofs.NeverMemory.{Never, never_none}
 use Rattle.pgp_c.proofs.Replies.{list_replied, list_not_replied}
 

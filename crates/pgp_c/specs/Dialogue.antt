@@ -1,13 +1,12 @@
 -- A dialogue in memory of the caller's: which of a server's messages answers which of a client's requests.
 use Rattle.std.specs.Prelude.{◌≡◌, ◌<◌, ◌⊎◌, ℕ, Option, Some, None, Ok, Err, length, ◌==◌, if◌then◌else◌}
-use Rattle.pgp_client.specs.Codes.{stage_at}
+use Rattle.pgp_client.specs.Codes.{refusal_at, stage_at}
 use Rattle.pgp_client.specs.Slots.{held_between}
 use Rattle.pgp_client.specs.Taking.{Takes, taken}
 use Rattle.pgp_client.specs.Talk.{Talk}
 use Rattle.pgp_client.specs.declared.event.Event.{Event}
 use Rattle.pgp_client.specs.declared.event.Event.TheVariants.{Aside, Ended, Last, Part}
 use Rattle.pgp_client.specs.declared.event.Refusal.{Refusal}
-use Rattle.pgp_client.specs.declared.event.Refusal.TheVariants.{Uncertain, Unexpected}
 use Rattle.pgp_client.specs.declared.kind.Kind.{Kind}
 use Rattle.pgp_client.specs.declared.kind.Kind.TheVariants as kinds
 use Rattle.pgp_c.specs.declared.dialogue.PgpDialogue.{PgpDialogue}
@@ -71,12 +70,6 @@ event_of Ended = record { name = 0; what = 4 }
 pub record KeepsRoom (old new : PgpDialogue) : Type 0 where
   pub room : length new.room.now ≡ length old.room.now
   pub whole : ¬ IsBroken old → ¬ IsBroken new
-
-abbrev pub refusal_at : ℕ → Option Refusal
-refusal_at n =
-    if n == 36 then Some Unexpected
-    else (if n == 37 then Some Uncertain
-    else None)
 
 -- The message was taken as the dialogue takes it, and the event says so.
 abbrev pub TakesMessage : PgpDialogue → PgpDialogue → ℕ → PgpEvent → Type 0

@@ -1,11 +1,11 @@
 //! Which of a server's messages answers which of a client's requests, in memory of the caller's.
 
 ghost use Rattle.std.specs.Prelude.{◌≡◌, ◌≢◌, ◌<◌, ◌≤◌, ◌⊎◌, None, Some, length, true, false};
-ghost use Rattle.pgp_client.specs.Codes.{request_at};
+ghost use Rattle.pgp_client.specs.Codes.{refusal_at, request_at};
 ghost use Rattle.pgp_client.specs.Slots.{capacity, slots_items};
 ghost use Rattle.pgp_client.specs.Talk.{shown};
 ghost use Rattle.pgp_client.specs.Taking.{asked, is_idle};
-ghost use Rattle.pgp_c.specs.Dialogue.{IsBroken, KeepsRoom, RejectsMessage, TakesMessage, event_of, kind_at, refusal_at, talk_of};
+ghost use Rattle.pgp_c.specs.Dialogue.{IsBroken, KeepsRoom, RejectsMessage, TakesMessage, event_of, kind_at, talk_of};
 
 use pgp_client::{Dialogue, Event, Kind, Refusal, Request, Slot, Slots, Stage};
 use std::mem;

@@ -1,5 +1,7 @@
 -- What a message comes to in a connection.
 use Rattle.pgp_c_auth.proofs.Common.{◌≡◌, ◌≢◌, ℕ, ◌+◌, Bool, List, [], Some, None, Ok, Err, Option, Result, ap, arith, inl, inr, length, length-append, refl, subst, sym, ◌-◌, ◌∙◌, DataRow, Message, kind_of, PgpWays, PgpLogin, parsed, view, Talk, CountedBytes, IsPartial, Step, TakesFrame, frame_bytes}
+use Rattle.pgp_client.specs.Codes.{refusal_at}
+use Rattle.pgp_client.specs.Limits.{is_longer}
 use Rattle.pgp_client.specs.Taking.{Takes, is_between, taken}
 use Rattle.pgp_client.specs.declared.event.Event.{Event}
 use Rattle.pgp_client.specs.declared.event.Refusal.{Refusal}
@@ -8,7 +10,7 @@ use Rattle.pgp_client.specs.declared.stage.Stage.TheVariants.{Over}
 use Rattle.pgp_message.specs.Rows.{TakesRow}
 use Rattle.pgp_message.specs.declared.message as code
 use Rattle.pgp_c_auth.specs.Answering.{HasAnswered, NothingAsked, asking}
-use Rattle.pgp_c_auth.specs.Connection.{FitsAt, IsMisplaced, IsTimely, Link, NoMemory, NoRoom, NoSettingRoom, NoStatus, NotRepliedTo, Rejects, Took, TookSo, Unanswered, Untimely, ended, is_done, is_longer, noted, refusal_at, reported_as, with_login, with_talk}
+use Rattle.pgp_c_auth.specs.Connection.{FitsAt, IsMisplaced, IsTimely, Link, NoMemory, NoRoom, NoSettingRoom, NoStatus, NotRepliedTo, Rejects, Took, TookSo, Unanswered, Untimely, ended, is_done, noted, reported_as, with_login, with_talk}
 use Rattle.pgp_c_auth.specs.declared.connection.PgpTaken.{PgpTaken}
 
 taken_no : (r : Result (Event × Talk) Refusal) (e : Refusal) (new : Talk) → Takes r (Err e) new → (r ≡ Err e) × (new.stage ≡ Over)

@@ -1,6 +1,6 @@
 -- What a connection has come by.
-use Rattle.std.proofs.Common.{◌≡◌, ℕ, Bool, true, false, List, [], ◌∷◌, ◌++◌, Option, Contains, inl, inr, arith, refl, sym, subst, append_assoc}
-use Rattle.std.proofs.lemmas.List.Elements.{Contains-append_left, Contains-append_right}
+use Rattle.std.proofs.Common.{◌≡◌, ℕ, Bool, true, false, List, [], ◌∷◌, ◌++◌, Option, Contains, inl, inr, refl, sym, subst, append_assoc}
+use Rattle.std.proofs.lemmas.List.Elements.{Contains-append_left, Contains-push}
 use Rattle.pgp_client.specs.Telling.{Asks, Follows, Hears, Turn, start}
 use Rattle.pgp_c_auth.specs.Answering.{Answers, Asking, Begins as BeginsExchange, ByCleartext as Cleartext, ByMd5 as Md5, Ends, First, Final, GoesOn, NothingAsked, Welcomes, asking, start_of}
 use Rattle.pgp_c_auth.proofs.Common.{Link, ClientMessage, Message, Authentication, AuthenticationSaslContinue, AuthenticationSaslFinal, append-nil, kind_of, PgpWays, PgpLogin, Talk, IsAdmitted, by_scram, AnswersWith, Verifies}
@@ -17,9 +17,6 @@ final_text : (m : Message) (text : List ℕ) → asking m ≡ Final text → m �
 final_text (Authentication (AuthenticationSaslFinal bytes)) text e = cc
 final_text (Authentication request) text e = absurd cc
 final_text m text e = absurd cc
-
-at_front : {X : Type 0} (x : X) → Contains (x ∷ []) x
-at_front x = (0, omega arith, refl)
 
 module _ (w : PgpWays) where
   -- the client answered a first text that was heard, and a server that holds the verifier answers with this signature
@@ -80,7 +77,7 @@ module _ (w : PgpWays) where
       signature = signature;
       final = text;
       first_heard = Contains-append_left heard (m ∷ []) _ s.first_heard;
-      final_heard = Contains-append_right heard (m ∷ []) _ (subst (λ (x : Message). Contains (m ∷ []) x) is (at_front m));
+      final_heard = subst (λ (x : Message). Contains (heard ++ m ∷ []) x) is (Contains-push heard m);
       answers = s.answers;
       verifies = verifies;
     }))
@@ -101,7 +98,7 @@ module _ (w : PgpWays) where
         subst (Known begun (heard ++ m ∷ []) new.signature) (sym came.1) (AtFinal known.1 known.0 (record {
           first = text;
           answer = answer;
-          first_heard = Contains-append_right heard (m ∷ []) _ (subst (λ (x : Message). Contains (m ∷ []) x) (first_text m text e) (at_front m));
+          first_heard = subst (λ (x : Message). Contains (heard ++ m ∷ []) x) (first_text m text e) (Contains-push heard m);
           answers = answers;
         }))
     stepped {begun} old {new} k e (Ends {text = text} came same verifies) =

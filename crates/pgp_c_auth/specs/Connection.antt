@@ -1,23 +1,22 @@
 -- A client's connection in memory of the caller's: what each message of the server comes to, and what may be asked.
 -- PostgreSQL manual, "Message Flow".
-use Rattle.std.specs.Prelude.{◌≡◌, ◌≢◌, ◌⊎◌, ℕ, ◌+◌, ◌<◌, nat_lt, Bool, true, false, not, List, [], length, take, Option, Some, None, Ok, Err, if◌then◌else◌, ◌==◌, ◌&&◌, ◌||◌, min, pos}
+use Rattle.std.specs.Prelude.{◌≡◌, ◌≢◌, ◌⊎◌, ℕ, ◌+◌, ◌<◌, Bool, true, false, not, List, [], length, take, Some, Ok, Err, if◌then◌else◌, ◌==◌, ◌&&◌, min, pos}
 use Rattle.pgp_base.specs.Error.{number_of}
 use Rattle.pgp_base.specs.declared.error.Error.{Error}
-use Rattle.pgp_client.specs.Codes.{stage_at}
+use Rattle.pgp_client.specs.Codes.{refusal_at, stage_at}
 use Rattle.pgp_client.specs.Kinds.{kind_of}
+use Rattle.pgp_client.specs.Limits.{is_longer, lacks_status}
 use Rattle.pgp_client.specs.Slots.{held_between}
-use Rattle.pgp_client.specs.Taking.{asked, awaits_data, is_between, is_copying, is_idle, taken}
+use Rattle.pgp_client.specs.Taking.{asked, awaits_data, is_between, is_copying, is_end, is_idle, taken}
 use Rattle.pgp_client.specs.Talk.{Talk}
 use Rattle.pgp_client.specs.declared.event.Event.{Event}
 use Rattle.pgp_client.specs.declared.event.Event.TheVariants.{Aside, Ended, Last, Part}
 use Rattle.pgp_client.specs.declared.event.Refusal.{Refusal}
-use Rattle.pgp_client.specs.declared.event.Refusal.TheVariants.{Uncertain, Unexpected}
 use Rattle.pgp_client.specs.declared.request.Request.{Request}
 use Rattle.pgp_client.specs.declared.request.Request.TheVariants as requests
 use Rattle.pgp_client.specs.declared.stage.Stage.TheVariants.{Over}
 use Rattle.pgp_message.specs.BackendMessage.{Message, BackendKeyData, NegotiateProtocolVersion, NoticeResponse, NotificationResponse, ParameterStatus, ReadyForQuery}
 use Rattle.pgp_message.specs.Parts.{KeyData, Setting}
-use Rattle.pgp_message.specs.Remembered.{header_of}
 use Rattle.pgp_message.specs.Stream.{IsPartial, Step, TakesFrame}
 use Rattle.pgp_c_auth.specs.Answering.{HasAnswered, NotAnsweredFor, asking}
 use Rattle.pgp_c_auth.specs.Delivering.{Delivered}
@@ -68,14 +67,6 @@ is_done l = l.phase == done
 
 -- ---- what comes
 
--- the bytes begin with a header that announces more bytes than the limit, its own four counted
-abbrev pub longer : ℕ → Option (ℕ × ℕ) → Bool
-longer limit None = false
-longer limit (Some header) = nat_lt limit header.1
-
-abbrev pub is_longer : ℕ → List ℕ → Bool
-is_longer limit bytes = longer limit (header_of bytes)
-
 -- how long a message may be now: no longer than 30,000 bytes of a server that has proved nothing yet, as libpq has it
 abbrev pub limit_of : PgpWays → PgpLogin → ℕ
 limit_of w l = if is_done l then w.limit else min w.limit 30000
@@ -92,24 +83,12 @@ IsTimely logged_in first m = Unit {0}
 abbrev pub ComesInTime : Link → Message → Type 0
 ComesInTime c m = IsTimely (is_done c.login) (is_between c.talk) m
 
--- The status of a ReadyForQuery is that of no transaction, of one, or of a failed one.
-abbrev pub is_status : ℕ → Bool
-is_status s = (s == 73) || (s == 84) || (s == 69)  -- I, T, E
-
-abbrev pub lacks_status : Message → Bool
-lacks_status (ReadyForQuery s) = not (is_status s)
-lacks_status m = false
-
 -- it may come now, with a status that is one
 abbrev pub FitsAt : PgpLogin → Bool → Message → Type 0
 FitsAt l first m = IsTimely (is_done l) first m × (lacks_status m ≡ false)
 
 abbrev pub IsFit : Link → Message → Type 0
 IsFit c m = FitsAt c.login (is_between c.talk) m
-
-abbrev pub is_end : Event → Bool
-is_end Ended = true
-is_end e = false
 
 -- the status and the key after a message
 abbrev pub status_after : Message → ℕ → ℕ
@@ -126,9 +105,6 @@ reported_as (Part n) frame = record { name = n; frame = frame; what = 1 }
 reported_as (Last n) frame = record { name = n; frame = frame; what = 2 }
 reported_as Aside frame = record { name = 0; frame = frame; what = 3 }
 reported_as Ended frame = record { name = 0; frame = frame; what = 4 }
-
-abbrev pub refusal_at : ℕ → Option Refusal
-refusal_at n = if n == 36 then Some Unexpected else (if n == 37 then Some Uncertain else None)
 
 -- after what a message says, where so many bytes are given for settings
 abbrev pub noted : ℕ → Message → Event → Link → Link

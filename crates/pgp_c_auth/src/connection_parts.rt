@@ -2,13 +2,15 @@
 
 ghost use Rattle.std.specs.Prelude.{◌≡◌, ◌≢◌, ◌⊎◌, ◌≤◌, length, true, false, Some, Ok, Err, IfOk, IfErr};
 ghost use Rattle.std.specs.Bool.{Decides};
+ghost use Rattle.pgp_client.specs.Codes.{refusal_at};
+ghost use Rattle.pgp_client.specs.Limits.{is_longer, is_status, lacks_status};
 ghost use Rattle.pgp_client.specs.Slots.{capacity, is_full, slots_items};
-ghost use Rattle.pgp_client.specs.Taking.{asked, awaits_data, is_copying, is_idle, taken};
+ghost use Rattle.pgp_client.specs.Taking.{asked, awaits_data, is_copying, is_end, is_idle, taken};
 ghost use Rattle.pgp_client.specs.Talk.{shown};
 ghost use Rattle.pgp_client.specs.declared.event.Refusal.{Refusal as Refused};
 ghost use Rattle.pgp_client.specs.declared.stage.Stage.TheVariants.{Over};
 ghost use Rattle.pgp_message.specs.Views.{view};
-ghost use Rattle.pgp_c_auth.specs.Connection.{KeepsRoom, IsTimely, is_done, is_end, is_longer, is_status, lacks_status, limit_of, may_ask_at, may_follow, refusal_at, reported_as, status_after, talk_of};
+ghost use Rattle.pgp_c_auth.specs.Connection.{KeepsRoom, IsTimely, is_done, limit_of, may_ask_at, may_follow, reported_as, status_after, talk_of};
 
 use crate::asking::PgpWays;
 use crate::connection::{NO_ROOM, PgpTaken, WRONG_PHASE};

@@ -28,7 +28,7 @@ taken_by_as false later t k = heard_by later (ready t) k
 abbrev pub taken_by : ℕ → Talk → Kind → Result (Event × Talk) Refusal
 taken_by later t k = taken_by_as (is_aside k) later t k
 
-abbrev Answer : Type 0
+abbrev pub Answer : Type 0
 Answer = Result (Event × Talk) Refusal
 
 -- what is taken where it isn't known is taken where it is

@@ -1,14 +1,11 @@
 -- What is taken in turns is what belongs there, in one way.
-use Rattle.pgp_client.proofs.Common.{◌≡◌, ◌≢◌, ◌≤◌, ◌<◌, ◌==◌, ℕ, Bool, true, false, List, [], ◌∷◌, ◌++◌, Option, Some, None, Result, Ok, Err, ◌∙◌, ◌⊎◌, inl, inr, ap, ap₂, append_assoc, append-nil, arith, refl, sym, subst, length, nat_le, leb-true, if◌then◌else◌, eqb-true, eq-eqb, AmongTurns, NoTurnLeft, OneAsked, OneAnswer, OneElse, BelongInTurns, Talk, asked, begins, begun, behind_copy, behind_end, completes, copied, event_of, fails, first_in, follows, goes, observed, is_aside, is_passed, is_sync, moved, ready, starts_with_sync, taken, taken_as, Follows, Turn, Asks, Hears, asked_all, asked_in, reported_in, start, Event, Aside, Ended, Refusal, Uncertain, Kind, Asked, Request, Stage, Idle, Skipping, Answering, CopyingIn, TakingCopy, Failed}
+use Rattle.pgp_client.proofs.Common.{◌≡◌, ◌≢◌, ◌≤◌, ◌<◌, ◌==◌, ℕ, Bool, true, false, List, [], ◌∷◌, ◌++◌, Option, Some, None, Ok, Err, ◌∙◌, ◌⊎◌, inl, inr, ap, ap₂, append_assoc, append-nil, arith, refl, sym, subst, length, nat_le, leb-true, if◌then◌else◌, eqb-true, eq-eqb, AmongTurns, NoTurnLeft, OneAsked, OneAnswer, OneElse, BelongInTurns, Talk, asked, begins, begun, behind_copy, behind_end, completes, copied, event_of, fails, first_in, follows, goes, observed, is_aside, is_passed, is_sync, moved, ready, starts_with_sync, taken, taken_as, Follows, Turn, Asks, Hears, asked_all, asked_in, reported_in, start, Event, Aside, Ended, Uncertain, Kind, Asked, Request, Stage, Idle, Skipping, Answering, CopyingIn, TakingCopy, Failed}
 use Rattle.pgp_client.specs.declared.kind.Kind.TheVariants as kinds
 use Rattle.pgp_client.specs.declared.request.Request.TheVariants as requests
-use Rattle.pgp_client.proofs.Early.{early, copied_by, heard_by, taken_by, taken_by_as}
+use Rattle.pgp_client.proofs.Early.{early, copied_by, heard_by, taken_by, taken_by_as, Answer}
 use Rattle.pgp_client.proofs.Served.{TellsBy, aside_is, ok_parts, served, talk}
 use Rattle.pgp_client.proofs.Later.{idle_ends}
 use Rattle.pgp_client.proofs.Exact.{Run, Stops, AsksOne, HearsOne, exact, stands}
-
-abbrev Answer : Type 0
-Answer = Result (Event × Talk) Refusal
 
 -- ---- what was taken before some were asked is taken where it is known that they were asked after it
 

@@ -1,13 +1,10 @@
 -- What a server sends in turns is taken where it is heard, or it isn't certain.
-use Rattle.pgp_client.proofs.Common.{◌≡◌, ℕ, Bool, true, false, List, [], ◌∷◌, ◌++◌, Option, Some, None, Result, Ok, Err, ◌∙◌, ◌⊎◌, inl, inr, ap, refl, sym, subst, length, AmongTurns, NoTurnLeft, OneAsked, OneAnswer, OneElse, BelongInTurns, Talk, asked, behind_copy, completes, copied, fails, is_aside, is_copying, moved, observed, ready, starts_with_sync, taken, taken_as, FollowsTo, Turn, Asks, Hears, asked_all, asked_in, reported_in, start, Event, Aside, Refusal, Uncertain, Kind, Asked, Stage, Idle, Skipping, Answering, CopyingIn, TakingCopy, Failed}
+use Rattle.pgp_client.proofs.Common.{◌≡◌, ℕ, Bool, true, false, List, [], ◌∷◌, ◌++◌, Option, Some, None, Ok, Err, ◌∙◌, ◌⊎◌, inl, inr, ap, refl, sym, subst, length, AmongTurns, NoTurnLeft, OneAsked, OneAnswer, OneElse, BelongInTurns, Talk, asked, behind_copy, completes, copied, fails, is_aside, is_copying, moved, observed, ready, starts_with_sync, taken, taken_as, FollowsTo, Turn, Asks, Hears, asked_all, asked_in, reported_in, start, Event, Aside, Uncertain, Kind, Asked, Stage, Idle, Skipping, Answering, CopyingIn, TakingCopy, Failed}
 use Rattle.pgp_client.specs.declared.kind.Kind.TheVariants as kinds
 use Rattle.pgp_client.proofs.Copying.{certain_outside, in_copy, ready_outside}
-use Rattle.pgp_client.proofs.Early.{at_once, taken_by}
+use Rattle.pgp_client.proofs.Early.{at_once, taken_by, Answer}
 use Rattle.pgp_client.proofs.Served.{TellsBy, aside_is, ok_parts, served, talk}
 use Rattle.pgp_client.proofs.Timely.{asked_so, taken_more}
-
-abbrev Answer : Type 0
-Answer = Result (Event × Talk) Refusal
 
 -- the dialogue takes the message so, or isn't certain
 abbrev pub Told : Talk → Kind → Event → Type 0

@@ -1,5 +1,7 @@
--- The numbers of requests and stages, each in the order of its variants.
-use Rattle.std.specs.Prelude.{ℕ, ◌==◌, if◌then◌else◌}
+-- The numbers of requests and stages, each in the order of its variants, and those of refusals in C.
+use Rattle.std.specs.Prelude.{ℕ, ◌==◌, if◌then◌else◌, Option, Some, None}
+use Rattle.pgp_client.specs.declared.event.Refusal.{Refusal}
+use Rattle.pgp_client.specs.declared.event.Refusal.TheVariants.{Uncertain, Unexpected}
 use Rattle.pgp_client.specs.declared.request.Asked.{Asked}
 use Rattle.pgp_client.specs.declared.request.Request.{Request}
 use Rattle.pgp_client.specs.declared.request.Request.TheVariants as requests
@@ -96,3 +98,9 @@ stage_code stages.Calling = 22
 stage_code stages.Called = 23
 stage_code stages.Syncing = 24
 stage_code stages.Failed = 25
+
+abbrev pub refusal_at : ℕ → Option Refusal
+refusal_at n =
+    if n == 36 then Some Unexpected
+    else (if n == 37 then Some Uncertain
+    else None)

@@ -1,11 +1,7 @@
 -- The lines of a chunk.
-use Rattle.pgp_conversation.proofs.Common.{◌≡◌, ℕ, ◌+◌, ◌≤◌, Bool, true, false, List, [], ◌++◌, length, take, drop, min, Option, Some, Result, Ok, Err, refl, sym, ap, subst, ◌∙◌, arith, length-append, OnOk, append-nil, length-take, greatest, place_behind, Ends, View, stays_ended, Sender, Client, Server, Half, Known, Talk, ListsFrame, ListsFrames, NoLines, first_time, now_at, side_in, with_numbers, mark, since, Numbers, at_time, Chunk, ListsBytes, ListsChunkTo, HeldHalf, HeldTalk, Holds, Keeps, ListsAllFrames, half_in, other, ListsChunk, counted_on, saturates}
+use Rattle.pgp_conversation.proofs.Common.{◌≡◌, ℕ, ◌+◌, ◌≤◌, Bool, true, false, List, [], ◌++◌, length, take, drop, min, Option, Some, Result, Ok, Err, refl, sym, ap, subst, ◌∙◌, arith, length-append, OnOk, append-nil, length-take, greatest, place_behind, Ends, View, stays_ended, Sender, Client, Server, Half, Known, Talk, ListsFrame, ListsFrames, NoLines, first_time, now_at, side_in, with_numbers, mark, since, Numbers, at_time, Chunk, ListsBytes, ListsChunkTo, HeldHalf, HeldTalk, Holds, Keeps, ListsAllFrames, half_in, other, ListsChunk, counted_on, saturates, true≢false}
 use Rattle.std.proofs.Math.Nat.{min-eq_left}
 use Rattle.pgp_conversation.proofs.FrameLists.{other_ends, timed_side}
-
-not_both : (b : Bool) → b ≡ true → b ≡ false → ⊥
-not_both true e f = absurd cc
-not_both false e f = absurd cc
 
 -- of a side that is stopped the bytes are counted
 pub counted : (view : View) (mark : List ℕ) (who : Sender) (known : Known) (held : HeldHalf) (count : ℕ) (before : Half) (piece lines : List ℕ)
@@ -24,7 +20,7 @@ counted view mark who known held count before piece lines stands counts holds =
         stopped = holds.stopped;
         count = counts ∙ ap (λ n. min (n + length piece) greatest) holds.count ∙ saturates (length before.rest) (length piece) greatest ∙ ap place_behind (sym (length-append before.rest piece));
         place = holds.place;
-        bytes = λ e. absurd (not_both before.stopped halted e);
+        bytes = λ e. absurd (true≢false (sym halted ∙ e));
       };
       passed = omega arith;
       text = sym (append-nil lines);

@@ -1,9 +1,6 @@
 -- Marks are printable.
-use Rattle.pgp_conversation.proofs.Common.{◌≡◌, ℕ, ◌-◌, Bool, true, false, List, [], ◌∷◌, ◌++◌, length, refl, ◌/◌, ◌%◌, nat_lt, if◌then◌else◌, codes, decimal, blanks, list_all, IsPrinted, is_visible, Form, Columns, Json, blank, plain, plain_join, plain_number, Sender, Client, Server, Told, between, last_mark, later, mark, member, members, millis, number, says, since, word, width_of}
+use Rattle.pgp_conversation.proofs.Common.{ℕ, ◌-◌, Bool, true, false, List, [], ◌∷◌, ◌++◌, length, refl, ◌/◌, ◌%◌, nat_lt, if◌then◌else◌, codes, decimal, blanks, IsPrinted, Form, Columns, Json, blank, plain, plain_join, plain_number, Sender, Client, Server, Told, between, last_mark, later, mark, member, members, millis, number, says, since, word, width_of, Plain}
 use Rattle.pgp_conversation.specs.declared.placement.Told.TheVariants.{Number, Answer, Lost, Nothing, Uncounted}
-
-abbrev Plain : List ℕ → Type 0
-Plain text = list_all is_visible text ≡ true
 
 pub seconds : (n : ℕ) → Plain (number n)
 unfolding number

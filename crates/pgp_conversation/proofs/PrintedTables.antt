@@ -1,11 +1,8 @@
 -- The lines of a table are printable.
-use Rattle.pgp_conversation.proofs.Common.{◌≡◌, ℕ, ◌-◌, ◌/◌, ◌%◌, true, List, [], ◌∷◌, ◌++◌, length, refl, codes, decimal, list_all, blanks, IsPrinted, is_visible, json_value, quoted, up_to, Form, Columns, Json, Style, Tally, line_of, blank, cut, join, json_val, plain, plain_join, plain_number, quote, millis, number, cell, columns, heading, row_by, row_of, times}
+use Rattle.pgp_conversation.proofs.Common.{◌≡◌, ℕ, ◌-◌, ◌/◌, ◌%◌, List, [], ◌∷◌, ◌++◌, length, refl, codes, decimal, blanks, IsPrinted, json_value, quoted, up_to, Form, Columns, Json, Style, Tally, line_of, blank, cut, join, json_val, plain, plain_join, plain_number, quote, millis, number, cell, columns, heading, row_by, row_of, times, Plain}
 use Rattle.pgp_summary.specs.declared.entry.Line.{Line}
 use Rattle.pgp_conversation.specs.Tables.{counts, members, percentage, shares}
 use Rattle.pgp_conversation.proofs.PrintedMarks.{seconds, thousandths}
-
-abbrev Plain : List ℕ → Type 0
-Plain text = list_all is_visible text ≡ true
 
 -- a line, without the newline at its end
 abbrev pub IsPrintedLine : List ℕ → Type 0

@@ -1,5 +1,5 @@
 -- What a frame is read as, and what holds of that.
-use Rattle.pgp_conversation.proofs.Common.{◌≡◌, ◌≢◌, ℕ, ◌==◌, Bool, true, false, not, get_or, List, [], length, Option, Some, None, Result, Ok, Err, refl, sym, ap, subst, ◌∙◌, arith, IfOk, append-nil, Error, Message, IsEnding, Step, TakesFrame, frame_bytes, front_is_one, length-frame, no_ending, ClientMessage, step_of, ClientError, step_one, Style, IsFrameOf, Client, Server, Noted, Told, noted_by, Numbers, role_by, asking_from, summed, Heard, Learns, Said, Sent, ShowsTyped, Unsaid, Passes, Reads, ReadsSo, Tells, lost, Types, Authentication, Nothing, asks, one_read, notes_nothing}
+use Rattle.pgp_conversation.proofs.Common.{◌≡◌, ◌≢◌, ℕ, ◌==◌, Bool, true, false, not, get_or, List, [], length, Option, Some, None, Result, Ok, Err, refl, sym, ap, subst, ◌∙◌, arith, IfOk, append-nil, Error, Message, IsEnding, Step, TakesFrame, frame_bytes, front_is_one, length-frame, no_ending, ClientMessage, step_of, ClientError, step_one, Style, IsFrameOf, Client, Server, Noted, Told, noted_by, Numbers, role_by, asking_from, summed, Heard, Learns, Said, Sent, ShowsTyped, Unsaid, Passes, Reads, ReadsSo, Tells, lost, Types, Authentication, Nothing, asks, one_read, notes_nothing, false≢true}
 use Rattle.pgp_message.specs.BackendMessage.{tag_of}
 use Rattle.pgp_base.specs.declared.error.Error.TheVariants as errors
 use Rattle.pgp_frontend.specs.ClientMessage.{PasswordKind}
@@ -142,9 +142,6 @@ passed_reads style place frame name said from to old new line told noted none as
 
 -- ---- what isn't looked at
 
-no_truth : false ≡ true → ⊥
-no_truth e = absurd cc
-
 asks_none : (m : Message) → tag_of m ≢ 82 → asks m ≡ Nothing
 asks_none (Authentication request) other = absurd (other refl)
 asks_none m other = refl
@@ -155,9 +152,9 @@ silent frame (Err e) is other = refl
 
 pub unnoted_reads : (style : Style) (place : ℕ) (opened : Bool) (kind : PasswordKind) (frame name : List ℕ) (numbers : Option Numbers) (types : Option Types) (line : List ℕ) → notes_nothing numbers frame ≡ true → (length frame ≡ 1 → ⊥)
     → (said : Said) → ReadsSo Server opened kind frame said → Reads style place frame name said numbers numbers types types line line told.Uncounted Nothing
-unnoted_reads style place opened kind frame name (Some n) types line plain some said is = absurd (no_truth plain)
+unnoted_reads style place opened kind frame name (Some n) types line plain some said is = absurd (false≢true plain)
 unnoted_reads style place opened kind frame name None types line plain some (Heard r) is = record {
-  tells = record { numbers = None; numbered = refl; sums = refl; learns = refl; expects = sym (silent frame r is (λ e. no_truth (ap (λ n. not (n == 82)) (sym e) ∙ plain))) };
+  tells = record { numbers = None; numbered = refl; sums = refl; learns = refl; expects = sym (silent frame r is (λ e. false≢true (ap (λ n. not (n == 82)) (sym e) ∙ plain))) };
   shows = refl;
 }
 unnoted_reads style place opened kind frame name None types line plain some Unsaid is = absurd (some is)

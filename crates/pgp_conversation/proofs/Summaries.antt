@@ -1,5 +1,5 @@
 -- Where a summary is asked for, the table is all that is written.
-use Rattle.pgp_conversation.proofs.Common.{◌≡◌, ℕ, ◌+◌, Bool, true, false, List, [], ◌∷◌, ◌++◌, length, Option, Some, None, Result, Ok, Err, refl, sym, ap, ◌∙◌, inl, inr, nat_lt, ◌==◌, ◌||◌, ◌&&◌, is_some, not, if◌then◌else◌, bytes_eq, codes, Error, Message, Authentication, AuthenticationOk, ClientMessage, SaslResponse, ClientError, Style, State, client_name, LineOf, client_frame_name, name_in, place_behind, server_name, Side, is_reported, View, color_of, has_word, is_listed, painted, shown, Beginning, Messages, Replicating, Encrypted, Sender, End, Marking, Role, Told, Known, ListsChunks, ListsFrame, ListsFrames, NoChunkListed, NoLines, OneChunkListed, OneLine, Talk, answer_to, begins, called, counts, either, first_time, half_in, last_lines, last_of, left, noted_in, now_at, relined, side_in, told_by, waited, with_numbers, with_side, with_types, mark, marked, since, word, Chunk, Numbers, at_time, first_numbers, role_in, summary_in, told_in, unnumbered, IsListing, summarized, Asking, asking_in, summed, summed_so, ending_by, table}
+use Rattle.pgp_conversation.proofs.Common.{◌≡◌, ℕ, ◌+◌, Bool, true, false, List, [], ◌∷◌, ◌++◌, length, Option, Some, None, Result, Ok, Err, refl, sym, ap, ◌∙◌, inl, inr, nat_lt, ◌==◌, ◌||◌, ◌&&◌, is_some, not, if◌then◌else◌, bytes_eq, codes, Error, Message, Authentication, AuthenticationOk, ClientMessage, SaslResponse, ClientError, Style, State, client_name, LineOf, client_frame_name, name_in, place_behind, server_name, Side, is_reported, View, color_of, has_word, is_listed, painted, shown, Beginning, Messages, Replicating, Encrypted, Sender, End, Marking, Role, Told, Known, ListsChunks, ListsFrame, ListsFrames, NoChunkListed, NoLines, OneChunkListed, OneLine, Talk, answer_to, begins, called, counts, either, first_time, half_in, last_lines, last_of, left, noted_in, now_at, relined, side_in, told_by, waited, with_numbers, with_side, with_types, mark, marked, since, word, Chunk, Numbers, at_time, first_numbers, role_in, summary_in, told_in, unnumbered, IsListing, summarized, Asking, asking_in, summed, summed_so, ending_by, table, false≢true}
 use Rattle.pgp_trace.specs.Names.{name_of}
 use Rattle.pgp_trace.specs.Sides.{Server, Client}
 use Rattle.pgp_conversation.specs.declared.chunk.Sender.TheVariants as sides
@@ -134,15 +134,12 @@ chunks_kept view from _ _ to (OneChunkListed {chunks = chunks} {lines = lines} {
 abbrev IsTable : View → (lines : List ℕ) → Option State → Type 0
 IsTable view lines o = (s : State) × (o ≡ Some s) × (ending_by view o lines ≡ table view s.tallies)
 
-no_truth : false ≡ true → ⊥
-no_truth e = absurd cc
-
 some_table : (view : View) (lines : List ℕ) (o : Option State) → is_some o ≡ true → IsTable view lines o
-some_table view lines None e = absurd (no_truth e)
+some_table view lines None e = absurd (false≢true e)
 some_table view lines (Some s) e = (s, refl, refl)
 
 table_in : (view : View) (lines : List ℕ) (n : Option Numbers) → is_summed n ≡ true → IsTable view lines (summary_in n)
-table_in view lines None e = absurd (no_truth e)
+table_in view lines None e = absurd (false≢true e)
 table_in view lines (Some n) e = some_table view lines n.summary e
 
 begins_summed : (numbered sums folds : Bool) → numbered ≡ true → sums ≡ true → is_summed (first_numbers numbered sums folds) ≡ true
@@ -152,7 +149,7 @@ begins_summed false sums folds e f = e
 
 counted : (numbered typed : Bool) → numbered ≡ true → (numbered || typed) ≡ true
 counted true typed e = refl
-counted false typed e = absurd (no_truth e)
+counted false typed e = absurd (false≢true e)
 
 pub table_alone : (view : View) (marking : Marking) (bytes output : List ℕ) (end : End) → marking.numbered ≡ true → marking.summed ≡ true → (l : IsListing (summarized true view) marking bytes end output)
     → (s : State) × (summary_in l.talk.known.numbers ≡ Some s) × (output ≡ table (summarized true view) s.tallies)

@@ -1,5 +1,5 @@
 -- What is asked and heard in turn in a listing.
-use Rattle.pgp_conversation.proofs.Common.{◌≡◌, ◌≢◌, ℕ, Bool, true, false, List, [], ◌∷◌, ◌++◌, ◌+◌, length, Option, Some, None, Result, Ok, Err, refl, sym, ap, subst, ◌∙◌, append_assoc, append-nil, place_behind, View, Sender, Marking, Noted, Role, Told, Known, ListsChunks, ListsFrames, NoChunkListed, NoLines, OneChunkListed, OneLine, begins, counts, first_time, half_in, note, noted_in, now_at, side_in, with_numbers, with_side, with_types, mark, since, Chunk, Numbers, at_time, first_numbers, placed, role_in, tell, told_in, Asking, asking_in, summed, name_in, State}
+use Rattle.pgp_conversation.proofs.Common.{◌≡◌, ◌≢◌, ℕ, Bool, true, false, List, [], ◌∷◌, ◌++◌, ◌+◌, length, Option, Some, None, Result, Ok, Err, refl, sym, ap, subst, ◌∙◌, append_assoc, append-nil, place_behind, View, Sender, Marking, Noted, Role, Told, Known, ListsChunks, ListsFrames, NoChunkListed, NoLines, OneChunkListed, OneLine, begins, counts, first_time, half_in, note, noted_in, now_at, side_in, with_numbers, with_side, with_types, mark, since, Chunk, Numbers, at_time, first_numbers, placed, role_in, tell, told_in, Asking, asking_in, summed, name_in, State, false≢true}
 use Rattle.pgp_client.proofs.Exact.{turns_are_sent}
 use Rattle.pgp_client.proofs.Timely.{sent_in_turns, true_in_turns}
 use Rattle.pgp_client.specs.Taking.{asked, taken, taken_as, observed, observed_at, moved, event_of, is_aside, ready}
@@ -80,9 +80,6 @@ next_in : Result (Event × Talk) Refusal → Talk → Talk
 next_in (Ok x) other = x.1
 next_in (Err e) other = other
 
-no_truth : false ≡ true → ⊥
-no_truth e = absurd cc
-
 is_ended : Event → Bool
 is_ended Ended = true
 is_ended e = false
@@ -101,7 +98,7 @@ over_event s n = refl
 over_is : (s : Stage) → is_over s ≡ true → s ≡ Over
 unfolding is_over
 over_is Over e = refl
-over_is s e = absurd (no_truth e)
+over_is s e = absurd (false≢true e)
 
 -- after an error that ends the session nothing else is taken
 over_kept : (t : Talk) (k : Kind) (e : Event) (next : Talk) (aside : Bool) → t.stage ≡ Over → taken_as aside t k ≡ Ok (e, next) → next.stage ≡ Over
@@ -119,7 +116,7 @@ moved_ends n (Err e) next is = absurd cc
 
 taken_ends : (t : Talk) (k : Kind) (next : Talk) (aside : Bool) → taken_as aside t k ≡ Ok (Ended, next) → next.stage ≡ Over
 unfolding event_in is_ended
-taken_ends t k next true is = absurd (no_truth (ap (λ r. is_ended (event_in r Ended)) is))
+taken_ends t k next true is = absurd (false≢true (ap (λ r. is_ended (event_in r Ended)) is))
 taken_ends t k next false is = moved_ends (ready t).name (observed_at (ready t).stage (ready t).pending k) next is
 
 ended : (t : Talk) (k : Kind) (next : Talk) → taken t k ≡ Ok (Ended, next) → next.stage ≡ Over

@@ -9,7 +9,9 @@ pub use Rattle.std.specs.Int.{w16, w32, from_be_bytes, cast_signed, cast_unsigne
 pub use Rattle.std.specs.List.{flat_map, AllByRecursion}
 pub use Rattle.std.specs.Prelude.{◌==◌, ◌⊎◌, nat_lt, nat_le, IfSome, ◌||◌, IfOk, IsErr, is_some, option_to_list, slice_index, if◌then◌else◌}
 pub use Rattle.std.specs.Result.{IsErrAnd}
+pub use Rattle.pgp_base.proofs.Binds.{err, err_is}
 pub use Rattle.pgp_base.proofs.Causes.{count_fits, counts_of, either_left, either_right, either_none, length_fits, fits_of}
+pub use Rattle.pgp_base.proofs.CountedLemmas.{ok, ok_is, differ}
 pub use Rattle.pgp_base.proofs.PartLemmas.{IsNumber, int16_number, int32_number, oid_number, uint16_number, number_takes, number_again, number_short, no_string, IsBytes-take, IsBytes-drop, front_again, short_number, string_none, string_falls}
 pub use Rattle.pgp_base.proofs.Parts.{null_spelled, int32_spelled, nothing_more, more_twice, length-uint32}
 pub use Rattle.pgp_base.proofs.Prefixes.{uint32_begins, fronts}
@@ -29,7 +31,7 @@ pub use Rattle.pgp_frontend.specs.ClientRun.{ClientRun, is_startup, IsRequest, I
 pub use Rattle.pgp_frontend.specs.Payload.{Values, key_cause, pair, pair_cause, spelling, part_cause, joined, Part, Int32, Key, Pairs, parts, tag_of, kind_of, HasMinor, payload, parts_cause, EachInRange, bytes_of, framed, minor_code, Rest, Text, Int16, Int16s, Oid, Oids, WritesFrame, WritesMessage, cause}
 pub use Rattle.pgp_frontend.specs.Reading.{Shape, AByte, AnInt16, AnInt32, AnOid, AText, SomeInt16s, SomeOids, SomeValues, ANullable, AllBytes, AKey, SomePairs, HasSpelling, shape, IsNamed, IsSpelled}
 pub use Rattle.pgp_frontend_read.specs.Content.{Content, Contents, Then, part, parts_of}
-pub use Rattle.pgp_frontend_read.specs.Faults.{IsPair, TakesAll, IsShort, HasWrongLength, LacksSized, LacksValue, LacksItems, IsCutPair, LacksEnd, Lacks, Faulty}
+pub use Rattle.pgp_frontend_read.specs.Faults.{IsPair, TakesAll, IsShort, HasWrongLength, LacksValue, LacksItems, IsCutPair, LacksEnd, Lacks, Faulty}
 pub use Rattle.pgp_frontend_read.specs.Forwards.{Forwards, WritesAll, Appends}
 pub use Rattle.pgp_frontend_read.specs.Holding.{HasSize, IsReadAs, IsFrameOf, header, Fits, IsWanted, wanted, is_whole, Sizes, Fills, IsLeft, Opens, StandsInPiece, TakesOff, Holds, Completes}
 pub use Rattle.pgp_frontend_read.specs.Pieces.{IsWhole, HandsOut, step_of, IsWithin, limit_of, Waiting, Parses, unread}

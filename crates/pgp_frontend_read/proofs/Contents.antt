@@ -1,9 +1,9 @@
 -- Parts of messages: what is read is spelled so, and what is spelled so is read.
-use Rattle.pgp_frontend_read.proofs.Common.{◌≡◌, ◌≢◌, ℕ, ◌<◌, ◌^◌, List, [], ◌∷◌, ◌++◌, length, Option, Some, None, Result, Ok, Err, refl, sym, ap, subst, ◌∙◌, append_assoc, arith, map, FitsSigned, w16, w32, from_be_bytes, cast_signed, flat_map, AllByRecursion, append-nil, take_all, recursion_from_All, All-from_recursion, IsBytes, int16, int32, oid, uint16, nullable, counted, Cause, first, text_cause, count_cause, nullable_cause, ◌>>=◌, front_at, byte_at, uint16_at, string_at, Error, count_fits, counts_of, either_left, either_right, either_none, IsNumber, int16_number, int32_number, oid_number, uint16_number, number_takes, number_again, string_takes, string_front, string_whole, some_is, Values, key_cause, pair, pair_cause, spelling, part_cause, joined, Shape, AByte, AnInt16, AnInt32, AnOid, AText, SomeInt16s, SomeOids, SomeValues, ANullable, AllBytes, AKey, SomePairs, HasSpelling, EachHasSpelling, IsPair, TakesAll, Content, Contents, Then, part, parts_of, content_at, contents_at, contents_on, before, ended, counted_at, items_at, format_at, type_at, value_at, unless, key_at}
+use Rattle.pgp_frontend_read.proofs.Common.{◌≡◌, ◌≢◌, ℕ, ◌<◌, ◌^◌, List, [], ◌∷◌, ◌++◌, length, Option, Some, None, Result, Ok, Err, refl, sym, ap, subst, ◌∙◌, append_assoc, arith, map, FitsSigned, w16, w32, from_be_bytes, cast_signed, flat_map, AllByRecursion, append-nil, take_all, recursion_from_All, All-from_recursion, IsBytes, int16, int32, oid, uint16, nullable, counted, Cause, first, text_cause, count_cause, nullable_cause, ◌>>=◌, front_at, byte_at, uint16_at, string_at, Error, count_fits, counts_of, either_left, either_right, either_none, IsNumber, int16_number, int32_number, oid_number, uint16_number, number_takes, number_again, string_takes, string_front, string_whole, some_is, Values, key_cause, pair, pair_cause, spelling, part_cause, joined, Shape, AByte, AnInt16, AnInt32, AnOid, AText, SomeInt16s, SomeOids, SomeValues, ANullable, AllBytes, AKey, SomePairs, HasSpelling, EachHasSpelling, IsPair, TakesAll, Content, Contents, Then, part, parts_of, content_at, contents_at, contents_on, before, ended, counted_at, items_at, format_at, type_at, value_at, unless, key_at, ok, ok_is}
 use Rattle.std.specs.Prelude.{take}
 use Rattle.pgp_base.proofs.Spellings.{no_cause, without_zero}
 use Rattle.pgp_frontend.proofs.ValueLemmas.{values_fit}
-use Rattle.pgp_frontend_read.proofs.Items.{IsItem, ok, ok_is, items_found, items_again, bytes_behind}
+use Rattle.pgp_frontend_read.proofs.Items.{IsItem, items_found, items_again, bytes_behind}
 use Rattle.pgp_frontend_read.proofs.PairLemmas.{pairs_found, pairs_again}
 use Rattle.pgp_frontend_read.proofs.ValueLemmas.{bound, HasLength, value_item}
 

@@ -1,34 +1,25 @@
 -- Why a body is rejected: what the code says is what the grammar says.
-use Rattle.pgp_frontend_read.proofs.Common.{◌≡◌, ◌≢◌, ℕ, ℤ, pos, zero, suc, ◌+◌, ◌-◌, ◌<◌, ◌≤◌, ◌^◌, true, false, List, [], ◌∷◌, ◌++◌, length, map, Option, Some, None, Result, Ok, Err, refl, sym, ap, subst, ◌∙◌, append_assoc, arith, inl, inr, FitsSigned, length-append, ◌==◌, ◌⊎◌, nat_lt, nat_le, IfSome, w16, w32, from_be_bytes, cast_signed, cast_unsigned, flat_map, AllByRecursion, eqb-true, eq-eqb, ltb-true, ltb-false, leb-true, to_z_pos, of_z-to_z, IsBytes, oid, int16, int32, uint16, uint32, text, nullable, Cause, ◌>>=◌, front_at, byte_at, uint16_at, oid_at, string_at, marked_run, read_on, drained, Error, UnknownTag, UnexpectedEof, NotDrained, InvalidValueLength, IsNumber, oid_number, int16_number, int32_number, uint16_number, number_takes, number_short, no_string, null_spelled, int32_spelled, uint32_begins, string_takes, string_whole, ClientMessage, Bind, Close, CopyData, CopyDone, CopyFail, Describe, Execute, Flush, Parse, PasswordMessage, Query, SaslInitialResponse, SaslResponse, Sync, Terminate, Startup, CancelRequest, SslRequest, GssEncRequest, FunctionCall, PasswordKind, Password, Initial, Response, Part, Int32, Key, Pairs, pair, parts, tag_of, kind_of, key_cause, HasMinor, Shape, AByte, AnInt16, AnInt32, AnOid, AText, SomeInt16s, SomeOids, SomeValues, ANullable, AllBytes, AKey, SomePairs, shape, null_length, Content, Contents, IsShort, HasWrongLength, LacksSized, LacksValue, LacksItems, IsCutPair, LacksEnd, Lacks, Faulty, items_at, items_on, with_front, counted_at, format_at, type_at, value_at, value_after, pair_at, all_of, pairs_at, unless, key_at, content_at, contents_at, contents_on, before, ended, made, bind_of, close_of, describe_of, execute_of, function_call_of, parse_of, query_of, copy_fail_of, password_of, sasl_initial_of, reported_of, body_of, startup_of, cancel_of, named, by_code, by_front, packet_of, BlamesFrame, BlamesPacket, ClientError, UnknownPacket, Reading}
+use Rattle.pgp_frontend_read.proofs.Common.{◌≡◌, ◌≢◌, ℕ, ℤ, pos, zero, suc, ◌+◌, ◌-◌, ◌<◌, ◌≤◌, ◌^◌, true, false, List, [], ◌∷◌, ◌++◌, length, map, Option, Some, None, Result, Ok, Err, refl, sym, ap, subst, ◌∙◌, append_assoc, arith, inl, inr, FitsSigned, length-append, ◌==◌, ◌⊎◌, nat_lt, nat_le, IfSome, w16, w32, from_be_bytes, cast_signed, cast_unsigned, flat_map, AllByRecursion, eqb-true, eq-eqb, ltb-true, ltb-false, leb-true, to_z_pos, of_z-to_z, IsBytes, oid, int16, int32, uint16, uint32, text, nullable, Cause, ◌>>=◌, front_at, byte_at, uint16_at, oid_at, string_at, marked_run, read_on, drained, Error, UnknownTag, UnexpectedEof, NotDrained, InvalidValueLength, IsNumber, oid_number, int16_number, int32_number, uint16_number, number_takes, number_short, no_string, null_spelled, int32_spelled, uint32_begins, string_takes, string_whole, ClientMessage, Bind, Close, CopyData, CopyDone, CopyFail, Describe, Execute, Flush, Parse, PasswordMessage, Query, SaslInitialResponse, SaslResponse, Sync, Terminate, Startup, CancelRequest, SslRequest, GssEncRequest, FunctionCall, PasswordKind, Password, Initial, Response, Part, Int32, Key, Pairs, pair, parts, tag_of, kind_of, key_cause, HasMinor, Shape, AByte, AnInt16, AnInt32, AnOid, AText, SomeInt16s, SomeOids, SomeValues, ANullable, AllBytes, AKey, SomePairs, shape, null_length, Content, Contents, IsShort, HasWrongLength, LacksValue, LacksItems, IsCutPair, LacksEnd, Lacks, Faulty, items_at, items_on, with_front, counted_at, format_at, type_at, value_at, value_after, pair_at, all_of, pairs_at, unless, key_at, content_at, contents_at, contents_on, before, ended, made, bind_of, close_of, describe_of, execute_of, function_call_of, parse_of, query_of, copy_fail_of, password_of, sasl_initial_of, reported_of, body_of, startup_of, cancel_of, named, by_code, by_front, packet_of, BlamesFrame, BlamesPacket, ClientError, UnknownPacket, Reading, differ, err, err_is}
 use borrow.Author.Gap.{read_sfits}
-use Rattle.pgp_frontend_read.proofs.Items.{IsItem, ok, bytes_behind}
+use Rattle.pgp_frontend_read.proofs.Items.{IsItem, bytes_behind}
 use Rattle.pgp_frontend_read.proofs.Contents.{content_found, content_all, number_item}
-use Rattle.pgp_frontend_read.proofs.Forms.{plain_code, version_there}
+use Rattle.pgp_frontend_read.proofs.Forms.{plain_code, version_there, unknown}
 use Rattle.pgp_frontend_read.proofs.PairLemmas.{pair_found}
 use Rattle.pgp_frontend_read.proofs.ValueLemmas.{HasLength, value_item, chosen}
 
 -- ---- errors of the readers' combinators
 
-abbrev refusal : {A : Type 0} → Error → Result A Error
-refusal e = Err e
-
-refusal_is : {A : Type 0} (d e : Error) → refusal {A = A} d ≡ Err e → d ≡ e
-refusal_is d e h = cc
-
-no_refusal : {A : Type 0} (x : A) (e : Error) → ok x ≡ Err e → ⊥
-no_refusal x e h = cc
-
 bind_err : {A B : Type 0} (o : Option A) (f : A → Result B Error) (e : Error) → (o >>= f) ≡ Err e → ((o ≡ None) × (e ≡ UnexpectedEof)) ⊎ ((x : A) × (o ≡ Some x) × (f x ≡ Err e))
-bind_err None f e h = inl (refl, sym (refusal_is UnexpectedEof e h))
+bind_err None f e h = inl (refl, sym (err_is UnexpectedEof e h))
 bind_err (Some x) f e h = inr (x, refl, h)
 
 given_err : {A : Type 0} (o : Option A) (e : Error) → (o >>= λ x. Ok x) ≡ Err e → (o ≡ None) × (e ≡ UnexpectedEof)
-given_err None e h = (refl, sym (refusal_is UnexpectedEof e h))
-given_err (Some x) e h = absurd (no_refusal x e h)
+given_err None e h = (refl, sym (err_is UnexpectedEof e h))
+given_err (Some x) e h = absurd (differ x e h)
 
 made_err : {X Y : Type 0} (f : X → Y) (r : Result X Error) (e : Error) → made f r ≡ Err e → r ≡ Err e
-made_err f (Ok x) e h = absurd (no_refusal (f x) e h)
-made_err f (Err d) e h = ap refusal (refusal_is d e h)
+made_err f (Ok x) e h = absurd (differ (f x) e h)
+made_err f (Err d) e h = ap err (err_is d e h)
 
 -- ---- numbers
 
@@ -53,7 +44,7 @@ record CutItems {V : Type 0} (Has : V → Type 0) (spell : V → List ℕ) (Miss
 
 with_front_err : {V : Type 0} (x : V) (r : Result (List V × List ℕ) Error) (e : Error) → with_front x r ≡ Err e → r ≡ Err e
 with_front_err x (Ok y) e h = absurd cc
-with_front_err x (Err d) e h = ap refusal (refusal_is d e h)
+with_front_err x (Err d) e h = ap err (err_is d e h)
 
 module _ {V : Type 0} (Has : V → Type 0) (spell : V → List ℕ) (read : List ℕ → Result (V × List ℕ) Error) (Missing : List ℕ → Error → Type 0) (item : IsItem Has spell read) (refuses : Refuses read Missing) where
   items_cut : (n : ℕ) (bytes : List ℕ) (e : Error) → IsBytes bytes → items_at read n bytes ≡ Err e → CutItems Has spell Missing n bytes e
@@ -74,7 +65,7 @@ module _ {V : Type 0} (Has : V → Type 0) (spell : V → List ℕ) (read : List
             lacks = more.lacks;
           }
       by_result on (Err d) reads =
-          let same : d ≡ e = refusal_is d e (ap (items_on (items_at read n)) (sym reads) ∙ is) in
+          let same : d ≡ e = err_is d e (ap (items_on (items_at read n)) (sym reads) ∙ is) in
           record { items = []; rest = bytes; have = tt; few = omega arith; whole = refl; lacks = subst (λ (x : Error). Missing bytes x) same (refuses bytes d h reads) }
 
   counted_lacks : (bytes : List ℕ) (e : Error) → IsBytes bytes → counted_at read bytes ≡ Err e → LacksItems Has spell Missing bytes e
@@ -93,12 +84,12 @@ module _ {V : Type 0} (Has : V → Type 0) (spell : V → List ℕ) (read : List
 wrong_length : (n : ℕ) (rest bytes : List ℕ) (e : Error) → n < 2 ^ 32 → bytes ≡ uint32 n ++ rest → (n == 4294967295) ≡ false → value_after n rest ≡ Err e → HasWrongLength bytes e
 wrong_length n rest bytes e fits whole null is =
     elim (chosen (n == 4294967295) _ _ _ is) [
-      | inl y ↦ absurd (no_refusal _ e y.1)
+      | inl y ↦ absurd (differ _ e y.1)
       | inr y ↦ elim (chosen (nat_lt 2147483647 n) _ _ _ y.1) [
-        | inl large ↦ record { len = n; rest = rest; fits = fits; whole = whole; wrong = inl (omega (arith, ltb-true 2147483647 n large.0), sym (refusal_is InvalidValueLength e large.1)) }
+        | inl large ↦ record { len = n; rest = rest; fits = fits; whole = whole; wrong = inl (omega (arith, ltb-true 2147483647 n large.0), sym (err_is InvalidValueLength e large.1)) }
         | inr small ↦ elim (chosen (nat_lt (length rest) n) _ _ _ small.1) [
-          | inl short ↦ record { len = n; rest = rest; fits = fits; whole = whole; wrong = inr (omega (arith, ltb-false 2147483647 n small.0), (ltb-true (length rest) n short.0, sym (refusal_is UnexpectedEof e short.1))) }
-          | inr enough ↦ absurd (no_refusal _ e enough.1)
+          | inl short ↦ record { len = n; rest = rest; fits = fits; whole = whole; wrong = inr (omega (arith, ltb-false 2147483647 n small.0), (ltb-true (length rest) n short.0, sym (err_is UnexpectedEof e short.1))) }
+          | inr enough ↦ absurd (differ _ e enough.1)
         ]
       ]
     ]
@@ -113,7 +104,7 @@ value_lacks bytes e h is =
       | inr some ↦
           let t = number_takes 4 (λ n. n < 2 ^ 32) oid (λ l. from_be_bytes w32 l) oid_number bytes some.0 h some.1 in
           elim (chosen (some.0.0 == 4294967295) _ _ _ some.2) [
-            | inl y ↦ absurd (no_refusal _ e y.1)
+            | inl y ↦ absurd (differ _ e y.1)
             | inr y ↦ (
               inr (wrong_length some.0.0 some.0.1 bytes e t.fits t.parts y.0 some.2),
               λ rest same.
@@ -135,7 +126,7 @@ pair_cut bytes e unmarked is =
         | inl none ↦
             let s = string_takes bytes name.0 name.1 in
             (inr (name.0.0, name.0.1, s.no_zero, (λ empty. unmarked name.0.1 (s.parts ∙ ap (λ l. l ++ 0 ∷ name.0.1) empty)), string_whole bytes name.0.0 name.0.1 s.parts, no_string name.0.1 none.0), none.1)
-        | inr value ↦ absurd (no_refusal _ e value.2)
+        | inr value ↦ absurd (differ _ e value.2)
       ]
     ]
 
@@ -159,7 +150,7 @@ module _ (go : List ℕ → List (List ℕ × List ℕ) × Option Error) (bytes 
         wrong = more.wrong;
       }
   pair_on on (Err d) reads is =
-      let cut = pair_cut bytes e unmarked (reads ∙ ap refusal (some_error d e is)) in
+      let cut = pair_cut bytes e unmarked (reads ∙ ap err (some_error d e is)) in
       record { pairs = []; rest = bytes; have = tt; whole = refl; wrong = inl cut }
 
 drained_wrong : (bytes : List ℕ) (e : Error) → (let r : List (List ℕ × List ℕ) × Option Error = drained bytes in r.1 ≡ Some e) → LacksEnd (0 ∷ bytes) e
@@ -174,8 +165,8 @@ run_lacks (suc k) (suc b ∷ bytes) e lt is =
     pair_on (marked_run pair_at k) (suc b ∷ bytes) e (λ more z. let h : suc b ≡ 0 = cc in omega (arith, h)) (λ c less on. run_lacks k c e (omega (arith, less, lt)) on) (pair_at (suc b ∷ bytes)) refl is
 
 all_err : (r : List (List ℕ × List ℕ) × Option Error) (e : Error) → all_of r ≡ Err e → r.1 ≡ Some e
-all_err (xs, None) e is = absurd (no_refusal _ e is)
-all_err (xs, Some d) e is = ap (λ (x : Error). Some x) (refusal_is d e is)
+all_err (xs, None) e is = absurd (differ _ e is)
+all_err (xs, Some d) e is = ap (λ (x : Error). Some x) (err_is d e is)
 
 pairs_lack : (bytes : List ℕ) (e : Error) → pairs_at bytes ≡ Err e → LacksEnd bytes e
 unfolding pairs_at
@@ -184,8 +175,8 @@ pairs_lack bytes e is = run_lacks (suc (length bytes)) bytes e (omega arith) (al
 -- ---- parts
 
 unless_err : (c : Cause) (bytes : List ℕ) (e : Error) → unless c bytes ≡ Err e → c ≡ Some e
-unless_err None bytes e is = absurd (no_refusal _ e is)
-unless_err (Some d) bytes e is = ap (λ (x : Error). Some x) (refusal_is d e is)
+unless_err None bytes e is = absurd (differ _ e is)
+unless_err (Some d) bytes e is = ap (λ (x : Error). Some x) (err_is d e is)
 
 no_byte : (bytes : List ℕ) → byte_at bytes ≡ None → length bytes < 1
 no_byte [] e = omega arith
@@ -206,17 +197,17 @@ content_lacks SomeOids bytes e h is =
     (λ b d k i. number_lacks 4 (λ n. n < 2 ^ 32) oid (λ l. from_be_bytes w32 l) oid_number b d i) bytes e h is
 content_lacks SomeValues bytes e h is = counted_lacks HasLength nullable value_at LacksValue value_item value_lacks bytes e h is
 content_lacks ANullable bytes e h is = value_lacks bytes e h is
-content_lacks AllBytes bytes e h is = no_refusal _ e is
+content_lacks AllBytes bytes e h is = differ _ e is
 content_lacks AKey bytes e h is = unless_err (key_cause (length bytes)) bytes e is
 content_lacks SomePairs bytes e h is = pairs_lack bytes e is
 
 ended_err : {A : Type 0} (x : A) (bytes : List ℕ) (e : Error) → ended x bytes ≡ Err e → (bytes ≢ []) × (e ≡ NotDrained)
-ended_err x [] e is = absurd (no_refusal x e is)
-ended_err x (b ∷ bytes) e is = ((λ z. cc), sym (refusal_is NotDrained e is))
+ended_err x [] e is = absurd (differ x e is)
+ended_err x (b ∷ bytes) e is = ((λ z. cc), sym (err_is NotDrained e is))
 
 before_err : {A B : Type 0} (x : A) (r : Result B Error) (e : Error) → before x r ≡ Err e → r ≡ Err e
 before_err x (Ok y) e is = absurd cc
-before_err x (Err d) e is = ap refusal (refusal_is d e is)
+before_err x (Err d) e is = ap err (err_is d e is)
 
 contents_faulty : (shapes : List Shape) (bytes : List ℕ) (e : Error) → IsBytes bytes → contents_at shapes bytes ≡ Err e → Faulty shapes bytes e
 contents_faulty [] bytes e h is = ended_err tt bytes e is
@@ -228,7 +219,7 @@ contents_faulty (s ∷ shapes) bytes e h is = by_part (λ b k i. contents_faulty
         let behind = before_err x.0 (contents_at shapes x.1) e (ap (contents_on (contents_at shapes)) (sym reads) ∙ is) in
         inr (x.0, x.1, record { spelled = one.spelled; whole = one.whole; all = content_all s bytes x.0 x.1 reads }, on x.1 (bytes_behind bytes _ x.1 one.whole h) behind)
     by_part on (Err d) reads =
-        let same : d ≡ e = refusal_is d e (ap (contents_on (contents_at shapes)) (sym reads) ∙ is) in
+        let same : d ≡ e = err_is d e (ap (contents_on (contents_at shapes)) (sym reads) ∙ is) in
         inl (subst (λ (x : Error). Lacks s bytes x) same (content_lacks s bytes d h reads))
 
 -- ---- frames
@@ -248,7 +239,7 @@ reported_blamed : (kind : PasswordKind) (tag : ℕ) (bytes : List ℕ) (e : Erro
 unfolding password_of sasl_initial_of
 reported_blamed Password tag bytes e h is refused = form_blamed Password tag 112 bytes e h (PasswordMessage []) (λ c. PasswordMessage c.first) refl refl is refused
 reported_blamed Initial tag bytes e h is refused = form_blamed Initial tag 112 bytes e h (SaslInitialResponse [] None) (λ c. SaslInitialResponse c.first c.rest.first) refl refl is refused
-reported_blamed Response tag bytes e h is refused = absurd (no_refusal _ e refused)
+reported_blamed Response tag bytes e h is refused = absurd (differ _ e refused)
 
 not_here : (tag n : ℕ) → (tag == n) ≡ false → (let x : Option ℕ = Some n in x ≢ Some tag)
 not_here tag n is e =
@@ -322,14 +313,14 @@ body_blames kind tag bytes e each is =
                         | inr x ↦ elim (chosen (tag == 99) _ _ _ x.1) [
                           | inl y ↦ faulty_body kind tag 99 bytes e each CopyDone refl tt y.0 (ended_err CopyDone bytes e y.1)
                           | inr done ↦ elim (chosen (tag == 100) _ _ _ done.1) [
-                            | inl y ↦ absurd (no_refusal _ e y.1)
+                            | inl y ↦ absurd (differ _ e y.1)
                             | inr copy ↦ elim (chosen (tag == 102) _ _ _ copy.1) [
                               | inl y ↦ form_blamed kind tag 102 bytes e each (CopyFail []) (λ c. CopyFail c.first) refl tt y.0 y.1
                               | inr fail ↦ elim (chosen (tag == 112) _ _ _ fail.1) [
                                 | inl y ↦ reported_blamed kind tag bytes e each y.0 y.1
                                 | inr last ↦
                                     let none : NoTag tag = record { b = b.0; c = c.0; d = d.0; e = f.0; call = call.0; h = h.0; p = p.0; q = q.0; s = s.0; x = x.0; done = done.0; copy = copy.0; fail = fail.0; password = last.0 } in
-                                    inl (ap (λ (x : Error). Reading x) (sym (refusal_is (UnknownTag tag) e last.1)), no_message tag none)
+                                    inl (ap (λ (x : Error). Reading x) (sym (err_is (UnknownTag tag) e last.1)), no_message tag none)
                               ]
                             ]
                           ]
@@ -388,9 +379,6 @@ module _ (code : ℕ) (fits : code < 2 ^ 32) (a : (code == 80877102) ≡ false) 
 
 pub signed_code : (code : ℕ) → code < 2 ^ 32 → oid code ≡ int32 (cast_signed w32 code)
 signed_code code fits = sym (int32_spelled (cast_signed w32 code) ∙ ap uint32 (of_z-to_z w32 code fits))
-
-abbrev unknown : ℕ → Result ClientMessage ClientError
-unknown code = Err (UnknownPacket (cast_signed w32 code))
 
 unknown_is : (code : ℕ) (e : ClientError) → unknown code ≡ Err e → e ≡ UnknownPacket (cast_signed w32 code)
 unknown_is code e is = cc

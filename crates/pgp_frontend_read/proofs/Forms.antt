@@ -1,7 +1,6 @@
 -- Messages: what is read from a payload is the message of that payload, and each message is read from its own.
-use Rattle.pgp_frontend_read.proofs.Common.{◌≡◌, ◌≢◌, ℕ, ◌+◌, ◌-◌, ◌<◌, ◌^◌, true, false, List, [], ◌∷◌, ◌++◌, length, Option, Some, None, Result, Ok, Err, refl, sym, ap, subst, ◌∙◌, arith, inl, inr, FitsSigned, IfSome, ◌==◌, nat_lt, nat_le, w32, from_be_bytes, cast_signed, cast_unsigned, eqb-true, ne_eqb, le-ltb, ltb-false, leb-false, lt-leb, to_z_pos, of_z-to_z, append-nil, IsBytes, oid, int32, uint32, length_cause, oid_at, Error, UnknownTag, length_fits, either_none, int32_spelled, oid_number, number_takes, number_again, ClientMessage, Bind, Close, CopyData, CopyDone, CopyFail, Describe, Execute, Flush, Parse, PasswordMessage, Query, SaslInitialResponse, SaslResponse, Sync, Terminate, Startup, CancelRequest, SslRequest, GssEncRequest, FunctionCall, PasswordKind, Password, Initial, Response, Part, Int32, Key, Pairs, joined, parts, payload, tag_of, kind_of, part_cause, parts_cause, EachInRange, HasMinor, Shape, AByte, AnInt16, AnInt32, AnOid, AText, SomeInt16s, SomeOids, SomeValues, ANullable, AKey, SomePairs, IsNamed, IsSpelled, EachHasSpelling, spelled_parts, Contents, parts_of, contents_at, made, ended, bind_of, close_of, describe_of, execute_of, function_call_of, parse_of, query_of, copy_fail_of, password_of, sasl_initial_of, reported_of, body_of, startup_of, cancel_of, named, by_code, by_front, packet_of, ClientError, UnknownPacket}
+use Rattle.pgp_frontend_read.proofs.Common.{◌≡◌, ℕ, ◌+◌, ◌-◌, ◌<◌, ◌^◌, true, false, List, [], ◌∷◌, ◌++◌, length, Option, Some, None, Result, Ok, Err, refl, sym, ap, subst, ◌∙◌, arith, inl, inr, FitsSigned, IfSome, ◌==◌, nat_lt, nat_le, w32, from_be_bytes, cast_signed, cast_unsigned, eqb-true, ne_eqb, le-ltb, ltb-false, leb-false, lt-leb, to_z_pos, of_z-to_z, append-nil, IsBytes, oid, int32, uint32, length_cause, oid_at, Error, UnknownTag, length_fits, either_none, int32_spelled, oid_number, number_takes, number_again, ClientMessage, Bind, Close, CopyData, CopyDone, CopyFail, Describe, Execute, Flush, Parse, PasswordMessage, Query, SaslInitialResponse, SaslResponse, Sync, Terminate, Startup, CancelRequest, SslRequest, GssEncRequest, FunctionCall, PasswordKind, Password, Initial, Response, Part, Int32, Key, Pairs, joined, parts, payload, tag_of, kind_of, part_cause, parts_cause, EachInRange, HasMinor, Shape, AByte, AnInt16, AnInt32, AnOid, AText, SomeInt16s, SomeOids, SomeValues, ANullable, AKey, SomePairs, IsNamed, IsSpelled, EachHasSpelling, spelled_parts, Contents, parts_of, contents_at, made, ended, bind_of, close_of, describe_of, execute_of, function_call_of, parse_of, query_of, copy_fail_of, password_of, sasl_initial_of, reported_of, body_of, startup_of, cancel_of, named, by_code, by_front, packet_of, ClientError, UnknownPacket, ok, ok_is}
 use Rattle.std.specs.Prelude.{pos}
-use Rattle.pgp_frontend_read.proofs.Items.{ok, ok_is}
 use Rattle.pgp_frontend_read.proofs.Contents.{contents_found, contents_again, TakesAllLast}
 use Rattle.pgp_frontend_read.proofs.ValueLemmas.{chosen}
 
@@ -150,7 +149,7 @@ body_found kind tag bytes m h fits e =
     at : (n : ℕ) → (tag == n) ≡ true → IsBody kind n bytes m → IsBody kind tag bytes m
     at n e b = subst (λ t. IsBody kind t bytes m) (sym (eqb-true tag n e)) b
 
-some_is : (a b : ℕ) → (let x : Option ℕ = Some a in x ≡ Some b) → a ≡ b
+pub some_is : (a b : ℕ) → (let x : Option ℕ = Some a in x ≡ Some b) → a ≡ b
 some_is a b e = cc
 
 -- each message is read from its own payload
@@ -246,7 +245,7 @@ named_ok : (r : Result ClientMessage Error) (m : ClientMessage) → named r ≡ 
 named_ok (Ok n) m e = let same : n ≡ m = cc in ap ok same
 named_ok (Err d) m e = absurd cc
 
-abbrev unknown : ℕ → Result ClientMessage ClientError
+abbrev pub unknown : ℕ → Result ClientMessage ClientError
 unknown code = Err (UnknownPacket (cast_signed w32 code))
 
 -- the code of a minor version of protocol 3

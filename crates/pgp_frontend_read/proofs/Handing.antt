@@ -1,8 +1,8 @@
 -- A message's bytes that are handed out: what a step makes of them, and of more after them.
-use Rattle.pgp_frontend_read.proofs.Common.{◌≡◌, ℕ, ◌+◌, ◌<◌, ◌^◌, Bool, true, false, List, [], ◌∷◌, ◌++◌, length, Option, Some, None, Result, Ok, Err, refl, sym, ap, subst, ◌∙◌, append_assoc, arith, inl, inr, length-append, ◌||◌, append-nil, uint32, length-uint32, ClientMessage, PasswordKind, Password, is_startup, framed, payload, tag_of, bytes_of, tagged_bodies, tag_in, Unread, BeginsWithLength, Stands, Refuses, Step, view, read, IsWhole, HandsOut, step_of, HasSize, IsReadAs, IsFrameOf, ClientFrame, ClientError}
+use Rattle.pgp_frontend_read.proofs.Common.{◌≡◌, ℕ, ◌+◌, ◌<◌, ◌^◌, Bool, true, false, List, [], ◌∷◌, ◌++◌, length, Option, Some, None, Result, Ok, Err, refl, sym, ap, subst, ◌∙◌, append_assoc, arith, inl, inr, length-append, append-nil, uint32, length-uint32, ClientMessage, PasswordKind, Password, framed, payload, tag_of, bytes_of, tagged_bodies, tag_in, Unread, BeginsWithLength, Stands, Refuses, Step, view, read, IsWhole, HandsOut, step_of, HasSize, IsReadAs, IsFrameOf, ClientFrame, ClientError}
 use Rattle.pgp_frontend_read.specs.declared.message.ClientMessage as code
 use Rattle.pgp_frontend_read.proofs.Pieces.{took}
-use Rattle.pgp_frontend_read.proofs.Runs.{stands_read}
+use Rattle.pgp_frontend_read.proofs.Runs.{stands_read, silence}
 use Rattle.pgp_frontend_read.proofs.Fronts.{behind_length}
 use Rattle.pgp_frontend_read.proofs.Headers.{one_length, not_partial, begins_behind}
 use Rattle.pgp_frontend_read.proofs.Steps.{left, payload_fits}
@@ -129,9 +129,6 @@ hands_out opened bytes rest frame now h f = record {
 }
 
 -- ---- a message's bytes are read as a whole
-
-abbrev silence : Result (Option ClientMessage) ClientError
-silence = Ok None
 
 abbrev answered : ClientMessage → Result (Option ClientMessage) ClientError
 answered x = Ok (Some x)

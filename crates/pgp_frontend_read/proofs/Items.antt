@@ -1,5 +1,5 @@
 -- Items of a list, one after another: what is read is spelled so, and what is spelled so is read.
-use Rattle.pgp_frontend_read.proofs.Common.{◌≡◌, ℕ, zero, suc, ◌+◌, ◌-◌, ◌*◌, ◌<◌, List, [], ◌∷◌, ◌++◌, length, take, drop, Some, Result, Ok, Err, refl, sym, ap, subst, ◌∙◌, append_assoc, arith, length-append, length-take, length-drop, flat_map, AllByRecursion, append-nil, take-append-drop, drop_at, take_at, IsBytes, ◌>>=◌, front_at, uint16_at, Error, UnexpectedEof, inl, inr, cases_lt, lt-ltb, IsBytes-drop, front_again, items_at, items_on, with_front, counted_at, Left, AreLeft, items_of}
+use Rattle.pgp_frontend_read.proofs.Common.{◌≡◌, ℕ, zero, suc, ◌+◌, ◌-◌, ◌*◌, ◌<◌, List, [], ◌∷◌, ◌++◌, length, take, drop, Some, Result, Ok, Err, refl, sym, ap, subst, ◌∙◌, append_assoc, arith, length-append, length-take, length-drop, flat_map, AllByRecursion, append-nil, take-append-drop, drop_at, take_at, IsBytes, ◌>>=◌, front_at, uint16_at, Error, UnexpectedEof, inl, inr, cases_lt, lt-ltb, IsBytes-drop, front_again, items_at, items_on, with_front, counted_at, Left, AreLeft, items_of, ok_is}
 use Rattle.std.proofs.Math.Nat.{mul-suc}
 
 -- so many items, in these bytes
@@ -17,16 +17,10 @@ pub record IsItem {V : Type 0} (Has : V → Type 0) (spell : V → List ℕ) (re
   pub found : (bytes : List ℕ) (x : V) (rest : List ℕ) → IsBytes bytes → read bytes ≡ Ok (x, rest) → Has x × (bytes ≡ spell x ++ rest)
   pub again : (x : V) (rest : List ℕ) → Has x → read (spell x ++ rest) ≡ Ok (x, rest)
 
-abbrev pub ok : {A : Type 0} → A → Result A Error
-ok x = Ok x
-
 pub record FoundItems {V : Type 0} (Has : V → Type 0) (spell : V → List ℕ) (n : ℕ) (bytes : List ℕ) (xs : List V) (rest : List ℕ) : Type 0 where
   pub has : AllByRecursion Has xs
   pub whole : bytes ≡ flat_map spell xs ++ rest
   pub count : length xs ≡ n
-
-pub ok_is : {A : Type 0} (x y : A) → ok x ≡ ok y → x ≡ y
-ok_is x y e = cc
 
 pub with_front_ok : {V : Type 0} (x : V) (r : Result (List V × List ℕ) Error) (xs : List V) (rest : List ℕ) → with_front x r ≡ Ok (xs, rest)
     → (ys : List V) × (r ≡ Ok (ys, rest)) × (xs ≡ x ∷ ys)

@@ -1,5 +1,5 @@
 -- A loop over items: one more after those that were read.
-use Rattle.pgp_frontend_read.proofs.Common.{◌≡◌, ℕ, suc, ◌+◌, ◌-◌, ◌<◌, ◌≤◌, List, [], ◌∷◌, ◌++◌, length, take, Option, Some, Result, Ok, Err, refl, sym, ap, ◌∙◌, append_assoc, arith, IsErrAnd, w16, from_be_bytes, number_takes, uint16_number, IsBytes, nullable, uint16, uint16_at, Error, flat_map, items_at, items_on, with_front, value_at, counted_at, Left, AreLeft, items_of, behind, RestOf}
+use Rattle.pgp_frontend_read.proofs.Common.{◌≡◌, ℕ, suc, ◌+◌, ◌-◌, ◌<◌, ◌≤◌, List, [], ◌∷◌, ◌++◌, length, take, Option, Some, Result, Ok, Err, refl, sym, ap, ◌∙◌, append_assoc, arith, IsErrAnd, w16, from_be_bytes, number_takes, uint16_number, IsBytes, nullable, uint16, uint16_at, Error, flat_map, items_at, items_on, with_front, value_at, counted_at, Left, AreLeft, items_of, behind, RestOf, err}
 use Rattle.std.specs.Prelude.{◌^◌}
 use Rattle.std.proofs.lemmas.List.{length-append}
 use Rattle.pgp_frontend_read.proofs.Items.{left, items_found, cut_alone, counted_found}
@@ -48,10 +48,6 @@ pub values_read : (bytes : List ℕ) (n : ℕ) (here front rest : List ℕ) (xs 
 values_read bytes n here front rest xs r h u e is same =
     let w = values_alone n here front rest xs r h e is same in
     counted_found HasLength nullable value_at value_item bytes n here xs rest u e ∙ rw w refl
-
--- an error that is handed on
-abbrev err : {A : Type 0} → Error → Result A Error
-err e = Err e
 
 pub rest_err : {V B : Type 0} (bytes : B → List ℕ) (read : Result (List V × List ℕ) Error) (r : Result B Error) (e : Error) → IsErrAnd r (λ d. d ≡ e) → read ≡ Err e → RestOf bytes read r
 rest_err bytes read (Ok rest) e h is = absurd h

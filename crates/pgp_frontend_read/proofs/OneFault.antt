@@ -1,13 +1,10 @@
 -- A body has one first fault: what the grammar says is what the code reads.
-use Rattle.pgp_frontend_read.proofs.Common.{◌≡◌, ◌≢◌, ℕ, zero, suc, ◌<◌, ◌≤◌, ◌^◌, Bool, true, false, List, [], ◌∷◌, ◌++◌, length, Option, Some, None, Result, Ok, Err, refl, sym, ap, ◌∙◌, append_assoc, arith, inl, inr, FitsSigned, ◌==◌, ◌⊎◌, nat_lt, w16, w32, from_be_bytes, cast_signed, flat_map, AllByRecursion, ne_eqb, lt-ltb, le-ltb, oid, int16, int32, uint16, uint32, text, nullable, Cause, ◌>>=◌, front_at, uint16_at, oid_at, string_at, is_marked, marked_run, Error, UnexpectedEof, NotDrained, InvalidValueLength, IsNumber, oid_number, int16_number, int32_number, uint16_number, number_again, short_number, string_none, null_spelled, string_front, pair, key_cause, Shape, AByte, AnInt16, AnInt32, AnOid, AText, SomeInt16s, SomeOids, SomeValues, ANullable, AllBytes, AKey, SomePairs, IsShort, LacksValue, LacksItems, IsPair, IsCutPair, LacksEnd, Lacks, Faulty, items_at, items_on, with_front, counted_at, format_at, type_at, value_at, value_after, pair_at, all_of, pairs_at, unless, key_at, content_at, contents_at, contents_on, before}
+use Rattle.pgp_frontend_read.proofs.Common.{◌≡◌, ◌≢◌, ℕ, zero, suc, ◌<◌, ◌≤◌, ◌^◌, true, false, List, [], ◌∷◌, ◌++◌, length, Option, Some, None, Result, Ok, Err, refl, sym, ap, ◌∙◌, append_assoc, arith, inl, inr, FitsSigned, ◌==◌, ◌⊎◌, nat_lt, w16, w32, from_be_bytes, cast_signed, flat_map, AllByRecursion, ne_eqb, lt-ltb, le-ltb, oid, int16, int32, uint16, uint32, text, nullable, Cause, ◌>>=◌, front_at, uint16_at, oid_at, string_at, is_marked, marked_run, Error, UnexpectedEof, NotDrained, InvalidValueLength, IsNumber, oid_number, int16_number, int32_number, uint16_number, number_again, short_number, string_none, null_spelled, string_front, pair, key_cause, Shape, AByte, AnInt16, AnInt32, AnOid, AText, SomeInt16s, SomeOids, SomeValues, ANullable, AllBytes, AKey, SomePairs, IsShort, LacksValue, LacksItems, IsPair, IsCutPair, LacksEnd, Lacks, Faulty, items_at, items_on, with_front, counted_at, format_at, type_at, value_at, value_after, pair_at, all_of, pairs_at, unless, key_at, content_at, contents_at, contents_on, before, err, err_is}
 use Rattle.std.proofs.lemmas.List.{length-append}
 use Rattle.pgp_frontend_read.proofs.Items.{IsItem}
 use Rattle.pgp_frontend_read.proofs.Contents.{content_again, number_item}
 use Rattle.pgp_frontend_read.proofs.PairLemmas.{pair_again, marked_by}
 use Rattle.pgp_frontend_read.proofs.ValueLemmas.{HasLength, value_item}
-
-abbrev refusal : {A : Type 0} → Error → Result A Error
-refusal e = Err e
 
 -- ---- items
 
@@ -24,14 +21,14 @@ module _ {V : Type 0} (Has : V → Type 0) (spell : V → List ℕ) (read : List
   unfolding counted_at
   counted_err Missing again bytes e (inl short) =
       let none = short_number 2 (λ n. n < 2 ^ 16) uint16 (λ l. from_be_bytes w16 l) uint16_number bytes short.0 in
-      ap (λ o. o >>= λ n. items_at read n.0 n.1) none ∙ ap refusal (sym short.1)
+      ap (λ o. o >>= λ n. items_at read n.0 n.1) none ∙ ap err (sym short.1)
   counted_err Missing again bytes e (inr l) =
       let some = ap uint16_at l.whole ∙ number_again 2 (λ n. n < 2 ^ 16) uint16 (λ l. from_be_bytes w16 l) uint16_number l.count (flat_map spell l.items ++ l.rest) l.fits in
       ap (λ o. o >>= λ n. items_at read n.0 n.1) some ∙ items_err l.count l.items l.rest e l.have l.few (again l.rest e l.lacks)
 
 module _ {A : Type 0} (n : ℕ) (Fits : A → Type 0) (spell : A → List ℕ) (value : List ℕ → A) (number : IsNumber n Fits spell value) where
   number_err : (bytes : List ℕ) (e : Error) → IsShort n bytes e → (front_at n value bytes >>= λ x. Ok x) ≡ Err e
-  number_err bytes e short = ap (λ o. o >>= λ x. Ok x) (short_number n Fits spell value number bytes short.0) ∙ ap refusal (sym short.1)
+  number_err bytes e short = ap (λ o. o >>= λ x. Ok x) (short_number n Fits spell value number bytes short.0) ∙ ap err (sym short.1)
 
 -- ---- values
 
@@ -39,12 +36,12 @@ after_err : (n : ℕ) (rest : List ℕ) (e : Error) → n ≢ 4294967295 → ((2
 after_err n rest e null (inl large) =
     let a : (n == 4294967295) ≡ false = ne_eqb n 4294967295 null in
     let b : nat_lt 2147483647 n ≡ true = lt-ltb 2147483647 n (omega (arith, large.0)) in
-    rw (a, b) (ap refusal (sym large.1))
+    rw (a, b) (ap err (sym large.1))
 after_err n rest e null (inr short) =
     let a : (n == 4294967295) ≡ false = ne_eqb n 4294967295 null in
     let b : nat_lt 2147483647 n ≡ false = le-ltb 2147483647 n (omega (arith, short.0)) in
     let c : nat_lt (length rest) n ≡ true = lt-ltb (length rest) n short.1.0 in
-    rw (a, b, c) (ap refusal (sym short.1.1))
+    rw (a, b, c) (ap err (sym short.1.1))
 
 length_read : (bytes : List ℕ) (n : ℕ) (rest : List ℕ) → n < 2 ^ 32 → bytes ≡ uint32 n ++ rest → value_at bytes ≡ value_after n rest
 unfolding value_at
@@ -54,7 +51,7 @@ length_read bytes n rest fits whole =
 no_length : (bytes : List ℕ) (e : Error) → IsShort 4 bytes e → value_at bytes ≡ Err e
 unfolding value_at
 no_length bytes e short =
-    ap (λ o. o >>= λ len. value_after len.0 len.1) (short_number 4 (λ n. n < 2 ^ 32) oid (λ l. from_be_bytes w32 l) oid_number bytes short.0) ∙ ap refusal (sym short.1)
+    ap (λ o. o >>= λ len. value_after len.0 len.1) (short_number 4 (λ n. n < 2 ^ 32) oid (λ l. from_be_bytes w32 l) oid_number bytes short.0) ∙ ap err (sym short.1)
 
 value_err : (bytes : List ℕ) (e : Error) → LacksValue bytes e → value_at bytes ≡ Err e
 value_err bytes e (inl short, none) = no_length bytes e short
@@ -100,7 +97,7 @@ run_err (suc k) (p ∷ ps) rest e h lt wrong =
 
 all_err : (r : List (List ℕ × List ℕ) × Option Error) (e : Error) → End r ≡ Some e → all_of r ≡ Err e
 all_err (xs, None) e is = cc
-all_err (xs, Some d) e is = let same : d ≡ e = cc in ap refusal same
+all_err (xs, Some d) e is = let same : d ≡ e = cc in ap err same
 
 pairs_err : (bytes : List ℕ) (e : Error) → LacksEnd bytes e → pairs_at bytes ≡ Err e
 unfolding pairs_at
@@ -113,10 +110,10 @@ pairs_err bytes e l =
 
 unless_some : (c : Cause) (bytes : List ℕ) (e : Error) → c ≡ Some e → unless c bytes ≡ Err e
 unless_some None bytes e is = cc
-unless_some (Some d) bytes e is = let same : d ≡ e = cc in ap refusal same
+unless_some (Some d) bytes e is = let same : d ≡ e = cc in ap err same
 
 byte_err : (bytes : List ℕ) (e : Error) → IsShort 1 bytes e → content_at AByte bytes ≡ Err e
-byte_err [] e short = ap refusal (sym short.1)
+byte_err [] e short = ap err (sym short.1)
 byte_err (b ∷ bytes) e short = absurd (omega (arith, short.0))
 
 lacks_err : (s : Shape) (bytes : List ℕ) (e : Error) → Lacks s bytes e → content_at s bytes ≡ Err e
@@ -125,7 +122,7 @@ lacks_err AByte bytes e l = byte_err bytes e l
 lacks_err AnInt32 bytes e l = number_err 4 (FitsSigned w32) int32 (λ l. cast_signed w32 (from_be_bytes w32 l)) int32_number bytes e l
 lacks_err AnInt16 bytes e l = number_err 2 (FitsSigned w16) int16 (λ l. cast_signed w16 (from_be_bytes w16 l)) int16_number bytes e l
 lacks_err AnOid bytes e l = number_err 4 (λ n. n < 2 ^ 32) oid (λ l. from_be_bytes w32 l) oid_number bytes e l
-lacks_err AText bytes e l = ap (λ o. o >>= λ x. Ok x) (string_none bytes l.0) ∙ ap refusal (sym l.1)
+lacks_err AText bytes e l = ap (λ o. o >>= λ x. Ok x) (string_none bytes l.0) ∙ ap err (sym l.1)
 lacks_err SomeInt16s bytes e l =
     counted_err (FitsSigned w16) int16 format_at (number_item 2 (FitsSigned w16) int16 (λ l. cast_signed w16 (from_be_bytes w16 l)) int16_number) (IsShort 2)
     (λ b d. number_err 2 (FitsSigned w16) int16 (λ l. cast_signed w16 (from_be_bytes w16 l)) int16_number b d) bytes e l
@@ -140,14 +137,11 @@ lacks_err SomePairs bytes e l = pairs_err bytes e l
 
 pub faulty_err : (shapes : List Shape) (bytes : List ℕ) (e : Error) → Faulty shapes bytes e → contents_at shapes bytes ≡ Err e
 faulty_err [] [] e f = absurd (f.0 refl)
-faulty_err [] (b ∷ bytes) e f = ap refusal (sym f.1)
+faulty_err [] (b ∷ bytes) e f = ap err (sym f.1)
 faulty_err (s ∷ shapes) bytes e (inl lacks) = ap (contents_on (contents_at shapes)) (lacks_err s bytes e lacks)
 faulty_err (s ∷ shapes) bytes e (inr (x, rest, first, more)) =
     let one : content_at s bytes ≡ Ok (x, rest) = ap (content_at s) first.whole ∙ content_again s x rest first.spelled first.all in
     ap (contents_on (contents_at shapes)) one ∙ ap (before x) (faulty_err shapes rest e more)
 
-same_refusal : {A : Type 0} (d e : Error) → refusal {A = A} d ≡ refusal e → d ≡ e
-same_refusal d e is = cc
-
 pub one_fault : (shapes : List Shape) (bytes : List ℕ) (d e : Error) → Faulty shapes bytes d → Faulty shapes bytes e → d ≡ e
-one_fault shapes bytes d e f g = same_refusal d e (sym (faulty_err shapes bytes d f) ∙ faulty_err shapes bytes e g)
+one_fault shapes bytes d e f g = err_is d e (sym (faulty_err shapes bytes d f) ∙ faulty_err shapes bytes e g)

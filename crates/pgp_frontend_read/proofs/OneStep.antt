@@ -1,17 +1,14 @@
 -- A step has one answer.
 use Rattle.pgp_frontend_read.proofs.Common.{◌≡◌, ◌≢◌, ℕ, ℤ, pos, ◌+◌, ◌-◌, ◌<◌, ◌≤◌, ◌^◌, Bool, true, false, List, [], ◌∷◌, ◌++◌, length, map, Option, Some, None, Result, Ok, Err, refl, sym, ap, subst, ◌∙◌, append_assoc, arith, inl, inr, length-append, ◌==◌, ◌⊎◌, ◌||◌, IfSome, nat_lt, nat_le, w32, cast_signed, cast_unsigned, ne_eqb, cases_Bool, to_z_pos, to_z-of_z, oid, int32, uint32, Error, UnknownTag, length-uint32, int32_spelled, fronts, uint32_begins, ClientMessage, Bind, Close, CopyData, CopyDone, CopyFail, Describe, Execute, Flush, Parse, PasswordMessage, Query, SaslInitialResponse, SaslResponse, Sync, Terminate, Startup, CancelRequest, SslRequest, GssEncRequest, FunctionCall, PasswordKind, Password, Initial, Part, Int32, Key, Pairs, minor_code, parts, framed, tag_of, kind_of, HasMinor, Shape, AByte, AnInt16, AnInt32, AnOid, AText, SomeInt16s, SomeOids, SomeValues, ANullable, AllBytes, AKey, SomePairs, shape, bodies, tagged_bodies, Contents, Faulty, contents_at, made, ended, bind_of, close_of, describe_of, execute_of, function_call_of, parse_of, query_of, copy_fail_of, password_of, sasl_initial_of, reported_of, body_of, startup_of, cancel_of, named, by_code, packet_of, Unread, least, BeginsWithLength, BlamesFrame, IsUnknownPacket, BlamesPacket, SkipsFrame, StopsAt, StopsAtLength, Refuses, Step, ClientError, UnknownPacket, Reading, is_startup}
 use mir.Facts.{Fits-of_z}
-use Rattle.pgp_frontend_read.proofs.Forms.{coded, plain_code, version_there, version_read}
+use Rattle.pgp_frontend_read.proofs.Forms.{coded, plain_code, version_there, version_read, some_is}
 use Rattle.pgp_frontend_read.proofs.OneFault.{faulty_err}
 use Rattle.pgp_frontend_read.proofs.Steps.{left}
-use Rattle.pgp_frontend_read.proofs.Runs.{stands_read}
+use Rattle.pgp_frontend_read.proofs.Runs.{stands_read, silence}
 use Rattle.pgp_frontend_read.proofs.Refusals.{partial_waits}
 
 abbrev refusal : Error → Result ClientMessage Error
 refusal e = Err e
-
-some_is : (a b : ℕ) → (let x : Option ℕ = Some a in x ≡ Some b) → a ≡ b
-some_is a b e = cc
 
 -- ---- frames
 
@@ -244,9 +241,6 @@ message m = Ok (Some m)
 
 abbrev error : ClientError → Result (Option ClientMessage) ClientError
 error e = Err e
-
-abbrev silence : Result (Option ClientMessage) ClientError
-silence = Ok None
 
 no_message : (m : ClientMessage) → message m ≡ silence → ⊥
 no_message m e = cc

@@ -1,8 +1,7 @@
 -- The names and values of a startup packet.
-use Rattle.pgp_frontend_read.proofs.Common.{◌≡◌, ◌≢◌, ℕ, zero, suc, ◌<◌, ◌≤◌, false, List, [], ◌∷◌, ◌++◌, length, Option, Some, None, Result, Ok, Err, refl, sym, ap, subst, ◌∙◌, append_assoc, arith, flat_map, AllByRecursion, text, HasNoZero, string_at, is_marked, marked_run, read_on, drained, Error, NotDrained, UnexpectedEof, string_takes, string_front, string_whole, string_falls, pair, IsPair, pair_at, pairs_at, all_of}
+use Rattle.pgp_frontend_read.proofs.Common.{◌≡◌, ◌≢◌, ℕ, zero, suc, ◌<◌, ◌≤◌, false, List, [], ◌∷◌, ◌++◌, length, Option, Some, None, Result, Ok, Err, refl, sym, ap, subst, ◌∙◌, append_assoc, arith, flat_map, AllByRecursion, text, HasNoZero, string_at, is_marked, marked_run, read_on, drained, Error, NotDrained, UnexpectedEof, string_takes, string_front, string_whole, string_falls, pair, IsPair, pair_at, pairs_at, all_of, ok_is}
 use Rattle.std.proofs.lemmas.List.{length-append}
 use Rattle.pgp_base.proofs.MarkedLemmas.{Falls}
-use Rattle.pgp_frontend_read.proofs.Items.{ok_is}
 use Rattle.pgp_frontend_read.proofs.ValueLemmas.{bound}
 
 pub record PairStands (bytes : List ℕ) (p : List ℕ × List ℕ) (rest : List ℕ) : Type 0 where

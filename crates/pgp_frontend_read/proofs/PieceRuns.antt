@@ -3,7 +3,7 @@ use Rattle.pgp_frontend_read.proofs.Common.{◌≡◌, ℕ, false, List, [], ◌
 use Rattle.pgp_frontend_read.specs.PieceReads.{Received, Gives, ReadsPiece, ReadsPieces, messages_of, piece_of}
 use Rattle.pgp_frontend_read.proofs.OneStep.{step_one}
 use Rattle.pgp_frontend_read.proofs.Pieces.{pieces_read}
-use Rattle.pgp_frontend_read.proofs.Runs.{session_read}
+use Rattle.pgp_frontend_read.proofs.Runs.{session_read, cons}
 use Rattle.pgp_frontend_read.proofs.Steps.{left}
 
 same_unread : (old new : Waiting) (piece rest : List ℕ) → new ≡ old → rest ≡ piece → unread new rest ≡ unread old piece
@@ -61,9 +61,6 @@ pub record Same (all messages : List ClientMessage) (result end : Result (Option
   pub messages_are : all ≡ messages
   pub end_is : result ≡ end
   pub left_is : behind ≡ new
-
-cons : (m n : ClientMessage) (l k : List ClientMessage) → m ≡ n → l ≡ k → m ∷ l ≡ n ∷ k
-cons m n l k e f = rw (e, f) refl
 
 pub reads_one : (kinds : List PasswordKind) (old new behind : Unread) (all messages : List ClientMessage) (result end : Result (Option ClientMessage) ClientError)
     → Reads kinds old all result behind → Reads kinds old messages end new → Same all messages result end behind new

@@ -132,13 +132,13 @@ no_end m r e h = subst IsEnd e h
 is_message : (m n : ClientMessage) → answer m ≡ answer n → m ≡ n
 is_message m n e = cc
 
-abbrev silence : Result (Option ClientMessage) ClientError
+abbrev pub silence : Result (Option ClientMessage) ClientError
 silence = Ok None
 
 no_message : (n : ClientMessage) → answer n ≡ silence → ⊥
 no_message n e = cc
 
-cons : (m n : ClientMessage) (l k : List ClientMessage) → m ≡ n → l ≡ k → m ∷ l ≡ n ∷ k
+pub cons : (m n : ClientMessage) (l k : List ClientMessage) → m ≡ n → l ≡ k → m ∷ l ≡ n ∷ k
 cons m n l k e f = rw (e, f) refl
 
 run_read : (opened : Bool) (kinds : List PasswordKind) (messages others : List ClientMessage) (bytes : List ℕ) (end : Result (Option ClientMessage) ClientError) (new : Unread)

@@ -1,9 +1,9 @@
 -- Parts that were read, and nothing after them: their bytes are their spellings.
-use Rattle.pgp_frontend_read.proofs.Common.{◌≡◌, ℕ, zero, suc, ◌<◌, ◌^◌, List, [], ◌∷◌, ◌++◌, length, Option, Result, Ok, Err, sym, ap, subst, ◌∙◌, arith, w16, from_be_bytes, to_be_bytes, append-nil, All-from_recursion, slice_index, IsBytes, uint16, ◌>>=◌, Error, uint16_number, number_again, Pairs, spelling, Shape, HasSpelling, Content, part, content_at, counted_at, items_at, items_on, pair_at, Left, AreLeft, items_of, marked, marked_run, plain}
+use Rattle.pgp_frontend_read.proofs.Common.{◌≡◌, ℕ, zero, suc, ◌<◌, ◌^◌, List, [], ◌∷◌, ◌++◌, length, Option, Result, Ok, Err, sym, ap, subst, ◌∙◌, arith, w16, from_be_bytes, to_be_bytes, append-nil, All-from_recursion, slice_index, IsBytes, uint16, ◌>>=◌, Error, uint16_number, number_again, Pairs, spelling, Shape, HasSpelling, Content, part, content_at, counted_at, items_at, items_on, pair_at, Left, AreLeft, items_of, marked, marked_run, plain, ok_is}
 use Rattle.std.specs.Prelude.{◌≢◌, None}
 use Rattle.pgp_base.specs.Walk.{Walk}
 use Rattle.pgp_frontend_read.proofs.Contents.{content_found, pairs_none, pairs_named}
-use Rattle.pgp_frontend_read.proofs.Items.{ok_is, with_front_ok}
+use Rattle.pgp_frontend_read.proofs.Items.{with_front_ok}
 use Rattle.pgp_frontend_read.proofs.PairLemmas.{PairsStand, run_found, run_is}
 
 pub part_has : (s : Shape) (bytes : List ℕ) (x : Content s) → IsBytes bytes → content_at s bytes ≡ Ok (x, []) → HasSpelling (part s x)

@@ -1,7 +1,7 @@
 -- A value as it stands: a length, and so many bytes, or the mark of a null.
-use Rattle.pgp_frontend_read.proofs.Common.{◌≡◌, ℕ, ◌<◌, ◌≤◌, ◌^◌, Bool, true, false, List, ◌++◌, length, take, drop, Option, Some, None, Result, Ok, Err, refl, sym, ap, subst, ◌∙◌, append_assoc, arith, length-take, inl, inr, ◌==◌, ◌⊎◌, nat_lt, if◌then◌else◌, take-append-drop, take_at, drop_at, ne_eqb, eqb-true, ltb-false, le-ltb, IsBytes, oid, uint32, nullable, nullable_cause, length_cause, ◌>>=◌, oid_at, Error, length_fits, fits_of, null_spelled, oid_number, number_takes, number_again, w32, from_be_bytes, value_at, value_after}
+use Rattle.pgp_frontend_read.proofs.Common.{◌≡◌, ℕ, ◌<◌, ◌≤◌, ◌^◌, Bool, true, false, List, ◌++◌, length, take, drop, Option, Some, None, Result, Ok, Err, refl, sym, ap, subst, ◌∙◌, append_assoc, arith, length-take, inl, inr, ◌==◌, ◌⊎◌, nat_lt, if◌then◌else◌, take-append-drop, take_at, drop_at, ne_eqb, eqb-true, ltb-false, le-ltb, IsBytes, oid, uint32, nullable, nullable_cause, length_cause, ◌>>=◌, oid_at, Error, length_fits, fits_of, null_spelled, oid_number, number_takes, number_again, w32, from_be_bytes, value_at, value_after, ok_is}
 use Rattle.std.proofs.lemmas.List.{length-append}
-use Rattle.pgp_frontend_read.proofs.Items.{IsItem, ok_is}
+use Rattle.pgp_frontend_read.proofs.Items.{IsItem}
 
 -- what was read from an option
 pub bound : {A B : Type 0} (o : Option A) (f : A → Result B Error) (y : B) → (o >>= f) ≡ Ok y → (x : A) × (o ≡ Some x) × (f x ≡ Ok y)

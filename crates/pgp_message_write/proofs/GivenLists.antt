@@ -8,6 +8,10 @@ use Rattle.pgp_message_write.specs.declared.list_message_of.Ending.{Ending}
 use Rattle.pgp_message_write.specs.declared.list_message_of.Ending.TheVariants.{Count, WideCount, Zero}
 use Rattle.pgp_message_write.proofs.Lists.{cause_before, cause_behind, joined-append, puts_then, refused_behind}
 
+-- an iterator is made of itself
+abbrev pub FromItself : {S : Type 0} → S → S → Type 0
+FromItself source it = it ≡ source
+
 -- one item more, at the end
 module _ {D : Type 0} (parts : D → List Part) (xs : List D) (x : D) where
   one_more : flat_map parts (xs ++ x ∷ []) ≡ flat_map parts xs ++ parts x

@@ -1,5 +1,7 @@
 -- Parts after parts, and a front of a list's items with the item after it.
 use Rattle.pgp_message_write.proofs.Common.{◌≡◌, ℕ, ◌+◌, ◌<◌, List, [], ◌∷◌, ◌++◌, length, map, take, drop, Some, None, sym, ap, ◌∙◌, get_or, arith, inl, inr, length-append, subst, flat_map, take_more, map-append, append-nil, take-append-drop, drop_more, flat_map-append, first, Held, ◌⊕◌, Error, first-append, either_first, either_then, memory_more, memory_then, more_twice, Part, spelling, part_cause, parts_cause, joined, PutsParts, PartsRefused}
+use Rattle.std.proofs.lemmas.List.{append_cancel_left}
+use Rattle.pgp_base.proofs.Parts.{more_bytes}
 
 pub joined-append : (ps qs : List Part) → joined (ps ++ qs) ≡ joined ps ++ joined qs
 joined-append ps qs = flat_map-append spelling ps qs
@@ -13,6 +15,10 @@ cause_behind ps qs h = cause-append ps qs ∙ (first-append (map part_cause ps) 
 
 pub cause_before : (ps qs : List Part) (e : Error) → parts_cause ps ≡ Some e → parts_cause (ps ++ qs) ≡ Some e
 cause_before ps qs e h = cause-append ps qs ∙ (first-append (map part_cause ps) (map part_cause qs) ∙ either_first (parts_cause ps) (parts_cause qs) e h)
+
+-- what stands after the same bytes is the same
+pub same_more : {K : Type 0} (a b : Held K) (p q : List ℕ) → b ≡ a ⊕ p → b ≡ a ⊕ q → p ≡ q
+same_more a b p q e f = append_cancel_left a.bytes p q (sym (more_bytes a p) ∙ (ap (λ h. h.bytes) (sym e ∙ f) ∙ more_bytes a q))
 
 module _ {K : Type 0} where
   pub puts_then : (ps qs : List Part) (a b c : Held K) → PutsParts ps a b → PutsParts qs b c → PutsParts (ps ++ qs) a c

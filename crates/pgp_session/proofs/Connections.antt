@@ -1,5 +1,5 @@
 -- What the calls of a connection come to.
-use Rattle.pgp_session.proofs.Common.{◌≡◌, ℕ, ◌-◌, ◌≤◌, List, [], ◌∷◌, ◌++◌, length, get_or, Option, Some, None, Result, Ok, Err, refl, sym, ap, ap₂, subst, ◌∙◌, arith, inl, inr, Bool, true, false, not, OnOk, IfErr, ◌&&◌, WantsMemory, Error, Talk, Takes, taken, Event, Part, ClientMessage, bytes_of, cause, IsInRange, header_of, BeginsWithKept, IsLengthFault, IsPartial, Step, TakesFrame, parsed, view, InvalidLength, OutOfMemory, kind_of, request_of, awaits_data, is_copying, Request, Advances, Comes, IsNone, IsUnfit, Nexts, Notes, SendsGiven, Sent, Shown, Stops, Took, asked_of, is_bulk, is_end, in_phase, is_logged_in, is_part, is_longer, limit_of, may_ask, may_send, moved, next_name, noted, said, with_incoming, with_login, with_out, ConnectionError, ConnectionPhase, Started, Reads, Client, Added, AnswersFirst, Asking, CountsFirst, AsksCleartext, AsksMd5, AsksSasl, Cleartext, Final, First, HearsDue, Login, Md5, Nothing, NothingAsked, Other, Puts, Sasl, VerifiesFinal, Welcome, WelcomesAt, asking, is_due, LoginPhase, AwaitsOffer, HasRoom, Said, heard, most, setting_in, CopyData, DataRow, is_between, Decides, Over}
+use Rattle.pgp_session.proofs.Common.{◌≡◌, ℕ, ◌-◌, ◌≤◌, List, [], ◌∷◌, ◌++◌, length, get_or, Option, Some, None, Result, Ok, Err, refl, sym, ap, ap₂, subst, ◌∙◌, arith, inl, inr, Bool, true, false, not, OnOk, IfErr, ◌&&◌, WantsMemory, Error, Talk, Takes, taken, Event, Part, ClientMessage, bytes_of, cause, IsInRange, header_of, BeginsWithKept, IsLengthFault, IsPartial, Step, TakesFrame, parsed, view, InvalidLength, OutOfMemory, kind_of, request_of, awaits_data, is_copying, Request, Advances, Comes, IsNone, IsUnfit, Nexts, Notes, SendsGiven, Sent, Shown, Stops, Took, asked_of, is_bulk, is_end, in_phase, is_logged_in, is_part, is_longer, limit_of, may_ask, may_send, moved, next_name, noted, said, with_incoming, with_login, with_out, ConnectionError, ConnectionPhase, Started, Reads, Client, Added, AnswersFirst, Asking, CountsFirst, AsksCleartext, AsksMd5, AsksSasl, Cleartext, Final, First, HearsDue, Login, Md5, Nothing, NothingAsked, Other, Puts, Sasl, VerifiesFinal, Welcome, WelcomesAt, asking, is_due, LoginPhase, AwaitsOffer, HasRoom, Said, heard, most, setting_in, CopyData, DataRow, is_between, Decides, Over, take-append_seam, and_parts}
 use Rattle.std.specs.Prelude.{drop, take, ◌≢◌}
 use Rattle.std.specs.Int.{w32, from_be_bytes}
 use Rattle.pgp_client.specs.declared.event.Refusal.{Refusal}
@@ -50,10 +50,6 @@ step_some {A} lacks old new o m e s = subst (λ (x : Option (Message A)). Step l
 
 -- ---- requests that iterators gave
 
-take_front : (xs ys : List ℕ) → take (length xs) (xs ++ ys) ≡ xs
-take_front [] ys = refl
-take_front (x ∷ xs) ys = ap (λ l. x ∷ l) (take_front xs ys)
-
 said_by : (m : ClientMessage) (r : Request) (c : Shown) → request_of m ≡ Some r → noted r (with_out (c.out ++ bytes_of m) c) ≡ said m c
 said_by m r c e = ap (λ (o : Option Request). record { phase = c.phase; login = c.login; out = c.out ++ bytes_of m; incoming = c.incoming; talk = asked_of o c.names c.talk; server = c.server; options = c.options; names = next_name c.names; limit = c.limit }) (sym e)
 
@@ -61,13 +57,9 @@ left_of : (a b : Bool) → (a && b) ≡ true → a ≡ true
 left_of true b e = refl
 left_of false b e = absurd cc
 
-right_of : (a b : Bool) → (a && b) ≡ true → b ≡ true
-right_of true b e = e
-right_of false b e = absurd cc
-
 -- no data of a copy are awaited
 pub none_awaited : (c : Shown) → may_ask c ≡ true → not (awaits_data c.talk) ≡ true
-none_awaited c e = right_of (is_logged_in c) (not (awaits_data c.talk)) e
+none_awaited c e = (and_parts (is_logged_in c) (not (awaits_data c.talk)) e).1
 
 both_true : (a b : Bool) → a ≡ true → b ≡ true → (a && b) ≡ true
 both_true a b e f = rw (e, f) refl
@@ -88,7 +80,7 @@ given_by lacks Whole Refuses m r old new written (Ok name) whole may none range 
       },
     )
 given_by lacks Whole Refuses m r old new written (Err OutOfMemoryThere) whole may none range request logged bytes n =
-    (logged, n.0, n.1 ∙ ap (λ (l : List ℕ). with_out (take (length old.out) l) old) bytes ∙ ap (λ (l : List ℕ). with_out l old) (take_front old.out (bytes_of m)))
+    (logged, n.0, n.1 ∙ ap (λ (l : List ℕ). with_out (take (length old.out) l) old) bytes ∙ ap (λ (l : List ℕ). with_out l old) (take-append_seam old.out (bytes_of m)))
 given_by lacks Whole Refuses m r old new written (Err e) whole may none range request logged bytes n = absurd n
 
 -- the same where a serializer wrote the message
@@ -110,7 +102,7 @@ bound_by Whole m r old new written name whole may put request logged named is_no
 -- the message was taken back
 pub taken_back : (m : ClientMessage) (old new : Shown) (written : List ℕ) (place : ℕ) → place ≡ length old.out → Added m old.out written → new ≡ with_out (take place written) old → new ≡ old
 taken_back m old new written place at put is =
-    is ∙ ap (λ (n : ℕ). with_out (take n written) old) at ∙ ap (λ (l : List ℕ). with_out (take (length old.out) l) old) put.bytes ∙ ap (λ (l : List ℕ). with_out l old) (take_front old.out (bytes_of m))
+    is ∙ ap (λ (n : ℕ). with_out (take n written) old) at ∙ ap (λ (l : List ℕ). with_out (take (length old.out) l) old) put.bytes ∙ ap (λ (l : List ℕ). with_out l old) (take-append_seam old.out (bytes_of m))
 
 -- what is known of the server's session after a message
 pub took_so : (m : Meant) (l : Login) (out : List ℕ) (t : Talk) (k : Said) (old : Shown) → k ≡ heard m old.server

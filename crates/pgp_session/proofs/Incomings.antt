@@ -1,18 +1,10 @@
 -- The frame of a message that is taken in place.
-use Rattle.pgp_session.proofs.Common.{◌≡◌, ℕ, ◌-◌, List, [], ◌∷◌, ◌++◌, length, take, drop, Option, Some, None, Result, Ok, Err, refl, sym, ap, subst, ◌∙◌, arith, true, false, option_map, append-nil, length-append, Error, Message, Frame, IsLengthFault, IsPartial, Step, TakesFrame, frame_bytes, parsed, view, HasFrame, Reads}
+use Rattle.pgp_session.proofs.Common.{◌≡◌, ℕ, ◌-◌, List, [], ◌++◌, length, take, drop, Option, Some, None, Result, Ok, Err, refl, sym, ap, subst, ◌∙◌, arith, true, false, option_map, append-nil, length-append, Error, Message, Frame, IsLengthFault, IsPartial, Step, TakesFrame, frame_bytes, parsed, view, HasFrame, Reads, take-append_seam, drop-append_seam}
 use Rattle.pgp_base.specs.declared.error.Error.TheVariants as errors
 use Rattle.pgp_message.specs.Reading.{body_of}
 use Rattle.pgp_message.specs.declared.message as code
 use Rattle.pgp_message.proofs.Bodies.{one_body}
 use Rattle.pgp_message.proofs.Runs.{front_is_one, length-frame, no_ending}
-
-take_front : (xs ys : List ℕ) → take (length xs) (xs ++ ys) ≡ xs
-take_front [] ys = refl
-take_front (x ∷ xs) ys = ap (λ l. x ∷ l) (take_front xs ys)
-
-drop_front : (xs ys : List ℕ) → drop (length xs) (xs ++ ys) ≡ ys
-drop_front [] ys = refl
-drop_front (x ∷ xs) ys = drop_front xs ys
 
 before : (xs ys : List ℕ) → length (xs ++ ys) - length ys ≡ length xs
 before xs ys = omega (arith, length-append xs ys)
@@ -26,10 +18,10 @@ is_no_error m e same = cc
 
 -- what stands before so many bytes at the end, and these
 pub front_taken : (all xs ys : List ℕ) → all ≡ xs ++ ys → take (length all - length ys) all ≡ xs
-front_taken all xs ys e = subst (λ l. take (length l - length ys) l ≡ xs) (sym e) (ap (λ n. take n (xs ++ ys)) (before xs ys) ∙ take_front xs ys)
+front_taken all xs ys e = subst (λ l. take (length l - length ys) l ≡ xs) (sym e) (ap (λ n. take n (xs ++ ys)) (before xs ys) ∙ take-append_seam xs ys)
 
 pub front_left : (all xs ys : List ℕ) → all ≡ xs ++ ys → drop (length all - length ys) all ≡ ys
-front_left all xs ys e = subst (λ l. drop (length l - length ys) l ≡ ys) (sym e) (ap (λ n. drop n (xs ++ ys)) (before xs ys) ∙ drop_front xs ys)
+front_left all xs ys e = subst (λ l. drop (length l - length ys) l ≡ ys) (sym e) (ap (λ n. drop n (xs ++ ys)) (before xs ys) ∙ drop-append_seam xs ys)
 
 -- the frame that is taken, and what is left behind it
 pub frame_there : (all rest : List ℕ) (m : Message) → TakesFrame all (Ok m) rest → Reads (take (length all - length rest) all) (Some m)

@@ -1,8 +1,8 @@
 -- The message at the front of bytes.
-use Rattle.std.proofs.Common.{◌≡◌, ℕ, ◌+◌, ◌-◌, Bool, true, false, List, [], ◌∷◌, ◌++◌, length, take, Result, Some, None, Ok, Err, refl, sym, ap, ◌∙◌, arith, inl, inr, append-nil, length-append}
+use Rattle.std.proofs.Common.{◌≡◌, ℕ, ◌+◌, ◌-◌, Bool, true, false, List, [], ◌++◌, length, take, Result, Some, None, Ok, Err, sym, ap, ◌∙◌, arith, inl, inr, append-nil, length-append}
 use Rattle.pgp_base.specs.declared.error.Error.TheVariants as errors
-use Rattle.pgp_session.proofs.Common.{BeginsWithNone, IsFront, IsOne, kind_of_fault, Kind, Event, Step, TakesFrame, frame_bytes, Stop, Error, kind_of, Message}
-use Rattle.pgp_session.specs.Monitor.{Admits, Passes, Shown, is_end}
+use Rattle.pgp_session.proofs.Common.{BeginsWithNone, IsFront, IsOne, kind_of_fault, Kind, Event, Step, TakesFrame, frame_bytes, Stop, Error, kind_of, Message, take-append_seam, is_end}
+use Rattle.pgp_session.specs.Monitor.{Admits, Passes, Shown}
 use Rattle.pgp_session.specs.declared.monitor.Stop.TheVariants.{Misplaced, NoMessage, OutOfMemory}
 
 length_left : (all front new rest : ℕ) → all ≡ front + new → rest ≡ new → all - rest ≡ front
@@ -34,12 +34,8 @@ none_there old new errors.InvalidLength f s = inr (inl s.0)
 none_there old new errors.OutOfMemory f s = absurd s.1
 none_there old new e f s = inr (inr (e, new, s, f))
 
-take_front : (xs ys : List ℕ) → take (length xs) (xs ++ ys) ≡ xs
-take_front [] ys = refl
-take_front (x ∷ xs) ys = ap (λ (l : List ℕ). x ∷ l) (take_front xs ys)
-
 front_taken : (bytes : List ℕ) (k : Kind) (len : ℕ) (f : IsFront bytes k len) → take len bytes ≡ f.frame
-front_taken bytes k len f = ap (λ (n : ℕ). take n bytes) f.len_is ∙ ap (take (length f.frame)) f.whole ∙ take_front f.frame f.rest
+front_taken bytes k len f = ap (λ (n : ℕ). take n bytes) f.len_is ∙ ap (take (length f.frame)) f.whole ∙ take-append_seam f.frame f.rest
 
 -- a message that has no place there
 pub not_admitted : (lacks : Type 0) (bytes : List ℕ) (k : Kind) (len : ℕ) (old new : Shown) (e : Stop) → IsFront bytes k len

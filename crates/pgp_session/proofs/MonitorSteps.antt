@@ -1,8 +1,8 @@
 -- What each call makes of what went before.
 use Rattle.std.proofs.Common.{◌≡◌, ℕ, ◌+◌, Bool, true, false, List, [], ◌∷◌, ◌++◌, length, take, drop, Option, Some, None, Result, Ok, Err, refl, sym, ap, subst, ◌∙◌, append_assoc, append-nil, length-append, take-append-drop}
-use Rattle.pgp_session.proofs.Common.{Kind, Event, Request, taken, Stop, Talk, Part, Last, Aside, Ended}
+use Rattle.pgp_session.proofs.Common.{Kind, Event, Request, taken, Stop, Talk, Part, Last, Aside, Ended, is_end}
 use Rattle.pgp_session.specs.Answered.{Answered, IsFront, Nothing, Spells, Declined, OneMore}
-use Rattle.pgp_session.specs.Monitor.{Begins, begun, Declines, Goes, IsStopped, Notes, Passes, Ran, Runs, Asks, Says, Shown, Stopped, EndsThere, Went, after_note, after_pass, is_end, noted}
+use Rattle.pgp_session.specs.Monitor.{Begins, begun, Declines, Goes, IsStopped, Notes, Passes, Ran, Runs, Asks, Says, Shown, Stopped, EndsThere, Went, after_note, after_pass, noted}
 use Rattle.pgp_session.specs.declared.monitor.Passed.{Passed}
 use Rattle.pgp_session.specs.declared.monitor.Stop.TheVariants.{Misplaced, NoMessage, OutOfMemory}
 use Rattle.pgp_session.proofs.MonitorBelongs.{belongs}

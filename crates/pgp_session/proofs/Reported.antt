@@ -1,5 +1,5 @@
 -- What is known of the value of a setting.
-use Rattle.pgp_session.proofs.Common.{◌≡◌, ℕ, Bool, true, false, List, [], ◌∷◌, ◌++◌, Option, Some, None, refl, sym, ap, ◌∙◌, inl, inr, if◌then◌else◌, bytes_eq, cases_Bool, Message, Setting, bytes_eq-Decides, newer, state_after, Said, heard, is_before, last_after, replaced, reported, said_after, setting_in, settled, value_of}
+use Rattle.pgp_session.proofs.Common.{◌≡◌, ℕ, Bool, true, false, List, [], ◌∷◌, ◌++◌, Option, Some, None, refl, sym, ap, ◌∙◌, inl, inr, if◌then◌else◌, bytes_eq, cases_Bool, Message, Setting, bytes_eq-Decides, newer, state_after, Said, heard, is_before, last_after, replaced, reported, said_after, setting_in, settled, value_of, true≢false}
 use Rattle.pgp_session.specs.ServerState.{noted}
 use Rattle.pgp_session.specs.declared.server_state.ServerState.{ServerState}
 
@@ -13,14 +13,10 @@ apart_or_not : (a b : Bool) (u v w r : Option (List ℕ)) → (b ≡ true → a 
 apart_or_not a true u v w r apart e = rw (apart refl) refl
 apart_or_not a false u v w r apart e = e
 
-not_both : (b : Bool) → b ≡ true → b ≡ false → ⊥
-not_both true e f = cc
-not_both false e f = cc
-
 apart : (x s name : List ℕ) → bytes_eq x s ≡ false → bytes_eq x name ≡ true → bytes_eq s name ≡ false
 apart x s name other is =
     elim (cases_Bool (bytes_eq s name)) [
-      | inl same ↦ absurd (not_both (bytes_eq x s) ((bytes_eq-Decides x s).1 ((bytes_eq-Decides x name).0 is ∙ sym ((bytes_eq-Decides s name).0 same))) other)
+      | inl same ↦ absurd (true≢false (sym ((bytes_eq-Decides x s).1 ((bytes_eq-Decides x name).0 is ∙ sym ((bytes_eq-Decides s name).0 same))) ∙ other))
       | inr differs ↦ differs
     ]
 

@@ -1,5 +1,5 @@
 -- What is known of a connection, after each call, and what follows from it.
-use Rattle.pgp_session.proofs.Common.{◌≡◌, ◌≢◌, ℕ, Bool, true, false, List, [], ◌∷◌, ◌++◌, take, drop, map, Option, Some, None, Result, Ok, refl, sym, ap, subst, ◌∙◌, append_assoc, arith, inl, inr, option_to_list, if◌then◌else◌, ◌&&◌, flat_map, append-nil, take-append-drop, Error, kind_of, request_of, awaits_data, is_copying, taken, Talk, Turn, Asks, asked_in, observed_in, reported_in, start, Event, Ended, Request, ClientMessage, CancelRequest, GssEncRequest, PasswordMessage, SaslInitialResponse, SaslResponse, SslRequest, Startup, Terminate, bytes_of, tag_of, run_more, opened_more, nothing, Message, Frames, TakesFrame, HasStarted, Sent, Shown, Took, Wrote, asked_of, begun, in_phase, is_end, is_logged_in, logged_in_at, may_send, with_incoming, Added, AddsReply, Asking, Login, LogsOn, ByCleartext, ByMd5, ScramBegins, ScramGoesOn, Ways, asking, Follows, History, IsOpenedAt, Known, Plays, Begins, Writes, Hears, and_fed, and_observed, and_sent, and_wrote, good, is_secret, requests_in, requests_of, turns_of, Said, heard, nothing_said, value_of, ConnectionPhase, Encrypting, Started, LoginPhase, Encrypts, told, dropped, fed, Asked, Belong, AreNamed}
+use Rattle.pgp_session.proofs.Common.{◌≡◌, ◌≢◌, ℕ, Bool, true, false, List, [], ◌∷◌, ◌++◌, take, drop, map, Option, Some, None, Result, Ok, refl, sym, ap, subst, ◌∙◌, append_assoc, arith, inl, inr, option_to_list, if◌then◌else◌, ◌&&◌, flat_map, append-nil, take-append-drop, Error, kind_of, request_of, awaits_data, is_copying, taken, Talk, Turn, Asks, asked_in, observed_in, reported_in, start, Event, Ended, Request, ClientMessage, CancelRequest, GssEncRequest, PasswordMessage, SaslInitialResponse, SaslResponse, SslRequest, Startup, Terminate, bytes_of, tag_of, run_more, opened_more, nothing, Message, Frames, TakesFrame, HasStarted, Sent, Shown, Took, Wrote, asked_of, begun, in_phase, is_end, is_logged_in, logged_in_at, may_send, with_incoming, Added, AddsReply, Asking, Login, LogsOn, ByCleartext, ByMd5, ScramBegins, ScramGoesOn, Ways, asking, Follows, History, IsOpenedAt, Known, Plays, Begins, Writes, Hears, and_fed, and_observed, and_sent, and_wrote, good, is_secret, requests_in, requests_of, turns_of, Said, heard, nothing_said, value_of, ConnectionPhase, Encrypting, Started, LoginPhase, Encrypts, told, dropped, fed, Asked, Belong, AreNamed, and_parts}
 use Rattle.std.proofs.lemmas.List.Concat.{flat_map-cons}
 use Rattle.std.proofs.lemmas.Grind.{flat_map-append}
 use Rattle.pgp_client.specs.InTurns.{BelongInTurns}
@@ -207,10 +207,6 @@ started_at Encrypting q b e = absurd cc
 started_at Started q b e = refl
 started_at OverPhase q b e = absurd cc
 
-right_of : (a b : Bool) → (a && b) ≡ true → b ≡ true
-right_of true b e = e
-right_of false b e = absurd cc
-
 may_tagged : (b a : Bool) (m : ClientMessage) → may_send b a m ≡ true → tag_of m ≢ None
 may_tagged b a (Startup minor parameters) e = absurd cc
 may_tagged b a (CancelRequest process_id secret_key) e = absurd cc
@@ -227,7 +223,7 @@ may_open b a m e = refl
 pub sends : (ways : Ways) (h : History) (old new : Shown) (m : ClientMessage) (name : ℕ) → Sent m old new name → Known ways h old → Known ways (and_wrote m name h) new
 sends ways h old new m name s k =
     let phase : old.phase ≡ Started = started_at old.phase old.login.phase (may_send (is_copying old.talk) (awaits_data old.talk) m) s.may in
-    let may : may_send (is_copying old.talk) (awaits_data old.talk) m ≡ true = right_of (is_logged_in old) (may_send (is_copying old.talk) (awaits_data old.talk) m) s.may in
+    let may : may_send (is_copying old.talk) (awaits_data old.talk) m ≡ true = (and_parts (is_logged_in old) (may_send (is_copying old.talk) (awaits_data old.talk) m) s.may).1 in
     let opened : is_opened h.written ≡ true = at_started old.phase (is_opened h.written) phase k.opened in
     wrote ways h old new m name (tagged_may h.written m opened (may_tagged (is_copying old.talk) (awaits_data old.talk) m may)) (may_open (is_copying old.talk) (awaits_data old.talk) m may)
     (subst (λ (p : ConnectionPhase). IsOpenedAt p (is_opened (h.written ++ m ∷ []))) (sym (ap (λ (c : Shown). c.phase) s.is ∙ phase)) (opened_still h.written m opened))

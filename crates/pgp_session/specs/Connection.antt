@@ -1,6 +1,6 @@
 -- A client's connection: what each call makes of it.
 -- PostgreSQL manual, "Message Flow"; "SSL Session Encryption".
-use Rattle.std.specs.Prelude.{◌≡◌, ◌≢◌, ◌⊎◌, ℕ, ◌+◌, nat_eq, nat_lt, Bool, true, false, not, List, [], ◌∷◌, ◌++◌, drop, map, take, Option, Some, None, Result, Ok, Err, if◌then◌else◌, codes, ◌==◌, ◌&&◌, ◌||◌, min, ℤ, pos}
+use Rattle.std.specs.Prelude.{◌≡◌, ◌≢◌, ◌⊎◌, ℕ, ◌+◌, nat_eq, Bool, true, false, not, List, [], ◌∷◌, ◌++◌, drop, map, take, Option, Some, None, Result, Ok, Err, if◌then◌else◌, codes, ◌==◌, ◌&&◌, ◌||◌, min, ℤ, pos}
 use Rattle.std.specs.Int.Signed.{lt_z}
 use Rattle.std.specs.List.{filter, list_all, list_any, starts_with}
 use Rattle.std.specs.Str.{bytes_eq}
@@ -8,19 +8,19 @@ use Rattle.pgp_base.specs.Items.{CountedItems}
 use Rattle.pgp_base.specs.declared.error.Error.{Error}
 use Rattle.pgp_base.specs.declared.error.Error.TheVariants.{OutOfMemory as NoMemory}
 use Rattle.pgp_client.specs.Kinds.{kind_of, request_of}
-use Rattle.pgp_client.specs.Taking.{asked, awaits_data, is_between, is_copying, taken}
+use Rattle.pgp_client.specs.Limits.{is_longer, lacks_status}
+use Rattle.pgp_client.specs.Taking.{asked, awaits_data, is_between, is_copying, is_end, taken}
 use Rattle.pgp_client.specs.Talk.{Talk, shown as talk_of}
 use Rattle.pgp_client.specs.Telling.{start}
 use Rattle.pgp_client.specs.declared.event.Event.{Event}
-use Rattle.pgp_client.specs.declared.event.Event.TheVariants.{Ended, Part}
+use Rattle.pgp_client.specs.declared.event.Event.TheVariants.{Part}
 use Rattle.pgp_client.specs.declared.request.Request.{Request}
 use Rattle.pgp_client.specs.declared.stage.Stage.TheVariants.{Over as NothingMore}
 use Rattle.pgp_frontend.specs.ClientMessage.{ClientMessage, Bind, CancelRequest, Close, CopyData, CopyDone, CopyFail, Describe, Execute, Flush, Parse, Query, Startup, Sync}
 use Rattle.pgp_frontend.specs.Payload.{bytes_of}
-use Rattle.pgp_message.specs.BackendMessage.{Message, CopyData as DataCame, DataRow, NegotiateProtocolVersion, NoticeResponse, NotificationResponse, ParameterStatus, ReadyForQuery}
+use Rattle.pgp_message.specs.BackendMessage.{Message, CopyData as DataCame, DataRow, NegotiateProtocolVersion, NoticeResponse, NotificationResponse, ParameterStatus}
 use Rattle.pgp_message.specs.Items.{StringSpelled, StringRefused}
 use Rattle.pgp_message.specs.Parts.{Negotiation}
-use Rattle.pgp_message.specs.Remembered.{header_of}
 use Rattle.pgp_client.specs.declared.event.Refusal.{Refusal}
 use Rattle.pgp_message.specs.Stream.{BeginsWithKept, IsPartial, Step, TakesFrame}
 use Rattle.pgp_message.specs.Views.{view}
@@ -161,14 +161,6 @@ Feeds lacks piece old new (Err OutOfPhase) = (old.phase ≢ Started) × (new ≡
 Feeds lacks piece old new (Err OutOfMemory) = (old.phase ≡ Started) × lacks × (new ≡ old)
 Feeds lacks piece old new (Err e) = ⊥
 
-abbrev pub longer : ℕ → Option (ℕ × ℕ) → Bool
-longer limit None = false
-longer limit (Some header) = nat_lt limit header.1
-
--- the bytes begin with a header that announces more bytes than the limit, its own four counted
-abbrev pub is_longer : ℕ → List ℕ → Bool
-is_longer limit bytes = longer limit (header_of bytes)
-
 -- how long a message of a server may be that has proved nothing yet, its length counted, as libpq has it
 abbrev pub early_limit : ℕ
 early_limit = 30000
@@ -223,18 +215,6 @@ IsTimely p first sent m = Unit {0}
 
 abbrev pub ComesInTime : Shown → Message → Type 0
 ComesInTime c m = IsTimely c.login.phase (is_between c.talk) c.options m
-
--- The status of a ReadyForQuery is that of no transaction, of one, or of a failed one.
-abbrev pub is_status : ℕ → Bool
-is_status s = (s == 73) || (s == 84) || (s == 69)  -- I, T, E
-
-abbrev pub lacks_status : Message → Bool
-lacks_status (ReadyForQuery s) = not (is_status s)
-lacks_status m = false
-
-abbrev pub is_end : Event → Bool
-is_end Ended = true
-is_end e = false
 
 abbrev pub is_part : Event → Bool
 is_part (Part n) = true

@@ -1,6 +1,6 @@
 -- A monitor as a value, what each call does to it, and what came of all calls so far.
 use Rattle.std.specs.Prelude.{◌≡◌, ◌≢◌, ◌⊎◌, ℕ, Bool, true, false, List, [], ◌∷◌, ◌++◌, length, Option, Some, None, Result, Ok, Err, ◌+◌}
-use Rattle.pgp_client.specs.Taking.{asked, is_copying, taken}
+use Rattle.pgp_client.specs.Taking.{asked, is_copying, is_end, taken}
 use Rattle.pgp_client.specs.Talk.{Talk, shown as talk_of}
 use Rattle.pgp_client.specs.Telling.{start}
 use Rattle.pgp_client.specs.declared.event.Event.{Event}
@@ -29,10 +29,6 @@ shown m = record { talk = talk_of (λ q. q.items) m.dialogue; names = m.names; i
 
 abbrev pub begun : Shown
 begun = record { talk = start; names = 0; is_fresh = true; is_over = false; out = [] }
-
-abbrev pub is_end : Event → Bool
-is_end Ended = true
-is_end e = false
 
 -- ---- what came of all calls
 

@@ -8,7 +8,7 @@ use Rattle.pgp_auth.specs.ScramClient.{Client, Answers, Completes, message_of}
 use Rattle.pgp_client.specs.Flow.{Belong}
 use Rattle.pgp_client.specs.InTurns.{BelongInTurns}
 use Rattle.pgp_client.specs.Kinds.{kind_of, request_of}
-use Rattle.pgp_client.specs.Taking.{taken}
+use Rattle.pgp_client.specs.Taking.{is_end, taken}
 use Rattle.pgp_client.specs.Talk.{Talk}
 use Rattle.pgp_client.specs.Telling.{Turn, Asks, Hears as HearsTurn, asked_in, names as names_of, observed_in, reported_in, start}
 use Rattle.pgp_client.specs.declared.event.Event.{Event}
@@ -20,7 +20,7 @@ use Rattle.pgp_message.specs.BackendMessage.{Message, Authentication, Authentica
 use Rattle.pgp_message.specs.Stream.{Frames}
 use Rattle.pgp_session.specs.Login.{Login, LogsOn, Ways, asking, encrypted_by}
 use Rattle.pgp_session.specs.Mechanisms.{Offers, ReceivedAmong, initial, offer, first_text, final_text, welcome}
-use Rattle.pgp_session.specs.Connection.{Shown, asked_of, is_end}
+use Rattle.pgp_session.specs.Connection.{Shown, asked_of}
 use Rattle.pgp_session.specs.ServerState.{state_after, unsaid}
 use Rattle.pgp_session.specs.Settings.{last_reported, nothing_said, said_after, value_of}
 use Rattle.pgp_session.specs.declared.connection.ConnectionPhase.{ConnectionPhase}

@@ -3,13 +3,15 @@
 ghost use Rattle.std.specs.Prelude.{◌≡◌, ◌≢◌, ◌∷◌, ◌++◌, [], Bool, map, None, IfErr, IfSome, OnErr, OnOk};
 ghost use Rattle.std.specs.Bool.{Decides};
 ghost use Rattle.pgp_base.specs.Cause.{WantsMemory};
+ghost use Rattle.pgp_client.specs.Limits.{is_longer, is_status, lacks_status};
+ghost use Rattle.pgp_client.specs.Taking.{is_end};
 ghost use Rattle.pgp_frontend.specs.ClientMessage.{Startup};
 ghost use Rattle.pgp_frontend.specs.Given.{shown as shown_pair};
 ghost use Rattle.pgp_frontend.specs.Reading.{IsNamed};
 ghost use Rattle.pgp_frontend_read.specs.Views.{view as sent_view};
 ghost use Rattle.pgp_session.specs.Login.{Puts};
 ghost use Rattle.pgp_message.specs.Views.{view};
-ghost use Rattle.pgp_session.specs.Connection.{IsTimely, is_bulk, is_end, is_part, is_longer, is_status, lacks_status, letter, may_send, next_name};
+ghost use Rattle.pgp_session.specs.Connection.{IsTimely, is_bulk, is_part, letter, may_send, next_name};
 
 use crate::login::LoginPhase;
 use crate::protocol_options::{OptionName, is_answered};

@@ -1,9 +1,9 @@
 //! What came of a server, and wasn't taken as messages.
 
 ghost use Rattle.std.specs.Prelude.{◌≡◌, ◌-◌, ◌≤◌, ◌++◌, [], length, take, drop, OnErr, OnOk};
+ghost use Rattle.pgp_client.specs.Limits.{is_longer};
 ghost use Rattle.pgp_message.specs.Stream.{Step};
 ghost use Rattle.pgp_message.specs.Views.{parsed};
-ghost use Rattle.pgp_session.specs.Connection.{is_longer};
 ghost use Rattle.pgp_session.specs.Incoming.{HasFrame};
 
 use crate::connection_parts::is_too_long;

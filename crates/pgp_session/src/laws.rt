@@ -1,6 +1,7 @@
 //! What holds of a connection after any calls, and of all that a monitor let through.
 
 ghost use Rattle.std.specs.Prelude.{◌≡◌, ◌⊎◌, ◌≤◌, ◌++◌, ℕ, Bool, List, Ok, Option, false, length};
+ghost use Rattle.pgp_client.specs.Limits.{is_longer};
 ghost use Rattle.pgp_client.specs.declared.event.Event.{Event as Reported};
 ghost use Rattle.pgp_client.specs.declared.kind.Kind.{Kind as SentKind};
 ghost use Rattle.pgp_client.specs.declared.request.Request.{Request as Asked};
@@ -8,7 +9,7 @@ ghost use Rattle.pgp_frontend.specs.ClientMessage.{ClientMessage as Written, Ssl
 ghost use Rattle.pgp_frontend.specs.Reading.{IsNamed};
 ghost use Rattle.pgp_message.specs.BackendMessage.{Message as Observed};
 ghost use Rattle.pgp_message.specs.Stream.{IsPartial, TakesFrame};
-ghost use Rattle.pgp_session.specs.Connection.{HasStarted, Sent, Shown, Took, Wrote, begun, dropped, fed, in_phase, is_longer, told, with_incoming};
+ghost use Rattle.pgp_session.specs.Connection.{HasStarted, Sent, Shown, Took, Wrote, begun, dropped, fed, in_phase, told, with_incoming};
 ghost use Rattle.pgp_session.specs.Answered.{Answered};
 ghost use Rattle.pgp_session.specs.Incoming.{Reads};
 ghost use Rattle.pgp_session.specs.Login.{Ways as Admitting};

@@ -4,10 +4,10 @@ ghost use Rattle.std.specs.Prelude.{◌≡◌, ◌++◌, ◌∷◌, [], ℕ, Lis
 ghost use Rattle.pgp_client.specs.declared.event.Event.{Event as Reported};
 ghost use Rattle.pgp_client.specs.declared.kind.Kind.{Kind as Sent};
 ghost use Rattle.pgp_client.specs.declared.request.Request.{Request as Wanted};
-ghost use Rattle.pgp_client.specs.Taking.{Takes, taken};
+ghost use Rattle.pgp_client.specs.Taking.{Takes, is_end, taken};
 ghost use Rattle.pgp_client.specs.Talk.{shown as talk_of};
 ghost use Rattle.pgp_session.specs.Answered.{IsFront, HasNone, kind_of_fault};
-ghost use Rattle.pgp_session.specs.Monitor.{Admits, Declines, Notes, Passes, Went, after_note, after_pass, begun, is_end, shown};
+ghost use Rattle.pgp_session.specs.Monitor.{Admits, Declines, Notes, Passes, Went, after_note, after_pass, begun, shown};
 
 use bytes::BytesMut;
 use pgp_base::{Error, Memory};

@@ -1,5 +1,6 @@
 -- A table that is added to another.
 use Rattle.pgp_summary.proofs.Common.{◌≡◌, ℕ, zero, suc, ◌+◌, Bool, true, false, List, [], ◌∷◌, ◌++◌, refl, sym, ap, arith, ◌∙◌, inl, inr, append_assoc, if◌then◌else◌, bytes_eq, cases_Bool, Tally, begun, capped, grown, tallied, tally, tally_after, slice_get, take, option_to_list}
+use Rattle.std.proofs.lemmas.Bool.{false≢true}
 use Rattle.pgp_summary.proofs.Places.{turned}
 use Rattle.pgp_summary.proofs.Tallies.{apart_more, same_text, stands_kept, tally_join}
 use Rattle.pgp_summary.specs.Calls.{AreApart, stands_in}
@@ -54,11 +55,8 @@ twice y t (e ∷ more) is =
     like x = ap (bytes_eq x) (same_text t.text y.text is)
 
 -- of two statements, one of which stands there, either may come first
-no_truth : false ≡ true → ⊥
-no_truth e = absurd cc
-
 swapped : (u y : Tally) (tallies : List Tally) → bytes_eq u.text y.text ≡ false → stands_in y.text tallies ≡ true → tallied u (tallied y tallies) ≡ tallied y (tallied u tallies)
-swapped u y [] differ stands = absurd (no_truth stands)
+swapped u y [] differ stands = absurd (false≢true stands)
 swapped u y (e ∷ more) differ stands =
     elim (cases_Bool (bytes_eq e.text y.text)) [
       | inl same ↦ (let un : bytes_eq e.text u.text ≡ false = ap (λ x. bytes_eq x u.text) (same_text e.text y.text same) ∙ turned u.text y.text false differ in rw (same, un) (rw same refl))
@@ -85,7 +83,7 @@ before : (y : Tally) (tallies more : List Tally) → stands_in y.text tallies �
 before y tallies [] stands none = refl
 before y tallies (u ∷ more) stands none =
     elim (cases_Bool (bytes_eq u.text y.text)) [
-      | inl same ↦ absurd (no_truth (sym none ∙ ap (λ b. if b then true else stands_in y.text more) same))
+      | inl same ↦ absurd (false≢true (sym none ∙ ap (λ b. if b then true else stands_in y.text more) same))
       | inr other ↦ ap (λ l. tally_after l more) (swapped u y tallies other stands)
           ∙ before y (tallied u tallies) more (stands_kept y.text u tallies other ∙ stands) (ap (λ b. if b then true else stands_in y.text more) (sym other) ∙ none)
     ]

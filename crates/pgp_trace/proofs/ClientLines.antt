@@ -2,10 +2,8 @@
 use Rattle.pgp_trace.proofs.Common.{◌≡◌, ℕ, ◌+◌, ◌-◌, ◌<◌, ◌≤◌, ◌^◌, Bool, true, false, List, [], ◌∷◌, ◌++◌, length, take, Option, Some, None, Result, Ok, Err, refl, sym, ap, subst, ◌∙◌, arith, length-append, inl, inr, ◌⊎◌, append-nil, uint32, ClientMessage, PasswordKind, framed, payload, tag_of, bytes_of, payload_fits, step_of, Unread, NoneStands, StopsAtLength, SkipsFrame, StopsAt, Refuses, Step, ClientError, Style, closing, client_line, EndsSo, client_frame_name, client_front, Client, Ends, expected, is_reported, kinds_behind, HasLine}
 use Rattle.pgp_frontend.proofs.Readings.{tagged_bodies, tag_in}
 use Rattle.pgp_frontend_read.specs.declared.message.PasswordKind as code
+use Rattle.pgp_frontend_read.proofs.Steps.{left}
 use Rattle.pgp_trace.proofs.Parts.{front_taken}
-
-abbrev left : List ℕ → Bool → Unread
-left bytes opened = record { bytes = bytes; opened = opened }
 
 -- what stands before the rest is one thing
 module _ (bytes frame rest : List ℕ) (whole : bytes ≡ frame ++ rest) where

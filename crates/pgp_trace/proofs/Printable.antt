@@ -15,7 +15,7 @@ use Rattle.std.specs.Str.Lossy.{utf8_valid_len}
 use Rattle.pgp_line.specs.Secret.{secret}
 
 -- ASCII that is printed
-abbrev Plain : List ℕ → Type 0
+abbrev pub Plain : List ℕ → Type 0
 Plain text = list_all is_visible text ≡ true
 
 pub plain_join : (xs ys : List ℕ) → Plain xs → Plain ys → Plain (xs ++ ys)

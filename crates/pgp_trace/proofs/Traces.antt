@@ -1,5 +1,5 @@
 -- The lines of a stream, a frame and a piece at a time.
-use Rattle.pgp_trace.proofs.Common.{◌≡◌, ◌⊎◌, ℕ, ◌+◌, ◌-◌, ◌≤◌, Bool, true, false, List, [], ◌++◌, length, take, drop, min, Option, Result, Ok, Err, refl, sym, ap, subst, ◌∙◌, arith, inl, inr, length-append, append_assoc, IfOk, IfSome, OnOk, OnErr, Appends, Consumes, Keeps, IsAtEnd, Appends-nil, Appends-trans, Consumes-nil, Consumes-trans, Consumes-kept, Consumes-whole, min-eq_left, min-le_right, append-nil, length-take, View, shown, Listed, Lines, NoLines, place_behind, last_line, IsReady, WasListed, WritesListing, IsCutShort, Side, Ends, HasLine, ListsAll, ListsSome, Held, Holds, ListsPiece, AppendsFront, greatest}
+use Rattle.pgp_trace.proofs.Common.{◌≡◌, ◌⊎◌, ℕ, ◌+◌, ◌-◌, ◌≤◌, Bool, true, false, List, [], ◌++◌, length, take, drop, min, Option, Result, Ok, Err, refl, sym, ap, subst, ◌∙◌, arith, inl, inr, length-append, append_assoc, IfOk, IfSome, OnOk, OnErr, Appends, Consumes, Keeps, IsAtEnd, Appends-nil, Appends-trans, Consumes-nil, Consumes-trans, Consumes-kept, Consumes-whole, min-eq_left, min-le_right, append-nil, length-take, View, shown, Listed, Lines, NoLines, place_behind, last_line, IsReady, WasListed, WritesListing, IsCutShort, Side, Ends, HasLine, ListsAll, ListsSome, Held, Holds, ListsPiece, AppendsFront, greatest, true≢false}
 use Rattle.pgp_base.proofs.Parts.{on_err}
 use Rattle.pgp_trace.specs.Hints.{hint_of}
 use Rattle.pgp_line.specs.Run.{Streams}
@@ -36,10 +36,6 @@ line_listed view start here from mid to bytes rest next line name old now new so
 
 -- ---- a piece at a time
 
-not_both : (b : Bool) → b ≡ true → b ≡ false → ⊥
-not_both true e f = absurd cc
-not_both false e f = absurd cc
-
 -- what a piece comes to, whatever wasn't listed
 abbrev pub Lists : View → List ℕ → Held → Held → Option (List ℕ) → Option (List ℕ) → Type 0
 Lists view piece before after old new = (rest : List ℕ) → Holds before rest → ListsPiece view before.place before.side (rest ++ piece) after old new
@@ -61,7 +57,7 @@ piece_counted view side place left count bytes piece halted old new stands count
     ending = subst (λ s. Ends side s (rest ++ piece)) (sym stands) (stays_ended side rest piece (subst (λ s. Ends side s rest) stands holds.ending));
     count = counts ∙ ap (λ n. min (n + length piece) greatest) holds.count ∙ saturates (length rest) (length piece) greatest ∙ ap place_behind (sym (length-append rest piece));
     small = holds.small;
-    bytes = λ e. absurd (not_both halted stands e);
+    bytes = λ e. absurd (true≢false (sym stands ∙ e));
   };
   moved = sym (min-eq_left holds.small) ∙ ap place_behind (plain_end place);
   written = kept_nothing old new kept;

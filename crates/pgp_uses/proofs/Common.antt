@@ -15,7 +15,7 @@ pub use Rattle.std.specs.Option.{option_to_list, option_len}
 pub use Rattle.std.specs.Prelude.{◌⊎◌, ◌≢◌, IfErr, decimal, slice_index_or}
 pub use Rattle.std.specs.declared.iter.Once.{Once}
 pub use Rattle.pgp_auth.proofs.EndsMeet.{first_memory, finish_never_refused, last_is, message_is, signature_never_refused, text_is, update_memory_met, answer_meets}
-pub use Rattle.pgp_auth.specs.ScramClient.{Client, Answers, UpdateRefused, message_of}
+pub use Rattle.pgp_auth.specs.ScramClient.{Client, Answers, message_of}
 pub use Rattle.pgp_auth.specs.ScramErrorView.{refusal}
 pub use Rattle.pgp_auth.specs.ScramMeeting.{Meeting}
 pub use Rattle.pgp_auth.specs.ScramServing.{Server, Challenges, Admits}
@@ -36,6 +36,8 @@ pub use Rattle.pgp_base.specs.declared.error.BindError.TheVariants.{Conversion, 
 pub use Rattle.pgp_base.specs.declared.error.Error.{Error}
 pub use Rattle.pgp_base.specs.declared.number.IsNull.{IsNull}
 pub use Rattle.pgp_base.specs.declared.number.IsNull.TheVariants.{Yes, No}
+pub use Rattle.pgp_client.specs.Limits.{lacks_status}
+pub use Rattle.pgp_client.specs.Taking.{is_end}
 pub use Rattle.pgp_client.specs.declared.event.Event.{Event}
 pub use Rattle.pgp_frontend.proofs.Lists.{all_given, some_given, all_same, some_same}
 pub use Rattle.pgp_frontend.specs.ClientMessage.{ClientMessage, Parse, SaslInitialResponse, Startup, Describe, Execute, Sync, Query}
@@ -44,10 +46,11 @@ pub use Rattle.pgp_frontend.specs.Given.{Arrived, Serves, before_values, BindWho
 pub use Rattle.pgp_frontend.specs.Payload.{Oids, bytes_of, parts, parts_cause, cause, joined, WritesMessage}
 pub use Rattle.pgp_message.specs.BackendMessage.{Message, tag_of, DataRow, ErrorResponse, RowDescription, Body}
 pub use Rattle.pgp_message.specs.Items.{TextSpelled, TextRefused, FieldPart}
-pub use Rattle.pgp_message.specs.Stream.{Frames, TakesFrame, IsPartial, Step, Frame, frame_bytes, BeginsWithHeader, IsFrame, IsEnding, Bodies}
+pub use Rattle.pgp_message.specs.Stream.{Frames, TakesFrame, IsPartial, Step, Frame, frame_bytes, BeginsWithHeader, IsEnding, Bodies}
 pub use Rattle.pgp_message.specs.Views.{view, parsed}
+pub use Rattle.pgp_message_write.proofs.Lists.{same_more}
 pub use Rattle.pgp_message_write.specs.Reply.{IsInRange, IsMechanism, IsReply, names_of}
-pub use Rattle.pgp_session.specs.Connection.{IsCut, Nexts, Shown, nexted, Took, TookEnd, with_incoming, Hears, IsUnfit, ComesInTime, is_end, is_logged_in, lacks_status, logged_in_at, begun, shown}
+pub use Rattle.pgp_session.specs.Connection.{IsCut, Nexts, Shown, nexted, Took, TookEnd, with_incoming, Hears, IsUnfit, ComesInTime, is_logged_in, logged_in_at, begun, shown}
 pub use Rattle.pgp_session.specs.Mechanisms.{Lists, Offers, initial, mechanism_by, mechanism_of}
 pub use Rattle.pgp_session.specs.Serving.{Comes, Outcome, Challenge, Denied, Signed, IsAdmitted, IsChallenged, IsNoFinal, IsNoFirst, admission, cause_of, challenge, due, final_message, first_message, kind_in, scram, scram_offer, signature, spelled}
 pub use Rattle.pgp_session.specs.declared.connection_error.ConnectionError.{ConnectionError}
@@ -60,7 +63,7 @@ pub use Rattle.pgp_types.specs.Format.{Plain, Format, IsSound}
 pub use Rattle.pgp_types.specs.Scalar.{int4}
 pub use Rattle.pgp_types.specs.declared.array.ArrayDimension.{ArrayDimension}
 pub use Rattle.postgres_protocol.proofs.BindLemmas.{names_first, one_whole, one_refused, null_wants, value_wants}
-pub use Rattle.postgres_protocol.proofs.StepLemmas.{same_more, array_length, head_wants, element_wants, first_of_one, none_of_none}
+pub use Rattle.postgres_protocol.proofs.StepLemmas.{array_length, head_wants, element_wants, first_of_one, none_of_none, FromOption}
 pub use Rattle.postgres_protocol.specs.OneValue.{PutsOne, OneWants, unnamed, OneBinds, BindsOne}
 pub use Rattle.pgp_uses.specs.Arrays.{ReadsElement, ReadsElements, RefusesElement, RefusesEnd, BindsInt4s, PutsInt4s, int4_array, IsInt4}
 pub use Rattle.pgp_uses.specs.Asking.{AreAdded, Blames, Stops, AddsAll, NamedBinds, BindsNamed, named, named_bound}

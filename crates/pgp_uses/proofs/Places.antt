@@ -1,8 +1,9 @@
 -- Places grow by a frame.
-use Rattle.pgp_uses.proofs.Common.{◌≡◌, ℕ, ◌+◌, ◌-◌, ◌<◌, List, [], ◌∷◌, ◌++◌, length, drop, Result, Bool, refl, sym, ap, subst, ◌∙◌, arith, append_assoc, flat_map, AllByRecursion, append-nil, drop-append_seam, flat_map-append, uint32, Error, Message, Body, Frame, frame_bytes, IsFrame, IsEnding, Bodies, Frames, TakesFrame}
+use Rattle.pgp_uses.proofs.Common.{◌≡◌, ℕ, ◌+◌, ◌-◌, ◌<◌, List, [], ◌∷◌, ◌++◌, length, drop, Result, Bool, refl, sym, ap, subst, ◌∙◌, arith, append_assoc, flat_map, drop-append_seam, uint32, Error, Message, Body, Frame, frame_bytes, IsEnding, Bodies, Frames, TakesFrame}
 use Rattle.std.specs.declared.ops.Range.{Range}
 use Rattle.std.proofs.lemmas.List.{length-append}
 use Rattle.std.proofs.lemmas.List.Concat.{flat_map-cons}
+use Rattle.pgp_message.proofs.Runs.{each_push, pushed}
 use Rattle.pgp_uses.specs.Recorder.{places_of, IsRecording}
 
 abbrev pub place : ℕ → ℕ → Range ℕ
@@ -23,13 +24,6 @@ bodies_push [] [] f r all one = (one, tt)
 bodies_push [] (s ∷ results) f r all one = absurd all
 bodies_push (g ∷ frames) [] f r all one = absurd all
 bodies_push (g ∷ frames) (s ∷ results) f r all one = (all.0, bodies_push frames results f r all.1 one)
-
-each_push : (frames : List Frame) (f : Frame) → AllByRecursion IsFrame frames → IsFrame f → AllByRecursion IsFrame (frames ++ f ∷ [])
-each_push [] f all one = (one, tt)
-each_push (g ∷ frames) f all one = (all.0, each_push frames f all.1 one)
-
-pushed : (frames : List Frame) (f : Frame) → flat_map frame_bytes (frames ++ f ∷ []) ≡ flat_map frame_bytes frames ++ frame_bytes f
-pushed frames f = flat_map-append frame_bytes frames (f ∷ []) ∙ ap (λ l. flat_map frame_bytes frames ++ l) (flat_map-cons frame_bytes f [] ∙ append-nil (frame_bytes f))
 
 at_front : (g : Frame) (frames : List Frame) (at : ℕ) → (at + length (frame_bytes g)) + length (flat_map frame_bytes frames) ≡ at + length (flat_map frame_bytes (g ∷ frames))
 at_front g frames at = omega (arith, ap length (flat_map-cons frame_bytes g frames), length-append (frame_bytes g) (flat_map frame_bytes frames))

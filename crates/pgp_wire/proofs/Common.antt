@@ -6,15 +6,15 @@ pub use Rattle.std.proofs.lemmas.List.Elements.{All-from_get_or, All-from_recurs
 pub use Rattle.std.proofs.lemmas.Str.Pattern.{split_parts}
 pub use Rattle.std.specs.Io.KnownBytes.{Consumes, Keeps, IsAtEnd}
 pub use Rattle.std.specs.List.{flat_map, list_any, AllByRecursion, slice_split}
-pub use Rattle.std.specs.Prelude.{IfSome, if◌then◌else◌, nat_le, ◌==◌, codes, decimal, not, string_bytes}
+pub use Rattle.std.specs.Prelude.{IfSome, if◌then◌else◌, ◌==◌, codes, decimal, not, string_bytes}
 pub use Rattle.std.specs.Str.{IsUtf8}
 pub use Rattle.pgp_base.specs.declared.error.Error.{Error}
-pub use Rattle.pgp_base.specs.declared.error.Error.TheVariants.{OutOfMemory, EmbeddedNull, TooLarge}
+pub use Rattle.pgp_base.specs.declared.error.Error.TheVariants.{OutOfMemory}
 pub use Rattle.pgp_frontend.proofs.ClientRuns.{runs_bytes, opened_more}
 pub use Rattle.pgp_frontend.specs.ClientMessage.{ClientMessage, Startup, SslRequest, Sync, Terminate, Query, PasswordMessage, CancelRequest, GssEncRequest}
 pub use Rattle.pgp_frontend.specs.ClientRun.{AreInOrder, IsStartup, IsRequest, IsTagged, MayCome, is_opened, kinds_of, is_startup}
 pub use Rattle.pgp_frontend.specs.Given.{shown}
-pub use Rattle.pgp_frontend.specs.Payload.{Part, pair_cause, parts, joined, parts_cause, frame_cause, cause, minor_of}
+pub use Rattle.pgp_frontend.specs.Payload.{cause, minor_of}
 pub use Rattle.pgp_frontend.specs.Reading.{IsSpelled, IsNamed}
 pub use Rattle.pgp_frontend.specs.declared.startup.ProtocolVersion.TheVariants.{V3_0, V3_2}
 pub use Rattle.pgp_message.specs.Views.{seen}

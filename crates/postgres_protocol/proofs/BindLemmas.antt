@@ -2,7 +2,7 @@
 use Rattle.postgres_protocol.proofs.Common.{◌≡◌, ℕ, ◌+◌, ◌≤◌, ℤ, pos, List, [], ◌∷◌, ◌++◌, length, take, Option, Some, None, Result, Ok, Err, MutBor, refl, sym, ap, subst, ◌∙◌, inl, inr, arith, ◌⊎◌, flat_map, append-nil, Error, BindError, Conversion, Serialization, IsNull, No, option_to_list, uint16, uint32, int16, nullable, counted, Cause, Wants, either, Held, ◌⊕◌, value_of, Puts, Gives, Runs, flat_more, counted_length, nullable_least, sized_wants, counted_wants, nothing_more, wants_more, parts_first, null_length, bind_length, joined_more, framed_wants, ClientMessage, Bind, Part, Text, Int16s, Values, part_cause, parts, parts_cause, joined, bytes_of, cause, Arrived, Serves, before_values, BindWhole, BindSoFar, BindRefused, WritesBind, ArrayDimension, array_bytes, array_cause, Step, Append, Null, Refuse, Give, RefusesAt, array_of, ElementsWant, ArrayRefused, ArrayWants, WritesSteps, binding, BindWants, BindsArray, Target, unnamed, one_bound, names_cause, PutsOne, NamesRefused, OneTooLong, OneWants, OneRefused, OneBinds, BindsOne}
 use Rattle.std.specs.Prelude.{map}
 use Rattle.pgp_frontend.proofs.Fields.{cause_front}
-use Rattle.postgres_protocol.proofs.StepLemmas.{same_more}
+use Rattle.pgp_message_write.proofs.Lists.{same_more}
 
 -- ---- one value
 

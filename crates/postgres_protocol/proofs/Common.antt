@@ -3,13 +3,13 @@ pub use Rattle.std.proofs.Common.{◌≡◌, ℕ, ◌+◌, ◌≤◌, ℤ, pos, 
 pub use Rattle.std.proofs.iter.Yields.{copies, fronts}
 pub use Rattle.std.proofs.lemmas.Iterator.{YieldsList, YieldsList-from_slice}
 pub use Rattle.std.proofs.lemmas.Iterator.Consumers.{YieldsList-from_copied}
-pub use Rattle.std.proofs.lemmas.List.{append-nil, map-append, append_cancel_left}
+pub use Rattle.std.proofs.lemmas.List.{append-nil, map-append}
 pub use Rattle.std.specs.List.{flat_map, slice_get}
 pub use Rattle.std.specs.Option.{option_to_list, option_map, option_len}
 pub use Rattle.std.specs.Prelude.{◌⊎◌, IfErr, is_some, FitsSigned}
 pub use Rattle.pgp_base.proofs.Causes.{either_left, either_right, either_none, first-append, either_then, first_here, length_past}
 pub use Rattle.pgp_base.proofs.Needs.{flat_more, counted_length, nullable_least, sized_wants, counted_wants, wants_window, sized_length}
-pub use Rattle.pgp_base.proofs.Parts.{nothing_more, wants_more, if_err_at, length-uint32, more_bytes, more_twice, front_left, wants_then}
+pub use Rattle.pgp_base.proofs.Parts.{nothing_more, wants_more, if_err_at, length-uint32, more_twice, front_left, wants_then}
 pub use Rattle.pgp_base.specs.Calls.{value_of, Puts, Gives, Runs, SoFar, KeepsValue, Yielded}
 pub use Rattle.pgp_base.specs.Cause.{Cause, Wants, either, first, length_cause, nullable_cause}
 pub use Rattle.pgp_base.specs.Held.{Held, ◌⊕◌}

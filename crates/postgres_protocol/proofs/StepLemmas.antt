@@ -1,6 +1,9 @@
 -- What an array of steps comes to, alone and as the value of a message.
-use Rattle.postgres_protocol.proofs.Common.{◌≡◌, ℕ, ◌+◌, ◌*◌, ◌≤◌, List, [], ◌∷◌, ◌++◌, map, take, length, Option, Some, None, Result, Ok, Err, Bor, MutBor, refl, sym, ap, subst, ◌∙◌, inl, inr, arith, length-append, append_cancel_left, map-append, Error, BindError, Conversion, Serialization, IsNull, Yes, No, flat_map, option_to_list, uint32, int32, oid, nullable, either, first, length_cause, nullable_cause, Wants, Held, ◌⊕◌, value_of, Puts, Gives, Runs, SoFar, KeepsValue, either_none, either_then, first_here, length_past, flat_more, nullable_least, sized_wants, length-uint32, more_bytes, more_twice, front_left, wants_more, wants_then, int32_length, ArrayDimension, Array, dimension_bytes, has_null, flag_of, array_bytes, array_cause, Step, Append, Null, Refuse, Does, gives, Give, RefusesAt, array_of, ArrayRefused, ArrayWants, ArrayAppended, WritesSteps}
+use Rattle.postgres_protocol.proofs.Common.{◌≡◌, ℕ, ◌+◌, ◌*◌, ◌≤◌, List, [], ◌∷◌, ◌++◌, map, take, length, Option, Some, None, Result, Ok, Err, Bor, MutBor, refl, sym, ap, subst, ◌∙◌, inl, inr, arith, length-append, map-append, Error, BindError, Conversion, Serialization, IsNull, Yes, No, flat_map, option_to_list, uint32, int32, oid, nullable, either, first, length_cause, nullable_cause, Wants, Held, ◌⊕◌, value_of, Puts, Gives, Runs, SoFar, KeepsValue, either_none, either_then, first_here, length_past, flat_more, nullable_least, sized_wants, length-uint32, more_twice, front_left, wants_more, wants_then, int32_length, ArrayDimension, Array, dimension_bytes, has_null, flag_of, array_bytes, array_cause, Step, Append, Null, Refuse, Does, gives, Give, RefusesAt, array_of, ArrayRefused, ArrayWants, ArrayAppended, WritesSteps, option_len}
 use Rattle.pgp_types.specs.ArrayWriting.{before_elements, MadeUpTo, ArrayWritten, ArrayRefused as RefusedArray}
+use Rattle.std.specs.Iterator.Adapters.{once_item}
+use Rattle.std.specs.declared.iter.Once.{Once}
+use Rattle.pgp_message_write.proofs.Lists.{same_more}
 
 -- The laws of the closures.
 
@@ -8,10 +11,6 @@ pub keeps_steps : {K : Type 0} (ds : List ArrayDimension) (type : ℕ) (steps : 
 keeps_steps ds type steps lacks old new (Ok Yes) d = let e : Yes ≡ No = d.0 in absurd cc
 keeps_steps ds type steps lacks old new (Ok No) d = (array_bytes (array_of ds type d.1.vs), d.1.appended)
 keeps_steps ds type steps lacks old new (Err e) d = front_left old new d.1
-
--- what stands after the same bytes is the same
-pub same_more : {K : Type 0} (a b : Held K) (p q : List ℕ) → b ≡ a ⊕ p → b ≡ a ⊕ q → p ≡ q
-same_more a b p q e f = append_cancel_left a.bytes p q (sym (more_bytes a p) ∙ (ap (λ h. h.bytes) (sym e ∙ f) ∙ more_bytes a q))
 
 append_one : {A : Type 0} (xs : List A) (x : A) (ys : List A) → (xs ++ x ∷ []) ++ ys ≡ xs ++ x ∷ ys
 append_one [] x ys = refl
@@ -218,6 +217,10 @@ module _ {F B K : Type 0} (held : B → Held K) (step : F → Bor Step → MutBo
               })
         ]
     steps_refused e (inr at) = stopped e at.all at.received at.fits at.stops
+
+-- the iterator of an `Option`
+abbrev pub FromOption : {A : Type 0} → Type 0 → Option A → Once A → Type 0
+FromOption Ends source it = (once_item it ≡ source) × (option_len (once_item it) ≤ 1) × Ends
 
 -- of a list of one item, or of none
 pub first_of_one : {A : Type 0} (a : A) (xs : List A) (x : A) → (more : List A) × (a ∷ [] ≡ xs ++ x ∷ more) → (xs ≡ []) × (xs ++ x ∷ [] ≡ a ∷ [])

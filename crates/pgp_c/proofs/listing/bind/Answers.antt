@@ -1,7 +1,7 @@
-use Rattle.pgp_c.proofs.Common.{rules, map, refl, ap, sym, subst, ◌∙◌, Bor, copies, fronts, YieldsList, YieldsList-from_slice, YieldsList-from_copied, Yielded, number_of, window_held, window_lacks, Bind, all_given, some_given, some_same, PgpValue, error_of, value_of}
+use Rattle.pgp_c.proofs.Common.{rules, map, refl, ap, sym, subst, ◌∙◌, Bor, copies, fronts, YieldsList, YieldsList-from_slice, YieldsList-from_copied, Yielded, number_of, window_held, window_lacks, Bind, all_given, some_given, some_same, PgpValue, error_of, value_of, FromItself}
 use Rattle.pgp_frontend.proofs.Lists.{all_same as same_given}
 use Rattle.pgp_c.proofs.BindRefusals.{bind_refused}
-use Rattle.pgp_c.proofs.Lists.{FromItself, keeps, all_made, all_received, all_same, fused, same_bind}
+use Rattle.pgp_c.proofs.Lists.{keeps, all_made, all_received, all_same, fused, same_bind}
 use Rattle.pgp_c.proofs.Sending.{sends, refuses}
 use Rattle.pgp_c.proofs.listing.bind.Goals as goal
 

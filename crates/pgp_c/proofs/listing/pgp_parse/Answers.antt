@@ -1,5 +1,5 @@
-use Rattle.pgp_c.proofs.Common.{rules, refl, ap, sym, subst, ◌∙◌, copies, fronts, YieldsList, YieldsList-from_slice, YieldsList-from_copied, Parse, Yielded, window_held, window_lacks, some_same, parse_refused}
-use Rattle.pgp_c.proofs.Lists.{FromItself, all_same}
+use Rattle.pgp_c.proofs.Common.{rules, refl, ap, sym, subst, ◌∙◌, copies, fronts, YieldsList, YieldsList-from_slice, YieldsList-from_copied, Parse, Yielded, window_held, window_lacks, some_same, parse_refused, FromItself}
+use Rattle.pgp_c.proofs.Lists.{all_same}
 use Rattle.pgp_frontend.proofs.Lists.{all_same as all_given}
 use Rattle.pgp_c.proofs.Sending.{sends, refuses}
 use Rattle.pgp_c.proofs.listing.pgp_parse.Goals as goal

@@ -1,5 +1,4 @@
-use Rattle.pgp_c.proofs.Common.{rules, sym, subst, copies, fronts, YieldsList, YieldsList-from_slice, YieldsList-from_copied, Yielded, all_same, some_same, snapshot, snapshot_of}
-use Rattle.pgp_c.proofs.Lists.{FromItself}
+use Rattle.pgp_c.proofs.Common.{rules, sym, subst, copies, fronts, YieldsList, YieldsList-from_slice, YieldsList-from_copied, Yielded, all_same, some_same, snapshot, snapshot_of, FromItself}
 use Rattle.pgp_c.proofs.ListWriting.{writes_value, fails_value}
 use Rattle.pgp_c.proofs.SnapshotLists.{wrote_all, why_none}
 use Rattle.pgp_c.proofs.snapshot.pgp_put_snapshot.Goals as goal

@@ -1,11 +1,7 @@
-use Rattle.pgp_uses.proofs.Common.{fits_of, length_fits, Held, ◌⊕◌, Array, array_bytes, int4, w32, to_z_pos, rules, ◌≡◌, ◌≤◌, ℕ, ℤ, pos, List, map, option_map, ap, subst, ◌∙◌, Option, length, [], ◌∷◌, Some, refl, inl, arith, Wants, WantsMemory, Error, once_item, once_steps, option_len, Once, YieldsList-from_once, all_given, some_given, all_same, some_same, first_of_one}
+use Rattle.pgp_uses.proofs.Common.{fits_of, length_fits, Held, ◌⊕◌, Array, array_bytes, int4, w32, to_z_pos, rules, ◌≡◌, ℕ, ℤ, pos, List, map, option_map, ap, subst, ◌∙◌, Option, length, [], ◌∷◌, Some, refl, inl, arith, Wants, WantsMemory, Error, once_steps, YieldsList-from_once, all_given, some_given, all_same, some_same, first_of_one, FromOption}
 use Rattle.std.proofs.lemmas.Iterator.{YieldsList-from_slice}
 use Rattle.pgp_uses.proofs.Lists.{array_ok, array_refused}
 use Rattle.pgp_uses.proofs.arrays.put_array.Goals as goal
-
--- the iterator of an `Option`
-abbrev FromOption : {A : Type 0} → Type 0 → Option A → Once A → Type 0
-FromOption Ends source it = (once_item it ≡ source) × (option_len (once_item it) ≤ 1) × Ends
 
 -- the array with this length
 abbrev with_len : ℤ → List (Option ℤ) → Array

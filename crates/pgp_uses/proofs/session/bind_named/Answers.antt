@@ -1,10 +1,6 @@
-use Rattle.pgp_uses.proofs.Common.{◌≡◌, ◌≤◌, Option, pos, [], ◌∷◌, Some, once_item, once_steps, option_len, Once, YieldsList-from_once, Yielded, all_same, some_same, first_of_one}
+use Rattle.pgp_uses.proofs.Common.{pos, [], ◌∷◌, Some, once_steps, YieldsList-from_once, Yielded, all_same, some_same, first_of_one, FromOption}
 use Rattle.pgp_uses.proofs.Asking.{named_binds}
 use Rattle.pgp_uses.proofs.session.bind_named.Goals as goal
-
--- the iterator of an `Option`
-abbrev FromOption : {A : Type 0} → Type 0 → Option A → Once A → Type 0
-FromOption Ends source it = (once_item it ≡ source) × (option_len (once_item it) ≤ 1) × Ends
 
 pub returns : goal.returns
 returns g c =

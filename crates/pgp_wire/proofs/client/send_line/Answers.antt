@@ -1,6 +1,6 @@
 use Rattle.pgp_wire.proofs.Common.{rules, ◌≡◌, ◌≢◌, refl, ap, ◌∙◌, subst, inl, inr, Some, IsUtf8, Error, OutOfMemory, cause, IsAdded, asked, Says, is_opening}
 use Rattle.std.proofs.Common.{not}
-use Rattle.pgp_wire.proofs.NoMemory.{never_memory}
+use Rattle.pgp_frontend.proofs.Causes.{never_memory}
 use Rattle.pgp_wire.proofs.SendingLemmas.{names_it, comes_now}
 use Rattle.pgp_wire.proofs.client.send_line.Goals as goal
 
@@ -45,5 +45,5 @@ returns-in-Err-OutOfMemory-clause-fault g c =
     let is : c.in-Err-OutOfMemory.field-0 ≡ OutOfMemory = search rules in
     elim c.in-Err-OutOfMemory.ensures.0 [
       | inl w ↦ (refl, inr (w.1.here, w.1.more, w.1.refused))
-      | inr h ↦ absurd (never_memory c.in-Ok.text.now m says (h ∙ ap (λ (e : Error). Some e) is))
+      | inr h ↦ absurd (never_memory m (h ∙ ap (λ (e : Error). Some e) is))
     ]

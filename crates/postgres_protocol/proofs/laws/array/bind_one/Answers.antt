@@ -1,14 +1,9 @@
-use Rattle.postgres_protocol.proofs.Common.{◌≡◌, ◌≤◌, Option, pos, [], ◌∷◌, Some, None, option_len, Yielded, unnamed, all_same, some_same}
-use Rattle.std.specs.Iterator.Adapters.{once_item, once_steps}
-use Rattle.std.specs.declared.iter.Once.{Once}
+use Rattle.postgres_protocol.proofs.Common.{pos, [], ◌∷◌, Some, None, Yielded, unnamed, all_same, some_same}
+use Rattle.std.specs.Iterator.Adapters.{once_steps}
 use Rattle.std.proofs.lemmas.Iterator.Adapters.{YieldsList-from_once}
-use Rattle.postgres_protocol.proofs.StepLemmas.{first_of_one, none_of_none}
+use Rattle.postgres_protocol.proofs.StepLemmas.{first_of_one, none_of_none, FromOption}
 use Rattle.postgres_protocol.proofs.BindLemmas.{one_binds}
 use Rattle.postgres_protocol.proofs.laws.array.bind_one.Goals as goal
-
--- the iterator of an `Option`
-abbrev FromOption : {A : Type 0} → Type 0 → Option A → Once A → Type 0
-FromOption Ends source it = (once_item it ≡ source) × (option_len (once_item it) ≤ 1) × Ends
 
 pub returns : goal.returns
 returns g c =

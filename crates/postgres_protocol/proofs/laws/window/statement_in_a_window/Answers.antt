@@ -1,10 +1,7 @@
-use Rattle.postgres_protocol.proofs.Common.{◌≡◌, sym, subst, copies, fronts, YieldsList, YieldsList-from_slice, YieldsList-from_copied, Yielded, window_held, window_lacks, Parse, all_same, some_same}
+use Rattle.postgres_protocol.proofs.Common.{sym, subst, copies, fronts, YieldsList, YieldsList-from_slice, YieldsList-from_copied, Yielded, window_held, window_lacks, Parse, all_same, some_same}
+use Rattle.pgp_message_write.proofs.GivenLists.{FromItself}
 use Rattle.postgres_protocol.proofs.Rooms.{message_by_room, parse_adds}
 use Rattle.postgres_protocol.proofs.laws.window.statement_in_a_window.Goals as goal
-
--- an iterator is made of itself
-abbrev FromItself : {S : Type 0} → S → S → Type 0
-FromItself source it = it ≡ source
 
 pub returns : goal.returns
 returns c =
