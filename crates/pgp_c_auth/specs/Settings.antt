@@ -1,7 +1,6 @@
 -- The settings that a server reported, as they stand in memory of the caller's: the setting that was reported last first.
 -- PostgreSQL manual, "Asynchronous Operations"; "Message Formats": ParameterStatus.
 use Rattle.std.specs.Prelude.{◌≡◌, ◌≢◌, ◌<◌, ℕ, zero, suc, ◌+◌, List, [], ◌∷◌, ◌++◌, drop, length, take, Option, Some, None, if◌then◌else◌, ◌==◌}
-use Rattle.std.specs.Str.{bytes_eq}
 use Rattle.pgp_base.specs.Wire.{text}
 use Rattle.pgp_message.specs.BackendMessage.{Message, ParameterStatus}
 use Rattle.pgp_message.specs.Parts.{Setting}

@@ -1,5 +1,5 @@
 -- Messages that were read one after the other, written again: the same bytes.
-use Rattle.pgp_frontend_read.proofs.Common.{◌≡◌, ℕ, List, [], ◌∷◌, ◌++◌, Some, Ok, sym, ap, ◌∙◌, append_assoc, flat_map, Held, ◌⊕◌, nothing_more, more_twice, ClientMessage, PasswordKind, ClientRun, bytes_of, Forwards, WritesAll, HasRead, kinds_behind, Unread}
+use Rattle.pgp_frontend_read.proofs.Common.{◌≡◌, ℕ, List, [], ◌∷◌, ◌++◌, Ok, sym, ap, ◌∙◌, append_assoc, flat_map, Held, ◌⊕◌, nothing_more, more_twice, ClientMessage, PasswordKind, ClientRun, bytes_of, Forwards, WritesAll, HasRead, kinds_behind, Unread}
 
 -- ---- what was read
 

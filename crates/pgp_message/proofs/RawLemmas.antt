@@ -1,5 +1,5 @@
 -- Strings are read as they are spelled.
-use Rattle.pgp_message.proofs.Common.{◌≡◌, ℕ, ◌<◌, List, [], ◌∷◌, ◌++◌, length, Some, Result, Ok, Err, refl, sym, ap, subst, ◌∙◌, arith, inl, inr, length-append, Error, UnexpectedEof, IsBytes, text, StandsAt, IsReader, string_at, bind_ok, bind_err, ok_is, differ, no_string, string_none, string_falls, string_takes, string_front, string_whole, NotUtf8, StringSpelled, StringRefused, raw_string_at, whole_string}
+use Rattle.pgp_message.proofs.Common.{◌≡◌, ℕ, ◌<◌, List, [], ◌∷◌, ◌++◌, length, Ok, Err, refl, sym, ap, subst, arith, inl, inr, length-append, Error, UnexpectedEof, IsBytes, text, StandsAt, IsReader, string_at, bind_ok, bind_err, ok_is, differ, no_string, string_none, string_falls, string_takes, string_front, string_whole, NotUtf8, StringSpelled, StringRefused, raw_string_at, whole_string}
 
 string_found : (place : ℕ) (bytes x after : List ℕ) → IsBytes bytes → raw_string_at bytes ≡ Ok (x, after) → StandsAt StringSpelled place bytes x after
 string_found place bytes x after h e =

@@ -1,6 +1,6 @@
 -- Which mechanism an exchange of SCRAM-SHA-256 has, and the messages by which a server admits a client by it.
 -- PostgreSQL manual, "SASL Authentication"; RFC 5802; RFC 7677.
-use Rattle.std.specs.Prelude.{◌≡◌, ◌≢◌, ℕ, Bool, true, false, if◌then◌else◌, nat_eq, List, Option, Some, None, Contains, [], ◌∷◌, ◌++◌, codes}
+use Rattle.std.specs.Prelude.{◌≡◌, ◌≢◌, ℕ, Bool, false, if◌then◌else◌, nat_eq, List, Option, Some, None, Contains, [], ◌∷◌, ◌++◌, codes}
 use Rattle.pgp_base.specs.Items.{MarkedItems}
 use Rattle.pgp_auth.specs.ScramClient.{Client, message_of}
 use Rattle.pgp_frontend.specs.ClientMessage.{ClientMessage, SaslInitialResponse}

@@ -1,4 +1,4 @@
-use Rattle.pgp_message.proofs.Common.{rules, ◌≡◌, Ok, false, is_marked, marked_item}
+use Rattle.pgp_message.proofs.Common.{rules, ◌≡◌, false, is_marked, marked_item}
 use Rattle.pgp_message.proofs.walk.mechanisms.SaslMechanismsFallibleIterator.next.Goals as goal
 
 pub returns : goal.returns
