@@ -41,7 +41,6 @@ pub enum Clock {
 /// An option of a listing.
 #[derive(Debug, Clone, Copy)]
 pub enum Choice<'a> {
-    /// The name of a file.
     File(&'a str),
     AsJson,
     Full,
