@@ -5,6 +5,7 @@ pub mod Zones
 pub mod Floats
 pub mod Figures
 pub mod Rounding
+pub mod Limbs
 pub mod Sizes
 pub mod Forms
 pub mod Parts
