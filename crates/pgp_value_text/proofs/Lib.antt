@@ -7,6 +7,7 @@ pub mod Figures
 pub mod Rounding
 pub mod Limbs
 pub mod Sizes
+pub mod Cuts
 pub mod Forms
 pub mod Parts
 pub mod Ranges

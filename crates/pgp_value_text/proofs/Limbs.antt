@@ -1,7 +1,8 @@
--- Numbers of many digits.
-use Rattle.std.proofs.Common.{◌≡◌, ℕ, zero, suc, ◌+◌, ◌-◌, ◌*◌, ◌/◌, ◌%◌, ◌^◌, ◌<◌, ◌≤◌, ◌∷◌, [], ◌++◌, Bool, true, false, true≢false, List, length, length-append, drop, refl, sym, ap, ◌∙◌, subst, arith, get_or, ◌⊎◌, inl, inr}
+-- Numbers in limbs: their products, what they begin with, and how they are rounded by that.
+use Rattle.std.proofs.Common.{◌≡◌, ℕ, zero, suc, ◌+◌, ◌-◌, ◌*◌, ◌/◌, ◌%◌, ◌^◌, ◌<◌, ◌≤◌, ◌∷◌, [], ◌++◌, Bool, true, false, List, length, length-append, drop, refl, sym, ap, ◌∙◌, subst, arith, get_or, ◌⊎◌, inl, inr}
 use Rattle.std.proofs.Math.Pow.{pow-add}
-use Rattle.std.proofs.lemmas.List.{drop_more, drop_all}
+use Rattle.std.proofs.lemmas.List.{drop_more}
+use Rattle.pgp_value_text.proofs.Rounding.{tens_pos}
 use Rattle.pgp_value_text.specs.Tens.{value_of, BeginsWith, IsCut, IsHalfCut}
 use lib.Ieee.Nearest.{closest, closest_same, nearest-ge}
 use lib.Ieee.Fits.{nearest-le}
@@ -10,8 +11,9 @@ use lib.Arith.{digits_div, digits_mod}
 use lib.Ieee.{nearest}
 use Prim.Native.Nat.compare
 use Prim.Native.Nat.{compare, Ordering}
-use native.Mathlib.Nat.{pow-suc, pow-zero, mul-zero, mul-suc, mul-pos, mul-le-mul, mul-le-mul_left, mul-le-mul_right, one-le-pow, div-add-mod', mod-lt, div-lt_iff_lt-mul, eq-zero-or-pos, mul-lt-mul_of_pos_right, lt_of_lt_of_le, le_trans, pow-le-pow_right, le-div_iff_mul-le}
+use native.Mathlib.Nat.{pow-suc, pow-zero, mul-zero, mul-suc, mul-le-mul, mul-le-mul_left, mul-le-mul_right, one-le-pow, div-add-mod', mod-lt, eq-zero-or-pos, le_trans, pow-le-pow_right, le-div_iff_mul-le}
 
+-- a limb is below this
 abbrev pub limb : ℕ
 limb = 1_000_000_000
 
@@ -22,11 +24,11 @@ value_push (y ∷ ys) x =
     let p : limb ^ suc (length ys) * x ≡ limb ^ length ys * limb * x = ap (λ n. n * x) (pow-suc limb (length ys)) in
     omega (arith, e, p)
 
-pub value_drop : (xs : List ℕ) (i d : ℕ) → i < length xs → value_of (drop i xs) ≡ get_or xs i d + limb * value_of (drop (i + 1) xs)
+value_drop : (xs : List ℕ) (i d : ℕ) → i < length xs → value_of (drop i xs) ≡ get_or xs i d + limb * value_of (drop (i + 1) xs)
 value_drop xs i d h = ap value_of (drop_more xs i d h)
 
--- one digit more of a product
-pub times_more : (v p sum carry f x rest : ℕ) → sum ≡ x * f + carry → v + p * (sum % limb) + p * limb * (sum / limb + f * rest) ≡ v + p * (carry + f * (x + limb * rest))
+-- one limb more of a product
+times_more : (v p sum carry f x rest : ℕ) → sum ≡ x * f + carry → v + p * (sum % limb) + p * limb * (sum / limb + f * rest) ≡ v + p * (carry + f * (x + limb * rest))
 times_more v p sum carry f x rest e =
     let d : p * (limb * (sum / limb) + sum % limb) ≡ p * (x * f + carry) = ap (λ n. p * n) (let s : limb * (sum / limb) + sum % limb ≡ sum = omega arith in s ∙ e) in
     omega (arith, d)
@@ -47,34 +49,7 @@ times_step xs out new i d f carry sum h e grown inv =
     let one : value_of new + limb ^ length new * (sum / limb + f * rest) ≡ value_of out + p * (sum % limb) + p * limb * (sum / limb + f * rest) = rw (v, l) refl in
     one ∙ (times_more (value_of out) p sum carry f (get_or xs i d) rest e ∙ (ap (λ y. value_of out + p * (carry + f * y)) (sym (value_drop xs i d h)) ∙ inv))
 
--- what comes after the front, digit by digit
-pub front_none : BeginsWith 0 false 0 0
-front_none = record {
-  rest = 0;
-  whole = refl;
-  below = omega (arith, pow-zero limb);
-  some = λ e. absurd (true≢false (sym e));
-  none = λ _. refl;
-  full = λ _. (refl, refl);
-  small = omega arith;
-}
-
-pub front_taken : (number limbs value x : ℕ) (more : Bool) → number < 10 ^ 18 → x < limb → BeginsWith number more limbs value → BeginsWith (number * limb + x) more limbs (x + limb * value)
-front_taken number limbs v x more low lx h =
-    let no = h.full low in
-    let one : limb ^ limbs ≡ 1 = ap (λ k. limb ^ k) no.0 ∙ pow-zero limb in
-    let z : h.rest ≡ 0 = h.none no.1 in
-    let w : v ≡ number * 1 + 0 = h.whole ∙ (ap (λ k. number * k + h.rest) one ∙ ap (λ k. number * 1 + k) z) in
-    record {
-      rest = 0;
-      whole = rw one (omega (arith, w));
-      below = rw one (omega arith);
-      some = λ e. absurd (true≢false (sym e ∙ no.1));
-      none = λ _. refl;
-      full = λ _. no;
-      small = omega (arith, low, lx);
-    }
-
+-- another limb behind the front
 pub front_behind : (number limbs value x : ℕ) (more and : Bool) → 10 ^ 18 ≤ number → x < limb → BeginsWith number more limbs value
     → (and ≡ false → (more ≡ false) × (x ≡ 0)) → (and ≡ true → more ≡ false → 0 < x) → BeginsWith number and (limbs + 1) (x + limb * value)
 front_behind number limbs v x more and high lx h nothing something =
@@ -93,20 +68,18 @@ front_behind number limbs v x more and high lx h nothing something =
     either true e f = let s = h.some (sym e) in omega (arith, s)
     either false e f = let s = something f (sym e) in omega (arith, s)
 
-pub front_large : (number limbs value : ℕ) (more : Bool) → 10 ^ 18 ≤ value → BeginsWith number more limbs value → 10 ^ 18 ≤ number
-front_large number limbs v more large h =
-    let no_less : ¬ (number < 10 ^ 18) = λ low.
+front_large : (number limbs value : ℕ) (more : Bool) → 10 ^ 18 ≤ value → BeginsWith number more limbs value → 10 ^ 18 ≤ number
+front_large number limbs v more large h = omega (arith, no_less)
+  where
+    no_less : ¬ (number < 10 ^ 18)
+    no_less low =
         let no = h.full low in
         let one : limb ^ limbs ≡ 1 = ap (λ k. limb ^ k) no.0 ∙ pow-zero limb in
         let w : v ≡ number * 1 + 0 = h.whole ∙ (ap (λ k. number * k + h.rest) one ∙ ap (λ k. number * 1 + k) (h.none no.1)) in
         omega (arith, w, low, large)
-    in omega (arith, no_less)
 
 pub tens_27 : (k : ℕ) → k ≤ 27 → 10 ^ k ≤ 10 ^ 27
 tens_27 k h = pow-le-pow_right (omega arith) h
-
-pub tens_pos : (k : ℕ) → 0 < 10 ^ k
-tens_pos k = one-le-pow k 10 (omega arith)
 
 pow_5 : (b k : ℕ) → b ≤ 5 → b ^ k ≤ 5 ^ k
 pow_5 b zero h = omega (arith, pow-zero b, pow-zero 5)
@@ -144,7 +117,7 @@ module _ (u q r : ℕ) (below : r < u) where
 
 module _ (m h b r : ℕ) (some : 0 < h) (rest : 0 < r) (below : r < b) where
   -- with digits behind it a number is rounded as an odd one in whose middle they are
-  pub closest_rest : closest (m * b + r) (2 * h * b) ≡ closest (2 * m + 1) (2 * (2 * h))
+  closest_rest : closest (m * b + r) (2 * h * b) ≡ closest (2 * m + 1) (2 * (2 * h))
   closest_rest = ap (λ n. closest n (2 * h * b)) whole ∙ (either (eq-zero-or-pos (h - t)) ∙ sym (ap (λ n. closest n (2 * (2 * h))) doubled))
     where
       q : ℕ
@@ -221,16 +194,13 @@ is_cut digits number limbs v n tens more few large h c = record {
   some = omega (arith, c.some);
   is = let e = at tens c.some in c.is ∙ (sym e ∙ ap (λ k. closest v (10 ^ k)) (let s : 9 * limbs + tens ≡ tens + 9 * limbs = omega arith in s));
   fits = c.fits;
-  fewest = λ k l. either k l (le-lt k);
+  fewest = λ k l. either k l (eq-zero-or-pos (k - 9 * limbs));
 }
   where
     at : (k : ℕ) → 0 < k → closest v (10 ^ (9 * limbs + k)) ≡ closest (number * 2 + bool_byte more) (2 * 10 ^ k)
     at k pos =
         let e : k - 1 + 1 ≡ k = omega (arith, pos) in
         subst (λ k. closest v (10 ^ (9 * limbs + k)) ≡ closest (number * 2 + bool_byte more) (2 * 10 ^ k)) e (front_closest number limbs v (k - 1) more h)
-
-    le-lt : (k : ℕ) → (k - 9 * limbs ≡ 0) ⊎ (0 < k - 9 * limbs)
-    le-lt k = eq-zero-or-pos (k - 9 * limbs)
 
     either : (k : ℕ) → k < tens + 9 * limbs → (k - 9 * limbs ≡ 0) ⊎ (0 < k - 9 * limbs) → 10 ^ digits ≤ closest v (10 ^ k)
     either k l (inl z) = front_many digits number limbs v k more few (front_large number limbs v more large h) (omega (arith, z)) h

@@ -1,15 +1,11 @@
 -- A size has one text, however its fraction is written.
 use Rattle.std.proofs.Common.{◌≡◌, ◌≢◌, ℕ, zero, suc, ◌+◌, ◌-◌, ◌*◌, ◌/◌, ◌^◌, ◌<◌, ◌≤◌, ◌⊎◌, List, ◌++◌, inl, inr, refl, sym, ap, ◌∙◌, subst, arith}
 use Rattle.std.proofs.Math.Pow.{pow_mono, pow-add}
-use Rattle.std.proofs.lemmas.Nat.{mul-pow}
-use Rattle.pgp_value_text.proofs.Common.{scaled, trimmed, exponent_text, HasDigits, HasFar, HasTens, IsFar, IsPlaces, IsTens, ShowsSize, codes, decimal, digits}
-use Rattle.pgp_value_text.specs.Tens.{exponent_part, IsCut}
-use Rattle.pgp_value_text.specs.declared.size.Exponent.{Exponent}
-use Rattle.pgp_value_text.specs.declared.size.Exponent.TheVariants.{Up, Down}
+use Rattle.pgp_value_text.proofs.Common.{scaled, trimmed, exponent_text, HasDigits, HasSmall, HasLarge, IsSmall, IsPlaces, IsLarge, ShowsSize, codes, decimal, digits}
 use Rattle.pgp_value_text.proofs.Rounding.{tens_pos, product_small}
 use lib.Pow.{pow_pos}
 use lib.Ieee.Nearest.{closest, closest_mono, closest_same, nearest-ge}
-use native.Mathlib.Nat.{mul_right_comm, mul_assoc, mul-le-mul, le-div_iff_mul-le, le_trans, lt_of_lt_of_le, lt_irrefl, mul-one, mul-pos, mul-le-mul_left, mul-le-mul_right, pow-le-pow_right, eq-zero-or-pos, zero-mul, zero-lt-suc}
+use native.Mathlib.Nat.{mul_right_comm, mul_assoc, mul-le-mul, le-div_iff_mul-le, le_trans, lt_of_lt_of_le, lt_irrefl, mul-one, mul-pos, mul-le-mul_left, mul-le-mul_right, pow-le-pow_right, zero-mul, zero-lt-suc}
 
 -- one number of places, since each gives more digits than the former
 pub one_places : (digits num den j k : ℕ) → IsPlaces digits num den j → IsPlaces digits num den k → j ≡ k
@@ -23,15 +19,15 @@ one_digits digits num den s t a b =
     let same = one_places digits num den a.0 b.0 a.1 b.1 in
     a.2 ∙ (ap (λ k. trimmed k (scaled num den k)) same ∙ sym b.2)
 
-pub one_tens : (digits num den : ℕ) (s t : List ℕ) → HasTens digits num den s → HasTens digits num den t → s ≡ t
-one_tens digits num den s t a b =
+pub one_large : (digits num den : ℕ) (s t : List ℕ) → HasLarge digits num den s → HasLarge digits num den t → s ≡ t
+one_large digits num den s t a b =
     let no_less : ¬ (a.0 < b.0) = λ l. lt_irrefl _ (lt_of_lt_of_le a.1.fits (b.1.fewest a.0 l)) in
     let no_more : ¬ (b.0 < a.0) = λ l. lt_irrefl _ (lt_of_lt_of_le b.1.fits (a.1.fewest b.0 l)) in
     let same : a.0 ≡ b.0 = omega (arith, no_less, no_more) in
     a.2 ∙ (ap (λ k. trimmed (digits - 1) (closest num (den * 10 ^ k)) ++ (codes "e+" ++ exponent_text (k + (digits - 1)))) same ∙ sym b.2)
 
-pub one_far : (digits num den : ℕ) (s t : List ℕ) → HasFar digits num den s → HasFar digits num den t → s ≡ t
-one_far digits num den s t a b =
+pub one_small : (digits num den : ℕ) (s t : List ℕ) → HasSmall digits num den s → HasSmall digits num den t → s ≡ t
+one_small digits num den s t a b =
     let no_less : ¬ (a.0 < b.0) = λ l. lt_irrefl _ (lt_of_lt_of_le b.1.fits (a.1.most b.0 l)) in
     let no_more : ¬ (b.0 < a.0) = λ l. lt_irrefl _ (lt_of_lt_of_le a.1.fits (b.1.most a.0 l)) in
     let same : a.0 ≡ b.0 = omega (arith, no_less, no_more) in
@@ -39,38 +35,38 @@ one_far digits num den s t a b =
 
 -- a number is shown in one of the three ways
 module _ (digits num den : ℕ) (pos : 0 < den) where
-  more_places : (j k : ℕ) → j ≤ k → scaled num den j ≤ scaled num den k
+  pub more_places : (j k : ℕ) → j ≤ k → scaled num den j ≤ scaled num den k
   more_places j k l = closest_mono (num * 10 ^ j) den (num * 10 ^ k) den pos pos (mul-le-mul_right den (mul-le-mul_left num (pow-le-pow_right (omega arith) l)))
 
-  no_tens : (k : ℕ) → closest num (den * 10 ^ 0) ≤ scaled num den k
-  no_tens k =
+  no_places : (k : ℕ) → closest num (den * 10 ^ 0) ≤ scaled num den k
+  no_places k =
       let one : den * 10 ^ 0 ≡ den = omega arith in
       let more : num * den ≤ num * 10 ^ k * den = mul-le-mul_right den (subst (λ x. x ≤ num * 10 ^ k) (mul-one num) (mul-le-mul_left num (tens_pos k))) in
       subst (λ x. closest num x ≤ scaled num den k) (sym one) (closest_mono num den (num * 10 ^ k) den pos pos more)
 
-  tens_apart : (k j : ℕ) → IsTens digits num den k → scaled num den j < 10 ^ digits → ⊥
-  tens_apart k j t fits = lt_irrefl _ (lt_of_lt_of_le fits (le_trans (t.fewest 0 t.some) (no_tens j)))
+  large_apart : (k j : ℕ) → IsLarge digits num den k → scaled num den j < 10 ^ digits → ⊥
+  large_apart k j t fits = lt_irrefl _ (lt_of_lt_of_le fits (le_trans (t.fewest 0 t.some) (no_places j)))
 
-  far_apart : (j k : ℕ) → IsPlaces digits num den j → IsFar digits num den k → ⊥
-  far_apart j k p f = lt_irrefl _ (lt_of_lt_of_le f.fits (le_trans (p.most (digits + 4) (omega (arith, p.few)) (omega arith)) (more_places (digits + 4) k f.many)))
+  small_apart : (j k : ℕ) → IsPlaces digits num den j → IsSmall digits num den k → ⊥
+  small_apart j k p f = lt_irrefl _ (lt_of_lt_of_le f.fits (le_trans (p.most (digits + 4) (omega (arith, p.few)) (omega arith)) (more_places (digits + 4) k f.many)))
 
-  one_some : (s t : List ℕ) → HasDigits digits num den s ⊎ (HasTens digits num den s ⊎ HasFar digits num den s)
-      → HasDigits digits num den t ⊎ (HasTens digits num den t ⊎ HasFar digits num den t) → s ≡ t
+  one_some : (s t : List ℕ) → HasDigits digits num den s ⊎ (HasLarge digits num den s ⊎ HasSmall digits num den s)
+      → HasDigits digits num den t ⊎ (HasLarge digits num den t ⊎ HasSmall digits num den t) → s ≡ t
   one_some s t (inl a) (inl b) = one_digits digits num den s t a b
-  one_some s t (inl a) (inr (inl b)) = absurd (tens_apart b.0 a.0 b.1 a.1.fits)
-  one_some s t (inl a) (inr (inr b)) = absurd (far_apart a.0 b.0 a.1 b.1)
-  one_some s t (inr (inl a)) (inl b) = absurd (tens_apart a.0 b.0 a.1 b.1.fits)
-  one_some s t (inr (inl a)) (inr (inl b)) = one_tens digits num den s t a b
-  one_some s t (inr (inl a)) (inr (inr b)) = absurd (tens_apart a.0 b.0 a.1 b.1.fits)
-  one_some s t (inr (inr a)) (inl b) = absurd (far_apart b.0 a.0 b.1 a.1)
-  one_some s t (inr (inr a)) (inr (inl b)) = absurd (tens_apart b.0 a.0 b.1 a.1.fits)
-  one_some s t (inr (inr a)) (inr (inr b)) = one_far digits num den s t a b
+  one_some s t (inl a) (inr (inl b)) = absurd (large_apart b.0 a.0 b.1 a.1.fits)
+  one_some s t (inl a) (inr (inr b)) = absurd (small_apart a.0 b.0 a.1 b.1)
+  one_some s t (inr (inl a)) (inl b) = absurd (large_apart a.0 b.0 a.1 b.1.fits)
+  one_some s t (inr (inl a)) (inr (inl b)) = one_large digits num den s t a b
+  one_some s t (inr (inl a)) (inr (inr b)) = absurd (large_apart a.0 b.0 a.1 b.1.fits)
+  one_some s t (inr (inr a)) (inl b) = absurd (small_apart b.0 a.0 b.1 a.1)
+  one_some s t (inr (inr a)) (inr (inl b)) = absurd (large_apart b.0 a.0 b.1 a.1.fits)
+  one_some s t (inr (inr a)) (inr (inr b)) = one_small digits num den s t a b
 
 pub one_size : (digits num den : ℕ) (s t : List ℕ) → 0 < den → ShowsSize digits num den s → ShowsSize digits num den t → s ≡ t
 one_size digits zero den s t pos a b = a ∙ sym b
 one_size digits (suc num) den s t pos a b = one_some digits (suc num) den pos s t a b
 
-pub shows_some : (digits num den : ℕ) (t : List ℕ) → num ≢ 0 → HasDigits digits num den t ⊎ (HasTens digits num den t ⊎ HasFar digits num den t) → ShowsSize digits num den t
+pub shows_some : (digits num den : ℕ) (t : List ℕ) → num ≢ 0 → HasDigits digits num den t ⊎ (HasLarge digits num den t ⊎ HasSmall digits num den t) → ShowsSize digits num den t
 shows_some digits zero den t h s = absurd (h refl)
 shows_some digits (suc num) den t h s = s
 
@@ -92,8 +88,8 @@ module _ (a b c d : ℕ) (b_pos : 0 < b) (d_pos : 0 < d) (same : a * d ≡ c * b
   same_closest : (k : ℕ) → closest a (b * 10 ^ k) ≡ closest c (d * 10 ^ k)
   same_closest k = closest_same a (b * 10 ^ k) c (d * 10 ^ k) (mul-pos b_pos (tens_pos k)) (mul-pos d_pos (tens_pos k)) (let e = ap (λ x. x * 10 ^ k) same in omega (arith, e))
 
-  same_tens : (digits : ℕ) (t : List ℕ) → HasTens digits a b t → HasTens digits c d t
-  same_tens digits t h = (
+  same_large : (digits : ℕ) (t : List ℕ) → HasLarge digits a b t → HasLarge digits c d t
+  same_large digits t h = (
     h.0,
     record {
       some = h.1.some;
@@ -103,8 +99,8 @@ module _ (a b c d : ℕ) (b_pos : 0 < b) (d_pos : 0 < d) (same : a * d ≡ c * b
     h.2 ∙ ap (λ x. trimmed (digits - 1) x ++ (codes "e+" ++ exponent_text (h.0 + (digits - 1)))) (same_closest h.0),
   )
 
-  same_far : (digits : ℕ) (t : List ℕ) → HasFar digits a b t → HasFar digits c d t
-  same_far digits t h = (
+  same_small : (digits : ℕ) (t : List ℕ) → HasSmall digits a b t → HasSmall digits c d t
+  same_small digits t h = (
     h.0,
     record {
       many = h.1.many;
@@ -114,11 +110,11 @@ module _ (a b c d : ℕ) (b_pos : 0 < b) (d_pos : 0 < d) (same : a * d ≡ c * b
     h.2 ∙ ap (λ x. trimmed (digits - 1) x ++ (codes "e-" ++ exponent_text (h.0 - (digits - 1)))) (same_scaled h.0),
   )
 
-  pub same_some : (digits : ℕ) (t : List ℕ) → HasDigits digits a b t ⊎ (HasTens digits a b t ⊎ HasFar digits a b t)
-      → HasDigits digits c d t ⊎ (HasTens digits c d t ⊎ HasFar digits c d t)
+  pub same_some : (digits : ℕ) (t : List ℕ) → HasDigits digits a b t ⊎ (HasLarge digits a b t ⊎ HasSmall digits a b t)
+      → HasDigits digits c d t ⊎ (HasLarge digits c d t ⊎ HasSmall digits c d t)
   same_some digits t (inl h) = inl (same_digits digits t h)
-  same_some digits t (inr (inl h)) = inr (inl (same_tens digits t h))
-  same_some digits t (inr (inr h)) = inr (inr (same_far digits t h))
+  same_some digits t (inr (inl h)) = inr (inl (same_large digits t h))
+  same_some digits t (inr (inr h)) = inr (inr (same_small digits t h))
 
 none_some : (d c b : ℕ) → 0 < c * b → 0 * d ≡ c * b → ⊥
 none_some d c b pos e = omega (arith, pos, sym (zero-mul d) ∙ e)
@@ -169,80 +165,6 @@ moved_small num up low digits t some below few far h =
     let least : 2 ^ 121 ≤ 2 ^ (low - up) = pow_mono {i = 121} {j = low - up} (omega (arith, far)) in
     let most : num * 10 ^ (digits + 4) < 2 ^ 118 = product_small num (digits + 4) below (omega (arith, few)) in
     too_small digits num (2 ^ (low - up)) (omega (arith, least, most)) (pow_pos (low - up)) t (moved_back num up low digits t some (omega arith) h)
-
--- A fraction that isn't shown without an exponent is by the rounded number: value / 10^at.
-module _ (digits a b at value n tens : ℕ) (b_pos : 0 < b) (same : a * 10 ^ at ≡ value * b) (cut : IsCut digits value n tens) (none : (t : List ℕ) → HasDigits digits a b t → ⊥) where
-  above : (k : ℕ) → closest a (b * 10 ^ k) ≡ closest value (10 ^ (at + k))
-  above k =
-      let p = pow-add 10 at k in
-      closest_same a (b * 10 ^ k) value (10 ^ (at + k)) (mul-pos b_pos (tens_pos k)) (tens_pos (at + k)) (rw p (let e = ap (λ x. x * 10 ^ k) same in omega (arith, e)))
-
-  below : (k : ℕ) → k ≤ at → scaled a b k ≡ closest value (10 ^ (at - k))
-  below k l =
-      let p : 10 ^ at ≡ 10 ^ k * 10 ^ (at - k) = ap (λ x. 10 ^ x) (let e : at ≡ k + (at - k) = omega arith in e) ∙ pow-add 10 k (at - k) in
-      closest_same (a * 10 ^ k) b value (10 ^ (at - k)) b_pos (tens_pos (at - k)) (mul_assoc a (10 ^ k) (10 ^ (at - k)) ∙ (ap (λ x. a * x) (sym p) ∙ same))
-
-  has_tens : at < tens → IsTens digits a b (tens - at)
-  has_tens l =
-      let e : at + (tens - at) ≡ tens = omega arith in
-      record {
-        some = omega arith;
-        fits = subst (λ x. x < 10 ^ digits) (cut.is ∙ sym (above (tens - at) ∙ ap (λ k. closest value (10 ^ k)) e)) cut.fits;
-        fewest = λ k m. subst (λ x. 10 ^ digits ≤ x) (sym (above k)) (cut.fewest (at + k) (omega arith));
-      }
-
-  has_places : tens ≤ at → scaled a b (at - tens) ≡ n
-  has_places l = below (at - tens) (omega arith) ∙ (ap (λ k. closest value (10 ^ k)) (let e : at - (at - tens) ≡ tens = omega arith in e) ∙ sym cut.is)
-
-  has_more : tens ≤ at → (k : ℕ) → at - tens < k → 10 ^ digits ≤ scaled a b k
-  has_more l k m = either (eq-zero-or-pos (k - at))
-    where
-      either : (k - at ≡ 0) ⊎ (0 < k - at) → 10 ^ digits ≤ scaled a b k
-      either (inl z) = subst (λ x. 10 ^ digits ≤ x) (sym (below k (omega (arith, z)))) (cut.fewest (at - k) (omega (arith, z, m, l, cut.some)))
-      either (inr p) = le_trans (subst (λ x. 10 ^ digits ≤ x) (sym (below at (omega arith))) (cut.fewest (at - at) (omega (arith, cut.some)))) (more_places digits a b b_pos at k (omega (arith, p)))
-
-  has_far : tens ≤ at → IsFar digits a b (at - tens)
-  has_far l =
-      let fits : scaled a b (at - tens) < 10 ^ digits = subst (λ x. x < 10 ^ digits) (sym (has_places l)) cut.fits in
-      let no_few : ¬ (at - tens ≤ digits + 3) = λ f. none _ (at - tens, record { few = f; fits = fits; most = λ k m _. has_more l k m }, refl) in
-      record {
-        many = omega (arith, no_few);
-        fits = fits;
-        most = has_more l;
-      }
-
-  pub cut_shows : (e : Exponent) → a ≢ 0 → (at < tens + (digits - 1) → e ≡ Up (tens + (digits - 1) - at)) → (tens + (digits - 1) ≤ at → e ≡ Down (at - (tens + (digits - 1))))
-      → ShowsSize digits a b (trimmed (digits - 1) n ++ exponent_part e)
-  cut_shows e some up down = either (eq-zero-or-pos (tens - at))
-    where
-      text : List ℕ → List ℕ
-      text t = trimmed (digits - 1) n ++ t
-
-      either : (tens - at ≡ 0) ⊎ (0 < tens - at) → ShowsSize digits a b (trimmed (digits - 1) n ++ exponent_part e)
-      either (inl z) =
-          let l : tens ≤ at = omega (arith, z) in
-          let far = has_far l in
-          let is : e ≡ Down (at - tens - (digits - 1)) = down (omega (arith, far.many, l)) ∙ ap Down (let s : at - (tens + (digits - 1)) ≡ at - tens - (digits - 1) = omega arith in s) in
-          shows_some digits a b _ some (inr (inr (at - tens, far, ap (λ e. trimmed (digits - 1) n ++ exponent_part e) is
-              ∙ ap (λ x. trimmed (digits - 1) x ++ (codes "e-" ++ exponent_text (at - tens - (digits - 1)))) (sym (has_places l)))))
-      either (inr p) =
-          let l : at < tens = omega (arith, p) in
-          let is : e ≡ Up (tens - at + (digits - 1)) = up (omega (arith, l)) ∙ ap Up (let s : tens + (digits - 1) - at ≡ tens - at + (digits - 1) = omega (arith, l) in s) in
-          let s : at + (tens - at) ≡ tens = omega (arith, l) in
-          shows_some digits a b _ some (inr (inl (tens - at, has_tens l, ap (λ e. trimmed (digits - 1) n ++ exponent_part e) is
-              ∙ ap (λ x. trimmed (digits - 1) x ++ (codes "e+" ++ exponent_text (tens - at + (digits - 1)))) (cut.is ∙ sym (above (tens - at) ∙ ap (λ k. closest value (10 ^ k)) s)))))
-
--- num * 2^up / 2^low as whole numbers times powers of ten
-pub whole_up : (num up low : ℕ) → low ≤ up → num * 2 ^ up * 10 ^ 18 ≡ num * 10 ^ 18 * 2 ^ (up - low) * 2 ^ low
-whole_up num up low h =
-    let p : 2 ^ up ≡ 2 ^ (up - low) * 2 ^ low = ap (λ k. 2 ^ k) (let e : up ≡ up - low + low = omega arith in e) ∙ pow-add 2 (up - low) low in
-    rw p (omega arith)
-
-pub whole_down : (num up low : ℕ) → up ≤ low → num * 2 ^ up * 10 ^ (18 + (low - up)) ≡ num * 10 ^ 18 * 5 ^ (low - up) * 2 ^ low
-whole_down num up low h =
-    let p : 2 ^ low ≡ 2 ^ up * 2 ^ (low - up) = ap (λ k. 2 ^ k) (let e : low ≡ up + (low - up) = omega arith in e) ∙ pow-add 2 up (low - up) in
-    let q : 10 ^ (18 + (low - up)) ≡ 10 ^ 18 * (2 ^ (low - up) * 5 ^ (low - up)) = pow-add 10 18 (low - up) ∙ ap (λ x. 10 ^ 18 * x) (mul-pow 2 5 (low - up)) in
-    rw (p, q) (omega arith)
 
 pub zero_shows : (up den kept : ℕ) → ShowsSize kept (0 * 2 ^ up) den (decimal 0)
 unfolding digits

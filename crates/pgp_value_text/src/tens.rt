@@ -1,4 +1,4 @@
-//! Numbers of many digits, for what is shown with an exponent.
+//! Numbers of many digits, by which a fraction is rounded that is shown with an exponent.
 
 ghost use Rattle.std.specs.Prelude.{◌≡◌, ◌+◌, ◌*◌, ◌^◌, ◌<◌, ◌≤◌, All, length, ℕ};
 ghost use Rattle.arrayvec.specs.ArrayVec.{array_vec_len};
@@ -8,10 +8,10 @@ ghost use lib.Ieee.Nearest.{closest};
 use crate::rounded::closest;
 use arrayvec::ArrayVec;
 
-// Digits to the base 10^9 that a number can have: four, and one more for each of 90 factors.
+// Limbs, digits to the base 10^9, that a number can have: four, and one more for each of 91 factors.
 const LIMBS_LEN: usize = 96;
 
-// What a number begins with, whether another digit than 0 follows, and how many digits to the base 10^9 follow.
+// What a number begins with, whether another digit than 0 follows, and how many limbs follow.
 #[derive(Clone, Copy)]
 struct Front {
     number: u128,
@@ -19,7 +19,7 @@ struct Front {
     limbs: u32,
 }
 
-/// A rounded number, and by how many tens it is to be multiplied.
+/// A rounded number, and the power of ten by which it is to be multiplied.
 #[derive(Clone, Copy)]
 pub(crate) struct Cut {
     pub number: u64,
@@ -64,7 +64,7 @@ fn product(num: u64, base: u32, count: u32) -> ArrayVec<u32, LIMBS_LEN>
     times(limbs.as_slice(), base.pow(count % 12))
 }
 
-// The same of a number with another digit at its end.
+// The same of a number with another limb at its end.
 fn longer(front: Front, limb: u32) -> Front
     requires digit { limb < 1_000_000_000 }
     requires few { front.limbs < 96 }
@@ -108,8 +108,8 @@ fn front_of(limbs: &[u32]) -> Front
     front
 }
 
-// Half of a number, rounded to the fewest tens of which it is no more than so many digits.
-#[tactic(auto, using(crate::proofs::Limbs::tens_27, crate::proofs::Limbs::tens_pos, crate::proofs::Limbs::closest_one))]
+// Half of a number, rounded to the least power of ten of which it is a number of no more than so many digits.
+#[tactic(auto, using(crate::proofs::Limbs::tens_27, crate::proofs::Rounding::tens_pos, crate::proofs::Limbs::closest_one))]
 fn cut_of(doubled: u128, digits: u32) -> Cut
     requires small { doubled < 2 * 10 ^ 27 }
     requires digits { (0 < digits) × (digits ≤ 15) }
@@ -132,7 +132,7 @@ fn cut_of(doubled: u128, digits: u32) -> Cut
     }
 }
 
-/// num * 10^18 * base^count, rounded to the fewest tens of which it is no more than so many digits.
+/// num * 10^18 * base^count, rounded to the least power of ten of which it is a number of no more than so many digits.
 pub(crate) fn rounded_off(num: u64, base: u32, count: u32, digits: u32) -> Cut
     requires some { (0 < num) × (0 < base) }
     requires small { (num < 2 ^ 53) × (base ≤ 5) × (count ≤ 1_080) }
@@ -141,7 +141,7 @@ pub(crate) fn rounded_off(num: u64, base: u32, count: u32, digits: u32) -> Cut
     ensures tens { result.tens ≤ 900 }
 {
     let front = front_of(product(num, base, count).as_slice());
-    // An odd number stands for all that lie between its neighbours.
+    // An odd number stands for all that lie between two even ones: none is the middle of two that it may be rounded to.
     let cut = cut_of(front.number * 2 + u128::from(front.more), digits);
     Cut {
         number: cut.number,

@@ -1,5 +1,6 @@
-use Rattle.std.proofs.Common.{◌*◌, ◌^◌, ◌≤◌, arith}
-use Rattle.pgp_value_text.proofs.Sizes.{not_zero, whole_down, whole_up}
+use Rattle.std.proofs.Common.{◌*◌, ◌^◌, arith}
+use Rattle.pgp_value_text.proofs.Cuts.{whole_down, whole_up}
+use Rattle.pgp_value_text.proofs.Sizes.{not_zero}
 use lib.Pow.{pow_pos}
 use Rattle.pgp_value_text.proofs.size.moved.Goals as goal
 

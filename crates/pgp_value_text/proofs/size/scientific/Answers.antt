@@ -1,5 +1,5 @@
 use Rattle.std.proofs.Common.{◌*◌, ◌^◌}
-use Rattle.pgp_value_text.proofs.Sizes.{cut_shows}
+use Rattle.pgp_value_text.proofs.Cuts.{cut_shows}
 use Rattle.pgp_value_text.proofs.size.scientific.Goals as goal
 
 pub returns-clause-shows : goal.returns-clause-shows

@@ -1,4 +1,4 @@
-use Rattle.std.proofs.Common.{◌*◌, ◌+◌, ◌^◌, ◌≤◌, ◌<◌, ◌≡◌, arith, sym, ap, ◌∙◌, subst}
+use Rattle.std.proofs.Common.{◌*◌, ◌^◌, ◌≡◌, arith, ap, ◌∙◌}
 use Rattle.pgp_value_text.proofs.Limbs.{closest_one, ten_least}
 use lib.Ieee.Nearest.{closest}
 use Rattle.pgp_value_text.proofs.tens.cut_of.Goals as goal

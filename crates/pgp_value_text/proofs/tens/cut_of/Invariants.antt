@@ -1,4 +1,5 @@
-use Rattle.std.proofs.Common.{◌≡◌, ◌+◌, ◌*◌, ◌^◌, ◌<◌, ◌≤◌, ℕ}
+-- With fewer tens it has more digits.
+use Rattle.std.proofs.Common.{◌*◌, ◌^◌, ◌<◌, ◌≤◌, ℕ}
 use lib.Ieee.Nearest.{closest}
 use Rattle.pgp_value_text.proofs.tens.cut_of.Given as goal
 

@@ -1,3 +1,4 @@
+-- What the limbs so far begin with.
 use Rattle.std.proofs.Common.{◌-◌, ◌≤◌, length, drop}
 use Rattle.pgp_value_text.specs.Tens.{value_of, BeginsWith}
 use Rattle.pgp_value_text.proofs.tens.front_of.Given as goal

@@ -1,4 +1,4 @@
-use Rattle.std.proofs.Common.{◌<◌, true, false, refl, sym, ◌∙◌, arith, true≢false}
+use Rattle.std.proofs.Common.{◌<◌, true, sym, ◌∙◌, arith, true≢false}
 use Rattle.pgp_value_text.proofs.Limbs.{front_behind}
 use Rattle.pgp_value_text.proofs.tens.longer.Goals as goal
 

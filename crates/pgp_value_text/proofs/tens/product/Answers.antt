@@ -1,6 +1,5 @@
-use Rattle.std.proofs.Common.{◌≡◌, ◌+◌, ◌*◌, ◌%◌, ◌/◌, ◌<◌, ◌^◌, ap, length, refl, arith, sym, ◌∙◌}
+use Rattle.std.proofs.Common.{◌≡◌, ◌+◌, ◌*◌, ◌%◌, ◌^◌, ap, length, arith, sym, ◌∙◌}
 use Rattle.std.proofs.Math.Pow.{pow-add}
-use Rattle.pgp_value_text.proofs.Limbs.{twelve}
 use Rattle.pgp_value_text.proofs.tens.product.Goals as goal
 
 pub twelve-preserved : goal.twelve-preserved

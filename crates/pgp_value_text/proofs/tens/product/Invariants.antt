@@ -1,3 +1,4 @@
+-- The product of the factors so far.
 use Rattle.std.proofs.Common.{◌≡◌, ◌+◌, ◌*◌, ◌^◌, ◌<◌, All}
 use Rattle.arrayvec.specs.ArrayVec.{array_vec_len}
 use Rattle.pgp_value_text.specs.Tens.{value_of}

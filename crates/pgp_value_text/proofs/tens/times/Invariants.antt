@@ -1,3 +1,4 @@
+-- The product so far, its carry, and what is left to be multiplied.
 use Rattle.std.proofs.Common.{◌≡◌, ◌+◌, ◌*◌, ◌^◌, ◌<◌, ◌≤◌, All, length, drop}
 use Rattle.arrayvec.specs.ArrayVec.{array_vec_len}
 use Rattle.pgp_value_text.specs.Tens.{value_of}
