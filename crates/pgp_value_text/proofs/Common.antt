@@ -25,7 +25,7 @@ pub use Rattle.pgp_values.specs.declared.moment.Moment.{Moment}
 pub use Rattle.pgp_values.specs.declared.moment.Moment.TheVariants.{PosInfinity, NegInfinity, Value}
 pub use Rattle.uuid.specs.Text.{hyphenated_text, lower}
 pub use lib.Ieee.Bits.{nan_bits_is, nan_bits_above}
-pub use Rattle.pgp_value_text.specs.Float.{ShowsFloat, scaled, trimmed, HasDigits, IsPlaces, ShowsSize, last_digits, field_value, is_equal, kept, marked}
+pub use Rattle.pgp_value_text.specs.Float.{ShowsFloat, scaled, trimmed, exponent_text, HasDigits, HasSmall, HasLarge, IsSmall, IsPlaces, IsLarge, ShowsSize, last_digits, field_value, is_equal, kept, marked}
 pub use Rattle.pgp_value_text.specs.ValueText.{bool_text, char_text, hex_text, lsn_text, zone_of, As, IsPlainText, IsShown, In, ShowsNumeric, Shows, Tells}
 pub use Rattle.pgp_value_text.specs.Zone.{ShowsTimeTz, zone_text}
 pub use Rattle.pgp_value_text.specs.Figure.{shown_number, ShowsBox, ShowsCircle, ShowsLine, ShowsNumbers, ShowsPath, ShowsPoint, ShowsSegment}

@@ -48,11 +48,6 @@ shows_value f (fin t m e) s a c pos v size h =
     subst (λ r. ShowsFloat f (fin t m e) (marked (is_equal (parse_float f (sign_text r ++ size)) (fin t m e)) (sign_text r ++ size))) v.0
     (size, same_size a c (m * up e) (down e) pos (down_pos e) (sym v.1) (kept f) size h, refl)
 
-pub no_value : (f : Format) (x : Float) (s : Bool) (a c : ℕ) → 0 < c → HasValue x s a c → ((size : List ℕ) → ShowsSize (kept f) a c size → ⊥) → (t : List ℕ) → ShowsFloat f x t → ⊥
-no_value f nan s a c pos v none t h = absurd v
-no_value f (inf r) s a c pos v none t h = absurd v
-no_value f (fin r m e) s a c pos v none t h = none h.0 (same_size (m * up e) (down e) a c (down_pos e) pos v.1 (kept f) h.0 h.1)
-
 -- it is what was put together
 pub marked_so : (f : Format) (x : Float) (s read put m : List ℕ) (exact : Bool) → read ≡ s → put ≡ s → exact ≡ is_equal (parse_float f read) x → m ≡ marked exact put → m ≡ marked (is_equal (parse_float f s) x) s
 marked_so f x s read put m exact a b e h = h ∙ (ap (λ t. marked exact t) b ∙ ap (λ t. marked t s) (e ∙ ap (λ t. is_equal (parse_float f t) x) a))
@@ -89,4 +84,4 @@ pub one_float : (f : Format) (x : Float) (a b : List ℕ) → ShowsFloat f x a �
 one_float f nan a b s t = s ∙ sym t
 one_float f (inf n) a b s t = s ∙ sym t
 one_float f (fin n m e) a b s t =
-    s.2 ∙ (ap (λ size. marked (is_equal (parse_float f (sign_text n ++ size)) (fin n m e)) (sign_text n ++ size)) (one_size (kept f) (m * up e) (down e) s.0 t.0 s.1 t.1) ∙ sym t.2)
+    s.2 ∙ (ap (λ size. marked (is_equal (parse_float f (sign_text n ++ size)) (fin n m e)) (sign_text n ++ size)) (one_size (kept f) (m * up e) (down e) s.0 t.0 (down_pos e) s.1 t.1) ∙ sym t.2)

@@ -5,7 +5,9 @@ pub mod Zones
 pub mod Floats
 pub mod Figures
 pub mod Rounding
+pub mod Limbs
 pub mod Sizes
+pub mod Cuts
 pub mod Forms
 pub mod Parts
 pub mod Ranges

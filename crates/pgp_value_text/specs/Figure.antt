@@ -1,4 +1,4 @@
--- The texts of geometric figures, whose coordinates have texts.
+-- The texts of geometric figures, by those of their coordinates.
 -- PostgreSQL manual, "Geometric Types"; in the server's source `path_encode`, `line_out` and `circle_out`.
 use Rattle.std.specs.Prelude.{◌≡◌, ℕ, from_bits, if◌then◌else◌, List, [], ◌∷◌, ◌++◌, codes}
 use Rattle.std.specs.Borrow.{Bor}

@@ -1,6 +1,6 @@
 -- The text of a floating-point number: rounded to the digits that each number of its format keeps, as a server shows it where `extra_float_digits` is 0.
--- PostgreSQL manual, "Numeric Types", "Floating-Point Types"; C's `%.15g`.
-use Rattle.std.specs.Prelude.{◌≡◌, ℕ, zero, suc, ◌+◌, ◌*◌, ◌/◌, ◌%◌, ◌^◌, ◌<◌, ◌≤◌, ◌==◌, if◌then◌else◌, Bool, false, List, [], ◌∷◌, ◌++◌, codes, Option, Some, None}
+-- PostgreSQL manual, "Numeric Types", "Floating-Point Types"; C's `%.6g` and `%.15g`.
+use Rattle.std.specs.Prelude.{◌≡◌, ℕ, zero, suc, ◌+◌, ◌-◌, ◌*◌, ◌/◌, ◌%◌, ◌^◌, ◌<◌, ◌≤◌, ◌==◌, nat_lt, if◌then◌else◌, ◌⊎◌, Bool, false, List, [], ◌∷◌, ◌++◌, codes, Option, Some, None}
 use Rattle.std.specs.Float.{Float, Format, binary32, binary64}
 use Rattle.std.specs.Float.Ieee.{nan, inf, fin, up, down, eq}
 use Rattle.std.specs.Float.Parse.{parse_float}
@@ -36,13 +36,38 @@ abbrev pub trimmed : ℕ → ℕ → List ℕ
 trimmed zero n = decimal n
 trimmed (suc k) n = if n % 10 == 0 then trimmed k (n / 10) else pointed (suc k) n
 
--- a size other than 0
+-- a size other than 0, shown without an exponent
 abbrev pub HasDigits : ℕ → ℕ → ℕ → List ℕ → Type 0
 HasDigits digits num den size = (places : ℕ) × IsPlaces digits num den places × (size ≡ trimmed places (scaled num den places))
 
+-- Where it has more digits before the point: the least power of ten of which it is a number of no more than so many digits.
+pub record IsLarge (digits num den tens : ℕ) : Type 0 where
+  pub some : 0 < tens
+  pub fits : closest num (den * 10 ^ tens) < 10 ^ digits
+  pub fewest : (k : ℕ) → k < tens → 10 ^ digits ≤ closest num (den * 10 ^ k)
+
+-- Where it is below 0.0001: the most places with which it has no more than so many digits, however many they are.
+pub record IsSmall (digits num den places : ℕ) : Type 0 where
+  pub many : digits + 4 ≤ places
+  pub fits : scaled num den places < 10 ^ digits
+  pub most : (k : ℕ) → places < k → 10 ^ digits ≤ scaled num den k
+
+-- two digits at least
+abbrev pub exponent_text : ℕ → List ℕ
+exponent_text n = if nat_lt n 10 then 48 ∷ decimal n else decimal n
+
+-- with one digit before the point, and an exponent
+abbrev pub HasLarge : ℕ → ℕ → ℕ → List ℕ → Type 0
+HasLarge digits num den size = (tens : ℕ) × IsLarge digits num den tens
+    × (size ≡ trimmed (digits - 1) (closest num (den * 10 ^ tens)) ++ (codes "e+" ++ exponent_text (tens + (digits - 1))))
+
+abbrev pub HasSmall : ℕ → ℕ → ℕ → List ℕ → Type 0
+HasSmall digits num den size = (places : ℕ) × IsSmall digits num den places
+    × (size ≡ trimmed (digits - 1) (scaled num den places) ++ (codes "e-" ++ exponent_text (places - (digits - 1))))
+
 abbrev pub ShowsSize : ℕ → ℕ → ℕ → List ℕ → Type 0
 ShowsSize digits zero den size = size ≡ codes "0"
-ShowsSize digits (suc num) den size = HasDigits digits (suc num) den size
+ShowsSize digits (suc num) den size = HasDigits digits (suc num) den size ⊎ (HasLarge digits (suc num) den size ⊎ HasSmall digits (suc num) den size)
 
 -- whether a text that is read is this number
 abbrev pub is_equal : Option Float → Float → Bool

@@ -10,6 +10,7 @@ pub mod Parts
 pub mod Quoting
 pub mod RangeText
 pub mod Span
+pub mod Tens
 pub mod TextOf
 pub mod Told
 pub mod ValueText

@@ -10,7 +10,7 @@ ghost use lib.Ieee.Exact.{HasValue};
 
 use crate::digits::put as put_byte;
 use crate::put::put;
-use crate::rounded::{signed_text, sized};
+use crate::size::{signed_text, sized};
 use arrayvec::ArrayString;
 use bytes::BytesMut;
 use pgp_base::Memory;
@@ -18,12 +18,13 @@ use pgp_types::{float4_from_sql, float8_from_sql};
 use std::alloc::AllocError;
 
 // The bytes of a text with its mark, and more.
-const MARKED_LEN: usize = 49;
+const MARKED_LEN: usize = 65;
 
 // What the fields of the exponent and of the digits say.
 fn fields(exponent: u32, digits: u64, lead: u64) -> (u64, u32)
     requires { digits + lead < 2 ^ 64 }
-    ensures { result ≡ field_value exponent digits lead }
+    ensures value { result ≡ field_value exponent digits lead }
+    ensures moved { result.1 ≤ exponent }
 {
     if exponent == 0 {
         (digits, 0)
@@ -34,7 +35,7 @@ fn fields(exponent: u32, digits: u64, lead: u64) -> (u64, u32)
 
 // A text, with a mark where it isn't read as the number itself.
 fn marked_text(exact: bool, shown: &str) -> ArrayString<MARKED_LEN>
-    requires { length shown.now ≤ 48 }
+    requires { length shown.now ≤ 64 }
     ensures { result.bytes ≡ marked exact shown.now }
 {
     let mut out = ArrayString::new();
@@ -65,17 +66,13 @@ fn put_sized_double<A: Memory>(
 ) -> Result<bool, AllocError>
     requires value { HasValue x negative (num * 2 ^ up) (2 ^ 1074) }
     requires small { num < 2 ^ 53 }
+    requires moved { up ≤ 2_048 }
     requires whole { num ≢ 0 → 1074 ≤ up → 10 ^ 15 ≤ num }
     ensures { Tells (ShowsFloat binary64 x) A.Lacks text.old.items text.new.items result }
 {
-    match sized(num, up, 1074, 15) {
-        Some(v) => {
-            let shown = signed_text(negative, v);
-            let marked = marked_text(is_double(shown.as_str(), x), shown.as_str());
-            put(marked.as_str(), text)
-        }
-        None => Ok(false),
-    }
+    let shown = signed_text(negative, sized(num, up, 1074, 15));
+    let marked = marked_text(is_double(shown.as_str(), x), shown.as_str());
+    put(marked.as_str(), text)
 }
 
 // Adds the text of a finite number of 64 bits.
@@ -159,17 +156,13 @@ fn put_sized_single<A: Memory>(
 ) -> Result<bool, AllocError>
     requires value { HasValue x negative (num * 2 ^ up) (2 ^ 149) }
     requires small { num < 2 ^ 53 }
+    requires moved { up ≤ 256 }
     requires whole { num ≢ 0 → 149 ≤ up → 10 ^ 6 ≤ num }
     ensures { Tells (ShowsFloat binary32 x) A.Lacks text.old.items text.new.items result }
 {
-    match sized(num, up, 149, 6) {
-        Some(v) => {
-            let shown = signed_text(negative, v);
-            let marked = marked_text(is_single(shown.as_str(), x), shown.as_str());
-            put(marked.as_str(), text)
-        }
-        None => Ok(false),
-    }
+    let shown = signed_text(negative, sized(num, up, 149, 6));
+    let marked = marked_text(is_single(shown.as_str(), x), shown.as_str());
+    put(marked.as_str(), text)
 }
 
 // Adds the text of a finite number of 32 bits.

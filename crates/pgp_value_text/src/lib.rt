@@ -30,7 +30,9 @@ mod quoting;
 mod range;
 mod rounded;
 mod rows;
+mod size;
 mod span;
+mod tens;
 mod value;
 mod zone;
 

@@ -1,7 +1,6 @@
 //! Fractions, rounded to so many digits, and their texts.
 
 ghost use Rattle.std.specs.Prelude.{◌≡◌, ◌≢◌, ℕ, ◌+◌, ◌*◌, ◌^◌, ◌<◌, ◌≤◌, List, ◌++◌, IfNone, IfSome};
-ghost use Rattle.std.specs.Fmt.{sign_text};
 ghost use Rattle.arrayvec.specs.ArrayString.{array_string_len};
 ghost use Rattle.pgp_value_text.specs.Float.{last_digits, pointed, scaled, trimmed, HasDigits, IsPlaces, ShowsSize};
 ghost use lib.Ieee.Nearest.{closest};
@@ -10,9 +9,6 @@ use crate::digits::put;
 use arrayvec::ArrayString;
 use itoa::Buffer;
 
-/// The bytes of a sign, sixteen digits, a point and eighteen places, and more.
-pub(crate) const SIZE_LEN: usize = 48;
-
 /// A number with so many of its digits after the point.
 #[derive(Clone, Copy)]
 pub(crate) struct Pointed {
@@ -20,8 +16,8 @@ pub(crate) struct Pointed {
     pub places: u32,
 }
 
-// A fraction to the nearest whole number, of two to the even one.
-fn closest(num: u128, den: u128) -> u128
+/// A fraction to the nearest whole number, of two to the even one.
+pub(crate) fn closest(num: u128, den: u128) -> u128
     requires some { 0 < den }
     requires small { (num < 2 ^ 126) × (den < 2 ^ 126) }
     ensures { result ≡ closest num den }
@@ -104,6 +100,7 @@ fn put_pointed<const N: usize>(v: Pointed, out: &mut ArrayString<N>)
     requires few { v.places ≤ 18 }
     requires room { array_string_len out.old + 40 ≤ N }
     ensures text { out.new.bytes ≡ out.old.bytes ++ pointed v.places v.number }
+    ensures len { array_string_len out.new ≤ array_string_len out.old + 40 }
 {
     if v.places == 0 {
         out.push_str(Buffer::new().format(v.number));
@@ -114,25 +111,22 @@ fn put_pointed<const N: usize>(v: Pointed, out: &mut ArrayString<N>)
     }
 }
 
-/// A sign, and a number without zeros at the end of its places.
-pub(crate) fn signed_text(negative: bool, v: Pointed) -> ArrayString<SIZE_LEN>
+/// Adds a number without zeros at the end of its places.
+pub(crate) fn put_trimmed<const N: usize>(v: Pointed, out: &mut ArrayString<N>)
     requires few { v.places ≤ 18 }
-    ensures { result.bytes ≡ sign_text negative ++ trimmed v.places v.number }
+    requires room { array_string_len out.old + 40 ≤ N }
+    ensures text { out.new.bytes ≡ out.old.bytes ++ trimmed v.places v.number }
+    ensures len { array_string_len out.new ≤ array_string_len out.old + 40 }
 {
-    let mut out = ArrayString::new();
-    if negative {
-        put(b'-', &mut out);
-    }
-    put_pointed(shortened(v), &mut out);
-    out
+    put_pointed(shortened(v), out);
 }
 
 /// The number that num * 2^up / 2^low is nearest to, with so many digits, if it is shown without an exponent.
-pub(crate) fn sized(num: u64, up: u32, low: u32, digits: u32) -> Option<Pointed>
+pub(crate) fn plain(num: u64, up: u32, low: u32, digits: u32) -> Option<Pointed>
     requires small { (num < 2 ^ 53) × (digits ≤ 15) }
     requires whole { num ≢ 0 → low ≤ up → 10 ^ digits ≤ num }
     ensures some { IfSome result (λ x. (x.places ≤ 18) × ShowsSize digits (num * 2 ^ up) (2 ^ low) (trimmed x.places x.number)) }
-    ensures none { IfNone result ((size : List ℕ) → ShowsSize digits (num * 2 ^ up) (2 ^ low) size → ⊥) }
+    ensures none { IfNone result ((num ≢ 0) × ((size : List ℕ) → HasDigits digits (num * 2 ^ up) (2 ^ low) size → ⊥)) }
 {
     if num == 0 {
         return Some(Pointed {

@@ -53,14 +53,14 @@ fn put_known<A: Memory>(
 /// - `date`, `time`, `timetz` (`10:20:30.5+05:30`), `timestamp`, `timestamptz` (`2026-11-27 10:20:30.5+00`) and `interval` (`P1Y2M3DT4H5M6.5S`);
 /// - `inet` with `/` and the bits of the network where these are fewer than the address has, `cidr` always; `macaddr` and `macaddr8` as `08:00:2b:01:02:03`;
 /// - `bit` and `varbit` as their bits; `tid` as `(block,row)`;
-/// - `float4` and `float8` rounded to 6 and 15 decimal digits, without zeros at the end (`1.5`, `100`, `-0`), with `~` before a text that isn't read
-///   as the number itself (`~0.333333333333333`), or as `NaN`, `Infinity` or `-Infinity`;
+/// - `float4` and `float8` rounded to 6 and 15 decimal digits, without zeros at the end (`1.5`, `100`, `-0`, `1e+15`, `1e-05`), with `~` before a text
+///   that isn't read as the number itself (`~0.333333333333333`), or as `NaN`, `Infinity` or `-Infinity`;
 /// - a range as `empty`, `[1,5)` or `(,"2026-11-27 10:20:30"]`, a multirange as `{[1,5),[7,8)}`;
 /// - figures by their coordinates, each rounded and marked as a `float8`: `(1,2)`, `[(1,2),(3,4)]`, `(3,4),(1,2)`, `{1,2,3}`, `<(1,2),3>`, `((1,2),(3,4))`;
 /// - an array of such values, of any dimensions, as `{1,NULL}`, `{{"a b",""},{c,d}}` or `[0:1]={t,f}`.
 ///
-/// A floating-point number other than 0 has none below 0.0001, and where more digits would stand before the point; nor has a day before the
-/// year -9999, a time in a zone of 16 hours or more, nor have records, the types of text search, and `int2vector` and `oidvector`.
+/// A day before the year -9999 has none, nor has a time in a zone of 16 hours or more, nor have records, the types of text search, and `int2vector`
+/// and `oidvector`.
 ///
 /// # Errors
 ///
