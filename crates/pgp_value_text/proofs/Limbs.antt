@@ -1,5 +1,5 @@
 -- Numbers in limbs: their products, what they begin with, and how they are rounded by that.
-use Rattle.std.proofs.Common.{◌≡◌, ℕ, zero, suc, ◌+◌, ◌-◌, ◌*◌, ◌/◌, ◌%◌, ◌^◌, ◌<◌, ◌≤◌, ◌∷◌, [], ◌++◌, Bool, true, false, List, length, length-append, drop, refl, sym, ap, ◌∙◌, subst, arith, get_or, ◌⊎◌, inl, inr}
+use Rattle.std.proofs.Common.{◌≡◌, ℕ, zero, suc, ◌+◌, ◌-◌, ◌*◌, ◌/◌, ◌%◌, ◌^◌, ◌<◌, ◌≤◌, ◌∷◌, [], ◌++◌, Bool, true, false, true≢false, List, length, length-append, drop, refl, sym, ap, ◌∙◌, subst, arith, get_or, ◌⊎◌, inl, inr}
 use Rattle.std.proofs.Math.Pow.{pow-add}
 use Rattle.std.proofs.lemmas.List.{drop_more}
 use Rattle.pgp_value_text.proofs.Rounding.{tens_pos}

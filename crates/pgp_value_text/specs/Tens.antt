@@ -1,9 +1,9 @@
 -- Private: numbers of many digits, by which a fraction that is shown with an exponent is rounded.
-use Rattle.std.specs.Prelude.{◌≡◌, ◌≢◌, ℕ, ◌+◌, ◌*◌, ◌^◌, ◌<◌, ◌≤◌, Bool, true, false, List, [], ◌∷◌, ◌++◌, codes}
+use Rattle.std.specs.Prelude.{◌≡◌, ℕ, ◌+◌, ◌*◌, ◌^◌, ◌<◌, ◌≤◌, Bool, true, false, List, [], ◌∷◌, ◌++◌, codes}
 use Rattle.pgp_value_text.specs.declared.size.Exponent.{Exponent}
 use Rattle.pgp_value_text.specs.declared.size.Exponent.TheVariants.{Plain, Up, Down}
 use Rattle.pgp_value_text.specs.declared.size.Shown.{Shown}
-use Rattle.pgp_value_text.specs.Float.{exponent_text, trimmed, HasDigits, ShowsSize}
+use Rattle.pgp_value_text.specs.Float.{exponent_text, trimmed}
 use lib.Ieee.Nearest.{closest}
 
 -- the number that has these limbs, digits to the base 10^9, of which the least stands first
@@ -42,7 +42,3 @@ exponent_part (Down n) = codes "e-" ++ exponent_text n
 
 abbrev pub shown_text : Shown → List ℕ
 shown_text x = trimmed x.digits.places x.digits.number ++ exponent_part x.exponent
-
--- the text of each fraction that is value / 10^at and isn't shown without an exponent
-abbrev pub ShowsMoved : ℕ → ℕ → ℕ → List ℕ → Type 0
-ShowsMoved digits value at text = (num den : ℕ) → num ≢ 0 → 0 < den → num * 10 ^ at ≡ value * den → ((size : List ℕ) → HasDigits digits num den size → ⊥) → ShowsSize digits num den text

@@ -5,7 +5,7 @@ ghost use Rattle.std.specs.Fmt.{sign_text};
 ghost use Rattle.arrayvec.specs.ArrayString.{array_string_len};
 ghost use Rattle.pgp_value_text.specs.declared.size.Exponent.TheVariants.{Up, Down};
 ghost use Rattle.pgp_value_text.specs.Float.{exponent_text, HasDigits, ShowsSize};
-ghost use Rattle.pgp_value_text.specs.Tens.{exponent_part, shown_text, ShowsMoved};
+ghost use Rattle.pgp_value_text.specs.Tens.{exponent_part, shown_text};
 
 use crate::digits::put;
 use crate::rounded::{Pointed, plain, put_trimmed};
@@ -92,7 +92,7 @@ fn scientific(num: u64, base: u32, count: u32, at: u32, digits: u32) -> Shown
     requires some { (0 < num) × (0 < base) }
     requires small { (num < 2 ^ 53) × (base ≤ 5) × (count ≤ 1_080) }
     requires digits { (0 < digits) × (digits ≤ 15) }
-    ensures shows { ShowsMoved digits (num * 10 ^ 18 * base ^ count) at (shown_text result) }
+    ensures shows { (a b : ℕ) → a ≢ 0 → 0 < b → a * 10 ^ at ≡ num * 10 ^ 18 * base ^ count * b → ((size : List ℕ) → HasDigits digits a b size → ⊥) → ShowsSize digits a b (shown_text result) }
     ensures few { result.digits.places ≤ 18 }
 {
     let cut = rounded_off(num, base, count, digits);
