@@ -1,11 +1,12 @@
 -- A part that is read is the part that was written, and what was written is read again.
 use Rattle.pgp_base.proofs.Common.{◌≡◌, ℕ, zero, suc, ◌+◌, ◌^◌, ◌<◌, ◌≤◌, Bool, true, false, cond, ltb, List, [], ◌∷◌, ◌++◌, length, take, drop, Option, Some, None, Result, Ok, Err, refl, sym, ap, subst, ◌∙◌, arith, inl, inr, w16, w32, w64, from_be_bytes, to_be_bytes, cast_signed, cast_unsigned, IsUtf8, is_utf8, cases_lt, ltb-false, ltb-true, le-ltb, lt-ltb, of_z-to_z, to_z-of_z, take_at, drop_at, take-append-drop, length-take, length-drop, get_or-drop, get_or-take, get_or_past, be_bytes_2, be_bytes_4, be_bytes_8, from_be_bytes-to_be_bytes_2, from_be_bytes-to_be_bytes_4, from_be_bytes-to_be_bytes_8, Error, UnexpectedEof, NotUtf8, int16, int32, int64, uint16, uint32, uint64, oid, HasNoZero, IsBytes, front_at, string_at, text_at, with_first}
-use Rattle.std.proofs.Common.{FitsSigned}
+use Rattle.std.proofs.Common.{FitsSigned, true≢false}
 use Rattle.std.proofs.lemmas.Str.{IsUtf8-from_is_utf8, is_utf8-from_IsUtf8}
 use Rattle.std.proofs.lemmas.List.{length-append}
 use borrow.Author.Gap.{read_sfits}
 use mir.Facts.{Fits-of_z}
 use Rattle.pgp_base.proofs.Strings.{IsString, string_takes, some, some_is}
+use Rattle.std.specs.Prelude.{ℤ}
 
 pub IsBytes-drop : (n : ℕ) (bytes : List ℕ) → IsBytes bytes → IsBytes (drop n bytes)
 IsBytes-drop n bytes h i = rw get_or-drop (h (n + i))
@@ -17,11 +18,15 @@ IsBytes-take n bytes h i =
       | inr le ↦ rw (get_or_past (take n bytes) i 0 (omega (arith, length-take n bytes))) (omega arith)
     ]
 
+-- four bytes as a number with a sign
+abbrev pub int32_value : List ℕ → ℤ
+int32_value l = cast_signed w32 (from_be_bytes w32 l)
+
 guard_some : {A : Type 0} (b : Bool) (x y : A) → cond b None (Some x) ≡ Some y → (b ≡ false) × (x ≡ y)
 guard_some true x y e = absurd cc
 guard_some false x y e = (refl, some_is x y e)
 
-guard_none : {A : Type 0} (b : Bool) (x : A) → cond b None (Some x) ≡ None → b ≡ true
+pub guard_none : {A : Type 0} (b : Bool) (x : A) → cond b None (Some x) ≡ None → b ≡ true
 guard_none true x e = refl
 guard_none false x e = absurd cc
 
@@ -189,9 +194,6 @@ string_none [] none = refl
 string_none (zero ∷ bytes) none = absurd (none.0 refl)
 string_none (suc b ∷ bytes) none = rw (string_none bytes none.1) refl
 
-clash : true ≡ false → ⊥
-clash e = absurd cc
-
 pub text_found : (bytes : List ℕ) → TextFound bytes (text_at bytes)
 text_found bytes =
     let by_string : (o : Option (List ℕ × List ℕ)) → string_at bytes ≡ o → TextFound bytes (text_at bytes) = λ o. elim o as (λ v. string_at bytes ≡ v → TextFound bytes (text_at bytes)) [
@@ -201,7 +203,7 @@ text_found bytes =
           let by_test : (b : Bool) → is_utf8 x.0 ≡ b → TextFound bytes (text_at bytes) = λ b. elim b as (λ v. is_utf8 x.0 ≡ v → TextFound bytes (text_at bytes)) [
             | true ↦ λ t. let utf8 = IsUtf8-from_is_utf8 x.0 t in rw (text_read bytes x.0 x.1 e utf8) (parts, utf8)
             | false ↦ λ t.
-                let bad : ¬ IsUtf8 x.0 = λ utf8. clash (sym (is_utf8-from_IsUtf8 x.0 utf8) ∙ t) in
+                let bad : ¬ IsUtf8 x.0 = λ utf8. true≢false (sym (is_utf8-from_IsUtf8 x.0 utf8) ∙ t) in
                 rw (text_refused bytes x.0 x.1 e bad) (record { string = x.0; rest = x.1; parts = parts; bad = bad })
           ] in
           by_test (is_utf8 x.0) refl

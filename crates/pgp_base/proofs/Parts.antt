@@ -3,6 +3,7 @@ use Rattle.pgp_base.proofs.Common.{◌≡◌, ℕ, ◌+◌, List, [], ◌∷◌,
 use Rattle.pgp_base.specs.declared.error.BindError.TheVariants.{Serialization}
 use Rattle.pgp_base.specs.declared.number.IsNull.{IsNull}
 use Rattle.pgp_base.specs.declared.number.IsNull.TheVariants.{Yes, No}
+use Rattle.pgp_base.specs.Held.{items_held}
 
 pub length-uint16 : (n : ℕ) → length (uint16 n) ≡ 2
 unfolding uint16
@@ -24,6 +25,9 @@ module _ {K : Type 0} where
   unfolding lengthened
   more_bytes h p = refl
 
+  pub bytes_more : (a b : Held K) (p : List ℕ) → b ≡ a ⊕ p → b.bytes ≡ a.bytes ++ p
+  bytes_more a b p e = ap (λ h. h.bytes) e ∙ more_bytes a p
+
   pub more_kept : (h : Held K) (p : List ℕ) → (h ⊕ p).kept ≡ h.kept
   unfolding lengthened
   more_kept h p = refl
@@ -39,6 +43,10 @@ module _ {K : Type 0} where
   pub more_twice : (h : Held K) (p q : List ℕ) → h ⊕ p ⊕ q ≡ h ⊕ (p ++ q)
   unfolding lengthened
   more_twice h p q = held_by h.kept (h.bytes ++ p ++ q) (h.bytes ++ (p ++ q)) (drop (length q) (drop (length p) h.behind)) (drop (length (p ++ q)) h.behind) (append_assoc h.bytes p q) (drop-drop (length q) (length p) h.behind ∙ ap (λ n. drop n h.behind) (sym (length-append p q)))
+
+-- the same of memory of its own
+pub lengthened_by : (old new z : List ℕ) → items_held new ≡ items_held old ⊕ z → new ≡ old ++ z
+lengthened_by old new z e = bytes_more (items_held old) (items_held new) z e
 
 -- a number written over the part z
 patched : (a z n p : List ℕ) (k m : ℕ) → k ≡ length a → m ≡ k + length z → take k (a ++ z ++ p) ++ n ++ drop m (a ++ z ++ p) ≡ a ++ n ++ p
@@ -272,3 +280,6 @@ int16_spelled z = refl
 pub int32_spelled : (z : ℤ) → int32 z ≡ uint32 (cast_unsigned w32 z)
 unfolding int32 uint32
 int32_spelled z = refl
+
+pub length-int32 : (z : ℤ) → length (int32 z) ≡ 4
+length-int32 z = ap length (int32_spelled z) ∙ length-uint32 _

@@ -71,11 +71,11 @@ text_begins z w x y h k e =
     texts_meet z w x y (zero_free z h) (zero_free w k) (sym (append_assoc z (0 ∷ []) x) ∙ (e ∙ append_assoc w (0 ∷ []) y))
 
 -- a length, or the mark of a null
-head_of : Option (List ℕ) → ℕ
+pub head_of : Option (List ℕ) → ℕ
 head_of None = 4294967295
 head_of (Some z) = length z
 
-tail_of : Option (List ℕ) → List ℕ
+pub tail_of : Option (List ℕ) → List ℕ
 tail_of None = []
 tail_of (Some z) = z
 

@@ -2,6 +2,8 @@
 use Rattle.std.specs.Prelude.{ℕ, pos}
 use Rattle.pgp_base.specs.declared.error.Error.{Error}
 use Rattle.pgp_base.specs.declared.error.Error.TheVariants.{OutOfMemory, EmbeddedNull, TooLarge, InvalidLength, UnknownTag, UnknownAuthentication, UnexpectedEof, NotDrained, NotUtf8, InvalidSize, InvalidCount, InvalidKeyLength, InvalidValueLength, InvalidDimension, TooManyElements, InvalidBitLength, InvalidNetmask, InvalidAddressLength, InvalidFamily, InvalidVersion}
+use Rattle.pgp_base.specs.declared.error.BindError.{BindError}
+use Rattle.pgp_base.specs.declared.error.BindError.TheVariants.{Conversion, Serialization}
 
 abbrev pub number_of : Error → ℕ
 number_of OutOfMemory = 1
@@ -30,3 +32,8 @@ abbrev pub plain : Error → Error
 plain (UnknownTag tag) = UnknownTag 0
 plain (UnknownAuthentication code) = UnknownAuthentication (pos 0)
 plain e = e
+
+-- the error of a writer, or that of the serializer that it called
+abbrev pub error_of : BindError Error → Error
+error_of (Conversion e) = e
+error_of (Serialization e) = e

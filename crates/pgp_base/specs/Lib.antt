@@ -1,6 +1,7 @@
 pub mod Calls
 pub mod Cause
 pub mod Held
+pub mod Lent
 pub mod Window
 pub mod Error
 pub mod Reading

@@ -3,7 +3,7 @@ use Rattle.std.specs.Prelude.{◌≡◌, ℕ, ℤ, zero, suc, List, [], ◌∷�
 use Rattle.std.specs.Int.{w16, w32, from_be_bytes, cast_signed}
 use Rattle.std.specs.Str.{is_utf8}
 use Rattle.pgp_base.specs.declared.error.Error.{Error}
-use Rattle.pgp_base.specs.declared.error.Error.TheVariants.{UnexpectedEof, NotUtf8}
+use Rattle.pgp_base.specs.declared.error.Error.TheVariants.{UnexpectedEof, NotDrained, NotUtf8}
 
 -- what a part gave, if it was whole
 infixl 10 ◌>>=◌
@@ -34,6 +34,10 @@ uint16_at = front_at 2 (λ l. from_be_bytes w16 l)
 abbrev pub oid_at : List ℕ → Option (ℕ × List ℕ)
 oid_at = front_at 4 (λ l. from_be_bytes w32 l)
 
+-- the oid of a type
+abbrev pub type_at : List ℕ → Result (ℕ × List ℕ) Error
+type_at bytes = oid_at bytes >>= λ x. Ok x
+
 abbrev pub int16_at : List ℕ → Option (ℤ × List ℕ)
 int16_at = front_at 2 (λ l. cast_signed w16 (from_be_bytes w16 l))
 
@@ -55,3 +59,13 @@ only_text s = if is_utf8 s.0 then Ok s else Err NotUtf8
 
 unfoldable pub text_at : List ℕ → Result (List ℕ × List ℕ) Error
 text_at bytes = string_at bytes >>= only_text
+
+-- the value, where no byte is left
+abbrev pub ended : {A : Type 0} → A → List ℕ → Result A Error
+ended x [] = Ok x
+ended x (b ∷ rest) = Err NotDrained
+
+-- what is made of what was read
+abbrev pub made : {X Y : Type 0} → (X → Y) → Result X Error → Result Y Error
+made f (Ok x) = Ok (f x)
+made f (Err e) = Err e
