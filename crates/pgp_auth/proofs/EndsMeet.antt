@@ -12,11 +12,9 @@ use Rattle.pgp_auth.proofs.BothWays.{never_refused}
 use Rattle.pgp_auth.proofs.ServerTexts.{answer_is_first, shows_itself}
 use Rattle.pgp_auth.proofs.Steps.{no_name}
 use Rattle.pgp_auth.proofs.UserNames.{empty_name}
+use Rattle.pgp_auth.proofs.Reading.{heads}
 
 -- ---- one binding is claimed
-
-heads : (a b : ℕ) (l k : List ℕ) → a ∷ l ≡ b ∷ k → a ≡ b
-heads a b l k e = cc
 
 apart : (a b : ℕ) (l k : List ℕ) → a < b → a ∷ l ≡ b ∷ k → ⊥
 apart a b l k lt e =

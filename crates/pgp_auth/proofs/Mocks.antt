@@ -1,11 +1,9 @@
 -- A made-up verifier lets nobody in.
-use Rattle.pgp_auth.proofs.Common.{◌≡◌, Bool, true, false, List, ℕ, sym, ap, ◌∙◌, ◌↔◌, Serving, Challenge, Server, Challenges, Admits, RefusesProof, other_exchange, no_proof, other_proof, mock, ServerError}
+use Rattle.pgp_auth.proofs.Common.{◌≡◌, true, false, List, ℕ, sym, ap, ◌∙◌, ◌↔◌, Serving, Challenge, Server, Challenges, Admits, RefusesProof, other_exchange, no_proof, other_proof, mock, ServerError}
 use Rattle.pgp_auth.specs.ScramServing.{AwaitsFirst}
 use Rattle.pgp_auth.specs.ScramMock.{as_known, ShowsNoProof}
 use Rattle.pgp_auth.proofs.EndsMeet.{same_serving, same_challenge}
-
-not_both : (b : Bool) → b ≡ true → b ≡ false → ⊥
-not_both b yes_ no_ = cc
+use Rattle.std.proofs.Common.{true≢false}
 
 pub never_accepted : (serving : Serving) (between new : Server) (first answer last signature : List ℕ) → serving.is_mock ≡ true
     → Challenges (AwaitsFirst serving) first between answer → Admits between last new signature → ⊥
@@ -14,7 +12,7 @@ never_accepted serving between new first answer last signature yes_ h d =
     let two : h.challenge ≡ d.challenge = same_challenge h.challenge d.challenge (sym h.new_is ∙ d.due) in
     let real : h.challenge.is_mock ≡ false = ap (λ (c : Challenge). c.is_mock) two ∙ d.not_mock in
     let made_up : h.challenge.is_mock ≡ true = h.opens.mock_is ∙ (sym (ap (λ (s : Serving). s.is_mock) one) ∙ yes_) in
-    not_both h.challenge.is_mock made_up real
+    true≢false (sym made_up ∙ real)
 
 -- ---- an error is that of a server which has a verifier
 

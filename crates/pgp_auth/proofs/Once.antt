@@ -1,5 +1,5 @@
 -- A server's text is rejected for one cause, and a server makes one signature.
-use Rattle.pgp_auth.proofs.Common.{◌≡◌, ◌≢◌, ◌==◌, ℕ, zero, suc, ◌<◌, Bool, true, false, cond, List, [], ◌∷◌, ◌++◌, length, codes, refl, sym, ap, ◌∙◌, arith, append-nil, inl, inr, is_utf8, IsUtf8, IsAscii, is_utf8-from_IsUtf8, IsUtf8-from_is_utf8, IsUtf8-from_ascii, cases_Bool, eqb-true, append_cancel_left, Result, Ok, Err, DecodeError, standard, decode_of, Fault, Shows, Verifier, Part, Begins, here, character, run, Binding, gs2_header, ServerFirst, ServerFinal, Expects, Signs, Refusal, NotUtf8, OutOfMemory, InvalidBase64, Trailing, place, unexpected, error_parts, server_final_parts, FinalForm, error, RefusesFinal, not_utf8, other, trailing, server, no_base64, IsServerError, Verifies, ShowsOther, Meets, TakesMemory, long, NotVerified, FirstParts, read_first, Granted, grant}
+use Rattle.pgp_auth.proofs.Common.{◌≡◌, ◌≢◌, ◌==◌, ℕ, zero, suc, ◌<◌, Bool, true, false, cond, List, [], ◌∷◌, ◌++◌, length, codes, refl, sym, ap, ◌∙◌, arith, append-nil, inl, inr, is_utf8, IsUtf8, IsAscii, is_utf8-from_IsUtf8, IsUtf8-from_is_utf8, IsUtf8-from_ascii, cases_Bool, eqb-true, append_cancel_left, Result, Ok, Err, DecodeError, standard, decode_of, Fault, Shows, Verifier, Part, Begins, here, character, run, Binding, gs2_header, ServerFirst, ServerFinal, Expects, Signs, Refusal, NotUtf8, OutOfMemory, InvalidBase64, Trailing, place, unexpected, error_parts, server_final_parts, FinalForm, error, RefusesFinal, not_utf8, other, trailing, server, no_base64, IsServerError, Verifies, ShowsOther, Meets, TakesMemory, long, NotVerified, FirstParts, read_first, Granted, grant, begins_with_e}
 use Rattle.pgp_auth.specs.ScramRefusal.{Server, verifier}
 use Rattle.pgp_auth.specs.ScramClient.{error as takes_error}
 use Rattle.pgp_auth.proofs.FirstTexts.{read_first-complete}
@@ -73,8 +73,7 @@ by_form true s = scanned (error_end s) s (scan error_parts s)
 by_form false s = scanned (shown_end s) s (scan server_final_parts s)
 
 is_e : List ℕ → Bool
-is_e [] = false
-is_e (c ∷ s) = c == 101
+is_e s = begins_with_e s
 
 outcome : List ℕ → Outcome
 outcome s = cond (is_utf8 s) (by_form (is_e s) s) (Cause NotUtf8)

@@ -1,14 +1,12 @@
 -- No byte of a verifier needs an escape.
 use Rattle.pgp_auth.proofs.Common.{inl, inr, ◌≡◌, ◌≢◌, ℕ, zero, suc, ◌+◌, ◌*◌, ◌/◌, ◌%◌, ◌<◌, ◌==◌, ◌&&◌, Bool, true, false, not, List, [], ◌∷◌, ◌++◌, length, replicate, slice_index, refl, arith, All, codes, nat_lt, decimal, digits, digits_onto, digit_glyph, list_all, nat_tests, cases_Bool, and_parts, eq-eqb, All-nil, All-cons, All-append, All-replicate, All-from_get_or, encode_symbols, encode_group, padding_len, standard, encode_with, encode_lower, lower_digits, md5, base64, NeedsNoEscape, md5_text, Verifier, verifier_text}
+use Rattle.std.proofs.lemmas.Bool.{false≢true}
 
 is_plain : ℕ → Bool
 is_plain b = not (b == 39) && not (b == 92)
 
-not_both : false ≡ true → ⊥
-not_both e = cc
-
 differs : (b q : ℕ) → not (b == q) ≡ true → b ≢ q
-differs b q test same = not_both (rw (eq-eqb b q same) at test)
+differs b q test same = false≢true (rw (eq-eqb b q same) at test)
 
 plain : (b : ℕ) → is_plain b ≡ true → NeedsNoEscape b
 unfolding is_plain

@@ -61,7 +61,7 @@ not_slash q low e = omega arith
 unequal : (n m : ℕ) → n < m → m ≡ n → ⊥
 unequal n m less e = omega arith
 
-heads : (a b : ℕ) (l k : List ℕ) → a ∷ l ≡ b ∷ k → a ≡ b
+pub heads : (a b : ℕ) (l k : List ℕ) → a ∷ l ≡ b ∷ k → a ≡ b
 heads a b l k e = cc
 
 behind_two : (a b : ℕ) (l k : List ℕ) → a ∷ b ∷ l ≡ a ∷ b ∷ k → l ≡ k

@@ -8,6 +8,7 @@ use Rattle.pgp_auth.proofs.FirstTexts.{from_bind, bind_is, expected-ok, expected
 use Rattle.pgp_auth.proofs.Runs.{front_passes, run_stops}
 use Rattle.pgp_auth.proofs.BothWays.{base64_chars}
 use Rattle.pgp_auth.proofs.ServerTexts.{shows_itself}
+use Rattle.std.proofs.Common.{true≢false}
 
 -- ---- what is read stands in the text
 
@@ -191,9 +192,6 @@ pub keys_of_verifier : (v : Verifier) (p : List ℕ) → v ≡ verifier p v.salt
 unfolding verifier
 keys_of_verifier v p e = (ap (λ (x : Verifier). x.stored_key) e, ap (λ (x : Verifier). x.server_key) e)
 
-made_up_not : (b : Bool) → b ≡ true → b ≡ false → ⊥
-made_up_not b yes_ no_ = cc
-
 pub client_made : (p salt s k h d : List ℕ) (n : ℕ) → d ≡ sha256 h → h ≡ mac k (codes "Client Key") → k ≡ salted p s n → s ≡ salt → d ≡ sha256 (mac (salted p salt n) (codes "Client Key"))
 client_made p salt s k h d n a b c e = rw (a, b, c, e) refl
 
@@ -205,7 +203,7 @@ abbrev pub IsOf : Bool → Verifier → List ℕ → Type 0
 IsOf made_up v p = (made_up ≡ false) × (v ≡ verifier p v.salt v.count)
 
 pub no_ones : (v : Verifier) (p : List ℕ) (made_up : Bool) → made_up ≡ true → (IsTrue false ↔ IsOf made_up v p)
-no_ones v p made_up yes_ = (λ bad. cc, λ is. absurd (made_up_not made_up yes_ is.0))
+no_ones v p made_up yes_ = (λ bad. cc, λ is. absurd (true≢false (sym yes_ ∙ is.0)))
 
 pub keys_compared : (v : Verifier) (p sk vk : List ℕ) (made_up : Bool) (far near : ℕ) → made_up ≡ false → sk ≡ sha256 (mac (salted p v.salt v.count) (codes "Client Key")) → vk ≡ mac (salted p v.salt v.count) (codes "Server Key")
     → ((far ≡ 0) ↔ (v.stored_key ≡ sk)) → ((near ≡ 0) ↔ (v.server_key ≡ vk)) → far ≡ 0 → (IsTrue (near == 0) ↔ IsOf made_up v p)

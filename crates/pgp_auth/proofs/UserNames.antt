@@ -4,6 +4,8 @@ use Rattle.std.specs.Prelude.{◌&&◌}
 use Rattle.pgp_auth.specs.ScramText.{itself, comma}
 use Rattle.pgp_auth.specs.NameReading.{is_escape, may_stand, spells}
 use Rattle.pgp_auth.proofs.Runs.{run_stops}
+use Rattle.pgp_auth.proofs.Reading.{heads}
+use Rattle.std.proofs.Common.{true≢false}
 
 abbrev Plain : ℕ → Type 0
 Plain c = is_attribute_char c ≡ true
@@ -24,9 +26,6 @@ plain_name _ (comma {name = n} h) = All-cons Plain 61 (50 ∷ 67 ∷ n) refl (Al
 plain_name _ (equals {name = n} h) = All-cons Plain 61 (51 ∷ 68 ∷ n) refl (All-cons Plain 51 (68 ∷ n) refl (All-cons Plain 68 n refl (plain_name n h)))
 
 -- ---- the first character of a name
-
-heads : (a b : ℕ) (l k : List ℕ) → a ∷ l ≡ b ∷ k → a ≡ b
-heads a b l k e = cc
 
 tails : (a b : ℕ) (l k : List ℕ) → a ∷ l ≡ b ∷ k → l ≡ k
 tails a b l k e = cc
@@ -104,11 +103,8 @@ pub second_escape : {T : Type 0} (o : Option T) (now : T → List ℕ) (r : List
 second_escape None now r a b = λ h. no_escape r a b (front (61 ∷ r) 61 r h refl)
 second_escape (Some x) now r a b = equals_step r (now x) b
 
-not_both : (b : Bool) → b ≡ true → b ≡ false → ⊥
-not_both b yes_ no_ = cc
-
 none_back : (c : ℕ) (r : List ℕ) → c ≢ 61 → is_value_char c ≡ false → Front c r → ⊥
-none_back c r other no_ (plain p h) = not_both (is_value_char c) p no_
+none_back c r other no_ (plain p h) = true≢false (sym p ∙ no_)
 none_back c r other no_ (two is b) = other is
 none_back c r other no_ (three is b) = other is
 
@@ -132,7 +128,7 @@ name_ends name [] h e = (λ _. h.1 no_more, λ _. refl)
 name_ends name (c ∷ r) h e = absurd (omega arith)
 
 pub not_text : (bytes : List ℕ) → is_utf8 bytes ≡ false → (IsTrue false ↔ IsUserName bytes)
-not_text bytes none = (λ bad. cc, λ n. absurd (not_both (is_utf8 bytes) (is_utf8-from_IsUtf8 bytes n.utf8) none))
+not_text bytes none = (λ bad. cc, λ n. absurd (true≢false (sym (is_utf8-from_IsUtf8 bytes n.utf8) ∙ none)))
 
 pub text_spelled : (bytes : List ℕ) (b : Bool) → is_utf8 bytes ≡ true → (IsTrue b ↔ SaslName bytes) → (IsTrue b ↔ IsUserName bytes)
 text_spelled bytes b u h = (λ y. record { utf8 = IsUtf8-from_is_utf8 bytes u; spelled = h.0 y }, λ n. h.1 n.spelled)

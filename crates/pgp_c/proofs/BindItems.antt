@@ -4,6 +4,7 @@ use Rattle.std.specs.Prelude.{OnOk}
 use Rattle.pgp_c.specs.BindItems.{BindSoFar, Ends, WhyNoFormats, WhyNotEnded, bind_head, format_item}
 use Rattle.pgp_c.proofs.Extensions.{both, min_left}
 use Rattle.pgp_c.proofs.Sending.{wrote}
+use Rattle.pgp_c.proofs.Putting.{error_in}
 
 -- a format is a number of its field
 format_fits : (z : ℤ) → is_format z ≡ true → FitsSigned w16 z
@@ -137,13 +138,9 @@ pub none_formats : (zs : List ℤ) → items_cause format_item zs ≡ None
 none_formats [] = refl
 none_formats (z ∷ zs) = none_formats zs
 
-abbrev of_some : Cause → Error
-of_some None = TooLarge
-of_some (Some e) = e
-
 count_large : (n : ℕ) (e : Error) → count_cause n ≡ Some e → e ≡ TooLarge
 count_large n e h = elim (cases_lt 65535 n) [
-  | inl many ↦ ap of_some (sym h ∙ count_past n many)
+  | inl many ↦ ap error_in (sym h ∙ count_past n many)
   | inr few ↦ absurd (let x = sym h ∙ count_fits n (omega (arith, few)) in cc)
 ]
 

@@ -1,5 +1,5 @@
 -- The parts of a client's message stand where they are reported to.
-use Rattle.pgp_c.proofs.Common.{◌≡◌, ℕ, ℤ, pos, ◌+◌, ◌*◌, ◌-◌, ◌≤◌, Bool, true, false, List, [], ◌∷◌, ◌++◌, length, take, drop, Option, Some, None, Result, Ok, Err, refl, sym, ap, ◌∙◌, subst, arith, inl, inr, length-append, append_assoc, ◌≢◌, flat_map, drop-append_seam, int16, int32, uint32, oid, nullable, counted, text, counted_length, oid_number, ClientMessage, Bind, Close, CopyData, CopyDone, CopyFail, Describe, Execute, Flush, FunctionCall, Parse, PasswordMessage, Query, SaslInitialResponse, SaslResponse, Sync, Terminate, Startup, CancelRequest, SslRequest, GssEncRequest, PasswordKind, pair, framed, payload, minor_code, bytes_of, framed_length, int16_length, int32_length, tagged_length, UnknownPacket, Reading, after_text, numbers_at, past, place, IsMissing, missing_from}
+use Rattle.pgp_c.proofs.Common.{◌≡◌, ℕ, ℤ, pos, ◌+◌, ◌*◌, ◌-◌, ◌≤◌, Bool, true, false, List, [], ◌∷◌, ◌++◌, length, take, drop, Option, Some, None, Result, Ok, Err, refl, sym, ap, ◌∙◌, subst, arith, inl, inr, length-append, append_assoc, ◌≢◌, flat_map, drop-append_seam, int16, int32, uint32, oid, nullable, counted, text, counted_length, oid_number, ClientMessage, Bind, Close, CopyData, CopyDone, CopyFail, Describe, Execute, Flush, FunctionCall, Parse, PasswordMessage, Query, SaslInitialResponse, SaslResponse, Sync, Terminate, Startup, CancelRequest, SslRequest, GssEncRequest, PasswordKind, pair, framed, payload, minor_code, bytes_of, framed_length, int16_length, length-int32, tagged_length, UnknownPacket, Reading, after_text, numbers_at, past, place, IsMissing, missing_from}
 use Rattle.pgp_frontend_read.specs.Step.{Step, Unread, place as length_place}
 use Rattle.pgp_frontend_read.specs.declared.error.ClientError.{ClientError}
 use Rattle.pgp_c.specs.ClientFront.{Misses, ReportsClient, ShowsAll, code_of, kind_reported}
@@ -20,7 +20,7 @@ opening_at : (bytes new : List ℕ) (n : ℕ) (code : ℤ) (body : List ℕ) →
 unfolding uint32
 opening_at bytes new n code body whole =
     let four : At bytes new 4 (int32 code ++ body) = ap (λ l. drop 4 l) whole in
-    next bytes new 4 8 (int32 code) body (ap (λ k. 4 + k) (sym (int32_length code))) four
+    next bytes new 4 8 (int32 code) body (ap (λ k. 4 + k) (sym (length-int32 code))) four
 
 text_size : (z : List ℕ) → length (text z) ≡ length z + 1
 text_size z = length-append z (0 ∷ [])
@@ -237,7 +237,7 @@ module _ (bytes new : List ℕ) (frame : ℕ) where
     startup_placed minor parameters whole size =
         let pairs = flat_map pair parameters ++ 0 ∷ [] in
         let code = minor_code minor in
-        let total : frame ≡ 8 + length pairs = omega (arith, size, framed_length (int32 code ++ (pairs ++ [])), length-append (int32 code) (pairs ++ []), int32_length code, length-append pairs []) in
+        let total : frame ≡ 8 + length pairs = omega (arith, size, framed_length (int32 code ++ (pairs ++ [])), length-append (int32 code) (pairs ++ []), length-int32 code, length-append pairs []) in
         let at = opening_at bytes new _ code (pairs ++ []) whole in (
           (refl, (listed bytes new 8 frame 8 pairs [] refl at total room, refl)),
           record {
@@ -254,9 +254,9 @@ module _ (bytes new : List ℕ) (frame : ℕ) where
       let code : ℤ = pos 80877102 in
       let t1 = int32 process_id ++ (key ++ []) in
       let total : frame ≡ 12 + length key =
-      omega (arith, size, framed_length (int32 code ++ t1), length-append (int32 code) t1, int32_length code, length-append (int32 process_id) (key ++ []), int32_length process_id, length-append key []) in
+      omega (arith, size, framed_length (int32 code ++ t1), length-append (int32 code) t1, length-int32 code, length-append (int32 process_id) (key ++ []), length-int32 process_id, length-append key []) in
       let a8 = opening_at bytes new _ code t1 whole in
-      let a12 = next bytes new 8 12 (int32 process_id) (key ++ []) (ap (λ k. 8 + k) (sym (int32_length process_id))) a8 in
+      let a12 = next bytes new 8 12 (int32 process_id) (key ++ []) (ap (λ k. 8 + k) (sym (length-int32 process_id))) a8 in
       let len : frame - 12 ≡ length key = omega (arith, total) in
       ((refl, ap (λ k. take k (drop 12 bytes)) len ∙ here bytes new 12 key [] a12), inside_one frame 12 (frame - 12) process_id 0 false (omega (arith, total)))
 

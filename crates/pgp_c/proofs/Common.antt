@@ -23,7 +23,7 @@ pub use Rattle.pgp_base.proofs.Causes.{either_left, either_none, count_fits, cou
 pub use Rattle.pgp_base.proofs.Errors.{same_number}
 pub use Rattle.pgp_base.proofs.Needs.{wants_window, counted_length, flat_more, nullable_least, sized_wants, counted_wants, memory_more, memory_then}
 pub use Rattle.pgp_base.proofs.PartLemmas.{front_again, oid_number, uint16_number, int32_number, no_string, some_none, string_none}
-pub use Rattle.pgp_base.proofs.Parts.{length-uint32, length-uint16, wants_here, wants_more, more_twice, null_spelled, more_parts, front_same, if_err_at, wants_then, wants_now}
+pub use Rattle.pgp_base.proofs.Parts.{length-uint32, length-uint16, wants_here, wants_more, more_twice, null_spelled, more_parts, front_same, if_err_at, wants_then, wants_now, length-int32}
 pub use Rattle.pgp_base.proofs.Strings.{string_takes, string_whole}
 pub use Rattle.pgp_base.specs.Calls.{Gives, Runs, KeepsValue, Yielded, SoFar}
 pub use Rattle.pgp_base.specs.Cause.{first, length_cause, nullable_cause, Cause, counted_cause, count_cause, either, text_cause, Wants, WantsMemory, Writes}
@@ -44,7 +44,7 @@ pub use Rattle.pgp_base.specs.declared.window.Window.{Window}
 pub use Rattle.pgp_client.specs.Talk.{Talk}
 pub use Rattle.pgp_frontend.proofs.Causes.{count_more, either_more, last_cause, no_cause, parts_first, never_memory, refused_pairs}
 pub use Rattle.pgp_frontend.proofs.Lists.{all_given, some_given, some_same, parse_refused, all_same}
-pub use Rattle.pgp_frontend.proofs.Needs.{int16_length, null_length, bind_length, joined_more, framed_wants, framed_length, int32_length, tagged_length, startup_length}
+pub use Rattle.pgp_frontend.proofs.Needs.{int16_length, null_length, bind_length, joined_more, framed_wants, framed_length, tagged_length, startup_length}
 pub use Rattle.pgp_frontend.specs.ClientMessage.{ClientMessage, Bind, Close, CopyData, CopyDone, CopyFail, Describe, Execute, Flush, FunctionCall, Parse, PasswordMessage, Query, SaslInitialResponse, SaslResponse, Sync, Terminate, Startup, CancelRequest, SslRequest, GssEncRequest, PasswordKind}
 pub use Rattle.pgp_frontend.specs.ClientRun.{ClientRun, MayCome, kinds_of, is_startup, is_opened}
 pub use Rattle.pgp_frontend.specs.Given.{Arrived, Serves, before_values, BindWhole, BindRefused, ValuesUpTo, StartupWhole, StartupSoFar, Refused, shown_pairs}

@@ -5,7 +5,7 @@ use Rattle.pgp_c.specs.declared.range.PgpSide.{PgpSide}
 abbrev pub IsLarge : Cause → Type 0
 IsLarge c = (e : Error) → c ≡ Some e → e ≡ TooLarge
 
-abbrev error_in : Cause → Error
+abbrev pub error_in : Cause → Error
 error_in None = TooLarge
 error_in (Some e) = e
 

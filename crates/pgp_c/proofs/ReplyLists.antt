@@ -1,5 +1,5 @@
 -- The messages of the lists that C hands over.
-use Rattle.pgp_c.proofs.Common.{◌≡◌, ℕ, ℤ, pos, ◌+◌, ◌≤◌, List, [], ◌∷◌, ◌++◌, map, length, take, Option, Some, None, Result, Ok, Err, Bor, sym, ap, subst, ◌∙◌, arith, length-append, Mut, GName, Called, map_source, map_callee, Map, flat_map, maps, YieldsList, YieldsList-from_map_by, flat_map-append, Yielded, Cause, length_cause, number_of, int32, uint16, frame, window_held, window_lacks, Error, Window, length-uint16, Part, Int32, joined, all_given, some_given, int32_length, tagged_length, Message, Authentication, AuthenticationSasl, ErrorResponse, NoticeResponse, ErrorPart, FieldPart, WritesGiven, uncounted, column_parts, field_parts, text_parts, value_parts, wide_list, description_of, fields_of, names_of, negotiation_of, row_of, NotRepliedList, RepliedList, FromItself}
+use Rattle.pgp_c.proofs.Common.{◌≡◌, ℕ, ℤ, pos, ◌+◌, ◌≤◌, List, [], ◌∷◌, ◌++◌, map, length, take, Option, Some, None, Result, Ok, Err, Bor, sym, ap, subst, ◌∙◌, arith, length-append, Mut, GName, Called, map_source, map_callee, Map, flat_map, maps, YieldsList, YieldsList-from_map_by, flat_map-append, Yielded, Cause, length_cause, number_of, int32, uint16, frame, window_held, window_lacks, Error, Window, length-uint16, Part, Int32, joined, all_given, some_given, length-int32, tagged_length, Message, Authentication, AuthenticationSasl, ErrorResponse, NoticeResponse, ErrorPart, FieldPart, WritesGiven, uncounted, column_parts, field_parts, text_parts, value_parts, wide_list, description_of, fields_of, names_of, negotiation_of, row_of, NotRepliedList, RepliedList, FromItself}
 use Rattle.pgp_message_write.specs.Given.{items_cause}
 use Rattle.pgp_message_write.specs.Reply.{bytes_of}
 use Rattle.pgp_message_write.proofs.Lists.{joined-append}
@@ -47,7 +47,7 @@ sasl_size : (xs : List (List ℕ)) → length (bytes_of (Authentication (Authent
 sasl_size xs =
     let names = joined (flat_map text_parts xs) in
     let ten : ℤ = pos 10 in
-    omega (arith, tagged_length 82 (int32 ten ++ ((names ++ 0 ∷ []) ++ [])), length-append (int32 ten) ((names ++ 0 ∷ []) ++ []), int32_length ten, length-append (names ++ 0 ∷ []) [], length-append names (0 ∷ []))
+    omega (arith, tagged_length 82 (int32 ten ++ ((names ++ 0 ∷ []) ++ [])), length-append (int32 ten) ((names ++ 0 ∷ []) ++ []), length-int32 ten, length-append (names ++ 0 ∷ []) [], length-append names (0 ∷ []))
 
 pub sasl_longer : (xs more : List (List ℕ)) → length (bytes_of (Authentication (AuthenticationSasl (names_of xs)))) ≤ length (bytes_of (Authentication (AuthenticationSasl (names_of (xs ++ more)))))
 sasl_longer xs more = omega (arith, items_longer text_parts xs more, sasl_size xs, sasl_size (xs ++ more))
@@ -56,7 +56,7 @@ negotiation_size : (v : ℤ) (xs : List (List ℕ)) → length (bytes_of (negoti
 negotiation_size v xs =
     let names = joined (flat_map text_parts xs) in
     let n : ℤ = pos (length xs) in
-    omega (arith, tagged_length 118 (int32 v ++ (int32 n ++ (names ++ []))), length-append (int32 v) (int32 n ++ (names ++ [])), int32_length v, length-append (int32 n) (names ++ []), int32_length n, length-append names [])
+    omega (arith, tagged_length 118 (int32 v ++ (int32 n ++ (names ++ []))), length-append (int32 v) (int32 n ++ (names ++ [])), length-int32 v, length-append (int32 n) (names ++ []), length-int32 n, length-append names [])
 
 pub negotiation_longer : (v : ℤ) (xs more : List (List ℕ)) → length (bytes_of (negotiation_of v xs)) ≤ length (bytes_of (negotiation_of v (xs ++ more)))
 negotiation_longer v xs more = omega (arith, items_longer text_parts xs more, negotiation_size v xs, negotiation_size v (xs ++ more))

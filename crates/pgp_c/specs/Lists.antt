@@ -3,11 +3,10 @@ use Rattle.std.specs.Prelude.{◌≡◌, ℕ, true, false, List, length, Option,
 use Rattle.pgp_base.specs.Cause.{WantsMemory}
 use Rattle.pgp_base.specs.Held.{Held, ◌⊕◌}
 use Rattle.pgp_base.specs.declared.error.Error.{Error}
-use Rattle.pgp_base.specs.declared.error.BindError.{BindError}
-use Rattle.pgp_base.specs.declared.error.BindError.TheVariants.{Conversion, Serialization}
 use Rattle.pgp_base.specs.declared.number.IsNull.{IsNull}
 use Rattle.pgp_base.specs.declared.number.IsNull.TheVariants.{Yes, No}
 use Rattle.pgp_c.specs.declared.listing.PgpValue.{PgpValue}
+pub use Rattle.pgp_base.specs.Error.{error_of}
 
 -- the bytes of a value, or none for a null
 abbrev pub value_of : PgpValue → Option (List ℕ)
@@ -19,7 +18,3 @@ Puts v lacks old new (Ok Yes) = (v.is_null ≡ true) × (new ≡ old)
 Puts v lacks old new (Ok No) = (v.is_null ≡ false) × (new ≡ old ⊕ v.bytes.now)
 Puts v lacks old new (Err e) = (v.is_null ≡ false) × WantsMemory (lacks old (length v.bytes.now)) e × (new ≡ old)
 
--- the error, whether the serializer's or the writer's
-abbrev pub error_of : BindError Error → Error
-error_of (Conversion e) = e
-error_of (Serialization e) = e

@@ -1,8 +1,8 @@
 -- What a log-in answers: a message that was appended, or why it wasn't.
-use Rattle.pgp_c_auth.proofs.Common.{◌≡◌, ℕ, List, Ok, Err, Some, None, Result, ap, inl, inr, sym, subst, ◌<◌, ◌∙◌, ◌⊎◌, ◌++◌, length, ClientMessage, PgpWays, PgpLogin, Came, MayWelcome, at_phase, awaits_final, awaits_welcome, done, Verifies}
+use Rattle.pgp_c_auth.proofs.Common.{◌≡◌, ℕ, List, Ok, Err, Some, None, Result, ap, inl, inr, sym, subst, ◌<◌, ◌∙◌, ◌⊎◌, length, ClientMessage, PgpWays, PgpLogin, Came, MayWelcome, at_phase, awaits_final, awaits_welcome, done, Verifies}
 use Rattle.pgp_base.specs.Cause.{Wants}
 use Rattle.pgp_base.specs.Error.{number_of}
-use Rattle.pgp_base.specs.Held.{Held, ◌⊕◌, items_held, lengthened}
+use Rattle.pgp_base.specs.Held.{Held, items_held}
 use Rattle.pgp_base.specs.declared.error.Error.{Error}
 use Rattle.pgp_base.specs.declared.error.Error.TheVariants.{OutOfMemory}
 use Rattle.pgp_frontend.specs.Payload.{bytes_of, cause, WritesMessage}
@@ -10,10 +10,7 @@ use Rattle.pgp_c_auth.specs.Answering.{Added, Ends, HasAnswered, NothingAsked, U
 use Rattle.pgp_c_auth.specs.declared.asking.Asking.{Asking as Reported}
 use Rattle.pgp_c_auth.specs.declared.asking.Asking.TheVariants as code
 use Rattle.std.specs.Borrow.{Bor}
-
-lengthened_by : (old new z : List ℕ) → items_held new ≡ items_held old ⊕ z → new ≡ old ++ z
-unfolding lengthened
-lengthened_by old new z e = ap (λ (h : Held (Unit {0})). h.bytes) e
+use Rattle.pgp_base.proofs.Parts.{lengthened_by}
 
 module _ (lacks : Type 0) (m : ClientMessage) (old new : List ℕ) where
   abbrev Writes : Result (Unit {0}) Error → Type 0

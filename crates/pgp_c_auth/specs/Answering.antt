@@ -1,21 +1,21 @@
 -- What a client's log-in answers to each message of a server.
 -- PostgreSQL manual, "Message Flow": "Start-up"; "SASL Authentication"; RFC 5802, RFC 7677.
-use Rattle.std.specs.Prelude.{◌≡◌, ◌≢◌, ◌⊎◌, ℕ, ◌++◌, false, List, Contains, codes, Option, Some, None, ◌==◌, if◌then◌else◌}
+use Rattle.std.specs.Prelude.{◌≡◌, ◌≢◌, ◌⊎◌, ℕ, false, List, codes, Option, Some, None, ◌==◌, if◌then◌else◌}
 use Rattle.pgp_base.specs.Error.{number_of}
-use Rattle.pgp_base.specs.Items.{MarkedItems}
 use Rattle.pgp_base.specs.declared.error.Error.{Error}
 use Rattle.pgp_auth.specs.Md5Text.{md5_answer}
 use Rattle.pgp_auth.specs.ScramRefusal.{AsksFewer, Verifies}
 use Rattle.pgp_frontend.specs.ClientMessage.{ClientMessage, PasswordMessage, SaslInitialResponse, SaslResponse}
-use Rattle.pgp_frontend.specs.Payload.{bytes_of, cause, IsInRange}
+use Rattle.pgp_frontend.specs.Payload.{cause}
 pub use Rattle.pgp_message.specs.LogIn.{Asking, Nothing, Cleartext, Md5, Sasl, First, Final, Welcome, Other, asking}
-use Rattle.pgp_message.specs.Items.{TextSpelled, TextRefused}
 use Rattle.pgp_c_auth.specs.Login.{Asked, Came, Declined, IsAdmitted, MayWelcome, at_phase, awaits_final, awaits_first, awaits_request, awaits_welcome, by_cleartext, by_md5, by_none, by_scram, done}
 use Rattle.pgp_c_auth.specs.Scram.{AnswersIn, AnswersWith, BeginRefused, FirstText, NotAnswered, ShownRefused, Start, start}
 use Rattle.pgp_c_auth.specs.declared.asking.Asking.{Asking as Reported}
 use Rattle.pgp_c_auth.specs.declared.asking.Asking.TheVariants as code
 use Rattle.pgp_c_auth.specs.declared.asking.PgpWays.{PgpWays}
 use Rattle.pgp_c_auth.specs.declared.login.PgpLogin.{PgpLogin}
+pub use Rattle.pgp_frontend.specs.Payload.{Added, AddsReply}
+pub use Rattle.pgp_message.specs.LogIn.{Lists}
 
 -- what the code's words say
 abbrev pub reported : Reported → Asking
@@ -35,10 +35,6 @@ start_of w = start w.password.now w.kind w.certificate.now w.nonce.now
 -- the mechanism of an exchange, by the kind of its channel binding
 abbrev pub mechanism : ℕ → List ℕ
 mechanism kind = if kind == 2 then codes "SCRAM-SHA-256-PLUS" else codes "SCRAM-SHA-256"
-
--- the list of mechanisms ends well, and this is one of them
-abbrev pub Lists : List ℕ → List ℕ → Type 0
-Lists name mechanisms = (names : List (List ℕ)) × MarkedItems TextSpelled TextRefused mechanisms names None × Contains names name
 
 -- The server offers to bind an exchange to the channel, as it does on an encrypted connection alone, and the client's isn't: neither is it known to be encrypted, nor
 -- is its exchange bound. So encryption may have been taken away on the way.
@@ -62,20 +58,9 @@ pub data Answers (w : PgpWays) (old : PgpLogin) : Asking → Option ClientMessag
 
 -- ---- the reply
 
--- the message has a spelling, which was appended
-pub record Added (m : ClientMessage) (old new : List ℕ) : Type 0 where
-  pub in_range : IsInRange m
-  pub none : cause m ≡ None
-  pub bytes : new ≡ old ++ bytes_of m
-
 -- it wasn't, for want of memory or for its cause
 abbrev pub Unsent : Type 0 → ClientMessage → ℕ → Type 0
 Unsent lacks m code = ((code ≡ 1) × lacks) ⊎ ((e : Error) × (cause m ≡ Some e) × (code ≡ number_of e))
-
--- the reply was appended, or there is none
-abbrev pub AddsReply : Option ClientMessage → List ℕ → List ℕ → Type 0
-AddsReply None old new = new ≡ old
-AddsReply (Some m) old new = Added m old new
 
 -- What was asked is answered so, and the reply appended.
 pub record HasAnswered (w : PgpWays) (asked : Asking) (old new : PgpLogin) (out grown : List ℕ) : Type 0 where

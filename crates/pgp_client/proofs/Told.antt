@@ -1,10 +1,11 @@
 -- What a server sends in turns is taken where it is heard, or it isn't certain.
 use Rattle.pgp_client.proofs.Common.{◌≡◌, ℕ, Bool, true, false, List, [], ◌∷◌, ◌++◌, Option, Some, None, Ok, Err, ◌∙◌, ◌⊎◌, inl, inr, ap, refl, sym, subst, length, AmongTurns, NoTurnLeft, OneAsked, OneAnswer, OneElse, BelongInTurns, Talk, asked, behind_copy, completes, copied, fails, is_aside, is_copying, moved, observed, ready, starts_with_sync, taken, taken_as, FollowsTo, Turn, Asks, Hears, asked_all, asked_in, reported_in, start, Event, Aside, Uncertain, Kind, Asked, Stage, Idle, Skipping, Answering, CopyingIn, TakingCopy, Failed}
 use Rattle.pgp_client.specs.declared.kind.Kind.TheVariants as kinds
-use Rattle.pgp_client.proofs.Copying.{certain_outside, in_copy, ready_outside}
+use Rattle.pgp_client.proofs.Copying.{certain_outside, ready_outside}
 use Rattle.pgp_client.proofs.Early.{at_once, taken_by, Answer}
 use Rattle.pgp_client.proofs.Served.{TellsBy, aside_is, ok_parts, served, talk}
 use Rattle.pgp_client.proofs.Timely.{asked_so, taken_more}
+use Rattle.pgp_client.specs.Taking.{copying_at}
 
 -- the dialogue takes the message so, or isn't certain
 abbrev pub Told : Talk → Kind → Event → Type 0
@@ -118,7 +119,7 @@ module _ (n : ℕ) where
   copied_doubted done after ps kinds.ErrorResponse is = (refl, fails_doubted after (starts_with_sync ps) ps is)
   copied_doubted done after ps k is = cc
 
-outside : (s : Stage) (n : ℕ) (rs : List Asked) (k : Kind) → in_copy s ≡ false → observed (ready (talk s n rs)) k ≡ Err Uncertain → ⊥
+outside : (s : Stage) (n : ℕ) (rs : List Asked) (k : Kind) → copying_at s ≡ false → observed (ready (talk s n rs)) k ≡ Err Uncertain → ⊥
 outside s n rs k h is = let u = ready (talk s n rs) in certain_outside u.stage u.name u.pending k (ready_outside s n rs h) is
 
 at_doubted : (s : Stage) (n : ℕ) (rs : List Asked) (k : Kind) → observed (ready (talk s n rs)) k ≡ Err Uncertain → Doubted (talk s n rs) k

@@ -7,7 +7,7 @@ pub use Rattle.std.specs.List.{list_any, flat_map, AllByRecursion}
 pub use Rattle.std.specs.Prelude.{FitsSigned, All, nat_le, ◌==◌, if◌then◌else◌, is_some, ◌||◌, option_to_list, pos, slice_index, OnOk, IfErr, Ok, Err, slice_index_or}
 pub use Rattle.pgp_base.proofs.Causes.{count_fits, either_first, first_more, first_here, first-append, either_none, either_then, either_left, either_right, fits_of, counts_of, count_past}
 pub use Rattle.pgp_base.proofs.Needs.{counted_length, memory_then, wants_window, flat_more, counted_wants, memory_more, refused_then, writes_memory, refused_same, sized_length, sized_wants, if_err_map}
-pub use Rattle.pgp_base.proofs.Parts.{more_bytes, more_parts, nothing_more, more_twice, wants_more, filled4, sized4, length-uint32, length-uint16, int16_spelled, int32_spelled, wants_then, Puts-at, Runs-length, cut_back, on_err, wants_here, wants_now, wants_same, if_err_at, counted_up, sized2, front_then, left_same, left_then, writes_out, front_left, Runs-snoc}
+pub use Rattle.pgp_base.proofs.Parts.{more_bytes, more_parts, nothing_more, more_twice, wants_more, filled4, sized4, length-uint32, length-uint16, int16_spelled, int32_spelled, wants_then, Puts-at, Runs-length, cut_back, on_err, wants_here, wants_now, wants_same, if_err_at, counted_up, sized2, front_then, left_same, left_then, writes_out, front_left, Runs-snoc, length-int32}
 pub use Rattle.pgp_base.proofs.Prefixes.{int32_begins, fronts, uint32_begins, int16_begins, text_begins, nullable_begins, counted_begins}
 pub use Rattle.pgp_base.specs.Calls.{Yielded, Gives, Runs, ValueRefused}
 pub use Rattle.pgp_base.specs.Cause.{length_cause, Cause, either, first, text_cause, count_cause, nullable_cause, Wants, WantsMemory}

@@ -1,5 +1,5 @@
 -- How many bytes messages take, and growths that were refused on the way.
-use Rattle.pgp_frontend.proofs.Common.{◌≡◌, ℕ, ℤ, negsuc, ◌+◌, ◌<◌, ◌≤◌, ◌^◌, List, [], ◌∷◌, ◌++◌, length, Option, Some, None, ap, ◌∙◌, arith, length-append, FitsSigned, w32, append-nil, uint32, int16, int32, oid, nullable, counted, Wants, Held, ◌⊕◌, flat_more, length-uint16, length-uint32, int16_spelled, int32_spelled, wants_then, more_twice, Bind, Parse, Startup, Part, Int32, Text, Int16s, Oids, Values, Pairs, minor_code, minor_of, spelling, joined, framed, bytes_of}
+use Rattle.pgp_frontend.proofs.Common.{◌≡◌, ℕ, ℤ, negsuc, ◌+◌, ◌<◌, ◌≤◌, ◌^◌, List, [], ◌∷◌, ◌++◌, length, Option, Some, None, ap, ◌∙◌, arith, length-append, FitsSigned, w32, append-nil, uint32, int16, int32, oid, nullable, counted, Wants, Held, ◌⊕◌, flat_more, length-uint16, length-uint32, int16_spelled, wants_then, more_twice, Bind, Parse, Startup, Part, Int32, Text, Int16s, Oids, Values, Pairs, minor_code, minor_of, spelling, joined, framed, bytes_of, length-int32}
 use Rattle.pgp_frontend.specs.declared.startup.ProtocolVersion.{ProtocolVersion}
 use Rattle.pgp_frontend.specs.declared.startup.ProtocolVersion.TheVariants.{V3_0, V3_2}
 
@@ -14,11 +14,8 @@ tagged_length tag body = omega (arith, length-append (uint32 (length body + 4)) 
 pub int16_length : (z : ℤ) → length (int16 z) ≡ 2
 int16_length z = ap length (int16_spelled z) ∙ length-uint16 _
 
-pub int32_length : (z : ℤ) → length (int32 z) ≡ 4
-int32_length z = ap length (int32_spelled z) ∙ length-uint32 _
-
 pub null_length : length (nullable None) ≡ 4
-null_length = int32_length (negsuc 0)
+null_length = length-int32 (negsuc 0)
 
 pub joined_more : (ps : List Part) (p : Part) → length (joined (ps ++ p ∷ [])) ≡ length (joined ps) + length (spelling p)
 joined_more ps p = flat_more spelling ps p
@@ -38,7 +35,7 @@ pub startup_length : (v : ℕ) (ps : List (List ℕ × List ℕ)) → length (by
 startup_length v ps =
     let e = joined_more (Int32 (minor_code v) ∷ []) (Pairs ps) in
     let t = framed_length (joined (Int32 (minor_code v) ∷ Pairs ps ∷ [])) in
-    let i : length (joined (Int32 (minor_code v) ∷ [])) ≡ 4 = ap length (append-nil (int32 (minor_code v))) ∙ int32_length (minor_code v) in
+    let i : length (joined (Int32 (minor_code v) ∷ [])) ≡ 4 = ap length (append-nil (int32 (minor_code v))) ∙ length-int32 (minor_code v) in
     omega (arith, t, e, i)
 
 pub minor_fits : (v : ℕ) → v < 2 ^ 16 → FitsSigned w32 (minor_code v)

@@ -1,7 +1,6 @@
 -- The values that were made have no cause, and the one after them may.
-use Rattle.pgp_frontend.proofs.Common.{◌≡◌, ℕ, ◌<◌, List, [], ◌∷◌, ◌++◌, Result, Option, Some, None, refl, sym, ap, ◌∙◌, map, take, length, length-append, arith, inl, inr, MutBor, subst, flat_map, map-append, take_all, take_at, nullable, uint16, uint32, counted_wants, first, nullable_cause, count_cause, Gives, Runs, Yielded, ValueRefused, either_none, either_first, either_then, first_here, count_fits, count_past, Puts-at, Runs-length, Held, ◌⊕◌, Error, TooLarge, BindError, Conversion, Serialization, IsNull, Serves, part_cause, Values, ValuesRefused}
+use Rattle.pgp_frontend.proofs.Common.{◌≡◌, ℕ, ◌<◌, List, [], ◌∷◌, ◌++◌, Result, Option, Some, None, refl, sym, ap, ◌∙◌, map, take, length, length-append, arith, inl, inr, MutBor, subst, flat_map, map-append, take_all, take_at, nullable, uint16, uint32, counted_wants, first, nullable_cause, count_cause, Gives, Runs, Yielded, ValueRefused, either_none, either_first, either_then, first_here, count_fits, count_past, Puts-at, Runs-length, Held, ◌⊕◌, Error, TooLarge, BindError, Conversion, Serialization, IsNull, Serves, part_cause, Values, ValuesRefused, length-int32}
 use Rattle.std.specs.Prelude.{negsuc}
-use Rattle.pgp_frontend.proofs.Needs.{int32_length}
 
 module _ {F T E B K : Type 0} (held : B → Held K) (step : F → T → MutBor B → Result IsNull E → MutBor B → F → Type 0) where
   -- each value that was made fits its field
@@ -47,7 +46,7 @@ module _ {F T E B K : Type 0} (held : B → Held K) (step : F → T → MutBor B
             inr (
               vs ++ None ∷ [],
               record { xs = xs; x = x; received = received; before = vs; none = none; value = None; are = refl; made = inl (runs', refl) },
-              inl (memory.0.0, counted_wants nullable vs None old b 4 (h ∙ ap (λ k. k ⊕ flat_map nullable vs) at_count) (omega (arith, int32_length (negsuc 0))) memory.0.1),
+              inl (memory.0.0, counted_wants nullable vs None old b 4 (h ∙ ap (λ k. k ⊕ flat_map nullable vs) at_count) (omega (arith, length-int32 (negsuc 0))) memory.0.1),
             )
         | inr long ↦ inr (
           vs ++ Some long.0 ∷ [],

@@ -1,6 +1,6 @@
 -- What each message of a client is made of, and why it has no spelling.
 -- PostgreSQL manual, "Message Formats".
-use Rattle.std.specs.Prelude.{ℕ, ◌+◌, ◌^◌, ◌<◌, ℤ, pos, List, [], ◌∷◌, ◌++◌, length, map, Option, Some, None, Result, FitsSigned, All, nat_le, if◌then◌else◌}
+use Rattle.std.specs.Prelude.{ℕ, ◌+◌, ◌^◌, ◌<◌, ℤ, pos, List, [], ◌∷◌, ◌++◌, length, map, Option, Some, None, Result, FitsSigned, All, nat_le, if◌then◌else◌, ◌≡◌}
 use Rattle.std.specs.List.{flat_map}
 use Rattle.std.specs.Int.{w16, w32}
 use Rattle.pgp_base.specs.Wire.{int16, int32, uint32, oid, text, counted, nullable, frame}
@@ -193,3 +193,14 @@ WritesFrame tag ps lacks old new result = Writes (framed tag (joined ps)) (frame
 -- The call of a writer of the message.
 abbrev pub WritesMessage : {K : Type 0} → ClientMessage → (Held K → ℕ → Type 0) → Held K → Held K → Result (Unit {0}) Error → Type 0
 WritesMessage m lacks old new result = IsInRange m × Writes (bytes_of m) (cause m) lacks old new result
+
+-- the message has a spelling, and it was appended
+pub record Added (m : ClientMessage) (old new : List ℕ) : Type 0 where
+  pub none : cause m ≡ None
+  pub in_range : IsInRange m
+  pub bytes : new ≡ old ++ bytes_of m
+
+-- a reply was appended, or there is none
+abbrev pub AddsReply : Option ClientMessage → List ℕ → List ℕ → Type 0
+AddsReply None old new = new ≡ old
+AddsReply (Some m) old new = Added m old new

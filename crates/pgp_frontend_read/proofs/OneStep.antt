@@ -1,11 +1,12 @@
 -- A step has one answer.
-use Rattle.pgp_frontend_read.proofs.Common.{◌≡◌, ◌≢◌, ℕ, ℤ, pos, ◌+◌, ◌-◌, ◌<◌, ◌≤◌, ◌^◌, Bool, true, false, List, [], ◌∷◌, ◌++◌, length, map, Option, Some, None, Result, Ok, Err, refl, sym, ap, subst, ◌∙◌, append_assoc, arith, inl, inr, length-append, ◌==◌, ◌⊎◌, ◌||◌, IfSome, nat_lt, nat_le, w32, cast_signed, cast_unsigned, ne_eqb, cases_Bool, to_z_pos, to_z-of_z, oid, int32, uint32, Error, UnknownTag, length-uint32, int32_spelled, fronts, uint32_begins, ClientMessage, Bind, Close, CopyData, CopyDone, CopyFail, Describe, Execute, Flush, Parse, PasswordMessage, Query, SaslInitialResponse, SaslResponse, Sync, Terminate, Startup, CancelRequest, SslRequest, GssEncRequest, FunctionCall, PasswordKind, Password, Initial, Part, Int32, Key, Pairs, minor_code, parts, framed, tag_of, kind_of, HasMinor, Shape, AByte, AnInt16, AnInt32, AnOid, AText, SomeInt16s, SomeOids, SomeValues, ANullable, AllBytes, AKey, SomePairs, shape, bodies, tagged_bodies, Contents, Faulty, contents_at, made, ended, bind_of, close_of, describe_of, execute_of, function_call_of, parse_of, query_of, copy_fail_of, password_of, sasl_initial_of, reported_of, body_of, startup_of, cancel_of, named, by_code, packet_of, Unread, least, BeginsWithLength, BlamesFrame, IsUnknownPacket, BlamesPacket, SkipsFrame, StopsAt, StopsAtLength, Refuses, Step, ClientError, UnknownPacket, Reading, is_startup}
+use Rattle.pgp_frontend_read.proofs.Common.{◌≡◌, ◌≢◌, ℕ, ℤ, pos, ◌+◌, ◌-◌, ◌<◌, ◌≤◌, ◌^◌, Bool, true, false, List, [], ◌∷◌, ◌++◌, length, map, Option, Some, None, Result, Ok, Err, refl, sym, ap, subst, ◌∙◌, append_assoc, arith, inl, inr, length-append, ◌==◌, ◌⊎◌, ◌||◌, IfSome, nat_lt, nat_le, w32, cast_signed, cast_unsigned, ne_eqb, cases_Bool, to_z_pos, to_z-of_z, oid, int32, uint32, Error, UnknownTag, length-uint32, int32_spelled, ClientMessage, Bind, Close, CopyData, CopyDone, CopyFail, Describe, Execute, Flush, Parse, PasswordMessage, Query, SaslInitialResponse, SaslResponse, Sync, Terminate, Startup, CancelRequest, SslRequest, GssEncRequest, FunctionCall, PasswordKind, Password, Initial, Part, Int32, Key, Pairs, minor_code, parts, framed, tag_of, kind_of, HasMinor, Shape, AByte, AnInt16, AnInt32, AnOid, AText, SomeInt16s, SomeOids, SomeValues, ANullable, AllBytes, AKey, SomePairs, shape, bodies, tagged_bodies, Contents, Faulty, contents_at, made, ended, bind_of, close_of, describe_of, execute_of, function_call_of, parse_of, query_of, copy_fail_of, password_of, sasl_initial_of, reported_of, body_of, startup_of, cancel_of, named, by_code, packet_of, Unread, least, BeginsWithLength, BlamesFrame, IsUnknownPacket, BlamesPacket, SkipsFrame, StopsAt, StopsAtLength, Refuses, Step, ClientError, UnknownPacket, Reading, is_startup}
 use mir.Facts.{Fits-of_z}
 use Rattle.pgp_frontend_read.proofs.Forms.{coded, plain_code, version_there, version_read, some_is}
 use Rattle.pgp_frontend_read.proofs.OneFault.{faulty_err}
 use Rattle.pgp_frontend_read.proofs.Steps.{left}
-use Rattle.pgp_frontend_read.proofs.Runs.{stands_read, silence}
+use Rattle.pgp_frontend_read.proofs.Runs.{stands_read, silence, answer, no_message}
 use Rattle.pgp_frontend_read.proofs.Refusals.{partial_waits}
+use Rattle.pgp_frontend_read.proofs.Headers.{one_length}
 
 abbrev refusal : Error → Result ClientMessage Error
 refusal e = Err e
@@ -157,12 +158,6 @@ packet_read payload e (inr faulty) =
 
 -- ---- lengths
 
-two_lengths : (opened : Bool) (bytes : List ℕ) (m n : ℕ) → BeginsWithLength opened bytes m → BeginsWithLength opened bytes n → m ≡ n
-two_lengths opened bytes m n b c =
-    let same : b.front ++ (uint32 m ++ b.rest) ≡ c.front ++ (uint32 n ++ c.rest) = sym (append_assoc b.front (uint32 m) b.rest) ∙ sym b.parts ∙ c.parts ∙ append_assoc c.front (uint32 n) c.rest in
-    let f = fronts b.front c.front (uint32 m ++ b.rest) (uint32 n ++ c.rest) (b.at ∙ sym c.at) same in
-    (uint32_begins m n b.rest c.rest b.fits c.fits f.1).0
-
 frame_length : (tag : ℕ) (payload rest bytes : List ℕ) → bytes ≡ framed (Some tag) payload ++ rest → length payload + 4 < 2 ^ 31 → BeginsWithLength true bytes (length payload + 4)
 frame_length tag payload rest bytes whole fits = record { front = tag ∷ []; rest = payload ++ rest; at = refl; fits = omega (arith, fits); parts = whole ∙ append_assoc (tag ∷ uint32 (length payload + 4)) payload rest }
 
@@ -180,13 +175,13 @@ has_code payload e (inr faulty) = code_bytes payload faulty.rest faulty.code fau
 fault_frame : (kind : PasswordKind) (old new here : Unread) (d e : ClientError) → StopsAtLength old d new → SkipsFrame kind old e here → ⊥
 fault_frame kind old new here d e a b =
     let begins : BeginsWithLength old.opened old.bytes (length b.payload + 4) = subst (λ (o : Bool). BeginsWithLength o old.bytes (length b.payload + 4)) (sym b.phase) (frame_length b.tag b.payload here.bytes old.bytes b.whole b.fits) in
-    let same = two_lengths old.opened old.bytes a.fault.len (length b.payload + 4) a.fault.begins begins in
+    let same = one_length old.opened old.bytes a.fault.len (length b.payload + 4) a.fault.begins begins in
     elim a.fault.wrong [ inl small ↦ omega (arith, same, subst (λ (o : Bool). a.fault.len < least o) b.phase small) | inr large ↦ omega (arith, same, large, b.fits) ]
 
 fault_packet : (old new here : Unread) (d e : ClientError) → StopsAtLength old d new → StopsAt old e here → ⊥
 fault_packet old new here d e a b =
     let begins : BeginsWithLength old.opened old.bytes (length b.payload + 4) = subst (λ (o : Bool). BeginsWithLength o old.bytes (length b.payload + 4)) (sym b.phase) (packet_length b.payload b.rest old.bytes b.whole b.fits) in
-    let same = two_lengths old.opened old.bytes a.fault.len (length b.payload + 4) a.fault.begins begins in
+    let same = one_length old.opened old.bytes a.fault.len (length b.payload + 4) a.fault.begins begins in
     elim a.fault.wrong [ inl small ↦ omega (arith, same, has_code b.payload e b.blames, subst (λ (o : Bool). a.fault.len < least o) b.phase small) | inr large ↦ omega (arith, same, large, b.fits) ]
 
 -- ---- one answer
@@ -236,19 +231,13 @@ module _ (kind : PasswordKind) (old new here : Unread) (d e : ClientError) where
       by (inr (inr a)) (inr (inl b)) = absurd (both_phases old.opened b.phase a.phase)
       by (inr (inr a)) (inr (inr b)) = packets_one a b
 
-abbrev message : ClientMessage → Result (Option ClientMessage) ClientError
-message m = Ok (Some m)
-
 abbrev error : ClientError → Result (Option ClientMessage) ClientError
 error e = Err e
-
-no_message : (m : ClientMessage) → message m ≡ silence → ⊥
-no_message m e = cc
 
 no_error : (d : ClientError) → error d ≡ silence → ⊥
 no_error d e = cc
 
-not_both : (d : ClientError) (m : ClientMessage) → error d ≡ message m → ⊥
+not_both : (d : ClientError) (m : ClientMessage) → error d ≡ answer m → ⊥
 not_both d m e = cc
 
 pub step_one : (kind : PasswordKind) (old new here : Unread) (r s : Result (Option ClientMessage) ClientError) → Step kind old r new → Step kind old s here → (r ≡ s) × (new ≡ here)

@@ -1,9 +1,9 @@
 -- However a client's connection is cut into pieces, the bytes as a whole give the same.
-use Rattle.pgp_frontend_read.proofs.Common.{◌≡◌, ℕ, false, List, [], ◌∷◌, ◌++◌, Option, Some, None, Result, Ok, Err, refl, sym, ap, subst, ◌∙◌, append_assoc, inl, inr, flat_map, ClientMessage, PasswordKind, ClientRun, Reads, HasRead, IsEnd, IsAllRead, next_kind, kinds_behind, Unread, Step, Waiting, unread, ClientError, append-nil}
+use Rattle.pgp_frontend_read.proofs.Common.{◌≡◌, ℕ, false, List, [], ◌∷◌, ◌++◌, Option, Some, None, Result, Ok, Err, refl, sym, ap, subst, ◌∙◌, append_assoc, inl, inr, flat_map, ClientMessage, PasswordKind, ClientRun, Reads, HasRead, IsAllRead, next_kind, kinds_behind, Unread, Step, Waiting, unread, ClientError, append-nil}
 use Rattle.pgp_frontend_read.specs.PieceReads.{Received, Gives, ReadsPiece, ReadsPieces, messages_of, piece_of}
 use Rattle.pgp_frontend_read.proofs.OneStep.{step_one}
 use Rattle.pgp_frontend_read.proofs.Pieces.{pieces_read}
-use Rattle.pgp_frontend_read.proofs.Runs.{session_read, cons}
+use Rattle.pgp_frontend_read.proofs.Runs.{session_read, cons, is_message, no_end}
 use Rattle.pgp_frontend_read.proofs.Steps.{left}
 
 same_unread : (old new : Waiting) (piece rest : List ℕ) → new ≡ old → rest ≡ piece → unread new rest ≡ unread old piece
@@ -48,15 +48,6 @@ pieces_read_on lacks kinds others old here new (p ∷ received) last messages en
 
 -- ---- bytes are read in one way
 
-is_message : (m : ClientMessage) (r : Result (Option ClientMessage) ClientError) → r ≡ Ok (Some m) → IsEnd r → ⊥
-is_message m r e h = subst IsEnd e h
-
-abbrev answered : ClientMessage → Result (Option ClientMessage) ClientError
-answered m = Ok (Some m)
-
-same_message : (m n : ClientMessage) → answered m ≡ answered n → m ≡ n
-same_message m n e = cc
-
 pub record Same (all messages : List ClientMessage) (result end : Result (Option ClientMessage) ClientError) (behind new : Unread) : Type 0 where
   pub messages_are : all ≡ messages
   pub end_is : result ≡ end
@@ -66,12 +57,12 @@ pub reads_one : (kinds : List PasswordKind) (old new behind : Unread) (all messa
     → Reads kinds old all result behind → Reads kinds old messages end new → Same all messages result end behind new
 reads_one kinds old new behind [] [] result end x y = let s = step_one (next_kind kinds) old behind new result end x.0 y.0 in record { messages_are = refl; end_is = s.0; left_is = s.1 }
 reads_one kinds old new behind [] (n ∷ messages) result end x y =
-    let s = step_one (next_kind kinds) old behind y.0 result (Ok (Some n)) x.0 y.1 in absurd (is_message n result s.0 x.1)
+    let s = step_one (next_kind kinds) old behind y.0 result (Ok (Some n)) x.0 y.1 in absurd (no_end n result s.0 x.1)
 reads_one kinds old new behind (m ∷ all) [] result end x y =
-    let s = step_one (next_kind kinds) old new x.0 end (Ok (Some m)) y.0 x.1 in absurd (is_message m end s.0 y.1)
+    let s = step_one (next_kind kinds) old new x.0 end (Ok (Some m)) y.0 x.1 in absurd (no_end m end s.0 y.1)
 reads_one kinds old new behind (m ∷ all) (n ∷ messages) result end x y =
     let s = step_one (next_kind kinds) old x.0 y.0 (Ok (Some m)) (Ok (Some n)) x.1 y.1 in
-    let same : m ≡ n = same_message m n s.0 in
+    let same : m ≡ n = is_message m n s.0 in
     let on : Reads (kinds_behind n kinds) y.0 all result behind = subst (λ (u : Unread). Reads (kinds_behind n kinds) u all result behind) s.1 (subst (λ k. Reads (kinds_behind k kinds) x.0 all result behind) same x.2) in
     let more = reads_one (kinds_behind n kinds) y.0 new behind all messages result end on y.2 in
     record { messages_are = cons m n all messages same more.messages_are; end_is = more.end_is; left_is = more.left_is }

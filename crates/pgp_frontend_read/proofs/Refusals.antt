@@ -2,6 +2,7 @@
 use Rattle.pgp_frontend_read.proofs.Common.{◌≡◌, ℕ, ◌+◌, ◌<◌, ◌≤◌, ◌^◌, Bool, true, false, List, [], ◌∷◌, ◌++◌, length, Option, Some, None, Result, Ok, Err, refl, sym, ap, subst, ◌∙◌, append_assoc, arith, length-append, inl, inr, IsErr, uint32, ClientError, fronts, uint32_begins, ClientMessage, PasswordKind, framed, Unread, least, BeginsWithLength, IsPartial, Refuses, Step, append-nil}
 use Rattle.pgp_frontend_read.proofs.Fronts.{behind_length}
 use Rattle.pgp_frontend_read.proofs.Steps.{left, partial_none}
+use Rattle.pgp_frontend_read.proofs.Headers.{begins_behind}
 
 -- where bytes are missing, the length that stands there reports it
 pub record TellsMissing (opened : Bool) (len behind : ℕ) : Type 0 where
@@ -17,9 +18,6 @@ partial_length opened bytes len b (inr p) =
     let f = fronts b.front p.begins.front (uint32 len ++ b.rest) (uint32 p.len ++ p.begins.rest) (b.at ∙ sym p.begins.at) same in
     let g = uint32_begins len p.len b.rest p.begins.rest b.fits p.begins.fits f.1 in
     record { enough = omega (arith, g.0, p.enough); fits = omega (arith, g.0, p.fits); missing = omega (arith, g.0, ap length g.1, p.missing) }
-
-pub more_behind : (opened : Bool) (bytes more : List ℕ) (len : ℕ) → BeginsWithLength opened bytes len → BeginsWithLength opened (bytes ++ more) len
-more_behind opened bytes more len b = record { front = b.front; rest = b.rest ++ more; at = b.at; fits = b.fits; parts = ap (λ l. l ++ more) b.parts ∙ append_assoc (b.front ++ uint32 len) b.rest more }
 
 pub whole_frame : (tag : ℕ) (payload rest bytes : List ℕ) → bytes ≡ framed (Some tag) payload ++ rest → length payload + 4 < 2 ^ 31 → IsPartial true bytes → ⊥
 whole_frame tag payload rest bytes whole fits part =
@@ -49,7 +47,7 @@ never_waits : (kind : PasswordKind) (old new : Unread) (e : ClientError) (more :
 never_waits kind old new e more refused part =
     elim refused.left [
       | inl at ↦
-          let t = partial_length old.opened (old.bytes ++ more) at.fault.len (more_behind old.opened old.bytes more at.fault.len at.fault.begins) part in
+          let t = partial_length old.opened (old.bytes ++ more) at.fault.len (begins_behind old.opened old.bytes more at.fault.len at.fault.begins) part in
           elim at.fault.wrong [ inl small ↦ omega (arith, small, t.enough) | inr large ↦ omega (arith, large, t.fits) ]
       | inr other ↦ elim other [
         | inl skips ↦

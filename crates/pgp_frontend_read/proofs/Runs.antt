@@ -23,7 +23,7 @@ stands_once kind false bytes rest after m n s t =
     let on : Opening n (bytes_of n) = record { untagged = t.expected; spelled = t.spelled; are = refl } in
     opening_read m n (bytes_of m) (bytes_of n) rest after om on (sym s.whole ∙ t.whole)
 
-abbrev answer : ClientMessage → Result (Option ClientMessage) ClientError
+abbrev pub answer : ClientMessage → Result (Option ClientMessage) ClientError
 answer m = Ok (Some m)
 
 same_left : (new : Unread) (bytes : List ℕ) (opened : Bool) → new.bytes ≡ bytes → new.opened ≡ opened → new ≡ left bytes opened
@@ -126,16 +126,16 @@ behind opened kinds m messages bytes run = record {
   whole = refl;
 }
 
-no_end : (m : ClientMessage) (r : Result (Option ClientMessage) ClientError) → r ≡ Ok (Some m) → IsEnd r → ⊥
+pub no_end : (m : ClientMessage) (r : Result (Option ClientMessage) ClientError) → r ≡ Ok (Some m) → IsEnd r → ⊥
 no_end m r e h = subst IsEnd e h
 
-is_message : (m n : ClientMessage) → answer m ≡ answer n → m ≡ n
+pub is_message : (m n : ClientMessage) → answer m ≡ answer n → m ≡ n
 is_message m n e = cc
 
 abbrev pub silence : Result (Option ClientMessage) ClientError
 silence = Ok None
 
-no_message : (n : ClientMessage) → answer n ≡ silence → ⊥
+pub no_message : (n : ClientMessage) → answer n ≡ silence → ⊥
 no_message n e = cc
 
 pub cons : (m n : ClientMessage) (l k : List ClientMessage) → m ≡ n → l ≡ k → m ∷ l ≡ n ∷ k

@@ -1,7 +1,7 @@
 -- Private: reading a message from the left, as the code does it. What stands there in the grammar's terms is `Step`.
 use Rattle.std.specs.Prelude.{◌≡◌, ℕ, ℤ, zero, suc, ◌-◌, List, [], ◌∷◌, length, take, drop, Option, Some, None, Result, Ok, Err, nat_lt, nat_le, ◌==◌, if◌then◌else◌}
 use Rattle.pgp_base.specs.declared.error.Error.{Error}
-use Rattle.pgp_base.specs.declared.error.Error.TheVariants.{UnknownTag, UnexpectedEof, NotDrained, InvalidValueLength}
+use Rattle.pgp_base.specs.declared.error.Error.TheVariants.{UnknownTag, UnexpectedEof, InvalidValueLength}
 use Rattle.std.specs.Int.{w32, cast_signed}
 use Rattle.pgp_base.specs.Cause.{Cause}
 use Rattle.pgp_base.specs.PartReading.{◌>>=◌, byte_at, uint16_at, oid_at, int16_at, int32_at, string_at}
@@ -12,14 +12,12 @@ use Rattle.pgp_frontend.specs.Reading.{Shape, AByte, AnInt16, AnInt32, AnOid, AT
 use Rattle.pgp_frontend_read.specs.Content.{Content, Contents, Then}
 use Rattle.pgp_frontend_read.specs.declared.error.ClientError.{ClientError}
 use Rattle.pgp_frontend_read.specs.declared.error.ClientError.TheVariants.{UnknownPacket, Reading}
+pub use Rattle.pgp_base.specs.PartReading.{type_at, ended, made}
 
 -- ---- items of lists
 
 abbrev pub format_at : List ℕ → Result (ℤ × List ℕ) Error
 format_at bytes = int16_at bytes >>= λ x. Ok x
-
-abbrev pub type_at : List ℕ → Result (ℕ × List ℕ) Error
-type_at bytes = oid_at bytes >>= λ x. Ok x
 
 -- the length of all ones stands for a null
 abbrev pub value_after : ℕ → List ℕ → Result (Option (List ℕ) × List ℕ) Error
@@ -108,11 +106,6 @@ content_at AllBytes bytes = Ok (bytes, [])
 content_at AKey bytes = key_at bytes
 content_at SomePairs bytes = pairs_at bytes
 
--- the value, where no byte is left
-abbrev pub ended : {A : Type 0} → A → List ℕ → Result A Error
-ended x [] = Ok x
-ended x (b ∷ rest) = Err NotDrained
-
 abbrev pub before : {A B : Type 0} → A → Result B Error → Result (Then A B) Error
 before x (Ok y) = Ok (record { first = x; rest = y })
 before x (Err e) = Err e
@@ -127,11 +120,6 @@ contents_at [] bytes = ended tt bytes
 contents_at (s ∷ shapes) bytes = contents_on (contents_at shapes) (content_at s bytes)
 
 -- ---- messages
-
--- a message made of what was read
-abbrev pub made : {X Y : Type 0} → (X → Y) → Result X Error → Result Y Error
-made f (Ok x) = Ok (f x)
-made f (Err e) = Err e
 
 unfoldable pub bind_of : List ℕ → Result ClientMessage Error
 bind_of payload = made (λ c. Bind c.first c.rest.first c.rest.rest.first c.rest.rest.rest.first c.rest.rest.rest.rest.first)

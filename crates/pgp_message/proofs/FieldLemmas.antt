@@ -1,19 +1,12 @@
 -- The columns of a row are read as they are spelled.
-use Rattle.pgp_message.proofs.Common.{◌≡◌, ℕ, ℤ, ◌+◌, ◌<◌, ◌^◌, List, [], ◌∷◌, ◌++◌, length, Some, Result, Ok, Err, refl, sym, ap, subst, ◌∙◌, append_assoc, arith, inl, inr, length-append, FitsSigned, w16, w32, from_be_bytes, cast_signed, Error, UnexpectedEof, NotUtf8, int16, int32, oid, text, IsBytes, StandsAt, IsReader, ◌>>=◌, oid_at, int16_at, int32_at, text_at, ok_is, differ, IsBytes-after, err, err_is, bind_ok, bind_err, oid_number, int16_number, int32_number, number_takes, number_again, number_short, front_falls, AnyBytes, NameSpelled, NameRefused, FieldPart, numbers_of, NumbersFit, ColumnSpelled, ColumnRefused, FieldSpelled, FieldRefused, RawFieldSpelled, RawFieldRefused, numbers_at, numbers_after, column_at, field_at, raw_field_at, raw_string_at, IsUtf8}
+use Rattle.pgp_message.proofs.Common.{◌≡◌, ℕ, ℤ, ◌+◌, ◌<◌, List, [], ◌∷◌, ◌++◌, length, Some, Result, Ok, Err, refl, sym, ap, subst, ◌∙◌, append_assoc, arith, inl, inr, length-append, FitsSigned, w16, w32, from_be_bytes, cast_signed, Error, UnexpectedEof, NotUtf8, int16, int32, oid, text, IsBytes, StandsAt, IsReader, ◌>>=◌, oid_at, int16_at, int32_at, text_at, ok_is, differ, IsBytes-after, err, err_is, bind_ok, bind_err, oid_number, int16_number, int32_number, number_takes, number_again, number_short, front_falls, AnyBytes, NameSpelled, NameRefused, FieldPart, numbers_of, NumbersFit, ColumnSpelled, ColumnRefused, FieldSpelled, FieldRefused, RawFieldSpelled, RawFieldRefused, numbers_at, numbers_after, column_at, field_at, raw_field_at, raw_string_at, IsUtf8}
 use Rattle.pgp_message.proofs.RawLemmas.{string_reader}
 use Rattle.pgp_message.proofs.TextLemmas.{text_reader}
-
-abbrev oid_value : List ℕ → ℕ
-oid_value l = from_be_bytes w32 l
+use Rattle.pgp_message.proofs.NumberLemmas.{IsType, type_value}
+use Rattle.pgp_base.proofs.PartLemmas.{int32_value}
 
 abbrev int16_value : List ℕ → ℤ
 int16_value l = cast_signed w16 (from_be_bytes w16 l)
-
-abbrev int32_value : List ℕ → ℤ
-int32_value l = cast_signed w32 (from_be_bytes w32 l)
-
-abbrev IsOid : ℕ → Type 0
-IsOid n = n < 2 ^ 32
 
 -- what is read after each number
 abbrev after_5 : List ℕ → ℕ × List ℕ → ℤ × List ℕ → ℕ × List ℕ → ℤ × List ℕ → ℤ × List ℕ → ℤ × List ℕ → Result (FieldPart × List ℕ) Error
@@ -65,7 +58,7 @@ six name rest x after is =
 numbers_len : (name rest : List ℕ) (x : FieldPart) (after : List ℕ) → numbers_at name rest ≡ Ok (x, after) → length after + 18 ≡ length rest
 numbers_len name rest x after is =
     let s = six name rest x after is in
-    omega (arith, front_falls 4 oid_value rest _ s.e0, front_falls 2 int16_value s.r1 _ s.e1, front_falls 4 oid_value s.r2 _ s.e2, front_falls 2 int16_value s.r3 _ s.e3, front_falls 4 int32_value s.r4 _ s.e4, front_falls 2 int16_value s.r5 _ s.e5)
+    omega (arith, front_falls 4 type_value rest _ s.e0, front_falls 2 int16_value s.r1 _ s.e1, front_falls 4 type_value s.r2 _ s.e2, front_falls 2 int16_value s.r3 _ s.e3, front_falls 4 int32_value s.r4 _ s.e4, front_falls 2 int16_value s.r5 _ s.e5)
 
 pub record TakesNumbers (name rest : List ℕ) (x : FieldPart) (after : List ℕ) : Type 0 where
   pub name_is : x.name ≡ name
@@ -78,9 +71,9 @@ joined_numbers a b c d e f after = simp append_assoc refl
 pub numbers_found : (name rest : List ℕ) (x : FieldPart) (after : List ℕ) → IsBytes rest → numbers_at name rest ≡ Ok (x, after) → TakesNumbers name rest x after
 numbers_found name rest x after h is =
     let s = six name rest x after is in
-    let a = number_takes 4 IsOid oid oid_value oid_number rest (x.table_oid, s.r1) h s.e0 in
+    let a = number_takes 4 IsType oid type_value oid_number rest (x.table_oid, s.r1) h s.e0 in
     let b = number_takes 2 (FitsSigned w16) int16 int16_value int16_number s.r1 (x.column_id, s.r2) a.tail s.e1 in
-    let c = number_takes 4 IsOid oid oid_value oid_number s.r2 (x.type_oid, s.r3) b.tail s.e2 in
+    let c = number_takes 4 IsType oid type_value oid_number s.r2 (x.type_oid, s.r3) b.tail s.e2 in
     let d = number_takes 2 (FitsSigned w16) int16 int16_value int16_number s.r3 (x.type_size, s.r4) c.tail s.e3 in
     let e = number_takes 4 (FitsSigned w32) int32 int32_value int32_number s.r4 (x.type_modifier, s.r5) d.tail s.e4 in
     let f = number_takes 2 (FitsSigned w16) int16 int16_value int16_number s.r5 (x.format, after) e.tail s.e5 in
@@ -96,9 +89,9 @@ unfolding numbers_at
 numbers_again x after fits =
     let parts = sym (joined_numbers (oid x.table_oid) (int16 x.column_id) (oid x.type_oid) (int16 x.type_size) (int32 x.type_modifier) (int16 x.format) after) in
     ap (numbers_at x.name) parts ∙ rw (
-      number_again 4 IsOid oid oid_value oid_number x.table_oid (int16 x.column_id ++ (oid x.type_oid ++ (int16 x.type_size ++ (int32 x.type_modifier ++ (int16 x.format ++ after))))) fits.table_oid,
+      number_again 4 IsType oid type_value oid_number x.table_oid (int16 x.column_id ++ (oid x.type_oid ++ (int16 x.type_size ++ (int32 x.type_modifier ++ (int16 x.format ++ after))))) fits.table_oid,
       number_again 2 (FitsSigned w16) int16 int16_value int16_number x.column_id (oid x.type_oid ++ (int16 x.type_size ++ (int32 x.type_modifier ++ (int16 x.format ++ after)))) fits.column_id,
-      number_again 4 IsOid oid oid_value oid_number x.type_oid (int16 x.type_size ++ (int32 x.type_modifier ++ (int16 x.format ++ after))) fits.type_oid,
+      number_again 4 IsType oid type_value oid_number x.type_oid (int16 x.type_size ++ (int32 x.type_modifier ++ (int16 x.format ++ after))) fits.type_oid,
       number_again 2 (FitsSigned w16) int16 int16_value int16_number x.type_size (int32 x.type_modifier ++ (int16 x.format ++ after)) fits.type_size,
       number_again 4 (FitsSigned w32) int32 int32_value int32_number x.type_modifier (int16 x.format ++ after) fits.type_modifier,
       number_again 2 (FitsSigned w16) int16 int16_value int16_number x.format after fits.format,
@@ -113,17 +106,17 @@ pub numbers_refused : (name rest : List ℕ) (e : Error) → numbers_at name res
 unfolding numbers_at
 numbers_refused name rest e is =
     elim (bind_err (oid_at rest) (after_0 name) e is) [
-      | inl cut ↦ record { is = cut.1; short = omega (arith, number_short 4 IsOid oid oid_value oid_number rest cut.0) }
+      | inl cut ↦ record { is = cut.1; short = omega (arith, number_short 4 IsType oid type_value oid_number rest cut.0) }
       | inr a ↦
-          let fa = front_falls 4 oid_value rest a.0 a.1 in
+          let fa = front_falls 4 type_value rest a.0 a.1 in
           elim (bind_err (int16_at a.0.1) (after_1 name a.0) e a.2) [
             | inl cut ↦ record { is = cut.1; short = omega (arith, fa, number_short 2 (FitsSigned w16) int16 int16_value int16_number a.0.1 cut.0) }
             | inr b ↦
                 let fb = front_falls 2 int16_value a.0.1 b.0 b.1 in
                 elim (bind_err (oid_at b.0.1) (after_2 name a.0 b.0) e b.2) [
-                  | inl cut ↦ record { is = cut.1; short = omega (arith, fa, fb, number_short 4 IsOid oid oid_value oid_number b.0.1 cut.0) }
+                  | inl cut ↦ record { is = cut.1; short = omega (arith, fa, fb, number_short 4 IsType oid type_value oid_number b.0.1 cut.0) }
                   | inr c ↦
-                      let fc = front_falls 4 oid_value b.0.1 c.0 c.1 in
+                      let fc = front_falls 4 type_value b.0.1 c.0 c.1 in
                       elim (bind_err (int16_at c.0.1) (after_3 name a.0 b.0 c.0) e c.2) [
                         | inl cut ↦ record { is = cut.1; short = omega (arith, fa, fb, fc, number_short 2 (FitsSigned w16) int16 int16_value int16_number c.0.1 cut.0) }
                         | inr d ↦

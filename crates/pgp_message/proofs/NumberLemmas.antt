@@ -7,10 +7,10 @@ IsFormat n = n < 2 ^ 16
 abbrev format_value : List ℕ → ℕ
 format_value l = from_be_bytes w16 l
 
-abbrev IsType : ℕ → Type 0
+abbrev pub IsType : ℕ → Type 0
 IsType n = n < 2 ^ 32
 
-abbrev type_value : List ℕ → ℕ
+abbrev pub type_value : List ℕ → ℕ
 type_value l = from_be_bytes w32 l
 
 abbrev done : ℕ × List ℕ → Result (ℕ × List ℕ) Error

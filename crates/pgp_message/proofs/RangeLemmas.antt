@@ -1,8 +1,6 @@
 -- The values of a row are read as they are spelled.
-use Rattle.pgp_message.proofs.Common.{◌≡◌, ℕ, ℤ, pos, negsuc, ◌+◌, ◌<◌, ◌≤◌, false, ltb, List, ◌++◌, length, take, drop, Option, Some, None, Ok, Err, refl, sym, ap, subst, ◌∙◌, append_assoc, arith, inl, inr, FitsSigned, length-append, w32, from_be_bytes, cast_signed, Range, ltb-false, ltb-true, le-ltb, lt-ltb, drop_at, take-append-drop, length-take, Error, UnexpectedEof, int32, IsBytes, StandsAt, IsReader, int32_at, ok_is, differ, bind_ok, bind_err, guard_ok, guard_err, int32_number, number_takes, number_again, number_short, short_number, RangeSpelled, RangeRefused, range_after, range_at}
-
-abbrev int32_value : List ℕ → ℤ
-int32_value l = cast_signed w32 (from_be_bytes w32 l)
+use Rattle.pgp_message.proofs.Common.{◌≡◌, ℕ, ℤ, pos, negsuc, ◌+◌, ◌<◌, ◌≤◌, false, ltb, List, ◌++◌, length, take, drop, Option, Some, None, Ok, Err, refl, sym, ap, subst, ◌∙◌, append_assoc, arith, inl, inr, FitsSigned, length-append, w32, Range, ltb-false, ltb-true, le-ltb, lt-ltb, drop_at, take-append-drop, length-take, Error, UnexpectedEof, int32, IsBytes, StandsAt, IsReader, int32_at, ok_is, differ, bind_ok, bind_err, guard_ok, guard_err, int32_number, number_takes, number_again, number_short, short_number, RangeSpelled, RangeRefused, range_after, range_at}
+use Rattle.pgp_base.proofs.PartLemmas.{int32_value}
 
 same_range : (r : Range ℕ) (a b : ℕ) → r.start ≡ a → r.end ≡ b → record { start = a; end = b } ≡ r
 same_range r a b s e = rw (sym s, sym e) refl

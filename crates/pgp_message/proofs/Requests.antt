@@ -4,6 +4,7 @@ use mir.Facts.{Fits-of_z}
 use borrow.Author.Gap.{read_sfits}
 use Rattle.pgp_base.specs.declared.error.Error.TheVariants as errors
 use Rattle.pgp_message.proofs.Families.{code_again, code_takes, salt_again, salt_reads, Holds, Reads}
+use Rattle.pgp_base.proofs.Parts.{int32_spelled}
 
 -- a test of a number decides
 pub pick : {R : Type 0} (P : R → Type 0) (tag n : ℕ) (this other : R) → (n ≡ tag → P this) → (n ≢ tag → P other) → P (cond (eqb tag n) this other)
@@ -75,10 +76,6 @@ code_small AuthenticationSspi = lit< tt
 code_small (AuthenticationSasl bytes) = lit< tt
 code_small (AuthenticationSaslContinue bytes) = lit< tt
 code_small (AuthenticationSaslFinal bytes) = lit< tt
-
-int32_spelled : (z : ℤ) → int32 z ≡ uint32 (cast_unsigned w32 z)
-unfolding int32 uint32
-int32_spelled z = refl
 
 -- a code that no request has, as it is read and as it is spelled
 unknown_signed : (n : ℕ) → n < 2 ^ 32 → ((q : Request) → code_of q ≢ n) → (q : Request) → pos (code_of q) ≢ cast_signed w32 n

@@ -10,7 +10,7 @@ use Rattle.pgp_message.proofs.Bodies.{one_body}
 pub frames_none : (bytes : List ℕ) → Frames bytes [] bytes
 frames_none bytes = record { frames = []; whole = refl; each = tt; bodies = tt }
 
-bodies_push : (frames : List Frame) (results : List (Result Message Error)) (f : Frame) (r : Result Message Error) → Bodies frames results → Body f.tag f.payload r → Bodies (frames ++ f ∷ []) (results ++ r ∷ [])
+pub bodies_push : (frames : List Frame) (results : List (Result Message Error)) (f : Frame) (r : Result Message Error) → Bodies frames results → Body f.tag f.payload r → Bodies (frames ++ f ∷ []) (results ++ r ∷ [])
 bodies_push [] [] f r all one = (one, tt)
 bodies_push [] (s ∷ results) f r all one = absurd all
 bodies_push (g ∷ frames) [] f r all one = absurd all

@@ -1,6 +1,7 @@
 -- Bodies whose texts are cut from their bytes.
 use Rattle.pgp_message.proofs.Common.{◌≡◌, ℕ, ℤ, ◌+◌, ◌-◌, ◌≤◌, ◌<◌, List, [], ◌∷◌, ◌++◌, length, take, drop, Some, Err, refl, sym, ap, ◌∙◌, arith, append_assoc, length-take, take_at, drop_at, nil_from_length, drop-append-add, w32, from_be_bytes, cast_signed, NotDrained, int32_at, string_at, ok, front_takes, string_takes, first_text, after_text, Notification, Setting, string_of, setting_of, notification_of}
 use Rattle.std.proofs.lemmas.List.{length-append}
+use Rattle.pgp_base.proofs.PartLemmas.{int32_value}
 
 -- the text is the front of the bytes
 text_is : (bytes text rest : List ℕ) → string_at bytes ≡ Some (text, rest) → take (length text) bytes ≡ text
@@ -36,13 +37,10 @@ setting_is payload name rest value end texts s t e cut =
     let kept = setting_kept payload name rest value end texts s t e cut in
     rw (s, t, none, first_text texts name value kept, after_text texts name value kept) refl
 
-abbrev id_value : List ℕ → ℤ
-id_value l = cast_signed w32 (from_be_bytes w32 l)
-
 -- the process id takes four bytes
-id_takes : (payload rest : List ℕ) (id : ℤ) → int32_at payload ≡ Some (id, rest) → (length (take 4 payload) ≡ 4) × (id ≡ id_value (take 4 payload)) × (payload ≡ take 4 payload ++ rest)
+id_takes : (payload rest : List ℕ) (id : ℤ) → int32_at payload ≡ Some (id, rest) → (length (take 4 payload) ≡ 4) × (id ≡ int32_value (take 4 payload)) × (payload ≡ take 4 payload ++ rest)
 id_takes payload rest id i =
-    let f = front_takes 4 id_value payload (id, rest) i in
+    let f = front_takes 4 int32_value payload (id, rest) i in
     (omega (arith, length-take 4 payload, f.0), f.1, f.2)
 
 -- the last zero is cut off
@@ -70,7 +68,7 @@ notification_is payload rest channel after message end new id i s t e cut =
     let texts = channel ++ 0 ∷ message in
     let front = id_takes payload rest id i in
     let kept = notification_kept payload rest channel after message end new id i s t e cut in
-    let number : id_value (take 4 new) ≡ id = ap id_value (ap (take 4) kept ∙ take_at head texts 4 front.0) ∙ sym front.1 in
+    let number : int32_value (take 4 new) ≡ id = ap int32_value (ap (take 4) kept ∙ take_at head texts 4 front.0) ∙ sym front.1 in
     let behind : drop 4 new ≡ texts = ap (drop 4) kept ∙ drop_at head texts 4 front.0 in
     let skips : length channel + 5 ≡ length head + (length channel + 1) = omega (arith, front.0) in
     let said : drop (length channel + 5) new ≡ message = ap (drop (length channel + 5)) kept ∙ ap (λ n. drop n (head ++ texts)) skips ∙ drop-append-add head texts (length channel + 1) ∙ after_text texts channel message refl in

@@ -5,12 +5,10 @@ use Rattle.pgp_base.specs.declared.error.Error.{Error}
 use Rattle.pgp_base.specs.declared.error.Error.TheVariants.{UnexpectedEof}
 use Rattle.pgp_base.specs.PartReading.{◌>>=◌, uint16_at, oid_at, int16_at, int32_at, string_at, text_at}
 use Rattle.pgp_message.specs.Items.{FieldPart, ErrorPart}
+pub use Rattle.pgp_base.specs.PartReading.{type_at}
 
 abbrev pub format_at : List ℕ → Result (ℕ × List ℕ) Error
 format_at bytes = uint16_at bytes >>= λ x. Ok x
-
-abbrev pub type_at : List ℕ → Result (ℕ × List ℕ) Error
-type_at bytes = oid_at bytes >>= λ x. Ok x
 
 abbrev pub range_after : ℕ → ℤ → List ℕ → Result (Option (Range ℕ) × List ℕ) Error
 range_after place (negsuc k) rest = Ok (None, rest)

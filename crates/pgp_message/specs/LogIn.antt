@@ -1,6 +1,8 @@
 -- What a server asks of a client that logs in. PostgreSQL manual, "Message Flow": "Start-up"; "SASL Authentication".
-use Rattle.std.specs.Prelude.{ℕ, List}
+use Rattle.std.specs.Prelude.{ℕ, List, Contains, None}
 use Rattle.pgp_message.specs.BackendMessage.{Message, Authentication, AuthenticationOk, AuthenticationCleartextPassword, AuthenticationMd5Password, AuthenticationSasl, AuthenticationSaslContinue, AuthenticationSaslFinal}
+use Rattle.pgp_base.specs.Items.{MarkedItems}
+use Rattle.pgp_message.specs.Items.{TextSpelled, TextRefused}
 
 -- what a message asks of a client that logs in
 pub data Asking : Type 0 where
@@ -23,3 +25,7 @@ asking (Authentication (AuthenticationSaslContinue text)) = First text
 asking (Authentication (AuthenticationSaslFinal text)) = Final text
 asking (Authentication request) = Other
 asking m = Nothing
+
+-- the list of mechanisms ends well, and this is one of them
+abbrev pub Lists : List ℕ → List ℕ → Type 0
+Lists name mechanisms = (names : List (List ℕ)) × MarkedItems TextSpelled TextRefused mechanisms names None × Contains names name

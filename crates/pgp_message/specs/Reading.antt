@@ -1,21 +1,12 @@
 -- Private: reading a body from the left, as the code does it. what it returns is the one result that `Body` allows.
-use Rattle.std.specs.Prelude.{ℕ, ℤ, pos, negsuc, List, [], ◌∷◌, length, Result, Ok, Err, nat_lt, ◌==◌, if◌then◌else◌}
+use Rattle.std.specs.Prelude.{ℕ, ℤ, pos, negsuc, List, length, Result, Ok, Err, nat_lt, ◌==◌, if◌then◌else◌}
 use Rattle.std.specs.Int.{w32, cast_signed}
 use Rattle.pgp_base.specs.declared.error.Error.{Error}
 use Rattle.pgp_base.specs.declared.error.Error.TheVariants.{UnknownTag, UnknownAuthentication, UnexpectedEof, NotDrained, InvalidCount}
 use Rattle.pgp_base.specs.PartReading.{◌>>=◌, front_at, byte_at, uint16_at, oid_at, int32_at, string_at}
 use Rattle.pgp_message.specs.Parts.{Notification, KeyData, Setting, CountedBytes, Negotiation, CopyFormats}
 use Rattle.pgp_message.specs.BackendMessage.{Request, AuthenticationOk, AuthenticationKerberosV5, AuthenticationCleartextPassword, AuthenticationMd5Password, AuthenticationScmCredential, AuthenticationGss, AuthenticationGssContinue, AuthenticationSspi, AuthenticationSasl, AuthenticationSaslContinue, AuthenticationSaslFinal, Message, ParseComplete, BindComplete, CloseComplete, NotificationResponse, CommandComplete, DataRow, ErrorResponse, CopyInResponse, CopyOutResponse, EmptyQueryResponse, BackendKeyData, NegotiateProtocolVersion, NoticeResponse, Authentication, ParameterStatus, RowDescription, ReadyForQuery, CopyDone, CopyData, NoData, PortalSuspended, ParameterDescription}
-
--- the value, where no byte is left
-abbrev pub ended : {A : Type 0} → A → List ℕ → Result A Error
-ended x [] = Ok x
-ended x (b ∷ rest) = Err NotDrained
-
--- a message made of what was read
-abbrev pub made : {X Y : Type 0} → (X → Y) → Result X Error → Result Y Error
-made f (Ok x) = Ok (f x)
-made f (Err e) = Err e
+pub use Rattle.pgp_base.specs.PartReading.{ended, made}
 
 -- the families of bodies
 

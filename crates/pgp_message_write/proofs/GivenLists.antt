@@ -1,5 +1,5 @@
 -- Lists whose items come from an iterator.
-use Rattle.pgp_message_write.proofs.Common.{◌≡◌, ℕ, ◌+◌, List, [], ◌∷◌, ◌++◌, length, map, Option, Some, None, Ok, Err, refl, sym, ap, ◌∙◌, subst, arith, inl, inr, length-append, true, false, ◌<◌, ◌^◌, ◌⊎◌, OnOk, w32, cast_unsigned, flat_map, append-nil, length-map, flat_map-append, flat_map-map, uint16, uint32, int32, frame, Cause, either, count_cause, length_cause, Wants, WantsMemory, Held, ◌⊕◌, Leaves, Error, either_then, memory_then, int32_spelled, length-uint16, length-uint32, Part, Byte, Rest, joined, parts_cause, frame_cause, framed, PutsParts, PartsRefused, framed_length, int32_length, tagged_length, Message, tag_of, number_cause, uncounted, items_cause, Arrived, SoFarRefused, GivenRefused, WritesBytes, WritesGiven, counted_list, wide_list, marked_list, parts, bytes_of}
+use Rattle.pgp_message_write.proofs.Common.{◌≡◌, ℕ, ◌+◌, List, [], ◌∷◌, ◌++◌, length, map, Option, Some, None, Ok, Err, refl, sym, ap, ◌∙◌, subst, arith, inl, inr, length-append, true, false, ◌<◌, ◌^◌, ◌⊎◌, OnOk, w32, cast_unsigned, flat_map, append-nil, length-map, flat_map-append, flat_map-map, uint16, uint32, int32, frame, Cause, either, count_cause, length_cause, Wants, WantsMemory, Held, ◌⊕◌, Leaves, Error, either_then, memory_then, int32_spelled, length-uint16, length-uint32, Part, Byte, Rest, joined, parts_cause, frame_cause, framed, PutsParts, PartsRefused, framed_length, length-int32, tagged_length, Message, tag_of, number_cause, uncounted, items_cause, Arrived, SoFarRefused, GivenRefused, WritesBytes, WritesGiven, counted_list, wide_list, marked_list, parts, bytes_of}
 use Rattle.std.proofs.Common.{Result}
 use Rattle.std.specs.Prelude.{pos}
 use Rattle.std.specs.Result.{IsErr, IsErrAnd}
@@ -30,7 +30,7 @@ module _ {D K : Type 0} {lacks : Held K → ℕ → Type 0} (parts : D → List 
   counted_refused few (inr r) = inr (either_then (count_cause (length xs)) (parts_cause (counted_list parts xs)) few ∙ r)
 
   pub wide_refused : length_cause (length xs) ≡ None → PartsRefused (flat_map parts xs) lacks (old ⊕ uint32 0) e → WantsMemory (Wants lacks old (length (joined (wide_list parts xs)))) e ⊎ (items_cause length_cause (wide_list parts) xs ≡ Some e)
-  wide_refused few (inl w) = inl (memory_then old (old ⊕ uint32 0) (uint32 0) _ _ e refl (omega (arith, length-uint32 0, int32_length (pos (length xs)), length-append (int32 (pos (length xs))) (joined (flat_map parts xs)))) w)
+  wide_refused few (inl w) = inl (memory_then old (old ⊕ uint32 0) (uint32 0) _ _ e refl (omega (arith, length-uint32 0, length-int32 (pos (length xs)), length-append (int32 (pos (length xs))) (joined (flat_map parts xs)))) w)
   wide_refused few (inr r) = inr (either_then (length_cause (length xs)) (parts_cause (wide_list parts xs)) few ∙ r)
 
 -- parts with the same causes

@@ -2,10 +2,10 @@
 -- PostgreSQL manual, "Message Formats", the repeated parts.
 use Rattle.std.specs.Prelude.{ℕ, negsuc, pos, List, [], ◌∷◌, ◌++◌, length, Option, Some, None}
 use Rattle.std.specs.List.{flat_map}
-use Rattle.std.specs.Borrow.{Bor}
 use Rattle.pgp_base.specs.Wire.{int16, int32, uint16, oid}
 use Rattle.pgp_frontend.specs.Payload.{Part, Byte, Int32, Text, Nullable, Rest}
 use Rattle.pgp_message.specs.Items.{FieldPart, ErrorPart}
+pub use Rattle.pgp_base.specs.Lent.{shown}
 
 -- the parts before a list, those of its items, and those after it
 abbrev pub with_list : List Part → List Part → List Part → List Part
@@ -20,11 +20,6 @@ wide_list item xs = Rest (int32 (pos (length xs))) ∷ flat_map item xs
 
 abbrev pub marked_list : {A : Type 0} → (A → List Part) → List A → List Part
 marked_list item xs = flat_map item xs ++ Byte 0 ∷ []
-
--- the bytes of a lent value, or none for a null
-abbrev pub lent : Option (Bor (List ℕ)) → Option (List ℕ)
-lent None = None
-lent (Some bytes) = Some bytes.now
 
 -- a value of a row: -1 for a null
 abbrev pub value_parts : Option (List ℕ) → List Part

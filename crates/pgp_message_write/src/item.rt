@@ -5,7 +5,7 @@ ghost use Rattle.std.specs.Prelude.{List, OnOk, OnErr, IfErr};
 ghost use Rattle.pgp_base.specs.Held.{IsFrontOf};
 ghost use Rattle.pgp_frontend.specs.Payload.{Part};
 ghost use Rattle.pgp_frontend.specs.Putting.{PutsParts, PartsRefused};
-ghost use Rattle.pgp_message_write.specs.Lists.{format_parts, text_parts, type_parts, value_parts, lent};
+ghost use Rattle.pgp_message_write.specs.Lists.{format_parts, text_parts, type_parts, value_parts, shown};
 
 use pgp_base::big_endian::{u16_bytes, u32_bytes};
 use pgp_base::{Buffer, Error};
@@ -25,7 +25,7 @@ pub(crate) trait Item {
 
 /// A value of a row, or a null.
 impl<'a> Item for Option<&'a [u8]> {
-    ghost parts = { λ value. value_parts (lent value) };
+    ghost parts = { λ value. value_parts (shown value) };
 
     fn put<B: Buffer>(&self, buf: &mut B) -> Result<(), Error> {
         match self {

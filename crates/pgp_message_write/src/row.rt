@@ -9,7 +9,7 @@ ghost use Rattle.pgp_base.specs.Cause.{count_cause};
 ghost use Rattle.pgp_base.specs.Wire.{uint16};
 ghost use Rattle.pgp_frontend.specs.Payload.{Rest};
 ghost use Rattle.pgp_message_write.specs.Given.{WritesGiven};
-ghost use Rattle.pgp_message_write.specs.Lists.{column_parts, counted_list, lent, value_parts, with_list};
+ghost use Rattle.pgp_message_write.specs.Lists.{column_parts, counted_list, shown, value_parts, with_list};
 ghost use Rattle.pgp_message_write.specs.Reply.{description_of, row_of, WritesList};
 ghost use Rattle.pgp_message_write.specs.Views.{shown_column};
 
@@ -99,7 +99,7 @@ where
 /// Returns `TooLarge` if there are more than 65,535 values, or a value or the message exceeds `i32::MAX`, and
 /// `OutOfMemory` if the buffer can't grow. On error the buffer is unchanged.
 pub fn data_row<B: Buffer>(values: &[Option<&[u8]>], buf: &mut B) -> Result<(), Error>
-    ensures { let vs = map lent values.now in WritesList (row_of vs) (count_cause (length vs))
+    ensures { let vs = map shown values.now in WritesList (row_of vs) (count_cause (length vs))
         (with_list (Rest (uint16 (length vs)) ∷ []) (flat_map value_parts vs) [])
         B.Lacks (B.held buf.old) (B.held buf.new) result }
 {
@@ -122,7 +122,7 @@ where
     I::IntoIter: Drop,
     requires { IsFiniteIterable I.into_iter_gives I.IntoIter.can_next I.IntoIter.remaining values }
     ensures { WritesGiven (Yielded I.into_iter_gives I.IntoIter.next_gives values) count_cause
-        (λ vs. counted_list value_parts (map lent vs)) (λ vs. row_of (map lent vs))
+        (λ vs. counted_list value_parts (map shown vs)) (λ vs. row_of (map shown vs))
         B.Lacks (B.held buf.old) (B.held buf.new) result }
 {
     list_message_of(b'D', &[], Ending::Count, values, buf)

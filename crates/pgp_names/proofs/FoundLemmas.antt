@@ -5,7 +5,7 @@ use Rattle.std.proofs.lemmas.Cmp.{nat_list_eq_equiv}
 use Rattle.indexmap.proofs.MapLemmas.{Found-position, swap_remove_entry-found, swap_remove_entry-missing}
 use Rattle.indexmap.proofs.RemoveLemmas.{none_out, swap_out}
 
-no_none : {A : Type 0} {x : A} → None ≡ Some x → ⊥
+pub no_none : {A : Type 0} {x : A} → None ≡ Some x → ⊥
 no_none e = cc
 
 differs_back : (x y : List ℕ) → bytes_eq x y ≡ false → bytes_eq y x ≡ false

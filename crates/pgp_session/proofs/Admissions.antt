@@ -1,13 +1,13 @@
 -- By which way a client is logged in, and what it wrote for that.
-use Rattle.pgp_session.proofs.Common.{◌≡◌, ℕ, true, false, List, [], ◌∷◌, ◌++◌, Option, Some, None, refl, sym, ap, subst, ◌∙◌, inl, inr, option_to_list, AllByRecursion, cond-true, cond-false, append-nil, filter-append, md5_answer, Client, Answers, Completes, message_of, taken, Talk, Turn, ClientMessage, PasswordMessage, SaslInitialResponse, SaslResponse, each_push, Message, Authentication, AuthenticationOk, AuthenticationCleartextPassword, AuthenticationMd5Password, AuthenticationSasl, AuthenticationSaslContinue, AuthenticationSaslFinal, Asking, Cleartext, Md5, Sasl, First, Final, Welcome, Login, LogsOn, NothingAsked, ByCleartext, ByMd5, ScramBegins, ScramGoesOn, ScramEnds, Welcomed, Trusted, Ways, asking, Offers, ReceivedAmong, NoneWanted, OneReceived, OtherReceived, initial, offer, first_text, final_text, welcome, Admitted, ByNone, ByPassword, ByHash, BySignature, IsAllowed, Plays, Begins, Writes, Hears, asks_hash, asks_password, is_secret, secrets_of, LoginPhase, AwaitsOffer, AwaitsFirst, AwaitsFinal, AwaitsOk, Done, Encrypts}
+use Rattle.pgp_session.proofs.Common.{◌≡◌, ℕ, true, false, List, [], ◌∷◌, ◌++◌, Option, Some, None, refl, sym, ap, subst, ◌∙◌, inl, inr, option_to_list, AllByRecursion, cond-true, cond-false, append-nil, filter-append, md5_answer, Client, Answers, Completes, message_of, taken, Talk, Turn, ClientMessage, PasswordMessage, SaslInitialResponse, SaslResponse, each_push, Message, Authentication, AuthenticationOk, AuthenticationCleartextPassword, AuthenticationMd5Password, AuthenticationSasl, AuthenticationSaslContinue, AuthenticationSaslFinal, Asking, Cleartext, Md5, Sasl, First, Final, Welcome, Login, LogsOn, NothingAsked, ByCleartext, ByMd5, ScramBegins, ScramGoesOn, ScramEnds, Welcomed, Trusted, Ways, asking, Offers, ReceivedAmong, NoneWanted, OneReceived, OtherReceived, initial, offer, challenge, signature, admission, Admitted, ByNone, ByPassword, ByHash, BySignature, IsAllowed, Plays, Begins, Writes, Hears, asks_hash, asks_password, is_secret, secrets_of, LoginPhase, AwaitsOffer, AwaitsFirst, AwaitsFinal, AwaitsOk, Done, Encrypts}
 
 IsAskedBy : Message → Asking → Type 0
 IsAskedBy m Cleartext = m ≡ asks_password
 IsAskedBy m (Md5 salt) = m ≡ asks_hash salt
 IsAskedBy m (Sasl mechanisms) = m ≡ offer mechanisms
-IsAskedBy m (First text) = m ≡ first_text text
-IsAskedBy m (Final text) = m ≡ final_text text
-IsAskedBy m Welcome = m ≡ welcome
+IsAskedBy m (First text) = m ≡ challenge text
+IsAskedBy m (Final text) = m ≡ signature text
+IsAskedBy m Welcome = m ≡ admission
 IsAskedBy m asked = Unit {0}
 
 asked_by : (m : Message) → IsAskedBy m (asking m)
@@ -36,7 +36,7 @@ record Answered (ways : Ways) (observed : List Message) (gave : List ClientMessa
   proof : List ℕ
   from : ways.scram ≡ Some x
   offers : Offers x mechanisms
-  received : ReceivedAmong (offer mechanisms ∷ first_text first ∷ []) observed
+  received : ReceivedAmong (offer mechanisms ∷ challenge first ∷ []) observed
   answers : Answers x first y
   says : message_of x.state ≡ Some mine
   proves : message_of y.state ≡ Some proof
@@ -52,7 +52,7 @@ record Verified (ways : Ways) (observed : List Message) (gave : List ClientMessa
   proof : List ℕ
   from : ways.scram ≡ Some start
   offers : Offers start mechanisms
-  received : ReceivedAmong (offer mechanisms ∷ first_text first ∷ final_text final ∷ []) observed
+  received : ReceivedAmong (offer mechanisms ∷ challenge first ∷ signature final ∷ []) observed
   completes : Completes start first final after
   says : message_of start.state ≡ Some mine
   proves : message_of completes.between.state ≡ Some proof
@@ -162,16 +162,16 @@ module _ (ways : Ways) (observed : List Message) (gave : List ClientMessage) (m 
   alone : (x : ClientMessage) → gave ≡ [] → gave ++ x ∷ [] ≡ x ∷ []
   alone x e = ap (λ ms. ms ++ x ∷ []) e
 
-  signs : {given : List ClientMessage} → m ≡ welcome → Awaits ways observed given → Admitted ways (observed ++ m ∷ []) given
-  signs e (GavePassword password is r) = ByPassword password is (received_more welcome e r)
-  signs e (GaveHash who salt is r) = ByHash who salt is (received_more welcome e r)
+  signs : {given : List ClientMessage} → m ≡ admission → Awaits ways observed given → Admitted ways (observed ++ m ∷ []) given
+  signs e (GavePassword password is r) = ByPassword password is (received_more admission e r)
+  signs e (GaveHash who salt is r) = ByHash who salt is (received_more admission e r)
   signs e (SawSignature v) = subst (λ ms. Admitted ways (observed ++ m ∷ []) ms) (sym v.given) (BySignature v.start v.mine v.proof v.from (record {
     mechanisms = v.mechanisms;
     first = v.first;
     final = v.final;
     after = v.after;
     offers = v.offers;
-    received = received_more welcome e v.received;
+    received = received_more admission e v.received;
     completes = v.completes;
     says = v.says;
     proves = v.proves;
@@ -218,7 +218,7 @@ module _ (ways : Ways) (observed : List Message) (gave : List ClientMessage) (m 
             proof = answer;
             from = st.2.from ∙ ap Some same;
             offers = subst (λ (c : Client). Offers c st.2.mechanisms) same st.2.offers;
-            received = received_more (first_text text) is st.2.received;
+            received = received_more (challenge text) is st.2.received;
             answers = a;
             says = subst (λ (c : Client). message_of c.state ≡ Some st.2.mine) same st.2.says;
             proves = f;
@@ -243,7 +243,7 @@ module _ (ways : Ways) (observed : List Message) (gave : List ClientMessage) (m 
           proof = st.3.proof;
           from = st.3.from;
           offers = st.3.offers;
-          received = received_more (final_text text) is st.3.received;
+          received = received_more (signature text) is st.3.received;
           completes = record { between = x; answers = subst (λ (c : Client). Answers st.0 st.3.first c) same st.3.answers; finished = finished };
           says = st.3.says;
           proves = subst (λ (c : Client). message_of c.state ≡ Some st.3.proof) same st.3.proves;
@@ -255,7 +255,7 @@ module _ (ways : Ways) (observed : List Message) (gave : List ClientMessage) (m 
     md5 = i.md5;
     cleartext = i.cleartext;
     none = i.none;
-    stands = subst (λ ms. Admitted ways (observed ++ m ∷ []) ms) (sym (at l AwaitsOffer p i).1) (ByNone (sym i.none ∙ e) (received_more welcome is NoneWanted));
+    stands = subst (λ ms. Admitted ways (observed ++ m ∷ []) ms) (sym (at l AwaitsOffer p i).1) (ByNone (sym i.none ∙ e) (received_more admission is NoneWanted));
   }
 
   open_allowed : (x : ClientMessage) → is_secret x ≡ false → IsAllowed ways x
@@ -291,5 +291,5 @@ module _ (ways : Ways) where
   pub plays_allowed : {written : List ClientMessage} {observed : List Message} {turns : List Turn} {t : Talk} {l : Login} → Plays ways written observed turns t l → AllByRecursion (IsAllowed ways) written
   plays_allowed Begins = tt
   plays_allowed (Encrypts encrypts p) = plays_allowed p
-  plays_allowed (Writes {written} {observed} m name plain p) = each_push (IsAllowed ways) written m (plays_allowed p) (open_allowed ways observed [] welcome m plain)
+  plays_allowed (Writes {written} {observed} m name plain p) = each_push (IsAllowed ways) written m (plays_allowed p) (open_allowed ways observed [] admission m plain)
   plays_allowed (Hears {written} {reply} {observed} {turns} {t} {next} {l} {after} m e taken on logs p) = all_allowed ways observed (secrets_of written) m written (asking m) reply l after logs (plays_stand p) (plays_allowed p)

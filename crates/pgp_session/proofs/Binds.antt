@@ -1,13 +1,10 @@
 -- A Bind that was written in a buffer that had the bytes to send.
-use Rattle.pgp_session.proofs.Common.{◌≡◌, ℕ, List, ◌++◌, None, ap, ◌∙◌, Held, ◌⊕◌, Leaves, lengthened, ClientMessage, IsInRange, bytes_of, cause, Added}
+use Rattle.pgp_session.proofs.Common.{◌≡◌, ℕ, List, ◌++◌, None, ap, ◌∙◌, Held, ◌⊕◌, Leaves, ClientMessage, IsInRange, bytes_of, cause, Added}
 use Rattle.pgp_session.specs.ConnectionBind.{Has}
-
-longer : {K : Type 0} (a b : Held K) (z : List ℕ) → b ≡ a ⊕ z → b.bytes ≡ a.bytes ++ z
-unfolding lengthened
-longer a b z e = ap (λ (h : Held _). h.bytes) e
+use Rattle.pgp_base.proofs.Parts.{bytes_more}
 
 pub put_by : {K : Type 0} (m : ClientMessage) (items grown : List ℕ) (old new : Held K) → Has items old → grown ≡ new.bytes → cause m ≡ None → IsInRange m → new ≡ old ⊕ bytes_of m → Added m items grown
-put_by m items grown old new has is none range appended = record { none = none; in_range = range; bytes = is ∙ longer old new (bytes_of m) appended ∙ ap (λ b. b ++ bytes_of m) has.bytes }
+put_by m items grown old new has is none range appended = record { none = none; in_range = range; bytes = is ∙ bytes_more old new (bytes_of m) appended ∙ ap (λ b. b ++ bytes_of m) has.bytes }
 
 pub left_by : {K : Type 0} (items grown : List ℕ) (old new : Held K) → Has items old → grown ≡ new.bytes → Leaves old new → grown ≡ items
 left_by items grown old new has is left = is ∙ left.bytes ∙ has.bytes

@@ -44,9 +44,9 @@ pub use Rattle.pgp_session.specs.Connection.{Advances, Comes, IsNone, IsUnfit, N
 pub use Rattle.pgp_session.specs.Incoming.{Reads, HasFrame, Waiting}
 pub use Rattle.pgp_session.specs.Login.{Asking, Cleartext, Md5, Sasl, First, Final, Welcome, Login, LogsOn, NothingAsked, ByCleartext, ByMd5, ScramBegins, ScramGoesOn, ScramEnds, Welcomed, Trusted, Ways, asking, Added, AnswersFirst, CountsFirst, AsksCleartext, AsksMd5, AsksSasl, HearsDue, Nothing, Other, Puts, VerifiesFinal, WelcomesAt, is_due, AddsReply, LoggedOn, RepliesFirst, goes_on, given, seen}
 pub use Rattle.pgp_session.specs.Proxy.{Call, ProxiesAll, PassesOn, NoneReceived, NoneRead, OneRead, Went, Stayed, Proxies, all_forwarded, statement_of}
-pub use Rattle.pgp_session.specs.Mechanisms.{Offers, ReceivedAmong, NoneWanted, OneReceived, OtherReceived, initial, offer, first_text, final_text, welcome}
+pub use Rattle.pgp_session.specs.Mechanisms.{Offers, ReceivedAmong, NoneWanted, OneReceived, OtherReceived, initial, offer, challenge, signature, admission}
 pub use Rattle.pgp_session.specs.ServerState.{newer, status, state_after}
-pub use Rattle.pgp_session.specs.Serving.{admission, Due, Outcome, StepsAll, IsAsked, Proves, HasShown, IsUnderWay, IsChallenged, IsAdmitted, ReceivedIn, due, starts, at_opening, at_password, at_first, at_final, at_open, phase_after, password_message, first_message, final_message, NamesLast, NoneStands, OneStands, OtherStands, IsNewer, signature}
+pub use Rattle.pgp_session.specs.Serving.{Due, Outcome, StepsAll, IsAsked, Proves, HasShown, IsUnderWay, IsChallenged, IsAdmitted, ReceivedIn, due, starts, at_opening, at_password, at_first, at_final, at_open, phase_after, password_message, first_message, final_message, NamesLast, NoneStands, OneStands, OtherStands, IsNewer}
 pub use Rattle.pgp_session.specs.Session.{Admitted, ByNone, ByPassword, ByHash, BySignature, IsAllowed, Plays, Begins, Encrypts, Writes, Hears, asks_hash, asks_password, is_secret, secrets_of, Follows, History, IsOpenedAt, Known, and_fed, and_observed, and_sent, and_wrote, good, requests_in, requests_of, turns_of, AreNamed, Rises}
 pub use Rattle.pgp_session.specs.Settings.{AreInOrder, HasRoom, Said, heard, cost, cost_at, is_before, most, put_in, setting_in, StandsAt, last_after, replaced, reported, said_after, settled, value_of, nothing_said, size, without}
 pub use Rattle.pgp_session.specs.declared.connection.ConnectionPhase.{ConnectionPhase}

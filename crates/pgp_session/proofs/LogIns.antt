@@ -1,14 +1,11 @@
 -- What a log-in took, as a relation.
-use Rattle.pgp_session.proofs.Common.{◌≡◌, ℕ, Bool, true, false, List, Option, Some, None, Result, Ok, Err, refl, sym, ap, subst, inl, inr, ◌<◌, Wants, Held, ◌⊕◌, items_held, lengthened, Error, OutOfMemory, WritesMessage, bytes_of, cause, ClientMessage, PasswordMessage, SaslResponse, md5_answer, Client, initial, AddsReply, Asking, Nothing, Cleartext, Md5, Sasl, First, Final, Welcome, Other, AnswersFirst, AsksCleartext, CountsFirst, AsksMd5, AsksSasl, HearsDue, LoggedOn, Login, LogsOn, Puts, RepliesFirst, NothingAsked, ByCleartext, ByMd5, ScramBegins, ScramGoesOn, ScramEnds, Welcomed, Trusted, VerifiesFinal, WelcomesAt, goes_on, is_due, ConnectionError, LoginPhase, AwaitsOffer, AwaitsFirst, AwaitsFinal, AwaitsOk, Done}
-use Rattle.std.specs.Prelude.{◌⊎◌, ◌++◌, length}
+use Rattle.pgp_session.proofs.Common.{◌≡◌, ℕ, Bool, true, false, List, Option, Some, None, Result, Ok, Err, refl, sym, subst, inl, inr, ◌<◌, Wants, Held, items_held, Error, OutOfMemory, WritesMessage, bytes_of, cause, ClientMessage, PasswordMessage, SaslResponse, md5_answer, Client, initial, AddsReply, Asking, Nothing, Cleartext, Md5, Sasl, First, Final, Welcome, Other, AnswersFirst, AsksCleartext, CountsFirst, AsksMd5, AsksSasl, HearsDue, LoggedOn, Login, LogsOn, Puts, RepliesFirst, NothingAsked, ByCleartext, ByMd5, ScramBegins, ScramGoesOn, ScramEnds, Welcomed, Trusted, VerifiesFinal, WelcomesAt, goes_on, is_due, ConnectionError, LoginPhase, AwaitsOffer, AwaitsFirst, AwaitsFinal, AwaitsOk, Done}
+use Rattle.std.specs.Prelude.{◌⊎◌, length}
 use Rattle.pgp_auth.specs.ScramRefusal.{AsksFewer}
 use Rattle.pgp_session.specs.Login.{Hears, Unsent, in_phase}
+use Rattle.pgp_base.proofs.Parts.{lengthened_by}
 
 -- ---- writing
-
-pub lengthened_by : (old new z : List ℕ) → items_held new ≡ items_held old ⊕ z → new ≡ old ++ z
-unfolding lengthened
-lengthened_by old new z e = ap (λ (h : Held (Unit {0})). h.bytes) e
 
 unsent : (lacks : Type 0) (m : ClientMessage) (old : List ℕ) (n : ℕ) (e : Error) → ((e ≡ OutOfMemory) × Wants (λ (h : Held (Unit {0})) k. lacks × (0 < k)) (items_held old) n) ⊎ (cause m ≡ Some e) → Unsent lacks m e
 unsent lacks m old n e (inl w) = inl (w.0, w.1.refused.0)

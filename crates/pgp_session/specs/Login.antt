@@ -1,6 +1,6 @@
 -- How a client logs in by the ways that it admits, and what it sends.
 -- PostgreSQL manual, "Message Flow": "Start-up"; "SASL Authentication".
-use Rattle.std.specs.Prelude.{◌≡◌, ◌⊎◌, ℕ, Bool, true, false, List, ◌++◌, Option, Some, None, Result, Ok, Err, option_map, ◌||◌}
+use Rattle.std.specs.Prelude.{◌≡◌, ◌⊎◌, ℕ, Bool, true, false, List, Option, Some, None, Result, Ok, Err, option_map, ◌||◌}
 use Rattle.std.specs.Borrow.{Bor}
 use Rattle.pgp_base.specs.Cause.{WantsMemory}
 use Rattle.pgp_base.specs.declared.error.Error.{Error}
@@ -9,7 +9,7 @@ use Rattle.pgp_auth.specs.ScramClient.{Client, Answers, Finished, FinishRefused,
 use Rattle.pgp_auth.specs.ScramErrorView.{refusal}
 use Rattle.pgp_auth.specs.ScramRefusal.{AsksFewer, WrongState}
 use Rattle.pgp_frontend.specs.ClientMessage.{ClientMessage, PasswordMessage, SaslResponse}
-use Rattle.pgp_frontend.specs.Payload.{bytes_of, cause, IsInRange}
+use Rattle.pgp_frontend.specs.Payload.{cause}
 pub use Rattle.pgp_message.specs.LogIn.{Asking, Nothing, Cleartext, Md5, Sasl, First, Final, Welcome, Other, asking}
 use Rattle.pgp_session.specs.Mechanisms.{IsStripped, Offers, initial}
 use Rattle.pgp_session.specs.declared.connection_error.ConnectionError.{ConnectionError}
@@ -20,6 +20,7 @@ use Rattle.pgp_session.specs.declared.login.Login.{Login as Kept}
 use Rattle.pgp_session.specs.declared.login.Ways.{Ways as Given}
 use Rattle.pgp_session.specs.declared.login.LoginPhase.{LoginPhase}
 use Rattle.pgp_session.specs.declared.login.LoginPhase.TheVariants.{AwaitsOffer, AwaitsFirst, AwaitsFinal, AwaitsOk, Done}
+pub use Rattle.pgp_frontend.specs.Payload.{Added, AddsReply}
 
 -- The ways that are admitted: SCRAM-SHA-256 by this exchange, of at least so many rounds, MD5 by this user and password, this password in clear text, and none.
 pub record Ways : Type 0 where
@@ -66,12 +67,6 @@ goes_on phase x l = record { phase = phase; ways = with_exchange x l.ways }
 -- the same where the server answered whether it encrypts
 abbrev pub encrypted_by : Bool → Login → Login
 encrypted_by encrypts l = record { phase = l.phase; ways = record { scram = l.ways.scram; md5 = l.ways.md5; cleartext = l.ways.cleartext; none = l.ways.none; least = l.ways.least; encrypted = l.ways.encrypted || encrypts } }
-
--- the message has a spelling, and it was appended
-pub record Added (m : ClientMessage) (old new : List ℕ) : Type 0 where
-  pub none : cause m ≡ None
-  pub in_range : IsInRange m
-  pub bytes : new ≡ old ++ bytes_of m
 
 -- it wasn't, for want of memory or for its cause
 abbrev pub Unsent : Type 0 → ClientMessage → Error → Type 0
@@ -179,11 +174,6 @@ pub data LogsOn : Asking → Option ClientMessage → Login → Login → Type 0
   Welcomed : {l : Login} → l.phase ≡ AwaitsOk → LogsOn Welcome None l (in_phase Done l)
   -- with no password asked for
   Trusted : {l : Login} → l.phase ≡ AwaitsOffer → l.ways.none ≡ true → LogsOn Welcome None l (in_phase Done l)
-
--- the reply, if there is one, was appended
-abbrev pub AddsReply : Option ClientMessage → List ℕ → List ℕ → Type 0
-AddsReply None old new = new ≡ old
-AddsReply (Some m) old new = Added m old new
 
 -- The log-in took what was asked: this reply was appended.
 pub record LoggedOn (asked : Asking) (old new : Login) (out grown : List ℕ) : Type 0 where

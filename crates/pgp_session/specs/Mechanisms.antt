@@ -1,11 +1,10 @@
 -- Which mechanism an exchange of SCRAM-SHA-256 has, and the messages by which a server admits a client by it.
 -- PostgreSQL manual, "SASL Authentication"; RFC 5802; RFC 7677.
-use Rattle.std.specs.Prelude.{◌≡◌, ◌≢◌, ℕ, Bool, false, if◌then◌else◌, nat_eq, List, Option, Some, None, Contains, [], ◌∷◌, ◌++◌, codes}
-use Rattle.pgp_base.specs.Items.{MarkedItems}
+use Rattle.std.specs.Prelude.{◌≡◌, ◌≢◌, ℕ, Bool, false, if◌then◌else◌, nat_eq, List, Option, Some, None, [], ◌∷◌, ◌++◌, codes}
 use Rattle.pgp_auth.specs.ScramClient.{Client, message_of}
 use Rattle.pgp_frontend.specs.ClientMessage.{ClientMessage, SaslInitialResponse}
 use Rattle.pgp_message.specs.BackendMessage.{Message, Authentication, AuthenticationOk, AuthenticationSasl, AuthenticationSaslContinue, AuthenticationSaslFinal}
-use Rattle.pgp_message.specs.Items.{TextSpelled, TextRefused}
+pub use Rattle.pgp_message.specs.LogIn.{Lists}
 
 -- RFC 5802, section 6: the first text of an exchange that is bound to the channel begins with `p`, and its mechanism has another name.
 abbrev pub is_bound : List ℕ → Bool
@@ -27,10 +26,6 @@ mechanism_of exchange = mechanism_by (message_of exchange.state)
 abbrev pub initial : List ℕ → ClientMessage
 initial text = SaslInitialResponse (mechanism text) (Some text)
 
--- the list of mechanisms ends well, and this is one of them
-abbrev pub Lists : List ℕ → List ℕ → Type 0
-Lists name mechanisms = (names : List (List ℕ)) × MarkedItems TextSpelled TextRefused mechanisms names None × Contains names name
-
 -- that of the exchange is one of them
 abbrev pub Offers : Client → List ℕ → Type 0
 Offers exchange mechanisms = Lists (mechanism_of exchange) mechanisms
@@ -50,11 +45,11 @@ pub data ReceivedAmong : List Message → List Message → Type 0 where
 abbrev pub offer : List ℕ → Message
 offer mechanisms = Authentication (AuthenticationSasl mechanisms)
 
-abbrev pub first_text : List ℕ → Message
-first_text text = Authentication (AuthenticationSaslContinue text)
+abbrev pub challenge : List ℕ → Message
+challenge text = Authentication (AuthenticationSaslContinue text)
 
-abbrev pub final_text : List ℕ → Message
-final_text text = Authentication (AuthenticationSaslFinal text)
+abbrev pub signature : List ℕ → Message
+signature text = Authentication (AuthenticationSaslFinal text)
 
-abbrev pub welcome : Message
-welcome = Authentication AuthenticationOk
+abbrev pub admission : Message
+admission = Authentication AuthenticationOk

@@ -13,7 +13,7 @@ use Rattle.pgp_auth.specs.Verifier.{verifier}
 use Rattle.pgp_auth.specs.declared.scram.held.StoredVerifier.{StoredVerifier}
 use Rattle.pgp_auth.specs.declared.scram.server_error.ServerError.{ServerError}
 use Rattle.pgp_frontend.specs.ClientMessage.{ClientMessage, PasswordMessage, SaslInitialResponse, SaslResponse, Terminate, Startup, CancelRequest, SslRequest, GssEncRequest, PasswordKind, Password, Initial, Response}
-use Rattle.pgp_message.specs.BackendMessage.{Message, Authentication, AuthenticationOk, AuthenticationSasl, AuthenticationSaslContinue, AuthenticationSaslFinal, ErrorResponse}
+use Rattle.pgp_message.specs.BackendMessage.{Message, Authentication, AuthenticationSasl, ErrorResponse}
 use Rattle.pgp_message.specs.Items.{ErrorPart}
 use Rattle.pgp_message_write.specs.Reply.{bytes_of, cause, fields_of, names_of}
 use Rattle.pgp_session.specs.declared.serving.Denial.{Denial}
@@ -29,6 +29,7 @@ use Rattle.pgp_session.specs.declared.serving_due.Due.{Due as CodeDue}
 use Rattle.pgp_session.specs.declared.serving_due.Due.TheVariants as dues
 use Rattle.pgp_session.specs.declared.serving_outcome.Outcome.{Outcome as CodeOutcome}
 use Rattle.pgp_session.specs.declared.serving_outcome.Outcome.TheVariants as outcomes
+pub use Rattle.pgp_session.specs.Mechanisms.{admission, challenge, signature}
 
 -- a password that no mapping changes
 abbrev pub unmapped : List ℕ → List ℕ
@@ -236,15 +237,6 @@ error_of why = ErrorResponse (fields_of (fields why))
 
 abbrev pub scram_offer : Message
 scram_offer = Authentication (AuthenticationSasl (names_of (scram ∷ [])))
-
-abbrev pub admission : Message
-admission = Authentication AuthenticationOk
-
-abbrev pub challenge : List ℕ → Message
-challenge text = Authentication (AuthenticationSaslContinue text)
-
-abbrev pub signature : List ℕ → Message
-signature text = Authentication (AuthenticationSaslFinal text)
 
 abbrev pub spelled : Outcome → List ℕ
 spelled Unencrypted = codes "N"

@@ -19,7 +19,7 @@ use Rattle.pgp_frontend.specs.ClientRun.{ClientRun, is_opened, kinds_of}
 use Rattle.pgp_message.specs.BackendMessage.{Message, Authentication, AuthenticationCleartextPassword, AuthenticationMd5Password}
 use Rattle.pgp_message.specs.Stream.{Frames}
 use Rattle.pgp_session.specs.Login.{Login, LogsOn, Ways, asking, encrypted_by}
-use Rattle.pgp_session.specs.Mechanisms.{Offers, ReceivedAmong, initial, offer, first_text, final_text, welcome}
+use Rattle.pgp_session.specs.Mechanisms.{Offers, ReceivedAmong, initial, offer, challenge, signature, admission}
 use Rattle.pgp_session.specs.Connection.{Shown, asked_of}
 use Rattle.pgp_session.specs.ServerState.{state_after, unsaid}
 use Rattle.pgp_session.specs.Settings.{last_reported, nothing_said, said_after, value_of}
@@ -134,7 +134,7 @@ pub record Signed (start : Client) (mine proof : List ℕ) (observed : List Mess
   pub final : List ℕ
   pub after : Client
   pub offers : Offers start mechanisms
-  pub received : ReceivedAmong (offer mechanisms ∷ first_text first ∷ final_text final ∷ welcome ∷ []) observed
+  pub received : ReceivedAmong (offer mechanisms ∷ challenge first ∷ signature final ∷ admission ∷ []) observed
   pub completes : Completes start first final after
   pub says : message_of start.state ≡ Some mine
   pub proves : message_of completes.between.state ≡ Some proof
@@ -142,9 +142,9 @@ pub record Signed (start : Client) (mine proof : List ℕ) (observed : List Mess
 -- Why a client is logged in that wrote these messages of a log-in and no others: by a way that is admitted, with its one answer, if it has one, to the server that
 -- asked for it, and then the server's welcome; and where an exchange of SCRAM-SHA-256 was begun, by that alone, and only where the server's signature was shown.
 pub data Admitted (ways : Ways) (observed : List Message) : List ClientMessage → Type 0 where
-  ByNone : ways.none ≡ true → ReceivedAmong (welcome ∷ []) observed → Admitted ways observed []
-  ByPassword : (password : List ℕ) → ways.cleartext ≡ Some password → ReceivedAmong (asks_password ∷ welcome ∷ []) observed → Admitted ways observed (PasswordMessage password ∷ [])
-  ByHash : (who : List ℕ × List ℕ) (salt : List ℕ) → ways.md5 ≡ Some who → ReceivedAmong (asks_hash salt ∷ welcome ∷ []) observed → Admitted ways observed (PasswordMessage (md5_answer who.0 who.1 salt) ∷ [])
+  ByNone : ways.none ≡ true → ReceivedAmong (admission ∷ []) observed → Admitted ways observed []
+  ByPassword : (password : List ℕ) → ways.cleartext ≡ Some password → ReceivedAmong (asks_password ∷ admission ∷ []) observed → Admitted ways observed (PasswordMessage password ∷ [])
+  ByHash : (who : List ℕ × List ℕ) (salt : List ℕ) → ways.md5 ≡ Some who → ReceivedAmong (asks_hash salt ∷ admission ∷ []) observed → Admitted ways observed (PasswordMessage (md5_answer who.0 who.1 salt) ∷ [])
   BySignature : (x : Client) (mine proof : List ℕ) → ways.scram ≡ Some x → Signed x mine proof observed → Admitted ways observed (initial mine ∷ SaslResponse proof ∷ [])
 
 -- What a message of a log-in gives away: the password in clear text, its hash, or what the exchange says, at first or after a text of the server; each where that

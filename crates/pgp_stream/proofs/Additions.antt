@@ -1,6 +1,7 @@
 -- What a writer did, as what the stream's call did.
-use Rattle.pgp_stream.proofs.Common.{◌≡◌, ℕ, Bool, true, false, List, [], ◌∷◌, ◌++◌, ℤ, None, Result, Ok, Err, refl, sym, ap, subst, ◌∙◌, inl, inr, ◌⊎◌, is_some, if◌then◌else◌, Held, ◌⊕◌, lengthened, Leaves, Error, ClientMessage, CancelRequest, FunctionCall, GssEncRequest, SaslInitialResponse, Startup, PasswordKind, IsOurs, tag_of, bytes_of, cause, IsInRange, WritesMessage, IsNamed, ClientRun, IsStartup, IsRequest, MayCome, kinds_of, is_startup, is_opened, Sent, IsAdded, IsLeft, AddsMessage, Reads}
+use Rattle.pgp_stream.proofs.Common.{◌≡◌, ℕ, Bool, true, false, List, [], ◌∷◌, ◌++◌, ℤ, None, Result, Ok, Err, refl, sym, ap, subst, ◌∙◌, inl, inr, ◌⊎◌, is_some, if◌then◌else◌, Held, ◌⊕◌, Leaves, Error, ClientMessage, CancelRequest, FunctionCall, GssEncRequest, SaslInitialResponse, Startup, PasswordKind, IsOurs, tag_of, bytes_of, cause, IsInRange, WritesMessage, IsNamed, ClientRun, IsStartup, IsRequest, MayCome, kinds_of, is_startup, is_opened, Sent, IsAdded, IsLeft, AddsMessage, Reads}
 use Rattle.pgp_frontend.proofs.ClientRuns.{each_push, run_more, one_phase, opened_more, nothing}
+use Rattle.pgp_base.proofs.Parts.{bytes_more}
 
 -- nothing was sent
 pub reads_nothing : (bytes : List ℕ) → bytes ≡ [] → Reads bytes false
@@ -28,10 +29,6 @@ plain_ours _ e = tt
 no_startup : (m : ClientMessage) → is_plain m ≡ true → is_startup m ≡ false
 no_startup (Startup a b) e = absurd cc
 no_startup _ e = refl
-
-bytes_more : {K : Type 0} (a b : Held K) (z : List ℕ) → b ≡ a ⊕ z → b.bytes ≡ a.bytes ++ z
-unfolding lengthened
-bytes_more a b z e = ap (λ (h : Held _). h.bytes) e
 
 module _ {B K : Type 0} (held : B → Held K) (a b : B) (o : Bool) (inv : Reads (held a).bytes o) where
   -- the message was written

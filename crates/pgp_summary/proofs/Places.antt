@@ -1,5 +1,6 @@
 -- One more run of a statement.
 use Rattle.pgp_summary.proofs.Common.{◌≡◌, ℕ, Bool, true, false, List, [], ◌∷◌, Some, None, refl, sym, ap, ◌∙◌, inl, inr, if◌then◌else◌, bytes_eq, bytes_eq-Decides, cases_Bool, found, put, Ran, more_of, no_run, tallies_of, tally_of, tallied, nat_list_eq_equiv}
+use Rattle.pgp_names.proofs.FoundLemmas.{no_none}
 
 pub turned : (x y : List ℕ) (b : Bool) → bytes_eq x y ≡ b → bytes_eq y x ≡ b
 turned x y b e = nat_list_eq_equiv.symm y x ∙ e
@@ -12,9 +13,6 @@ put_put name v w (e ∷ more) =
       | inl same ↦ rw (same, same) refl
       | inr other ↦ rw (other, other) (ap (λ l. e ∷ l) (put_put name v w more))
     ]
-
-no_none : {V : Type 0} {v : V} → None ≡ Some v → ⊥
-no_none e = cc
 
 pub some_more : (text : List ℕ) (add had : Ran) (list : List (List ℕ × Ran)) → found text list ≡ Some had
     → tallies_of (put text (more_of add had) list) ≡ tallied (tally_of (text, add)) (tallies_of list)

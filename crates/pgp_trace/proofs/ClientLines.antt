@@ -4,6 +4,7 @@ use Rattle.pgp_frontend.proofs.Readings.{tagged_bodies, tag_in}
 use Rattle.pgp_frontend_read.specs.declared.message.PasswordKind as code
 use Rattle.pgp_frontend_read.proofs.Steps.{left}
 use Rattle.pgp_trace.proofs.Parts.{front_taken}
+use Rattle.pgp_base.proofs.Parts.{length-uint32}
 
 -- what stands before the rest is one thing
 module _ (bytes frame rest : List ℕ) (whole : bytes ≡ frame ++ rest) where
@@ -85,10 +86,6 @@ framed_long (Some tag) body = omega arith
 begins_long : (bytes front len rest : List ℕ) → length len ≡ 4 → bytes ≡ front ++ len ++ rest → 4 ≤ length bytes
 begins_long bytes front len rest four e = omega (arith, four, ap length e, length-append front (len ++ rest), length-append (front ++ len) rest, length-append front len, length-append len rest)
 
-four_bytes : (n : ℕ) → length (uint32 n) ≡ 4
-unfolding uint32
-four_bytes n = refl
-
 behind_long : (bytes front rest : List ℕ) → 4 ≤ length front → bytes ≡ front ++ rest → 4 ≤ length bytes
 behind_long bytes front rest long e = omega (arith, long, ap length e, length-append front rest)
 
@@ -96,7 +93,7 @@ behind_long bytes front rest long e = omega (arith, long, ap length e, length-ap
 pub step_long : (kind : PasswordKind) (old new : Unread) (r : Result ClientMessage ClientError) → Step kind old (step_of r) new → 4 ≤ length old.bytes
 step_long kind old new (Ok m) step = behind_long old.bytes (bytes_of m) new.bytes (framed_long (tag_of m) (payload m)) step.stands.whole
 step_long kind old new (Err e) step = elim step.left [
-  | inl at ↦ begins_long old.bytes at.fault.begins.front (uint32 at.fault.len) at.fault.begins.rest (four_bytes at.fault.len) at.fault.begins.parts
+  | inl at ↦ begins_long old.bytes at.fault.begins.front (uint32 at.fault.len) at.fault.begins.rest (length-uint32 at.fault.len) at.fault.begins.parts
   | inr other ↦ elim other [
     | inl skips ↦ behind_long old.bytes (framed (Some skips.tag) skips.payload) new.bytes (framed_long (Some skips.tag) skips.payload) skips.whole
     | inr stops ↦ behind_long old.bytes (framed None stops.payload) stops.rest (framed_long None stops.payload) stops.whole

@@ -1,12 +1,11 @@
 -- The parts of an array are read as they are spelled.
-use Rattle.pgp_types.proofs.Common.{◌≡◌, ◌≢◌, ℕ, ℤ, suc, pos, negsuc, ◌+◌, ◌-◌, ◌*◌, ◌<◌, ◌≤◌, ◌^◌, Bool, true, false, List, [], ◌∷◌, ◌++◌, length, take, Option, Some, None, Result, Ok, Err, refl, sym, ap, subst, ◌∙◌, append_assoc, arith, inl, inr, ◌⊎◌, FitsSigned, length-append, All, nat_le, not, eqb, take-append_seam, w32, from_be_bytes, cast_signed, cast_unsigned, flat_map, le-leb, leb-true, eqb-true, eq-eqb, to_z-of_z, All-push, Error, UnexpectedEof, NotDrained, InvalidCount, InvalidValueLength, InvalidDimension, TooManyElements, int32, uint32, IsBytes, IsReader, counted, counted_run, counted_whole, ok_is, differ, IsBytes-after, fits_of, length_fits, int32_number, number_again, flat_snoc, length-uint32, ArrayDimension, Part, Begins, IsWalk, Reader, IsDimension, dimension_bytes, Product, elements_of, head, dimension, Extent, Front, IsFlag, ArrayRead, ArrayReads, finished, head_at, dimension_at, product_of, product_at, each_at, element_at}
+use Rattle.pgp_types.proofs.Common.{◌≡◌, ◌≢◌, ℕ, ℤ, suc, pos, negsuc, ◌+◌, ◌-◌, ◌*◌, ◌<◌, ◌≤◌, ◌^◌, Bool, true, false, List, [], ◌∷◌, ◌++◌, length, take, Option, Some, None, Result, Ok, Err, refl, sym, ap, subst, ◌∙◌, append_assoc, arith, inl, inr, ◌⊎◌, FitsSigned, length-append, All, nat_le, not, eqb, take-append_seam, w32, cast_signed, cast_unsigned, flat_map, le-leb, leb-true, eqb-true, eq-eqb, to_z-of_z, All-push, Error, UnexpectedEof, NotDrained, InvalidCount, InvalidValueLength, InvalidDimension, TooManyElements, int32, uint32, IsBytes, IsReader, counted, counted_run, counted_whole, ok_is, differ, IsBytes-after, fits_of, length_fits, int32_number, number_again, flat_snoc, length-uint32, ArrayDimension, Part, Begins, IsWalk, Reader, IsDimension, dimension_bytes, Product, elements_of, head, dimension, Extent, Front, IsFlag, ArrayRead, ArrayReads, finished, head_at, dimension_at, product_of, product_at, each_at, element_at}
 use Rattle.std.specs.Prelude.{IsErrAnd}
 use Rattle.pgp_types.specs.Part.{nullable}
 use Rattle.pgp_types.proofs.Numbers.{int32_spelling, uint32_spelling}
 use Rattle.pgp_types.proofs.PartLemmas.{IsPart, IsTest, natural_part, nullable_part, fixed_is, only_part, then_part, not_passed, and_then_ok, and_then_err, int32_pos, rest_bytes}
-
-clash : true ≡ false → ⊥
-clash e = absurd cc
+use Rattle.pgp_base.proofs.PartLemmas.{int32_value}
+use Rattle.std.proofs.Common.{true≢false}
 
 pub head_is : IsPart head head_at
 head_is = then_part (natural_part InvalidCount) (then_part (fixed_is int32_spelling) (fixed_is uint32_spelling))
@@ -86,9 +85,6 @@ product_refused p bytes e h is =
       | inl r ↦ (dimension_is p).refused bytes e h r
       | inr w ↦ absurd (differ (p * w.0.0.0, w.0.1) e w.2)
     ]
-
-abbrev int32_value : List ℕ → ℤ
-int32_value l = cast_signed w32 (from_be_bytes w32 l)
 
 -- a dimension that was spelled is read
 each_again : (d : ArrayDimension) (rest : List ℕ) → IsDimension d → each_at (dimension_bytes d ++ rest) ≡ Ok (d, rest)
@@ -173,7 +169,7 @@ is_set z = not (eqb (cast_unsigned w32 z) 0)
 
 set_by : (z : ℤ) (b : Bool) → FitsSigned w32 z → eqb (cast_unsigned w32 z) 0 ≡ b → IsFlag (not b) z
 set_by z true fits e = sym (to_z-of_z w32 z fits) ∙ ap (cast_signed w32) (eqb-true (cast_unsigned w32 z) 0 e)
-set_by z false fits e = λ zero_is. clash (sym (eq-eqb (cast_unsigned w32 z) 0 (ap (cast_unsigned w32) zero_is)) ∙ e)
+set_by z false fits e = λ zero_is. true≢false (sym (eq-eqb (cast_unsigned w32 z) 0 (ap (cast_unsigned w32) zero_is)) ∙ e)
 
 pub set_is : (z : ℤ) → FitsSigned w32 z → IsFlag (is_set z) z
 set_is z fits = set_by z (eqb (cast_unsigned w32 z) 0) fits refl

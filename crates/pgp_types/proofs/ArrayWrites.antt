@@ -1,5 +1,5 @@
 -- What the writer of an array leaves.
-use Rattle.pgp_types.proofs.Common.{◌≡◌, ℕ, ◌+◌, ◌≤◌, Bool, true, false, List, [], ◌∷◌, ◌++◌, map, length, Result, Option, Some, None, MutBor, refl, sym, ap, subst, ◌∙◌, arith, length-append, ℤ, ◌*◌, w32, cast_unsigned, from_bool, flat_map, IsNull, Yes, No, BindError, uint32, int32, oid, nullable, first, length_cause, nullable_cause, Held, ◌⊕◌, overwritten, null_of, Gives, Runs, ValueRefused, either_none, more_twice, more_bytes, int32_spelled, length-uint32, sized4, filled4, ArrayDimension, Array, has_null, flag_of, dimension_bytes, array_bytes, array_cause}
+use Rattle.pgp_types.proofs.Common.{◌≡◌, ℕ, ◌+◌, ◌≤◌, Bool, true, false, List, [], ◌∷◌, ◌++◌, map, length, Result, Option, Some, None, MutBor, refl, sym, ap, subst, ◌∙◌, arith, length-append, ◌*◌, w32, cast_unsigned, from_bool, flat_map, IsNull, Yes, No, BindError, uint32, int32, oid, nullable, first, length_cause, nullable_cause, Held, ◌⊕◌, overwritten, null_of, Gives, Runs, ValueRefused, either_none, more_twice, more_bytes, int32_spelled, length-uint32, sized4, filled4, ArrayDimension, Array, has_null, flag_of, dimension_bytes, array_bytes, array_cause, length-int32}
 use Rattle.pgp_types.specs.ArrayWriting.{before_elements, Made, MadeUpTo}
 
 pub dimension_put : {K : Type 0} (a b d : Held K) (x : ArrayDimension) → b ≡ a ⊕ uint32 (cast_unsigned w32 x.len) → d ≡ b ⊕ uint32 (cast_unsigned w32 x.lower_bound)
@@ -103,10 +103,7 @@ flag_is n true false e h = absurd cc
 pub no_cause : (a : Array) → length_cause (length a.dimensions) ≡ None → first (map nullable_cause a.elements) ≡ None → array_cause a ≡ None
 no_cause a h k = either_none (length_cause (length a.dimensions)) (first (map nullable_cause a.elements)) h k
 
-four : (z : ℤ) → length (int32 z) ≡ 4
-four z = ap length (int32_spelled z) ∙ length-uint32 _
-
 -- each dimension takes eight bytes
 pub dimensions_length : (ds : List ArrayDimension) → length (flat_map dimension_bytes ds) ≡ 8 * length ds
 dimensions_length [] = refl
-dimensions_length (d ∷ ds) = let r = dimensions_length ds in omega (arith, r, length-append (dimension_bytes d) (flat_map dimension_bytes ds), length-append (int32 d.len) (int32 d.lower_bound), four d.len, four d.lower_bound)
+dimensions_length (d ∷ ds) = let r = dimensions_length ds in omega (arith, r, length-append (dimension_bytes d) (flat_map dimension_bytes ds), length-append (int32 d.len) (int32 d.lower_bound), length-int32 d.len, length-int32 d.lower_bound)

@@ -16,7 +16,7 @@ pub use Rattle.pgp_base.proofs.Causes.{either_left, either_right, fits_of, lengt
 pub use Rattle.pgp_base.proofs.CountedLemmas.{counted_one, not_more_items, ok, counted_whole, ok_is, differ, IsBytes-after, counted_few}
 pub use Rattle.pgp_base.proofs.Needs.{wants_window, nullable_least, sized_length, memory_then, flat_more}
 pub use Rattle.pgp_base.proofs.PartLemmas.{int32_number, number_again, number_takes, number_short, short_number, front_takes, front_again}
-pub use Rattle.pgp_base.proofs.Parts.{front_then, front_twice, front_trans, front_left, cut_back, filled4, more_twice, wants_more, wants_then, int32_spelled, length-uint32, flat_snoc, more_bytes, sized4, more_parts, more_kept, null_spelled, nothing_more, if_err_at, Runs-snoc, front_same, left_same, wants_here, wants_now, writes_out, on_err}
+pub use Rattle.pgp_base.proofs.Parts.{front_then, front_twice, front_trans, front_left, cut_back, filled4, more_twice, wants_more, wants_then, int32_spelled, length-uint32, flat_snoc, more_bytes, sized4, more_parts, more_kept, null_spelled, nothing_more, if_err_at, Runs-snoc, front_same, left_same, wants_here, wants_now, writes_out, on_err, length-int32}
 pub use Rattle.pgp_base.specs.Calls.{null_of, Gives, Runs, ValueRefused, Adds, value_of, length_of}
 pub use Rattle.pgp_base.specs.Cause.{Cause, Wants, WantsMemory, Writes, first, length_cause, nullable_cause}
 pub use Rattle.pgp_base.specs.Grammar.{IsReader}

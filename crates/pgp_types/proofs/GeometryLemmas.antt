@@ -1,7 +1,8 @@
 -- Points and boxes as spellings: two numbers, and two points.
-use Rattle.pgp_types.proofs.Common.{◌≡◌, ℕ, ◌+◌, List, ◌++◌, length, take, drop, refl, sym, ap, ◌∙◌, subst, arith, w64, length-append, length-drop, length-take-le, take-append-drop, take-append_seam, drop-append_seam, from_be_bytes, Point, Box, IsPoint, IsBox, point_bytes, box_bytes}
+use Rattle.pgp_types.proofs.Common.{◌≡◌, ℕ, ◌+◌, List, ◌++◌, length, take, drop, refl, sym, ap, ◌∙◌, subst, arith, length-append, length-drop, length-take-le, take-append-drop, take-append_seam, drop-append_seam, Point, Box, IsPoint, IsBox, point_bytes, box_bytes}
 use Rattle.pgp_types.proofs.Spelling.{IsSpelling, bytes_take, bytes_drop}
 use Rattle.pgp_types.proofs.Numbers.{uint64_spelling}
+use Rattle.pgp_types.specs.PartReading.{point_value}
 
 take_front : (m : ℕ) (xs ys : List ℕ) → length xs ≡ m → take m (xs ++ ys) ≡ xs
 take_front m xs ys is = rw (← is) (take-append_seam xs ys)
@@ -42,13 +43,10 @@ pair_spelling {U} {V} {W} {IsU} {IsV} {u_bytes} {v_bytes} {m} {n} {read_u} {read
           rw (u, v) (whole w);
     }
 
-abbrev point_of : List ℕ → Point
-point_of bytes = record { x = from_be_bytes w64 (take 8 bytes); y = from_be_bytes w64 (drop 8 bytes) }
-
 abbrev box_of : List ℕ → Box
-box_of bytes = record { upper_right = point_of (take 16 bytes); lower_left = point_of (drop 16 bytes) }
+box_of bytes = record { upper_right = point_value (take 16 bytes); lower_left = point_value (drop 16 bytes) }
 
-pub point_spelling : IsSpelling IsPoint point_bytes 16 point_of
+pub point_spelling : IsSpelling IsPoint point_bytes 16 point_value
 point_spelling = pair_spelling uint64_spelling uint64_spelling
     (λ (x y : ℕ). record { x = x; y = y }) (λ (p : Point). p.x) (λ (p : Point). p.y)
     (λ p. refl) (λ x y. refl) (λ x y. refl)

@@ -21,7 +21,7 @@ unfolding entry_at key_at entry_value_at
 entry_part = then_part (only_part utf8_test NotUtf8 (sized_part InvalidKeyLength)) (only_part text_or_null_test NotUtf8 (nullable_part InvalidValueLength))
 
 -- no part of an entry is rejected as not drained
-natural_own : (negative : Error) → (NotDrained ≡ negative → ⊥) → (bytes : List ℕ) → NaturalRefused negative bytes NotDrained → ⊥
+pub natural_own : (negative : Error) → (NotDrained ≡ negative → ⊥) → (bytes : List ℕ) → NaturalRefused negative bytes NotDrained → ⊥
 natural_own negative other bytes (inl cut) = absurd (let e : NotDrained ≡ UnexpectedEof = cut.1 in cc)
 natural_own negative other bytes (inr below) = other below.1
 

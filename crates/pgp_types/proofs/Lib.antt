@@ -6,7 +6,7 @@ pub mod Readings
 pub mod GeometryLemmas
 pub mod Appending
 pub mod PartLemmas
-mod ArrayWrites
+pub mod ArrayWrites
 pub mod ArrayLemmas
 mod ArrayLaws
 pub mod WalkLemmas

@@ -1,7 +1,9 @@
 -- What reads a part reads what its grammar says.
-use Rattle.pgp_types.proofs.Common.{◌≡◌, ℕ, ℤ, pos, negsuc, ◌<◌, ◌≤◌, Bool, true, false, cond, ltb, List, ◌++◌, length, take, drop, Option, Some, None, Result, Ok, Err, refl, sym, ap, subst, ◌∙◌, append_assoc, arith, inl, inr, ◌⊎◌, FitsSigned, length-append, w32, from_be_bytes, cast_signed, IsUtf8, is_utf8, IsUtf8-from_is_utf8, is_utf8-from_IsUtf8, ltb-false, ltb-true, le-ltb, lt-ltb, take_at, drop_at, take-append-drop, length-take, Error, length_cause, int32, uint32, IsBytes, int32_at, front_at, length_fits, fits_of, ok, ok_is, differ, IsBytes-after, err, err_is, bind_ok, bind_err, guard_ok, guard_err, int32_number, number_takes, number_again, number_short, short_number, front_takes, front_again, int32_spelled, Part, Begins, IsNegative, IsShort, NullableSpelled, fixed_part, natural, sized, only, ◌then◌, Reader, and_then, fixed_at, natural_of, natural_at, split_at, sized_at, nullable_of, nullable_at, tested, only_at, paired, then_at}
+use Rattle.pgp_types.proofs.Common.{◌≡◌, ℕ, ℤ, pos, negsuc, ◌<◌, ◌≤◌, Bool, true, false, cond, ltb, List, ◌++◌, length, take, drop, Option, Some, None, Result, Ok, Err, refl, sym, ap, subst, ◌∙◌, append_assoc, arith, inl, inr, ◌⊎◌, FitsSigned, length-append, w32, IsUtf8, is_utf8, IsUtf8-from_is_utf8, is_utf8-from_IsUtf8, ltb-false, ltb-true, le-ltb, lt-ltb, take_at, drop_at, take-append-drop, length-take, Error, length_cause, int32, uint32, IsBytes, int32_at, front_at, length_fits, fits_of, ok, ok_is, differ, IsBytes-after, err, err_is, bind_ok, bind_err, guard_ok, guard_err, int32_number, number_takes, number_again, number_short, short_number, front_takes, front_again, int32_spelled, Part, Begins, IsNegative, IsShort, NullableSpelled, fixed_part, natural, sized, only, ◌then◌, Reader, and_then, fixed_at, natural_of, natural_at, split_at, sized_at, nullable_of, nullable_at, tested, only_at, paired, then_at}
 use Rattle.pgp_types.specs.Part.{nullable}
 use Rattle.pgp_types.proofs.Spelling.{IsSpelling, bytes_take}
+use Rattle.pgp_base.proofs.PartLemmas.{guard_none}
+use Rattle.std.proofs.Common.{true≢false}
 
 pub record IsPart {V : Type 0} (p : Part V) (read : Reader V) : Type 0 where
   pub found : (bytes : List ℕ) (x : V) (rest : List ℕ) → IsBytes bytes → read bytes ≡ Ok (x, rest) → Begins p bytes x rest
@@ -25,9 +27,6 @@ and_then_err (Ok x) f e h = inr (x, refl, h)
 and_then_err {U} {W} (Err d) f e h = inl (ap (λ d. err d) (err_is {A = W} d e h))
 
 -- Numbers that have a sign and are not negative.
-
-int32_value : List ℕ → ℤ
-int32_value l = cast_signed w32 (from_be_bytes w32 l)
 
 pub int32_pos : (n : ℕ) → int32 (pos n) ≡ uint32 n
 int32_pos n = int32_spelled (pos n)
@@ -186,12 +185,8 @@ nullable_part past_end = record {
 
 -- So many bytes that spell a value.
 
-none_guard : {A : Type 0} (b : Bool) (x : A) → cond b None (Some x) ≡ None → b ≡ true
-none_guard true x e = refl
-none_guard false x e = absurd cc
-
 front_short : {A : Type 0} (n : ℕ) (value : List ℕ → A) (bytes : List ℕ) → front_at n value bytes ≡ None → length bytes < n
-front_short n value bytes e = ltb-true _ _ (none_guard (ltb (length bytes) n) (value (take n bytes), drop n bytes) e)
+front_short n value bytes e = ltb-true _ _ (guard_none (ltb (length bytes) n) (value (take n bytes), drop n bytes) e)
 
 pub fixed_is : {V : Type 0} {IsValue : V → Type 0} {written : V → List ℕ} {size : ℕ} {read : List ℕ → V}
     → IsSpelling IsValue written size read → IsPart (fixed_part IsValue written size) (fixed_at read size)
@@ -225,9 +220,6 @@ accept_err : {A : Type 0} (b : Bool) (e d : Error) (x : A) → cond b (Ok x) (Er
 accept_err true e d x h = absurd (differ x d h)
 accept_err {A} false e d x h = (refl, err_is {A = A} d e (sym h))
 
-clash : true ≡ false → ⊥
-clash e = absurd cc
-
 -- a test of what has to be
 pub record IsTest {V : Type 0} (Is : V → Type 0) (is : V → Bool) : Type 0 where
   pub yes : (x : V) → is x ≡ true → Is x
@@ -254,7 +246,7 @@ only_part {V} {Is} {is} test other {p} {read} part = record {
         | inl n ↦ inl (part.refused bytes e h n)
         | inr w ↦
             let a = accept_err (is w.0.0) other e (w.0.0, w.0.1) w.2 in
-            inr (w.0.0, w.0.1, part.found bytes w.0.0 w.0.1 h w.1, (λ yes. clash (sym (test.passes w.0.0 yes) ∙ a.0)), a.1)
+            inr (w.0.0, w.0.1, part.found bytes w.0.0 w.0.1 h w.1, (λ yes. true≢false (sym (test.passes w.0.0 yes) ∙ a.0)), a.1)
       ];
   refuses = λ bytes e r.
       elim r [

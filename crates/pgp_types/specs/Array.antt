@@ -11,6 +11,7 @@ use Rattle.pgp_base.specs.Walk.{Walk}
 use Rattle.pgp_types.specs.declared.array.ArrayDimension.{ArrayDimension}
 use Rattle.pgp_types.specs.Format.{Format}
 use Rattle.pgp_types.specs.Part.{Part, Begins, IsWalk, fixed_part, natural, nullable, only, ◌then◌}
+pub use Rattle.pgp_types.specs.Part.{finished}
 
 -- What is written.
 
@@ -101,10 +102,6 @@ pub record ArrayRead : Type 0 where
   pub element_type : ℕ
   pub dimensions : Walk ArrayDimension
   pub values : Walk (Option (List ℕ))
-
--- a walk that gives these and is finished
-abbrev pub finished : {V : Type 0} → List V → Walk V
-finished xs = record { items = xs; end = None; announced = Some (length xs) }
 
 -- All dimensions stand there, and the elements are a walk over the bytes after them; or the head is rejected, or a
 -- dimension after fewer than there are to be.

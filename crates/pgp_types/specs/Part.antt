@@ -2,7 +2,6 @@
 -- order in which what it is made of is read.
 use Rattle.std.specs.Prelude.{◌≡◌, ◌⊎◌, ℕ, negsuc, ◌<◌, List, ◌++◌, length, Option, Some, None}
 use Rattle.std.specs.Prelude.{FitsSigned}
-use Rattle.std.specs.Borrow.{Bor}
 use Rattle.std.specs.Int.{w32}
 use Rattle.pgp_base.specs.declared.error.Error.{Error}
 use Rattle.pgp_base.specs.declared.error.Error.TheVariants.{UnexpectedEof}
@@ -10,6 +9,7 @@ use Rattle.pgp_base.specs.Cause.{length_cause}
 use Rattle.pgp_base.specs.Wire.{int32, uint32}
 use Rattle.pgp_base.specs.Items.{CountedItems}
 use Rattle.pgp_base.specs.Walk.{Walk}
+pub use Rattle.pgp_base.specs.Lent.{shown}
 
 pub record Part (V : Type 0) : Type 1 where
   pub Spelled : V → List ℕ → Type 0
@@ -103,8 +103,3 @@ pub record IsWalk {V : Type 0} (item : Part V) (n : ℕ) (bytes : List ℕ) (w :
 -- a walk that hands out all of these, and ends
 abbrev pub finished : {V : Type 0} → List V → Walk V
 finished xs = record { items = xs; end = None; announced = Some (length xs) }
-
--- the bytes that are borrowed for a value
-abbrev pub shown : Option (Bor (List ℕ)) → Option (List ℕ)
-shown None = None
-shown (Some bytes) = Some bytes.now

@@ -70,5 +70,5 @@ pub use Rattle.pgp_uses.specs.Asking.{AreAdded, Blames, Stops, AddsAll, NamedBin
 pub use Rattle.pgp_uses.specs.BothEnds.{AreRead, Facing, IsServersWant, ConnectionLogsIn, HasStarted, IsConnectionsWant}
 pub use Rattle.pgp_uses.specs.Client.{IsSo, received_as, row_if, is_part, scram_alone}
 pub use Rattle.pgp_uses.specs.Columns.{IsOther, Passed, Columns, FirstColumns, HasNames, HasBroken}
-pub use Rattle.pgp_uses.specs.Server.{refusal_of}
+pub use Rattle.pgp_base.specs.Error.{error_of}
 pub use Rattle.pgp_uses.specs.Values.{Serializes, BindsValue, BoundWants, HasSpelling, RefusesValue, bound}

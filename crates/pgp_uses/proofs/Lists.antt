@@ -1,5 +1,5 @@
 -- An array whose elements a format writes, alone and as the value of a message.
-use Rattle.pgp_uses.proofs.Common.{◌≡◌, ℕ, ℤ, ◌+◌, ◌*◌, ◌≤◌, List, [], ◌∷◌, ◌++◌, map, length, length-append, Option, Some, None, option_map, Result, Ok, Err, Bor, MutBor, refl, sym, ap, ◌∙◌, inl, inr, arith, Error, BindError, Conversion, Serialization, IsNull, Yes, No, int32, uint32, nullable, flat_map, option_to_list, map-append, Wants, WantsMemory, length_cause, Held, ◌⊕◌, value_of, KeepsValue, Puts, Gives, Runs, SoFar, flat_more, nullable_least, sized_wants, wants_more, int32_number, ArrayDimension, Array, array_bytes, Plain, int4, BindsOne, array_length, head_wants, element_wants, BindsInt4s, PutsInt4s, int4_array, refusal_of, BindsValue, Serializes}
+use Rattle.pgp_uses.proofs.Common.{◌≡◌, ℕ, ℤ, ◌+◌, ◌*◌, ◌≤◌, List, [], ◌∷◌, ◌++◌, map, length, length-append, Option, Some, None, option_map, Result, Ok, Err, Bor, MutBor, refl, sym, ap, ◌∙◌, inl, inr, arith, Error, BindError, Conversion, Serialization, IsNull, Yes, No, int32, uint32, nullable, flat_map, option_to_list, map-append, Wants, WantsMemory, length_cause, Held, ◌⊕◌, value_of, KeepsValue, Puts, Gives, Runs, SoFar, flat_more, nullable_least, sized_wants, wants_more, int32_number, ArrayDimension, Array, array_bytes, Plain, int4, BindsOne, array_length, head_wants, element_wants, BindsInt4s, PutsInt4s, int4_array, error_of, BindsValue, Serializes}
 use Rattle.std.proofs.lemmas.List.Concat.{flat_map-append}
 use Rattle.pgp_types.specs.ArrayWriting.{before_elements, ArrayWritten, ArrayRefused}
 use Rattle.postgres_protocol.specs.ArraySteps.{array_of}
@@ -82,7 +82,7 @@ module _ {F B K : Type 0} (held : B → Held K) (step : F → Bor (Option ℤ) �
     head_needs : (ds : List ArrayDimension) → SoFar dimensions ds → Wants lacks old (12 + 8 * length ds) → Wants lacks old (length whole)
     head_needs ds so_far w = head_wants (d ∷ []) type old (length ds) (map (option_map int4.written) values) (few_of ds so_far) w
 
-    pub array_refused : (e : BindError Error) → ArrayRefused held step dimensions type elements f last old lacks e → WantsMemory (Wants lacks old (length whole)) (refusal_of e)
+    pub array_refused : (e : BindError Error) → ArrayRefused held step dimensions type elements f last old lacks e → WantsMemory (Wants lacks old (length whole)) (error_of e)
     array_refused (Conversion e) (inl head) = absurd head.0
     array_refused (Conversion e) (inr at) =
         let s = at.stops in

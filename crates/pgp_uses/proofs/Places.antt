@@ -1,9 +1,9 @@
 -- Places grow by a frame.
-use Rattle.pgp_uses.proofs.Common.{◌≡◌, ℕ, ◌+◌, ◌-◌, ◌<◌, List, [], ◌∷◌, ◌++◌, length, drop, Result, Bool, refl, sym, ap, subst, ◌∙◌, arith, append_assoc, flat_map, drop-append_seam, uint32, Error, Message, Body, Frame, frame_bytes, IsEnding, Bodies, Frames, TakesFrame}
+use Rattle.pgp_uses.proofs.Common.{◌≡◌, ℕ, ◌+◌, ◌-◌, ◌<◌, List, [], ◌∷◌, ◌++◌, length, drop, Result, Bool, refl, sym, ap, subst, ◌∙◌, arith, append_assoc, flat_map, drop-append_seam, uint32, Error, Message, Frame, frame_bytes, IsEnding, Frames, TakesFrame}
 use Rattle.std.specs.declared.ops.Range.{Range}
 use Rattle.std.proofs.lemmas.List.{length-append}
 use Rattle.std.proofs.lemmas.List.Concat.{flat_map-cons}
-use Rattle.pgp_message.proofs.Runs.{each_push, pushed}
+use Rattle.pgp_message.proofs.Runs.{each_push, pushed, bodies_push}
 use Rattle.pgp_uses.specs.Recorder.{places_of, IsRecording}
 
 abbrev pub place : ℕ → ℕ → Range ℕ
@@ -18,12 +18,6 @@ pub record IsCut (bytes : List ℕ) (places : List (Range ℕ)) (rest : ℕ) (le
   pub run : Frames bytes results left
   pub cut : places ≡ places_of 0 run.frames
   pub at : rest ≡ length (flat_map frame_bytes run.frames)
-
-bodies_push : (frames : List Frame) (results : List (Result Message Error)) (f : Frame) (r : Result Message Error) → Bodies frames results → Body f.tag f.payload r → Bodies (frames ++ f ∷ []) (results ++ r ∷ [])
-bodies_push [] [] f r all one = (one, tt)
-bodies_push [] (s ∷ results) f r all one = absurd all
-bodies_push (g ∷ frames) [] f r all one = absurd all
-bodies_push (g ∷ frames) (s ∷ results) f r all one = (all.0, bodies_push frames results f r all.1 one)
 
 at_front : (g : Frame) (frames : List Frame) (at : ℕ) → (at + length (frame_bytes g)) + length (flat_map frame_bytes frames) ≡ at + length (flat_map frame_bytes (g ∷ frames))
 at_front g frames at = omega (arith, ap length (flat_map-cons frame_bytes g frames), length-append (frame_bytes g) (flat_map frame_bytes frames))

@@ -1,5 +1,5 @@
 -- A frame whose body a closure wrote.
-use Rattle.pgp_uses.proofs.Common.{◌≡◌, ℕ, ◌+◌, ◌≤◌, List, [], ◌∷◌, length, Some, Result, Ok, Err, sym, ap, ◌∙◌, inl, inr, arith, length-append, MutBor, ◌⊎◌, append_cancel_left, Appends, BodyRefused, WritesBody, Wants, WantsMemory, length_cause, Error, BindError, Conversion, Serialization, Held, ◌⊕◌, frame, uint32, length-uint32, more_bytes, more_twice, wants_more, wants_then, refusal_of}
+use Rattle.pgp_uses.proofs.Common.{◌≡◌, ℕ, ◌+◌, ◌≤◌, List, [], ◌∷◌, length, Some, Result, Ok, Err, sym, ap, ◌∙◌, inl, inr, arith, length-append, MutBor, ◌⊎◌, append_cancel_left, Appends, BodyRefused, WritesBody, Wants, WantsMemory, length_cause, Error, BindError, Conversion, Serialization, Held, ◌⊕◌, frame, uint32, length-uint32, more_bytes, more_twice, wants_more, wants_then, error_of}
 
 -- the closure appends q where it succeeds
 module _ {F E B K : Type 0} (held : B → Held K) (post : F → MutBor B → Result (Unit {0}) E → MutBor B → Type 0) (f : F) (q : List ℕ) (law : (b d : MutBor B) → post f b (Ok tt) d → held d.now ≡ held b.now ⊕ q) where
@@ -24,7 +24,7 @@ module _ {F B K : Type 0} (held : B → Held K) (post : F → MutBor B → Resul
   behind_tag n t h w = wants_then old tagged (tag ∷ []) n _ t (omega (arith, h, length-append (uint32 (length q + 4)) q, length-uint32 (length q + 4))) w
 
   pub refused : (e : BindError Error) → tagged ≡ old ⊕ (tag ∷ []) → ((b d : MutBor B) → post f b (Ok tt) d → held d.now ≡ held b.now ⊕ q) → ((b d : MutBor B) (x : Error) → post f b (Err x) d → WantsMemory (Wants lacks (held b.now) (length q)) x)
-      → BodyRefused held post lacks f tagged e → WantsMemory (Wants lacks old (length (frame tag q))) (refusal_of e) ⊎ (length_cause (length q + 4) ≡ Some (refusal_of e))
+      → BodyRefused held post lacks f tagged e → WantsMemory (Wants lacks old (length (frame tag q))) (error_of e) ⊎ (length_cause (length q + 4) ≡ Some (error_of e))
   refused (Conversion x) t law wants w =
       let m = wants w.1.before w.1.after x w.1.called in
       inl (m.0, behind_tag (length q + 4) t (omega arith) (wants_then tagged (held w.1.before.now) (uint32 0) (length q) _ w.1.stood (omega (arith, length-uint32 0)) m.1))

@@ -6,7 +6,6 @@ pub mod Login
 pub mod Reading
 pub mod Recorder
 pub mod Rows
-pub mod Server
 pub mod Streams
 pub mod Values
 pub mod Client

@@ -5,7 +5,7 @@ ghost use Rattle.std.specs.Prelude.{◌≡◌, ◌⊎◌, ◌+◌, length, Some,
 ghost use Rattle.pgp_base.specs.Cause.{Wants, WantsMemory, length_cause};
 ghost use Rattle.pgp_base.specs.Held.{◌⊕◌, Leaves};
 ghost use Rattle.pgp_base.specs.Wire.{frame};
-ghost use Rattle.pgp_uses.specs.Server.{refusal_of};
+ghost use Rattle.pgp_base.specs.Error.{error_of};
 
 use pgp_base::{Buffer, put_u8, write_body};
 use postgres_protocol::{BindError, Error};
@@ -43,7 +43,7 @@ pub fn answer<B: Buffer>(tag: u8, payload: &[u8], buf: &mut B) -> Result<(), Err
 
 /// The error, whoever rejected.
 pub(crate) fn refusal(e: BindError<Error>) -> Error
-    ensures { result ≡ refusal_of e }
+    ensures { result ≡ error_of e }
 {
     match e {
         BindError::Conversion(e) | BindError::Serialization(e) => e,

@@ -11,7 +11,7 @@ parts n f fs h =
     let both = and_parts (nat_le n f.0) (rises (f.0 + 1) fs) h in
     record { from = leb-true n f.0 both.0; rest = both.1 }
 
-other : (m n : ℕ) → (m ≡ n → ⊥) → eqb m n ≡ false
+pub other : (m n : ℕ) → (m ≡ n → ⊥) → eqb m n ≡ false
 other m n h = grind arith
 
 same : (n : ℕ) → eqb n n ≡ true

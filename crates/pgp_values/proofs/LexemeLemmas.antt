@@ -1,31 +1,25 @@
 -- Lexemes and their places: what reads one reads what its grammar says.
-use Rattle.pgp_values.proofs.Common.{◌≡◌, inl, inr, ℕ, ◌+◌, ◌<◌, ◌≤◌, ◌^◌, ltb, false, List, [], ◌∷◌, ◌++◌, length, take, drop, None, Ok, Err, refl, sym, ap, subst, ◌∙◌, arith, append_assoc, length-append, flat_map, ltb-false, ltb-true, le-ltb, lt-ltb, take_at, drop_at, take-append-drop, length-take, Error, UnexpectedEof, NotUtf8, NotDrained, string_at, text_at, IsBytes, uint16, text, text_cause, count_cause, guard_ok, guard_err, either_left, either_right, counts_of, without_zero, IsSound, Part, Begins, fixed_part, only, IsPart, and_then_ok, and_then_err, rest_bytes, then_part, fixed_is, bytes_take, IsItem, pairs, uint16_at, places_at, lexeme_at, string_part, places_part, lexeme, tsvector}
-use Rattle.std.specs.Str.{IsUtf8}
+use Rattle.pgp_values.proofs.Common.{◌≡◌, inl, inr, ℕ, ◌+◌, ◌<◌, ◌≤◌, ◌^◌, ltb, false, List, [], ◌∷◌, ◌++◌, length, take, drop, None, Ok, Err, refl, sym, ap, subst, ◌∙◌, arith, append_assoc, length-append, flat_map, ltb-false, ltb-true, le-ltb, lt-ltb, take_at, drop_at, take-append-drop, length-take, Error, UnexpectedEof, NotUtf8, NotDrained, string_at, text_at, IsBytes, uint16, text, text_cause, count_cause, guard_ok, guard_err, either_left, either_right, counts_of, without_zero, IsSound, Begins, fixed_part, IsPart, and_then_ok, and_then_err, rest_bytes, then_part, fixed_is, bytes_take, IsItem, pairs, uint16_at, places_at, lexeme_at, places_part, lexeme, tsvector}
 use Rattle.pgp_base.proofs.PartLemmas.{TextFound, text_found, text_read, text_refused, text_cut, string_none}
-use Rattle.pgp_base.proofs.Strings.{string_front}
+use Rattle.pgp_base.proofs.Strings.{string_front, string_whole}
 use Rattle.pgp_values.specs.ListReading.{places_of}
 use Rattle.pgp_values.proofs.ListLemmas.{list_sound}
 use Rattle.pgp_values.proofs.Numbers.{uint16_spelling}
 use Rattle.pgp_values.proofs.Pairs.{pairs_half, pairs_small, pairs_spelled, pairs_again, digits_length}
+use Rattle.pgp_values.specs.Tsquery.{text_part}
 
 -- texts with the byte 0 that ends them
 
-abbrev pub text_part : Part (List ℕ)
-text_part = only IsUtf8 NotUtf8 string_part
-
-text_front : (bytes z rest : List ℕ) → bytes ≡ z ++ 0 ∷ rest → bytes ≡ text z ++ rest
-text_front bytes z rest e = e ∙ sym (append_assoc z (0 ∷ []) rest)
-
 text_refused_by : (bytes : List ℕ) (e : Error) → TextFound bytes (Err e) → text_part.Refused bytes e
 text_refused_by bytes UnexpectedEof w = inl (w, refl)
-text_refused_by bytes NotUtf8 w = inr (w.string, w.rest, record { front = text w.string; whole = text_front bytes w.string w.rest w.parts.parts; spelled = (w.parts.no_zero, refl) }, w.bad, refl)
+text_refused_by bytes NotUtf8 w = inr (w.string, w.rest, record { front = text w.string; whole = string_whole bytes w.string w.rest w.parts.parts; spelled = (w.parts.no_zero, refl) }, w.bad, refl)
 text_refused_by bytes e w = absurd w
 
 pub text_is : IsPart text_part text_at
 text_is = record {
   found = λ bytes x rest h e.
       let w : TextFound bytes (Ok (x, rest)) = subst (TextFound bytes) e (text_found bytes) in
-      record { front = text x; whole = text_front bytes x rest w.0.parts; spelled = ((w.0.no_zero, refl), w.1) };
+      record { front = text x; whole = string_whole bytes x rest w.0.parts; spelled = ((w.0.no_zero, refl), w.1) };
   again = λ x front rest s. ap (λ f. text_at (f ++ rest)) s.0.1 ∙ text_read (text x ++ rest) x rest (string_front x rest s.0.0) s.1;
   refused = λ bytes e h is. text_refused_by bytes e (subst (TextFound bytes) is (text_found bytes));
   refuses = λ bytes e r.

@@ -2,6 +2,7 @@
 use Rattle.pgp_values.proofs.Common.{◌≡◌, ◌≢◌, ◌⊎◌, inl, inr, ℕ, suc, ℤ, pos, negsuc, ◌+◌, ◌-◌, ◌*◌, ◌<◌, ◌≤◌, ◌^◌, Bool, false, List, [], ◌∷◌, length, refl, sym, ap, ◌∙◌, arith, mul_assoc, mul_comm, pow-le-pow_right, one-le-pow, mul-le-mul, le_of_mul-le-mul_right, cases_order, pow-add, spelled, before_point, behind_by, Decimal, IsDigits, HasNoZeroEnds, last_of, Reported, raised, lowered, IsValueOf}
 use Rattle.pgp_values.proofs.AmountLemmas.{power_four}
 use Rattle.pgp_values.proofs.GroupLemmas.{spelled_most}
+use Rattle.pgp_values.specs.DecimalDigits.{decimal_of}
 
 pub times_same : (x y k : ℕ) → 1 ≤ k → x * k ≡ y * k → x ≡ y
 times_same x y k some e =
@@ -161,13 +162,10 @@ sign_is : (d : ℕ) (ds : List ℕ) (p m s : ℕ) (a b : Bool) → d ≢ 0 → s
 sign_is d ds p m s a b some e (inl is) = is
 sign_is d ds p m s a b some e (inr none) = absurd (no_amount d ds p m s some e none.0)
 
-abbrev made : Bool → ℤ → ℕ → List ℕ → Decimal
-made negative weight scale digits = record { negative = negative; weight = weight; scale = scale; digits = digits }
-
-made_same : (n m : Bool) (w z : ℤ) (s t : ℕ) (ds es : List ℕ) → n ≡ m → w ≡ z → s ≡ t → ds ≡ es → made n w s ds ≡ made m z t es
+made_same : (n m : Bool) (w z : ℤ) (s t : ℕ) (ds es : List ℕ) → n ≡ m → w ≡ z → s ≡ t → ds ≡ es → decimal_of n w s ds ≡ decimal_of m z t es
 made_same n m w z s t ds es a b c d = rw (a, b, c, d) refl
 
-number_one_by : (t : Reported) (n m : Bool) (w z : ℤ) (s r : ℕ) (ds es : List ℕ) → IsValueOf t (made n w s ds) → IsValueOf t (made m z r es) → made n w s ds ≡ made m z r es
+number_one_by : (t : Reported) (n m : Bool) (w z : ℤ) (s r : ℕ) (ds es : List ℕ) → IsValueOf t (decimal_of n w s ds) → IsValueOf t (decimal_of m z r es) → decimal_of n w s ds ≡ decimal_of m z r es
 number_one_by t n m w z s r [] [] a b =
     let x = a.canonical.zero refl in
     let y = b.canonical.zero refl in

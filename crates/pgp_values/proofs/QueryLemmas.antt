@@ -3,15 +3,13 @@ use Rattle.pgp_values.proofs.Common.{◌≡◌, ◌≢◌, ◌⊎◌, inl, inr, 
 use Rattle.pgp_values.specs.QueryReading.{operand_of, operand_at, phrase_of, phrase_at, operator_of, operator_at, query_of, query_at}
 use Rattle.pgp_values.proofs.LexemeLemmas.{text_is, count_is}
 use Rattle.pgp_values.proofs.ListLemmas.{list_sound}
+use Rattle.pgp_values.proofs.FormatLemmas.{other}
 
 abbrev part : Part QueryItem
 part = query_item.part
 
 abbrev Read : Type 0
 Read = QueryItem × List ℕ
-
-other : (m n : ℕ) → (m ≡ n → ⊥) → eqb m n ≡ false
-other m n h = grind arith
 
 -- what is read is this
 as_read : (bytes : List ℕ) (y x : Read) → y ≡ x → Begins part bytes y.0 y.1 → Begins part bytes x.0 x.1

@@ -9,7 +9,7 @@ pub use Rattle.std.specs.Option.{option_to_list, option_map, option_len}
 pub use Rattle.std.specs.Prelude.{◌⊎◌, IfErr, is_some, FitsSigned}
 pub use Rattle.pgp_base.proofs.Causes.{either_left, either_right, either_none, first-append, either_then, first_here, length_past}
 pub use Rattle.pgp_base.proofs.Needs.{flat_more, counted_length, nullable_least, sized_wants, counted_wants, wants_window, sized_length}
-pub use Rattle.pgp_base.proofs.Parts.{nothing_more, wants_more, if_err_at, length-uint32, more_twice, front_left, wants_then}
+pub use Rattle.pgp_base.proofs.Parts.{nothing_more, wants_more, if_err_at, length-uint32, more_twice, front_left, wants_then, length-int32}
 pub use Rattle.pgp_base.specs.Calls.{value_of, Puts, Gives, Runs, SoFar, KeepsValue, Yielded}
 pub use Rattle.pgp_base.specs.Cause.{Cause, Wants, either, first, length_cause, nullable_cause}
 pub use Rattle.pgp_base.specs.Held.{Held, ◌⊕◌}
@@ -23,7 +23,7 @@ pub use Rattle.pgp_base.specs.declared.number.IsNull.TheVariants.{No, Yes}
 pub use Rattle.pgp_frontend.proofs.Causes.{parts_first, never_memory}
 pub use Rattle.pgp_frontend.proofs.ClientRuns.{same_tag, is_reported, kind_there, no_run, run_more, runs_one, runs_bytes, runs_front}
 pub use Rattle.pgp_frontend.proofs.Lists.{parse_refused, all_same, some_same, all_given, some_given}
-pub use Rattle.pgp_frontend.proofs.Needs.{null_length, bind_length, joined_more, framed_wants, int32_length}
+pub use Rattle.pgp_frontend.proofs.Needs.{null_length, bind_length, joined_more, framed_wants}
 pub use Rattle.pgp_frontend.specs.ClientMessage.{ClientMessage, Bind, Parse, SaslInitialResponse, SaslResponse, CopyData}
 pub use Rattle.pgp_frontend.specs.Given.{Arrived, Serves, before_values, BindWhole, BindSoFar, BindRefused, WritesBind, ParseWhole, ParseSoFar}
 pub use Rattle.pgp_frontend.specs.Payload.{Part, Text, Int16s, Values, part_cause, parts, parts_cause, joined, bytes_of, cause, WritesMessage, tag_of, kind_of, payload}

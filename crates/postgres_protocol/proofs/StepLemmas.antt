@@ -1,9 +1,10 @@
 -- What an array of steps comes to, alone and as the value of a message.
-use Rattle.postgres_protocol.proofs.Common.{◌≡◌, ℕ, ◌+◌, ◌*◌, ◌≤◌, List, [], ◌∷◌, ◌++◌, map, take, length, Option, Some, None, Result, Ok, Err, Bor, MutBor, refl, sym, ap, subst, ◌∙◌, inl, inr, arith, length-append, map-append, Error, BindError, Conversion, Serialization, IsNull, Yes, No, flat_map, option_to_list, uint32, int32, oid, nullable, either, first, length_cause, nullable_cause, Wants, Held, ◌⊕◌, value_of, Puts, Gives, Runs, SoFar, KeepsValue, either_none, either_then, first_here, length_past, flat_more, nullable_least, sized_wants, length-uint32, more_twice, front_left, wants_more, wants_then, int32_length, ArrayDimension, Array, dimension_bytes, has_null, flag_of, array_bytes, array_cause, Step, Append, Null, Refuse, Does, gives, Give, RefusesAt, array_of, ArrayRefused, ArrayWants, ArrayAppended, WritesSteps, option_len}
+use Rattle.postgres_protocol.proofs.Common.{◌≡◌, ℕ, ◌+◌, ◌*◌, ◌≤◌, List, [], ◌∷◌, ◌++◌, map, take, length, Option, Some, None, Result, Ok, Err, Bor, MutBor, refl, sym, ap, subst, ◌∙◌, inl, inr, arith, length-append, map-append, Error, BindError, Conversion, Serialization, IsNull, Yes, No, flat_map, option_to_list, uint32, oid, nullable, either, first, length_cause, nullable_cause, Wants, Held, ◌⊕◌, value_of, Puts, Gives, Runs, SoFar, KeepsValue, either_none, either_then, first_here, length_past, flat_more, nullable_least, sized_wants, length-uint32, more_twice, front_left, wants_more, wants_then, ArrayDimension, Array, dimension_bytes, has_null, flag_of, array_bytes, array_cause, Step, Append, Null, Refuse, Does, gives, Give, RefusesAt, array_of, ArrayRefused, ArrayWants, ArrayAppended, WritesSteps, option_len}
 use Rattle.pgp_types.specs.ArrayWriting.{before_elements, MadeUpTo, ArrayWritten, ArrayRefused as RefusedArray}
 use Rattle.std.specs.Iterator.Adapters.{once_item}
 use Rattle.std.specs.declared.iter.Once.{Once}
 use Rattle.pgp_message_write.proofs.Lists.{same_more}
+use Rattle.pgp_types.proofs.ArrayWrites.{dimensions_length}
 
 -- The laws of the closures.
 
@@ -40,11 +41,6 @@ step_refuses Null lacks before after e Wanted wants d = absurd d
 step_refuses (Refuse r) lacks before after e Wanted wants d = d.0
 
 -- A growth that an element needs is one that the array needs.
-
--- each dimension takes eight bytes
-dimensions_length : (ds : List ArrayDimension) → length (flat_map dimension_bytes ds) ≡ 8 * length ds
-dimensions_length [] = refl
-dimensions_length (d ∷ ds) = let r = dimensions_length ds in omega (arith, r, length-append (dimension_bytes d) (flat_map dimension_bytes ds), length-append (int32 d.len) (int32 d.lower_bound), int32_length d.len, int32_length d.lower_bound)
 
 module _ (ds : List ArrayDimension) (type : ℕ) where
   abbrev flag : List (Option (List ℕ)) → List ℕ

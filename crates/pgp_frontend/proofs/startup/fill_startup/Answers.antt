@@ -1,5 +1,5 @@
-use Rattle.pgp_frontend.proofs.Common.{arith, ◌+◌, length, [], ◌∷◌, refl, inl, inr, map, FitsSigned, w32, if_err_at, length-uint32, wants_more, wants_then, uint32, int32, Startup, shown_by, Int32, Pairs, minor_of, version_code, spelling}
-use Rattle.pgp_frontend.proofs.Needs.{int32_length, startup_length, minor_fits, minor_small}
+use Rattle.pgp_frontend.proofs.Common.{arith, ◌+◌, length, [], ◌∷◌, refl, inl, inr, map, FitsSigned, w32, if_err_at, length-uint32, wants_more, wants_then, uint32, int32, Startup, shown_by, Int32, Pairs, minor_of, version_code, spelling, length-int32}
+use Rattle.pgp_frontend.proofs.Needs.{startup_length, minor_fits, minor_small}
 use Rattle.pgp_frontend.proofs.Fields.{cause_more, cause_here}
 use Rattle.pgp_frontend.proofs.Frames.{frame_room, frame_done, frame_fits, frame_passes}
 use Rattle.pgp_frontend.proofs.Texts.{part_more, first_part}
@@ -16,7 +16,7 @@ returns-in_err-put_pairs-clause-cause g c =
         | inl memory ↦ inl (
           memory.0,
           wants_then (g.B.Buffer.held c.args.buf.now) _ (uint32 0) _ _ c.in_ok-put_u32.ensures.ok (omega (arith, startup_length (minor_of c.args.version) (map (shown_by g.T.Text.shown) k.0), length-uint32 0))
-              (wants_then _ _ (int32 (version_code c.args.version)) _ (4 + length (spelling (Pairs (map (shown_by g.T.Text.shown) k.0)))) c.in_ok-put_version.ensures.ok (omega (arith, int32_length (version_code c.args.version))) memory.1),
+              (wants_then _ _ (int32 (version_code c.args.version)) _ (4 + length (spelling (Pairs (map (shown_by g.T.Text.shown) k.0)))) c.in_ok-put_version.ensures.ok (omega (arith, length-int32 (version_code c.args.version))) memory.1),
         )
         | inr refused ↦ inr (cause_here (Int32 (version_code c.args.version) ∷ []) (Pairs (map (shown_by g.T.Text.shown) k.0)) [] _ refl refused)
       ],
@@ -60,4 +60,4 @@ pub returns-in_err-put_version-clause-cause : goal.returns-in_err-put_version-cl
 returns-in_err-put_version-clause-cause g c =
     let memory = c.in_err-put_version.ensures.cause in
     if_err_at _ _ _ c.from_residual-in_err-put_version.ensures.1
-    (inl (Startup (minor_of c.args.version) [], ([], inl refl, refl), inl (memory.0, wants_then (g.B.Buffer.held c.args.buf.now) _ (uint32 0) _ _ c.in_ok-put_u32.ensures.ok (omega (arith, startup_length (minor_of c.args.version) [], length-uint32 0, int32_length (version_code c.args.version))) memory.1)))
+    (inl (Startup (minor_of c.args.version) [], ([], inl refl, refl), inl (memory.0, wants_then (g.B.Buffer.held c.args.buf.now) _ (uint32 0) _ _ c.in_ok-put_u32.ensures.ok (omega (arith, startup_length (minor_of c.args.version) [], length-uint32 0, length-int32 (version_code c.args.version))) memory.1)))

@@ -1,4 +1,4 @@
-use Rattle.pgp_message_write.proofs.Common.{rules, arith, [], ◌∷◌, ◌++◌, length, refl, inl, inr, Some, sym, ap, ◌∙◌, length-append, flat_map, ◌⊕◌, int32, uint32, length_cause, either_first, either_none, length_fits, length_past, memory_more, if_err_at, filled4, more_twice, nothing_more, sized4, int32_length, joined, parts_cause, wide_list}
+use Rattle.pgp_message_write.proofs.Common.{rules, arith, [], ◌∷◌, ◌++◌, length, refl, inl, inr, Some, sym, ap, ◌∙◌, length-append, flat_map, ◌⊕◌, int32, uint32, length_cause, either_first, either_none, length_fits, length_past, memory_more, if_err_at, filled4, more_twice, nothing_more, sized4, length-int32, joined, parts_cause, wide_list}
 use Rattle.std.specs.Prelude.{pos}
 use Rattle.pgp_message_write.proofs.GivenLists.{more_put, more_refused, wide_number, wide_refused}
 use Rattle.pgp_message_write.proofs.list_message_of.put_wide.Goals as goal
@@ -44,7 +44,7 @@ returns-then-count-eq2147483647-clause-cause g c =
 
 pub returns-in_err-put_u32-clause-cause : goal.returns-in_err-put_u32-clause-cause
 returns-in_err-put_u32-clause-cause g c =
-    if_err_at _ _ _ c.from_residual.ensures.1 ([], inl refl, inl (memory_more (g.B.Buffer.held c.args.buf.now) 4 _ _ (omega (arith, length-append (int32 (pos 0)) [], int32_length (pos 0))) c.in_err-put_u32.ensures.cause))
+    if_err_at _ _ _ c.from_residual.ensures.1 ([], inl refl, inl (memory_more (g.B.Buffer.held c.args.buf.now) 4 _ _ (omega (arith, length-append (int32 (pos 0)) [], length-int32 (pos 0))) c.in_err-put_u32.ensures.cause))
 
 pub returns-in_err-put-clause-cause : goal.returns-in_err-put-clause-cause
 returns-in_err-put-clause-cause g c =

@@ -1,6 +1,6 @@
 use Rattle.pgp_session.proofs.Common.{◌≡◌, ◌++◌, [], List, ℕ, subst, ap, ◌∙◌, ClientMessage, bytes_of, Puts}
 use Rattle.pgp_session.proofs.Connections.{put_by}
-use Rattle.pgp_session.proofs.LogIns.{lengthened_by}
+use Rattle.pgp_base.proofs.Parts.{lengthened_by}
 use Rattle.pgp_session.proofs.connection_parts.put_startup.Goals as goal
 
 pub returns-in-Ok-clause-put : goal.returns-in-Ok-clause-put

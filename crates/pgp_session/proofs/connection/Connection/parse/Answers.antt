@@ -1,6 +1,6 @@
 use Rattle.pgp_session.proofs.Common.{◌≡◌, ◌∙◌, true, rules, ap, subst, request_of, awaits_data, is_copying, Parse, bytes_of, Notes, may_ask, may_send, shown, with_out}
 use Rattle.pgp_session.proofs.Connections.{given_by, none_awaited}
-use Rattle.pgp_session.proofs.LogIns.{lengthened_by}
+use Rattle.pgp_base.proofs.Parts.{lengthened_by}
 use Rattle.pgp_session.proofs.connection.Connection.parse.Goals as goal
 
 pub returns-in-Ok : goal.returns-in-Ok
