@@ -60,7 +60,7 @@ unfoldable pub use Rattle.pgp_message.specs.ItemReading.{column_at}
 pub use Rattle.pgp_message.specs.Items.{IsValue, RangeSpelled, ErrorPart, FieldPart, FieldSpelled, FieldRefused, TextSpelled, TextRefused, FormatSpelled, FormatRefused, TypeSpelled, TypeRefused, ErrorFieldSpelled, ErrorFieldRefused, RangeRefused}
 pub use Rattle.pgp_message_write.proofs.GivenLists.{FromItself}
 pub use Rattle.pgp_message_write.specs.Given.{GivenRefused, WritesGiven, uncounted}
-pub use Rattle.pgp_message_write.specs.Lists.{format_parts, type_parts, with_list, column_parts, field_parts, text_parts, value_parts, wide_list, counted_list, lent, marked_list}
+pub use Rattle.pgp_message_write.specs.Lists.{format_parts, type_parts, with_list, column_parts, field_parts, text_parts, value_parts, wide_list, counted_list, marked_list}
 pub use Rattle.pgp_message_write.specs.Reply.{WritesReply, description_of, fields_of, names_of, negotiation_of, row_of, formats_of, types_of}
 pub use Rattle.pgp_message_write.specs.Views.{shown_field, shown_column}
 pub use Rattle.pgp_types.proofs.Appending.{only_memory}

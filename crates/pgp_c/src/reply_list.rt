@@ -2,9 +2,10 @@
 
 ghost use Rattle.std.specs.Prelude.{◌≡◌, ◌≢◌, map};
 ghost use Rattle.pgp_base.specs.Cause.{count_cause};
+ghost use Rattle.pgp_base.specs.Lent.{shown};
 ghost use Rattle.pgp_message.specs.BackendMessage.{ErrorResponse, NoticeResponse};
 ghost use Rattle.pgp_message_write.specs.Given.{uncounted};
-ghost use Rattle.pgp_message_write.specs.Lists.{column_parts, counted_list, field_parts, lent, marked_list, value_parts};
+ghost use Rattle.pgp_message_write.specs.Lists.{column_parts, counted_list, field_parts, marked_list, value_parts};
 ghost use Rattle.pgp_message_write.specs.Reply.{description_of, fields_of, row_of};
 ghost use Rattle.pgp_message_write.specs.Views.{shown_column, shown_field};
 ghost use Rattle.pgp_c.specs.Lists.{value_of};
@@ -106,7 +107,7 @@ pub extern "C" fn pgp_reply_notice(
 
 /// The bytes of a value, or none for a null.
 fn bytes_in<'a>(value: &PgpValue<'a>) -> Option<&'a [u8]>
-    ensures { lent result ≡ value_of value.now }
+    ensures { shown result ≡ value_of value.now }
 {
     if value.is_null {
         return None;
