@@ -17,4 +17,3 @@ abbrev pub Puts : {K : Type 0} → PgpValue → (Held K → ℕ → Type 0) → 
 Puts v lacks old new (Ok Yes) = (v.is_null ≡ true) × (new ≡ old)
 Puts v lacks old new (Ok No) = (v.is_null ≡ false) × (new ≡ old ⊕ v.bytes.now)
 Puts v lacks old new (Err e) = (v.is_null ≡ false) × WantsMemory (lacks old (length v.bytes.now)) e × (new ≡ old)
-
