@@ -1,7 +1,8 @@
 -- What the program does for its words.
-use Rattle.std.specs.Prelude.{◌≡◌, ⊤, ◌⊎◌, ◌||◌, ℕ, nat_lt, length, Bool, true, false, List, [], ◌∷◌, ◌++◌, Option, IfSome, codes}
+use Rattle.std.specs.Prelude.{◌≡◌, ⊤, ◌⊎◌, ◌||◌, ℕ, nat_lt, length, Bool, true, false, List, [], ◌∷◌, ◌++◌, Option, Some, None, IfSome, codes}
 use Rattle.pgp_conversation.specs.Common.{Keeps, Appends, IsAtEnd, Streams, Caused, IsUnread, AppendsFront, AreWords, Fault, Memory, Read, Write, AreOptions, Chosen, chosen_of, options_in, view_by, first_phase, View, Marking}
 use Rattle.pgp_line.specs.Run as run
+use Rattle.pgp_trace.specs.LineNames.{unknown_in}
 use Rattle.pgp_trace.specs.Listing as stream
 use Rattle.pgp_trace.specs.Sides as side
 use Rattle.pgp_trace.specs.declared.options.Listing.{Listing}
@@ -56,6 +57,14 @@ AsksSeveral terminal words = (listing : Listing) × (chosen : Chosen) × AsksLis
 
 abbrev pub usage : List ℕ
 usage = codes "usage: pgtrace server [--json] [--full] [--secrets] [--resume] [--only NAME[,NAME]..] [--except NAME[,NAME]..] [--color auto|always|never] | client [--json] [--full] [--secrets] [--resume] [--only NAME[,NAME]..] [--except NAME[,NAME]..] [--color auto|always|never] [--password-kind password|initial|response].. [--replication] | session [--json] [--full] [--secrets] [--requests] [--slower MS] [--raw] [--names] [--summary] [--fold] [--time absolute|relative] [--only NAME[,NAME]..] [--except NAME[,NAME]..] [--color auto|always|never] [FILE].. | --help | --version" ++ 10 ∷ []
+
+-- what is said of words that ask for nothing: the first name in them that no message has, or how the program is called
+abbrev pub refusal_by : Option (List ℕ) → List ℕ
+refusal_by (Some name) = codes "pgtrace: no message has the name " ++ name ++ 10 ∷ []
+refusal_by None = usage
+
+abbrev pub refusal : List (List ℕ) → List ℕ
+refusal words = refusal_by (unknown_in words)
 
 abbrev pub version : List ℕ
 version = codes "pgtrace 0.1.0" ++ 10 ∷ []
@@ -171,7 +180,7 @@ module _ (Gives : List ℕ → List ℕ → Type 0) (terminal : Bool) (lacks rea
   -- Or they ask for nothing, or for the listing of several files; or there is no memory to read them.
   abbrev pub Obeys : List (List ℕ) → Streams → Streams → ℕ → List ℕ → Type 0
   Obeys words before after status complaint = IsDone words before after status complaint
-      ⊎ ((IsOther terminal words ⊎ AsksSeveral terminal words) × IsUnread usage 2 before after status complaint)
+      ⊎ ((IsOther terminal words ⊎ AsksSeveral terminal words) × IsUnread (refusal words) 2 before after status complaint)
       ⊎ (lacks × IsUnread (complaint_of Memory) 1 before after status complaint)
 
   -- A run on words, and on the words of the process.

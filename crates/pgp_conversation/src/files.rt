@@ -64,7 +64,7 @@ pub fn list_file<A: MapMemory, R: Recordings, W: Output>(
     name: &str,
     input: &R,
     output: &mut W,
-) -> Result<Ended, Fault>
+) -> Result<Ended<'static>, Fault>
     ensures passed { OnOk result (W.Passed output.new) }
     ensures done { IfOk result (λ ended. ListsFile R.Gives (view_of view.entry) marking name.now (W.contents output.old) (W.contents output.new) ended.status (ended.first.now ++ ended.second.now ++ ended.third.now)) }
     ensures stops { OnErr result (CutsFile R.Gives (view_of view.entry) marking name.now (W.contents output.old) (W.contents output.new)) }
@@ -82,7 +82,7 @@ pub fn list_table<A: MapMemory, R: Recordings, W: Output>(
     names: &[&str],
     input: &R,
     output: &mut W,
-) -> Result<Ended, Fault>
+) -> Result<Ended<'static>, Fault>
     ensures passed { OnOk result (W.Passed output.new) }
     ensures done { IfOk result (λ ended. ListsTable R.Gives (view_of view.entry) marking (map (λ name. name.now) names.now) (W.contents output.old) (W.contents output.new) ended.status (ended.first.now ++ ended.second.now ++ ended.third.now)) }
     ensures stops { OnErr result (CutsTable R.Gives (view_of view.entry) marking (map (λ name. name.now) names.now) (W.contents output.old) (W.contents output.new)) }
@@ -101,7 +101,7 @@ fn list_added<A: MapMemory, R: Recordings, W: Output>(
     input: &R,
     table: &mut Summary<A>,
     output: &mut W,
-) -> Result<Ended, Fault>
+) -> Result<Ended<'static>, Fault>
     requires none { table.old.tallies ≡ [] }
     ensures passed { OnOk result (W.Passed output.new) }
     ensures done { IfOk result (λ ended. ListsTable R.Gives (view_of view.entry) marking (map (λ name. name.now) names.now) (W.contents output.old) (W.contents output.new) ended.status (ended.first.now ++ ended.second.now ++ ended.third.now)) }

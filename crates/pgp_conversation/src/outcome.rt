@@ -10,16 +10,16 @@ use pgp_line::print::put;
 
 /// How a run ended: the status, and what is to be said on standard error, in this order.
 #[derive(Debug, Clone, Copy)]
-pub struct Ended {
+pub struct Ended<'a> {
     pub status: u8,
-    pub first: &'static str,
-    pub second: &'static str,
-    pub third: &'static str,
+    pub first: &'a str,
+    pub second: &'a str,
+    pub third: &'a str,
 }
 
 /// With this status and one thing to say.
 #[tactic(auto, using(crate::proofs::Endings::alone))]
-pub fn with_status(status: u8, said: &'static str) -> Ended
+pub fn with_status(status: u8, said: &'static str) -> Ended<'static>
     ensures status { result.status ≡ status }
     ensures complaint { result.first.now ++ result.second.now ++ result.third.now ≡ said.now }
 {
@@ -32,7 +32,7 @@ pub fn with_status(status: u8, said: &'static str) -> Ended
 }
 
 /// What was asked for is done, and this is to be said of it.
-pub fn finished(said: &'static str) -> Ended
+pub fn finished(said: &'static str) -> Ended<'static>
     ensures status { result.status ≡ 0 }
     ensures complaint { result.first.now ++ result.second.now ++ result.third.now ≡ said.now }
 {
@@ -40,7 +40,7 @@ pub fn finished(said: &'static str) -> Ended
 }
 
 /// The words ask for nothing that there is: the usage line is said.
-pub fn refused(usage: &'static str) -> Ended
+pub fn refused(usage: &'static str) -> Ended<'static>
     ensures status { result.status ≡ 2 }
     ensures complaint { result.first.now ++ result.second.now ++ result.third.now ≡ usage.now }
 {
@@ -48,7 +48,7 @@ pub fn refused(usage: &'static str) -> Ended
 }
 
 /// What was asked for met a fault.
-pub fn stopped(fault: Fault) -> Ended
+pub fn stopped(fault: Fault) -> Ended<'static>
     ensures status { result.status ≡ 1 }
     ensures complaint { result.first.now ++ result.second.now ++ result.third.now ≡ complaint_of fault }
 {
@@ -67,9 +67,9 @@ fn complaint(fault: Fault) -> &'static str
 }
 
 /// Says on `errors` what is to be said there, or as much of it as it takes where it fails, and returns the status.
-pub fn tell<E: Output>(ended: Ended, errors: &mut E) -> u8
-    ensures status { result ≡ ended.status }
-    ensures reported { IsSaid (GivesUp E.Fails E.Interrupted) (E.Passed errors.new) (E.contents errors.old) (E.contents errors.new) (ended.first.now ++ ended.second.now ++ ended.third.now) }
+pub fn tell<E: Output>(ended: Ended<'_>, errors: &mut E) -> u8
+    ensures status { result ≡ ended.entry.status }
+    ensures reported { IsSaid (GivesUp E.Fails E.Interrupted) (E.Passed errors.new) (E.contents errors.old) (E.contents errors.new) (ended.entry.first.now ++ ended.entry.second.now ++ ended.entry.third.now) }
 {
     let _ = put_all(ended.first, ended.second, ended.third, errors);
     ended.status

@@ -1,10 +1,10 @@
 //! The program's words.
 
-ghost use Rattle.std.specs.Prelude.{◌≡◌, ◌⊎◌, ◌∷◌, ◌++◌, [], codes, map, IfSome, IfNone, IfOk, IfErr, OnErr, OnOk};
-ghost use Rattle.pgp_conversation.specs.Common.{Appends, Keeps, GivesUp, Caused, AppendsFront, LacksWords, streams, chosen_of, options_in, view_by};
+ghost use Rattle.std.specs.Prelude.{◌≡◌, ◌⊎◌, ◌∷◌, ◌++◌, [], Some, codes, map, IfSome, IfNone, IfOk, IfErr, OnErr, OnOk};
+ghost use Rattle.pgp_conversation.specs.Common.{Appends, GivesUp, Caused, AppendsFront, streams, chosen_of, options_in, view_by};
 ghost use Rattle.pgp_trace.specs.Listing as stream;
 ghost use Rattle.pgp_trace.specs.Steps.{side_of, view_of};
-ghost use Rattle.pgp_conversation.specs.Command.{Asks, AsksSeveral, BreaksOff, Does, DoesSession, IsOther, Lists, Obeys, ObeysOwn, Prints, PrintsFront, ReadsFor, ReadsForOwn, ReadsForSession, ReadsForWords, Runs, RunsOwn, Stops, StopsSession, asked, complaint_of, is_fit, session_by, usage, word_of};
+ghost use Rattle.pgp_conversation.specs.Command.{Asks, AsksSeveral, BreaksOff, Does, DoesSession, IsOther, Lists, Obeys, Prints, PrintsFront, ReadsFor, ReadsForOwn, ReadsForSession, ReadsForWords, Runs, RunsOwn, Stops, StopsSession, asked, complaint_of, is_fit, refusal, refusal_by, session_by, usage, word_of};
 ghost use Rattle.pgp_conversation.specs.Command as spec;
 ghost use Rattle.pgp_conversation.specs.Session as recording;
 
@@ -18,6 +18,7 @@ use pgp_line::print::put;
 use pgp_line::style::style_of;
 use pgp_line::words::{lent, texts};
 use pgp_names::MapMemory;
+use pgp_trace::line_names::unknown_in;
 use pgp_trace::marking::Marking;
 use pgp_trace::options::{Listing, Options, options_in, options_of};
 use pgp_trace::ports::Input;
@@ -32,11 +33,35 @@ const USAGE: &str =
 const VERSION: &str = "pgtrace 0.1.0\n";
 
 /// The words ask for nothing that there is.
-fn usage_error() -> Ended
+fn usage_error() -> Ended<'static>
     ensures status { result.status ≡ 2 }
     ensures complaint { result.first.now ++ result.second.now ++ result.third.now ≡ usage }
 {
     refused(USAGE)
+}
+
+/// The words ask for nothing that there is: a name that no message has is said, or else how the program is called.
+fn refusal<'a>(words: &[&'a str]) -> Ended<'a>
+    ensures status { result.status ≡ 2 }
+    ensures complaint { result.first.now ++ result.second.now ++ result.third.now ≡ refusal (map (λ word. word.now) words.now) }
+{
+    match unknown_in(words) {
+        Some(name) => unknown(name),
+        None => usage_error(),
+    }
+}
+
+/// No message has this name.
+fn unknown(name: &str) -> Ended<'_>
+    ensures status { result.status ≡ 2 }
+    ensures complaint { result.first.now ++ result.second.now ++ result.third.now ≡ refusal_by (Some name.now) }
+{
+    Ended {
+        status: 2,
+        first: "pgtrace: no message has the name ",
+        second: name,
+        third: "\n",
+    }
 }
 
 /// What the words ask for.
@@ -135,7 +160,7 @@ fn list_side<A: MapMemory, R: Input, W: Output>(
     side: Side<'_>,
     input: &mut R,
     output: &mut W,
-) -> Result<Ended, Fault>
+) -> Result<Ended<'static>, Fault>
     requires live { stream.ReadsWhenReady R.remaining W.contents W.Passed R.MayRead (view_of view) (side_of side) input.old output.old }
     ensures passed { OnOk result (W.Passed output.new) }
     ensures done { IfOk result (λ ended. Lists (view_of view.entry) (side_of side.entry) (streams (R.remaining input.old) (W.contents output.old)) (streams (R.remaining input.new) (W.contents output.new)) ended.status (ended.first.now ++ ended.second.now ++ ended.third.now)) }
@@ -149,7 +174,7 @@ fn list_side<A: MapMemory, R: Input, W: Output>(
 }
 
 /// Prints a text. Nothing is to be said then.
-fn print<W: Output>(text: &str, output: &mut W) -> Result<Ended, Fault>
+fn print<W: Output>(text: &str, output: &mut W) -> Result<Ended<'static>, Fault>
     ensures written { OnOk result (Appends (W.contents output.old) (W.contents output.new) text.now) }
     ensures front { OnErr result (AppendsFront (W.contents output.old) (W.contents output.new) text.now) }
     ensures silent { IfOk result (λ ended. ended.first.now ++ ended.second.now ++ ended.third.now ≡ []) }
@@ -169,7 +194,7 @@ fn list_by<A: MapMemory, R: Recordings, W: Output>(
     options: &Options<'_, A>,
     input: &mut R,
     output: &mut W,
-) -> Result<Ended, Fault>
+) -> Result<Ended<'static>, Fault>
     requires live { ReadsFor R.remaining W.contents W.Passed R.MayRead (spec.Show listing (chosen_of options.now)) input.old output.old }
     ensures passed { OnOk result (W.Passed output.new) }
     ensures done { IfOk result (λ ended. Does R.Gives (spec.Show listing (chosen_of options.now)) (streams (R.remaining input.old) (W.contents output.old)) (streams (R.remaining input.new) (W.contents output.new)) ended.status (ended.first.now ++ ended.second.now ++ ended.third.now)) }
@@ -199,7 +224,7 @@ fn list_sessions<A: MapMemory, R: Recordings, W: Output>(
     options: &Options<'_, A>,
     input: &mut R,
     output: &mut W,
-) -> Result<Ended, Fault>
+) -> Result<Ended<'static>, Fault>
     requires live { ReadsForSession R.remaining W.contents W.Passed R.MayRead (chosen_of options.now).files (session_by (chosen_of options.now)) options.now.marking input.old output.old }
     ensures passed { OnOk result (W.Passed output.new) }
     ensures done { IfOk result (λ ended. DoesSession R.Gives (chosen_of options.now).files (session_by (chosen_of options.now)) options.now.marking (streams (R.remaining input.old) (W.contents output.old)) (streams (R.remaining input.new) (W.contents output.new)) ended.status (ended.first.now ++ ended.second.now ++ ended.third.now)) }
@@ -221,7 +246,7 @@ fn perform<A: MapMemory, R: Recordings, W: Output>(
     command: &Command<'_, A>,
     input: &mut R,
     output: &mut W,
-) -> Result<Ended, Fault>
+) -> Result<Ended<'static>, Fault>
     requires live { ReadsFor R.remaining W.contents W.Passed R.MayRead (asked command.now) input.old output.old }
     ensures passed { OnOk result (W.Passed output.new) }
     ensures done { IfOk result (λ ended. Does R.Gives (asked command.now) (streams (R.remaining input.old) (W.contents output.old)) (streams (R.remaining input.new) (W.contents output.new)) ended.status (ended.first.now ++ ended.second.now ++ ended.third.now)) }
@@ -236,19 +261,19 @@ fn perform<A: MapMemory, R: Recordings, W: Output>(
 }
 
 /// Does what the words ask for, where a terminal shows what is written or not.
-pub fn obey<A: MapMemory, R: Recordings, W: Output>(
+pub fn obey<'a, A: MapMemory, R: Recordings, W: Output>(
     alloc: A,
     terminal: bool,
-    words: &[&str],
+    words: &[&'a str],
     input: &mut R,
     output: &mut W,
-) -> Ended
+) -> Ended<'a>
     requires live { ReadsForWords R.remaining W.contents W.Passed R.MayRead terminal (map (λ word. word.now) words.now) input.old output.old }
     ensures { Obeys R.Gives terminal A.Lacks (GivesUp R.Fails R.Called) (GivesUp W.Fails W.Interrupted) (W.Passed output.new) (map (λ word. word.now) words.now) (streams (R.remaining input.old) (W.contents output.old)) (streams (R.remaining input.new) (W.contents output.new)) result.status (result.first.now ++ result.second.now ++ result.third.now) }
 {
     let command = match command_of(alloc, terminal, words) {
         Ok(Some(command)) => command,
-        Ok(None) => return usage_error(),
+        Ok(None) => return refusal(words),
         Err(_) => return stopped(Fault::Memory),
     };
     match perform(alloc, &command, input, output) {
@@ -274,46 +299,7 @@ pub fn run<A: MapMemory, R: Recordings, W: Output, E: Output>(
     tell(obey(alloc, terminal, words, input, output), errors)
 }
 
-/// Does what the program's own words ask for, where there is memory for them. A word that isn't UTF-8
-/// asks for nothing that there is.
-fn try_own<A: MapMemory, V: Words, R: Recordings, W: Output>(
-    alloc: A,
-    terminal: bool,
-    env: &V,
-    input: &mut R,
-    output: &mut W,
-) -> Result<Ended, Fault>
-    requires live { ReadsForOwn R.remaining W.contents W.Passed R.MayRead terminal (V.Stands env.now) (V.Ends env.now) input.old output.old }
-    ensures obeyed { IfOk result (λ done. ObeysOwn R.Gives terminal A.Lacks (GivesUp R.Fails R.Called) (GivesUp W.Fails W.Interrupted) (W.Passed output.new) (V.Stands env.now) (V.Ends env.now) (V.Longer env.now) (streams (R.remaining input.old) (W.contents output.old)) (streams (R.remaining input.new) (W.contents output.new)) done.status (done.first.now ++ done.second.now ++ done.third.now)) }
-    ensures fault { IfErr result (λ fault. (fault ≡ Fault.Memory) × LacksWords A.Lacks (V.Stands env.now) (V.Longer env.now)) }
-    ensures input { IfErr result (λ _. Keeps (R.remaining input.old) (R.remaining input.new)) }
-    ensures output { IfErr result (λ _. Keeps (W.contents output.old) (W.contents output.new)) }
-{
-    let Some(texts) = texts(alloc, env)? else {
-        return Ok(usage_error());
-    };
-    let words = lent(alloc, texts.as_slice())?;
-    Ok(obey(alloc, terminal, words.as_slice(), input, output))
-}
-
-/// Does what the program's own words ask for.
-fn obey_own<A: MapMemory, V: Words, R: Recordings, W: Output>(
-    alloc: A,
-    terminal: bool,
-    env: &V,
-    input: &mut R,
-    output: &mut W,
-) -> Ended
-    requires live { ReadsForOwn R.remaining W.contents W.Passed R.MayRead terminal (V.Stands env.now) (V.Ends env.now) input.old output.old }
-    ensures { ObeysOwn R.Gives terminal A.Lacks (GivesUp R.Fails R.Called) (GivesUp W.Fails W.Interrupted) (W.Passed output.new) (V.Stands env.now) (V.Ends env.now) (V.Longer env.now) (streams (R.remaining input.old) (W.contents output.old)) (streams (R.remaining input.new) (W.contents output.new)) result.status (result.first.now ++ result.second.now ++ result.third.now) }
-{
-    match try_own(alloc, terminal, env, input, output) {
-        Ok(done) => done,
-        Err(fault) => stopped(fault),
-    }
-}
-
-/// Runs on the words of the process, after its name, where a terminal shows what is written or not.
+/// Runs on the words of the process, after its name, where a terminal shows what is written or not. A word that isn't UTF-8 asks for nothing that there is.
 pub fn run_own<A: MapMemory, V: Words, R: Recordings, W: Output, E: Output>(
     alloc: A,
     terminal: bool,
@@ -325,5 +311,13 @@ pub fn run_own<A: MapMemory, V: Words, R: Recordings, W: Output, E: Output>(
     requires live { ReadsForOwn R.remaining W.contents W.Passed R.MayRead terminal (V.Stands env.now) (V.Ends env.now) input.old output.old }
     ensures { RunsOwn R.Gives terminal A.Lacks (GivesUp R.Fails R.Called) (GivesUp W.Fails W.Interrupted) (W.Passed output.new) (V.Stands env.now) (V.Ends env.now) (V.Longer env.now) (GivesUp E.Fails E.Interrupted) (E.Passed errors.new) (streams (R.remaining input.old) (W.contents output.old)) (streams (R.remaining input.new) (W.contents output.new)) (E.contents errors.old) (E.contents errors.new) result }
 {
-    tell(obey_own(alloc, terminal, env, input, output), errors)
+    let texts = match texts(alloc, env) {
+        Ok(Some(texts)) => texts,
+        Ok(None) => return tell(usage_error(), errors),
+        Err(_) => return tell(stopped(Fault::Memory), errors),
+    };
+    match lent(alloc, texts.as_slice()) {
+        Ok(words) => run(alloc, terminal, words.as_slice(), input, output, errors),
+        Err(_) => tell(stopped(Fault::Memory), errors),
+    }
 }

@@ -62,7 +62,7 @@ pub fn list_session<A: MapMemory, R: Input, W: Output>(
     marking: Marking,
     input: &mut R,
     output: &mut W,
-) -> Result<Ended, Fault>
+) -> Result<Ended<'static>, Fault>
     requires live { ReadsWhenReady R.remaining W.contents W.Passed R.MayRead (view_of view) marking input.old output.old }
     ensures passed { OnOk result (W.Passed output.new) }
     ensures done { IfOk result (λ ended. ListsRecording (view_of view.entry) marking (streams (R.remaining input.old) (W.contents output.old)) (streams (R.remaining input.new) (W.contents output.new)) ended.status (ended.first.now ++ ended.second.now ++ ended.third.now)) }
@@ -90,7 +90,7 @@ fn list_held<A: MapMemory, R: Input, W: Output>(
     piece: &mut [u8],
     held: &mut Held<A>,
     output: &mut W,
-) -> Result<Ended, Fault>
+) -> Result<Ended<'static>, Fault>
     requires some { 0 < length piece.old }
     requires first { IsFirst marking held.old.begun (kept_of held.old.talk) held.old.bytes.items }
     requires live { ReadsWhenReady R.remaining W.contents W.Passed R.MayRead (view_of view) marking input.old output.old }
@@ -348,7 +348,7 @@ fn list_last<A: MapMemory, W: Output>(
     stopped: bool,
     held: &mut Held<A>,
     output: &mut W,
-) -> Result<Ended, Fault>
+) -> Result<Ended<'static>, Fault>
     ensures status { IfOk result (λ ended. ended.status ≡ status_of (end_of held.old.begun stopped held.old.bytes.items)) }
     ensures said { IfOk result (λ ended. ended.first.now ++ ended.second.now ++ ended.third.now ≡ held_said (kept_of held.old.talk) (end_of held.old.begun stopped held.old.bytes.items)) }
     ensures all { OnOk result (Appends (W.contents output.old) (W.contents output.new) (held_last (view_of view.entry) (kept_of held.old.talk))) }

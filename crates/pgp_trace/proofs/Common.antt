@@ -17,7 +17,8 @@ unfoldable pub use Rattle.pgp_base.specs.Wire.{uint32, uint64}
 pub use Rattle.pgp_base.specs.declared.error.Error.TheVariants.{InvalidLength, TooLarge}
 pub use Rattle.pgp_frontend.specs.Payload.{framed, payload, tag_of, bytes_of}
 pub use Rattle.pgp_frontend_read.proofs.OneStep.{step_one}
-pub use Rattle.pgp_frontend_read.proofs.Refusals.{more_behind, partial_waits}
+pub use Rattle.pgp_frontend_read.proofs.Headers.{begins_behind}
+pub use Rattle.pgp_frontend_read.proofs.Refusals.{partial_waits}
 pub use Rattle.pgp_frontend_read.proofs.Steps.{payload_fits, step_fault}
 unfoldable pub use Rattle.pgp_line.specs.Line.{extended, comma, lsn}
 pub use Rattle.pgp_message.proofs.Runs.{front_is_one, no_ending, runs_one, frames_none, frames_next, each_push, pushed}

@@ -1,5 +1,5 @@
 -- Where a stream isn't cut into frames.
-use Rattle.pgp_trace.proofs.Common.{◌≡◌, ℕ, ◌<◌, Bool, true, false, List, [], ◌∷◌, ◌++◌, length, None, refl, sym, ap, ◌∙◌, append_assoc, arith, inl, inr, length-append, uint32, framed, IsLengthFault, more_behind, Side, Server, Client, Ends, IsRefusedPacket, answered, Beginning, Messages, Replicating, Encrypted}
+use Rattle.pgp_trace.proofs.Common.{◌≡◌, ℕ, ◌<◌, Bool, true, false, List, [], ◌∷◌, ◌++◌, length, None, refl, sym, ap, ◌∙◌, append_assoc, arith, inl, inr, length-append, uint32, framed, IsLengthFault, begins_behind, Side, Server, Client, Ends, IsRefusedPacket, answered, Beginning, Messages, Replicating, Encrypted}
 use Rattle.pgp_frontend_read.specs.Step as client
 
 fault_stays : (rest piece : List ℕ) → IsLengthFault rest → IsLengthFault (rest ++ piece)
@@ -24,7 +24,7 @@ answered_stays [] more some none = absurd (omega (arith, some))
 answered_stays (x ∷ xs) more some none = none
 
 length_stays : (opened : Bool) (rest piece : List ℕ) → client.IsLengthFault opened rest → client.IsLengthFault opened (rest ++ piece)
-length_stays opened rest piece f = record { len = f.len; begins = more_behind opened rest piece f.len f.begins; wrong = f.wrong }
+length_stays opened rest piece f = record { len = f.len; begins = begins_behind opened rest piece f.len f.begins; wrong = f.wrong }
 
 packet_stays : (opened : Bool) (rest piece : List ℕ) → IsRefusedPacket opened rest → IsRefusedPacket opened (rest ++ piece)
 packet_stays opened rest piece r = record {

@@ -25,4 +25,5 @@ pub mod ClientStreams
 pub mod OneListing
 pub mod OptionLemmas
 pub mod Named
+pub mod LineNames
 pub mod Painted

@@ -4,10 +4,19 @@ use Rattle.std.proofs.lemmas.List.Elements.{All-nil, All-cons}
 use Rattle.pgp_base.specs.Cause.{nullable_cause}
 use Rattle.pgp_base.proofs.Causes.{counts_of, fits_of}
 use Rattle.pgp_base.proofs.Parts.{length-uint16, null_spelled}
-use Rattle.pgp_base.proofs.Prefixes.{counted_begins, nullable_begins, uint16_begins, head_of, tail_of}
+use Rattle.pgp_base.proofs.Prefixes.{counted_begins, nullable_begins, uint16_begins}
 
 oids : ReadsSpelling (λ n. n < 2 ^ 32) oid oid_at
 oids = number_reads 4 (λ n. n < 2 ^ 32) oid (λ l. from_be_bytes w32 l) oid_number
+
+-- a length, or the mark of a null, and what stands after it
+abbrev pub head_of : Option (List ℕ) → ℕ
+head_of None = 4294967295
+head_of (Some z) = length z
+
+abbrev pub tail_of : Option (List ℕ) → List ℕ
+tail_of None = []
+tail_of (Some z) = z
 
 split : (v : Option (List ℕ)) → nullable v ≡ uint32 (head_of v) ++ tail_of v
 split None = sym null_spelled ∙ sym (append-nil (uint32 4294967295))

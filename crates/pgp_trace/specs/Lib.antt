@@ -5,6 +5,7 @@ pub mod PlainBody
 pub mod Unread
 pub mod Replication
 pub mod Secrets
+pub mod LineNames
 pub mod Options
 pub mod Sides
 pub mod Client

@@ -1,8 +1,8 @@
 -- The options of a listing, as words spell them.
-use Rattle.std.specs.Prelude.{◌≡◌, ◌≢◌, ⊤, ℕ, ◌*◌, Ok, Bool, true, false, not, if◌then◌else◌, List, [], ◌∷◌, ◌++◌, ◌==◌, codes, map}
+use Rattle.std.specs.Prelude.{◌≡◌, ◌≢◌, ⊤, ℕ, ◌*◌, Ok, Bool, true, false, not, if◌then◌else◌, List, [], ◌∷◌, ◌++◌, None, ◌==◌, codes, map}
 use Rattle.std.specs.Borrow.{Bor}
 use Rattle.std.specs.Str.Parse.{ParsesUnsigned}
-use Rattle.pgp_trace.specs.Common.{flat_map, slice_split, AllByRecursion}
+use Rattle.pgp_trace.specs.Common.{flat_map, AllByRecursion}
 use Rattle.pgp_frontend_read.specs.declared.message.PasswordKind.{PasswordKind}
 use Rattle.pgp_frontend_read.specs.declared.message.PasswordKind.TheVariants.{Password, Initial, Response}
 use Rattle.pgp_trace.specs.declared.marking.Marking.{Marking}
@@ -16,6 +16,7 @@ use Rattle.pgp_trace.specs.declared.options.Options as code
 use Rattle.pgp_trace.specs.declared.options.When.{When}
 use Rattle.pgp_trace.specs.declared.options.When.TheVariants.{Auto, Always, Never}
 use Rattle.pgp_line.specs.Styles.{style_of}
+use Rattle.pgp_trace.specs.LineNames.{names_in, unknown_of}
 use Rattle.pgp_trace.specs.View.{View, has_word}
 
 abbrev pub kind_word : PasswordKind → List ℕ
@@ -80,9 +81,11 @@ options_in Session = codes "--json" ∷ codes "--full" ∷ codes "--secrets" ∷
 abbrev pub key_of : List ℕ → List ℕ
 key_of word = if is_file word then codes "FILE" else word
 
--- of that which has a number of milliseconds: it is what its word says, and less than 2³²
+-- of those which have names: lines have all of them; of that which has a number of milliseconds: it is what its word says, and less than 2³²
 abbrev pub IsSound : Choice → Type 0
 IsSound (File name) = is_file name.now ≡ true
+IsSound (Only names) = unknown_of names.now ≡ None
+IsSound (Except names) = unknown_of names.now ≡ None
 IsSound (Slower word millis) = ParsesUnsigned {E = ⊤} 32 10 word.now (Ok millis)
 IsSound choice = ⊤
 
@@ -109,13 +112,6 @@ pub record Chosen : Type 0 where
 -- with none, where a terminal shows the listing or not
 abbrev pub nothing_chosen : (terminal : Bool) → Chosen
 nothing_chosen terminal = record { json = false; full = false; secrets = false; resume = false; replicating = false; only = []; except = []; colored = terminal; kinds = []; slower = 0; marking = record { absolute = false; numbered = false; summed = false; folded = false; raw = false; named = false }; files = [] }
-
-abbrev pub is_comma : ℕ → Bool
-is_comma byte = byte == 44
-
--- The names of messages that a word has between commas; and the word as it is, since there is a name with a comma in it.
-abbrev pub names_in : List ℕ → List (List ℕ)
-names_in word = word ∷ slice_split is_comma word
 
 -- whether a listing has colours that a terminal shows or not
 abbrev pub is_colored : (terminal : Bool) → When → Bool

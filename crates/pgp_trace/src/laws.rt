@@ -1,12 +1,14 @@
 //! Laws of lines.
 
 ghost use Rattle.std.specs.Prelude.{◌≡◌, ◌⊎◌, ◌∷◌, ◌++◌, [], ℕ, List, true, false, Bool, ℤ, Ok, Result, None, Some, length};
+ghost use Rattle.std.specs.Str.{str_eq_ignore_ascii_case};
 ghost use Rattle.pgp_trace.specs.Common.{Error, Message, CancelRequest, PasswordMessage, SaslInitialResponse, SaslResponse, BackendRun, Json, Style, Beginning, Encrypted, Messages};
 ghost use Rattle.pgp_frontend_read.specs.declared.message.PasswordKind.{PasswordKind};
 ghost use Rattle.pgp_trace.specs.Client.{client_line};
 ghost use Rattle.pgp_trace.specs.ClientSecrets.{AlikeClientStreams};
 ghost use Rattle.pgp_trace.specs.View.{View, color_of, painted, plain, shown, uncolored};
-ghost use Rattle.pgp_trace.specs.Listing.{IsListing, IsRunBehindAnswers, LineOf, Lines};
+ghost use Rattle.pgp_trace.specs.LineNames.{name_meant};
+ghost use Rattle.pgp_trace.specs.Listing.{IsListing, IsRunBehindAnswers, LineOf, Lines, answer_name, name_in};
 ghost use Rattle.pgp_line.specs.Quoting.{IsPrinted};
 ghost use Rattle.pgp_trace.specs.Plain.{HasNoCopyBoth, PlainLines};
 ghost use Rattle.pgp_trace.specs.Replication.{Inner, IsInner};
@@ -29,6 +31,15 @@ pub fn lines_are_printable()
 /// Where no name is asked for, what stands in a listing of a frame is its line.
 pub fn all_lines_are_listed()
     ensures { (style : Style) (name line : List ℕ) → shown (plain style) name line ≡ line }
+{}
+
+/// Each name that a line has can be asked for: a word that is it but for the case of its letters means it. So does a word that is the name which a recording's
+/// line has for an answer of one byte.
+#[tactic(auto, using(crate::proofs::LineNames::line_meant, crate::proofs::LineNames::answer_meant))]
+pub fn names_can_be_asked_for()
+    ensures lines { (style : Style) (place : ℕ) (from to : Side) (frame line word : List ℕ) (is : LineOf style place from frame line to) →
+        str_eq_ignore_ascii_case (name_in style place from frame line to is) word ≡ true → name_meant word ≡ Some (name_in style place from frame line to is) }
+    ensures answers { (byte : ℕ) (word : List ℕ) → str_eq_ignore_ascii_case (answer_name byte) word ≡ true → name_meant word ≡ Some (answer_name byte) }
 {}
 
 /// A line in a colour is the line between two escape sequences, the second before its newline. Objects have no colour.

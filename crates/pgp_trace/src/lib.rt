@@ -11,6 +11,7 @@ pub mod frame;
 pub mod hint;
 pub mod inner;
 pub mod laws;
+pub mod line_names;
 pub mod lists;
 pub mod marking;
 pub mod names;

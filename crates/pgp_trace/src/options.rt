@@ -1,8 +1,9 @@
 //! The options of a listing.
 
 ghost use Rattle.std.specs.Prelude.{◌≡◌, ◌++◌, ◌∷◌, [], true, codes, drop, length, map, IfNone, IfOk, IfSome, OnErr, OnOk};
-ghost use Rattle.pgp_trace.specs.Options.{AreNoOptions, AreOptions, BeginsWithNone, BeginsWithNoneOf, IsOneOf, IsSound, chooses, chosen_of, is_colored, is_file, key_of, marks, names_in, nothing_chosen, options_in, spelled};
+ghost use Rattle.pgp_trace.specs.Options.{AreNoOptions, AreOptions, BeginsWithNone, BeginsWithNoneOf, IsOneOf, IsSound, chooses, chosen_of, is_colored, is_file, key_of, marks, nothing_chosen, options_in, spelled};
 
+use crate::line_names::{add_names, first_names};
 use crate::marking::Marking;
 use crate::view::has_word;
 use pgp_base::Memory;
@@ -49,7 +50,7 @@ pub enum Choice<'a> {
     Resume,
     /// A client's CopyData have a standby's messages inside.
     Replication,
-    /// Names of messages, between commas.
+    /// Names that lines have, between commas.
     Only(&'a str),
     Except(&'a str),
     Color(When),
@@ -260,18 +261,6 @@ fn is_colored(terminal: bool, when: When) -> bool
     }
 }
 
-/// Adds the names that a word has between commas, and the word as it is.
-fn add_names<'a, A: Memory>(word: &'a str, names: &mut Vec<&'a str, A>) -> Result<(), AllocError>
-    ensures names { OnOk result (map (λ name. name.now) names.new.items ≡ map (λ name. name.now) names.old.items ++ names_in word.now) }
-    ensures lacks { OnErr result A.Lacks }
-{
-    A::push(names, word)?;
-    for name in word.split(',') {
-        A::push(names, name)?;
-    }
-    Ok(())
-}
-
 /// How many words an option has.
 fn len(choice: Choice<'_>) -> usize
     ensures { result ≡ length (spelled choice.entry) }
@@ -331,8 +320,8 @@ fn first_choice<'a>(words: &[&'a str]) -> Option<Choice<'a>>
         "--secrets" => Some(Choice::Secrets),
         "--resume" => Some(Choice::Resume),
         "--replication" => Some(Choice::Replication),
-        "--only" => Some(Choice::Only(*rest.first()?)),
-        "--except" => Some(Choice::Except(*rest.first()?)),
+        "--only" => Some(Choice::Only(first_names(rest)?)),
+        "--except" => Some(Choice::Except(first_names(rest)?)),
         "--color" => first_when(rest),
         "--password-kind" => first_kind(rest),
         "--time" => first_clock(rest),

@@ -1,9 +1,10 @@
+use Rattle.pgp_conversation.proofs.Common.{◌∙◌, inr, Keeps-refl}
 use Rattle.pgp_conversation.proofs.run.run_own.Goals as goal
 
--- The status that is answered is the outcome's.
-pub returns : goal.returns
-returns g c = record {
+-- There is no memory for the words.
+pub returns-in-Err : goal.returns-in-Err
+returns-in-Err g c = record {
   complaint = _;
-  obeyed = rw c.tell.ensures.status c.obey_own.ensures;
-  said = c.tell.ensures.reported;
+  obeyed = inr (inr (c.in-Err.ensures.lacks, record { reported = c.stopped.ensures.complaint; failed = c.tell-in-Err.ensures.status ∙ c.stopped.ensures.status; input = Keeps-refl _; output = Keeps-refl _ }));
+  said = c.tell-in-Err.ensures.reported;
 }
