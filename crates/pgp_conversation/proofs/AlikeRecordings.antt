@@ -1,5 +1,5 @@
 -- Recordings that differ in their secrets alone have the same listing.
-use Rattle.pgp_conversation.proofs.Common.{◌≡◌, ◌+◌, ℕ, Bool, List, [], ◌++◌, length, Option, Some, refl, sym, ap, subst, ◌∙◌, arith, length-append, place_behind, quietly, Ends, View, Sender, Client, Server, End, EndsBy, Known, ListsChunk, ListsChunks, ListsFrame, ListsFrames, NoLines, OneLine, NoChunkListed, OneChunkListed, Talk, begins, first_time, half_in, last_lines, last_of, left, now_at, side_in, told_by, unnumbered, summary_in, ending_by, Marking, mark, since, Chunk, IsListing}
+use Rattle.pgp_conversation.proofs.Common.{◌≡◌, ◌+◌, ℕ, Bool, List, [], ◌++◌, length, refl, sym, ap, subst, ◌∙◌, arith, length-append, place_behind, quietly, Ends, View, Sender, Client, Server, End, EndsBy, Known, ListsChunk, ListsChunks, ListsFrame, ListsFrames, NoLines, OneLine, NoChunkListed, OneChunkListed, Talk, begins, half_in, last_lines, last_of, left, now_at, side_in, told_by, unnumbered, summary_in, ending_by, Marking, Start, ShowsTime, mark, started, Chunk, IsListing}
 use Rattle.pgp_conversation.specs.AlikeRecordings.{AlikeFrames, NoneAlike, OneAlike, AlikeTalks, AlikeChunk, AlikeChunks, NoChunkAlike, OneChunkAlike, AlikeRecordings}
 use Rattle.pgp_conversation.proofs.Secrets.{frames_hidden, long_alike}
 
@@ -22,21 +22,22 @@ hidden_frames view m who start from _ _ _ to (OneAlike {bytes = a} {others = b} 
 hidden_chunk : (view : View) (before then after later : Talk) (chunk : Chunk) (bytes text : List ℕ) → AlikeTalks before then → AlikeChunk (quietly view) before then chunk bytes text after later → ListsChunk (quietly view) then (record { sender = chunk.sender; micros = chunk.micros; bytes = bytes }) text later
 hidden_chunk view before then after later chunk bytes text s a =
     let who = chunk.sender in
-    let m = λ (start : Option ℕ). mark view.style.form who (since (first_time start chunk.micros) chunk.micros) in
+    let m = mark view.style.form who a.lists.time in
     let half = s.halves who in
-    let long = long_frames (quietly view) (m before.start) who (half_in who before).passed (now_at chunk.micros before.known) a.lists.front a.front text after.known a.each in
-    let each = hidden_frames view (m before.start) who (half_in who before).passed (now_at chunk.micros before.known) a.lists.front a.front text after.known a.each in
+    let long = long_frames (quietly view) m who (half_in who before).passed (now_at chunk.micros before.known) a.lists.front a.front text after.known a.each in
+    let each = hidden_frames view m who (half_in who before).passed (now_at chunk.micros before.known) a.lists.front a.front text after.known a.each in
     record {
+      time = a.lists.time;
+      shown = subst (λ (start : Start). ShowsTime view.style.form (started start chunk.micros) chunk.micros a.lists.time) (sym s.start) a.lists.shown;
       front = a.front;
       whole = a.whole;
-      each = subst (λ start. ListsFrames (quietly view) (m start) who (half_in who then).passed (now_at chunk.micros then.known) a.front text later.known) (sym s.start)
-          (subst (λ n. ListsFrames (quietly view) (m before.start) who n (now_at chunk.micros then.known) a.front text later.known) (sym half.passed)
-          (subst (λ (k : Known). ListsFrames (quietly view) (m before.start) who (half_in who before).passed (now_at chunk.micros k) a.front text later.known) (sym s.known)
-          (subst (ListsFrames (quietly view) (m before.start) who (half_in who before).passed (now_at chunk.micros before.known) a.front text) (sym a.left.known) each)));
+      each = subst (λ n. ListsFrames (quietly view) m who n (now_at chunk.micros then.known) a.front text later.known) (sym half.passed)
+          (subst (λ (k : Known). ListsFrames (quietly view) m who (half_in who before).passed (now_at chunk.micros k) a.front text later.known) (sym s.known)
+          (subst (ListsFrames (quietly view) m who (half_in who before).passed (now_at chunk.micros before.known) a.front text) (sym a.left.known) each));
       ending = subst (λ (k : Known). Ends (side_in who k) (half_in who later).stopped (half_in who later).rest) (sym a.left.known) (subst (λ b. Ends (side_in who after.known) b (half_in who later).rest) (sym (a.left.halves who).stopped) a.ending);
       passed = (a.left.halves who).passed ∙ a.lists.passed ∙ ap (λ n. n + length a.lists.front) (sym half.passed) ∙ ap (λ n. (half_in who then).passed + n) long;
       same = a.same;
-      start = a.left.start ∙ a.lists.start ∙ ap (λ start. Some (first_time start chunk.micros)) (sym s.start);
+      start = a.left.start ∙ a.lists.start ∙ ap (λ (start : Start). started start chunk.micros) (sym s.start);
     }
 
 listed : (view : View) (from : Talk) (cs ds : List Chunk) (lines : List ℕ) (to too : Talk) → AlikeChunks view from cs ds lines to too → ListsChunks view from cs lines to
@@ -56,15 +57,16 @@ hidden view from _ _ _ to too (OneChunkAlike {chunks = cs} {others = ds} {lines 
 
 same_last : (view : View) (talk another : Talk) → AlikeTalks talk another → last_lines view another ≡ last_lines view talk
 same_last view talk another s =
-    let last = λ (k : Known) (a b : Bool) (m n : ℕ). ending_by view (summary_in k.numbers)
-    (last_of view (told_by k.marked (unnumbered k.numbers)) Client a m ++ last_of view (told_by k.marked (unnumbered k.numbers)) Server b n) in
+    let last = λ (start : Start) (k : Known) (a b : Bool) (m n : ℕ). ending_by view (summary_in k.numbers)
+    (last_of view start (told_by k.marked (unnumbered k.numbers)) Client a m ++ last_of view start (told_by k.marked (unnumbered k.numbers)) Server b n) in
     let client = s.halves Client in
     let server = s.halves Server in
-    ap (λ k. last k another.client.stopped another.server.stopped (left another.client) (left another.server)) s.known
-    ∙ ap (λ b. last talk.known b another.server.stopped (left another.client) (left another.server)) client.stopped
-    ∙ ap (λ b. last talk.known talk.client.stopped b (left another.client) (left another.server)) server.stopped
-    ∙ ap (λ n. last talk.known talk.client.stopped talk.server.stopped (place_behind n) (left another.server)) client.rest
-    ∙ ap (λ n. last talk.known talk.client.stopped talk.server.stopped (left talk.client) (place_behind n)) server.rest
+    ap (λ start. last start another.known another.client.stopped another.server.stopped (left another.client) (left another.server)) s.start
+    ∙ ap (λ k. last talk.start k another.client.stopped another.server.stopped (left another.client) (left another.server)) s.known
+    ∙ ap (λ b. last talk.start talk.known b another.server.stopped (left another.client) (left another.server)) client.stopped
+    ∙ ap (λ b. last talk.start talk.known talk.client.stopped b (left another.client) (left another.server)) server.stopped
+    ∙ ap (λ n. last talk.start talk.known talk.client.stopped talk.server.stopped (place_behind n) (left another.server)) client.rest
+    ∙ ap (λ n. last talk.start talk.known talk.client.stopped talk.server.stopped (left talk.client) (place_behind n)) server.rest
 
 pub recordings_hidden : (view : View) (marking : Marking) (begun : Bool) (rest bytes another : List ℕ) (end : End) → EndsBy begun rest end → AlikeRecordings (quietly view) marking begun rest bytes another
     → (output : List ℕ) × IsListing (quietly view) marking bytes end output × IsListing (quietly view) marking another end output

@@ -7,7 +7,7 @@ pub use Rattle.std.proofs.lemmas.Grind.{flat_map-append}
 pub use Rattle.std.proofs.lemmas.List.{append-nil, length-take, take-append-drop, take-append-le, drop-drop, length-map}
 pub use Rattle.std.proofs.lemmas.List.Concat.{flat_map-cons}
 pub use Rattle.std.specs.Int.{w32, w64, from_be_bytes}
-pub use Rattle.pgp_conversation.specs.Common.{Appends, Consumes, IsAtEnd, flat_map, AllByRecursion, list_all, option_map, Error, ClientMessage, SaslResponse, Bind, Response, ClientError, PasswordKind, Part, ListEnds, Value, closing, followed, blanks, Count, Length, Name, Tag, Text, key, opening, IsPrinted, is_printable, json_value, quoted, up_to, Form, Json, Columns, Style, Authentication, Message, DataRow, ParameterDescription, RowDescription, Body, AuthenticationOk, value_at, HasPlaces, IsPlaceIn, Streams, AppendsFront, greatest, Tally, line_of, State, place_behind, name_in, LineOf, IsServerLine, server_name, client_frame_name, ending, refused, Ends, Side, expected, answered, is_reported, replicates_behind, server_at, View, color_of, has_word, is_listed, painted, shown, Marking, Beginning, Messages, Replicating, Encrypted, Sender, Client, Server, Column, End, Noted, Told, Role, Execute, Key, Number, Whole, Cut, NoChunk, NoRecording}
+pub use Rattle.pgp_conversation.specs.Common.{Appends, Consumes, IsAtEnd, flat_map, AllByRecursion, list_all, option_map, Error, ClientMessage, SaslResponse, Bind, Response, ClientError, PasswordKind, Part, ListEnds, Value, closing, followed, blanks, Count, Length, Name, Tag, Text, key, opening, IsPrinted, is_printable, json_value, quoted, up_to, Form, Json, Columns, Style, Authentication, Message, DataRow, ParameterDescription, RowDescription, Body, AuthenticationOk, value_at, HasPlaces, IsPlaceIn, Streams, AppendsFront, greatest, Tally, line_of, State, place_behind, name_in, LineOf, IsServerLine, server_name, client_frame_name, ending, refused, Ends, Side, expected, answered, is_reported, replicates_behind, server_at, View, color_of, has_word, is_listed, painted, shown, Marking, Beginning, Messages, Replicating, Encrypted, Sender, Client, Server, Start, Dated, Pending, At, Column, End, Noted, Told, Role, Execute, Key, Number, Whole, Cut, NoChunk, NoRecording}
 pub use Rattle.std.specs.Prelude.{OnOk, codes, OnErr, nat_lt, if◌then◌else◌, ◌==◌, map, ◌/◌, ◌%◌, decimal, IfOk, ◌||◌, ◌&&◌, is_some, not, bytes_eq, string_bytes, IfErr}
 pub use Rattle.std.specs.declared.ops.Range.{Range}
 pub use Rattle.pgp_base.proofs.PartLemmas.{IsBytes-drop, IsBytes-take, oid_number, uint64_number}
@@ -32,15 +32,15 @@ pub use Rattle.pgp_trace.specs.ClientSecrets.{AlikeAnswers, AlikeMessages, Reads
 pub use Rattle.pgp_trace.specs.Secrets.{Alike, AlikeResults, AlikeFrames, quiet, quietly}
 pub use Rattle.pgp_trace.specs.Steps.{HasLine, IsFrameOf, view_of}
 pub use Rattle.pgp_trace.specs.declared.frame.Next.TheVariants.{Line}
-pub use Rattle.pgp_conversation.specs.Conversation.{asks, noted_by, requests, Half, Known, Talk, ListsFrame, ListsFrames, NoLines, OneLine, first_time, now_at, side_in, with_numbers, ListsChunk, ListsChunks, NoChunkListed, OneChunkListed, at_first, begins, half_in, other, as_standby, note, noted_in, replicates_in, text_of, told_by, with_kind, with_side, with_types, last_lines, is_replicating, first_start, last_of, left, answer_to, called, counts, either, relined, waited}
-pub use Rattle.pgp_conversation.specs.Marks.{mark, since, word, marked, between, last_mark, later, member, members, says, width_of}
-unfoldable pub use Rattle.pgp_conversation.specs.Marks.{millis, number}
+pub use Rattle.pgp_conversation.specs.Conversation.{asks, noted_by, requests, Half, Known, Talk, ListsFrame, ListsFrames, NoLines, OneLine, now_at, side_in, with_numbers, ListsChunk, ListsChunks, NoChunkListed, OneChunkListed, at_first, begins, half_in, other, as_standby, note, noted_in, replicates_in, text_of, told_by, with_kind, with_side, with_types, last_lines, is_replicating, first_start, last_of, left, answer_to, called, counts, either, relined, waited}
+pub use Rattle.pgp_conversation.specs.Marks.{IsMark, ShowsTime, day_of, mark, origin, since, started, time_width, word, marked, between, last_mark, later, member, members, says, width_of}
+unfoldable pub use Rattle.pgp_conversation.specs.Marks.{clock, fraction, millis, number}
 pub use Rattle.pgp_conversation.specs.Pieces.{Follows, SumsRecording, ListsAllChunks, ListsPiece, ListsSome, Stays, Tracks, TracksTo, held_first, held_last}
 pub use Rattle.pgp_conversation.specs.Recording.{Chunk, IsShort, arrow, magic, EndsBy, IsChunk, IsNoChunk, IsPartial, Records, chunk_bytes, beginning, complaint_of}
 pub use Rattle.pgp_conversation.specs.Requests.{asked_by, heard_as, kind_by, Numbers, at_time, role_by, told_in, role_in, asking, summary_in, unnumbered, first_numbers, placed, tell, notes_nothing}
 pub use Rattle.pgp_conversation.specs.Session.{CutsLines, CutsListing, HasLines, IsListing, Awaits, IsCutShort, IsReadTo, IsReady, WasListed, summarized}
 pub use Rattle.pgp_conversation.specs.Shelves.{formatted, formatted_from, is_binary}
-pub use Rattle.pgp_conversation.specs.Steps.{ListsBytes, ListsChunkTo, HeldHalf, HeldTalk, Holds, Keeps, ListsAllFrames, TakesChunk, ListsOneFrame, known_of, TakesPart, chunk_of, end_of, numbers_in, half_of, kept_of, KnowsNext}
+pub use Rattle.pgp_conversation.specs.Steps.{ListsBytes, ListsChunkTo, HeldHalf, HeldTalk, Holds, Keeps, ListsAllFrames, TakesChunk, ListsOneFrame, known_of, TakesPart, AddsDay, AddsInstant, AddsTime, is_date, chunk_of, end_of, numbers_in, half_of, kept_of, KnowsNext}
 pub use Rattle.pgp_conversation.specs.Summing.{asking_from, asking_of, asking_in, summed, Asking, summed_so}
 pub use Rattle.pgp_conversation.specs.Tables.{cell, columns, heading, row_by, row_of, times, ending_by, table, row_in}
 pub use Rattle.pgp_conversation.specs.Typed.{Heard, Said, Sent, Unsaid, Learns, said_in, ShowsTyped, Gives, Hears, IsBindLine, IsRowLine, Lists, ShowsBound, ShowsBytes, ShowsFitting, ShowsHeard, ShowsRow, ShowsSent, ShowsValue, ShowsValues, bind_front, column_first, columns_from, columns_of, executed, fits, has_binary, names_from, names_parts, parameters_in, row_front, parameter, sends, with_field}

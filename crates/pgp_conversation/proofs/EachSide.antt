@@ -1,5 +1,5 @@
 -- What each side sent, and the lines of the server's stream alone.
-use Rattle.pgp_conversation.proofs.Common.{◌≡◌, ℕ, ◌+◌, List, [], ◌∷◌, ◌++◌, length, refl, sym, ap, subst, ◌∙◌, length-append, append_assoc, flat_map, append-nil, flat_map-cons, flat_map-append, Ends, View, nothing_ends, Sender, Client, Server, Marking, Half, ListsChunk, ListsChunks, NoChunkListed, OneChunkListed, Talk, at_first, begins, first_time, half_in, now_at, other, side_in, mark, since, Chunk}
+use Rattle.pgp_conversation.proofs.Common.{◌≡◌, ℕ, ◌+◌, List, [], ◌∷◌, ◌++◌, length, refl, sym, ap, subst, ◌∙◌, length-append, append_assoc, flat_map, append-nil, flat_map-cons, flat_map-append, Ends, View, nothing_ends, Sender, Client, Server, Marking, Half, ListsChunk, ListsChunks, NoChunkListed, OneChunkListed, Talk, at_first, begins, half_in, now_at, other, side_in, mark, Chunk}
 use Rattle.pgp_conversation.specs.Order.{IsSplit, sent, sent_by}
 use Rattle.pgp_conversation.proofs.FrameLists.{other_ends, timed_side}
 
@@ -26,7 +26,7 @@ beside : (view : View) (here to : Talk) (chunks : List Chunk) (chunk : Chunk) (t
 beside view here to chunks chunk text who is none s l = subst (λ w. IsSplit w (chunks ++ chunk ∷ []) to) is (
     let t = subst (λ w. IsSplit w chunks here) (sym is) s in
     let empty : sent_by (other chunk.sender) chunk.sender chunk.bytes ≡ [] = subst (λ w. sent_by w chunk.sender chunk.bytes ≡ []) (sym is) none in
-    let m = mark view.style.form chunk.sender (since (first_time here.start chunk.micros) chunk.micros) in
+    let m = mark view.style.form chunk.sender l.time in
     record {
       front = t.front;
       whole = sent_more (other chunk.sender) chunks chunk ∙ ap (λ b. sent (other chunk.sender) chunks ++ b) empty ∙ append-nil (sent (other chunk.sender) chunks) ∙ t.whole ∙ ap (λ (h : Half). t.front ++ h.rest) (sym l.same);

@@ -8,6 +8,7 @@ pub mod Sessions
 pub mod OneSession
 pub mod EachSide
 pub mod Turns
+pub mod Instants
 pub mod PrintedMarks
 pub mod PrintedObjects
 pub mod PrintedTables

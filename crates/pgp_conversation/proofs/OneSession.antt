@@ -1,5 +1,6 @@
 -- A recording has one listing.
-use Rattle.pgp_conversation.proofs.Common.{◌≡◌, ◌≢◌, ℕ, suc, ◌+◌, ◌<◌, ◌^◌, Bool, true, false, List, [], ◌∷◌, ◌++◌, length, take, drop, get_or, Option, refl, sym, ap, subst, ◌∙◌, arith, inl, inr, length-append, append_assoc, flat_map, AllByRecursion, append-nil, flat_map-cons, drop-append_seam, take-append_seam, w32, w64, from_be_bytes, uint32, uint64, oid_number, uint64_number, name_in, Ends, View, Sender, Client, Server, End, Half, ListsChunks, NoChunkListed, OneChunkListed, ListsChunk, Known, Talk, ListsFrame, begins, half_in, last_lines, note, noted_by, noted_in, now_at, other, side_in, text_of, told_by, with_numbers, with_side, with_types, Marking, Told, mark, since, Numbers, role_by, role_in, told_in, asking_from, asking_in, summed, first_time, Chunk, EndsBy, IsChunk, IsNoChunk, IsPartial, IsShort, Records, arrow, chunk_bytes, magic, HasLines, IsListing, Learns, ShowsTyped, said_in, SameFirst, rows_one, ends_one, line_one, no_line}
+use Rattle.pgp_conversation.proofs.Common.{◌≡◌, ◌≢◌, ℕ, ℤ, suc, ◌+◌, ◌<◌, ◌^◌, Bool, true, false, List, [], ◌∷◌, ◌++◌, length, take, drop, get_or, Option, refl, sym, ap, subst, ◌∙◌, arith, inl, inr, length-append, append_assoc, flat_map, AllByRecursion, append-nil, flat_map-cons, drop-append_seam, take-append_seam, w32, w64, from_be_bytes, uint32, uint64, oid_number, uint64_number, name_in, Ends, View, Sender, Client, Server, End, Half, ListsChunks, NoChunkListed, OneChunkListed, ListsChunk, Known, Talk, ListsFrame, ListsFrames, begins, half_in, last_lines, note, noted_by, noted_in, now_at, other, side_in, text_of, told_by, with_numbers, with_side, with_types, Marking, Told, Start, Dated, Form, Columns, ShowsTime, clock, day_of, fraction, mark, started, Numbers, role_by, role_in, told_in, asking_from, asking_in, summed, Chunk, EndsBy, IsChunk, IsNoChunk, IsPartial, IsShort, Records, arrow, chunk_bytes, magic, HasLines, IsListing, Learns, ShowsTyped, said_in, SameFirst, rows_one, ends_one, line_one, no_line}
+use Rattle.pgp_value_text.specs.Calendar.{ShowsDay}
 use Rattle.pgp_conversation.specs.declared.ending.End.TheVariants.{Whole, Cut, NoChunk, NoRecording}
 use Rattle.pgp_conversation.proofs.OneTyped.{OneText, learns_one, shows_one}
 use Rattle.pgp_conversation.proofs.Sayings.{said_one}
@@ -47,6 +48,15 @@ lists_one one_text view m who place here to too f g text another x y a b e =
 no_text : (view : View) (m : List ℕ) (who : Sender) (place : ℕ) (from to : Known) (stopped : Bool) (rest f text x : List ℕ) → Ends (side_in who from) stopped rest → ListsFrame view m who place from f text to → rest ≡ f ++ x → ⊥
 no_text view m who place from to stopped rest f text x ends has e = no_line view.style place (side_in who from) has.after stopped rest f has.line x ends has.reported e
 
+-- ---- a time
+
+abbrev pub OneDay : Type 0
+OneDay = (days : ℤ) (a b : List ℕ) → ShowsDay days a → ShowsDay days b → a ≡ b
+
+time_one : (one_day : OneDay) (form : Form) (start : Start) (micros : ℕ) (a b : List ℕ) → ShowsTime form start micros a → ShowsTime form start micros b → a ≡ b
+time_one one_day Columns Dated micros a b s t = s.2 ∙ ap (λ day. day ++ 32 ∷ clock micros ++ fraction micros) (one_day (day_of micros) s.0 t.0 s.1 t.1) ∙ sym t.2
+time_one one_day form start micros a b s t = s ∙ sym t
+
 -- ---- a chunk
 
 half_same : (a b : Half) → a.passed ≡ b.passed → a.rest ≡ b.rest → a.stopped ≡ b.stopped → a ≡ b
@@ -62,14 +72,16 @@ talk_same : (who : Sender) (a b : Talk) → a.known ≡ b.known → half_in who 
 talk_same Client a b k c s t = parts_same a b k c s t
 talk_same Server a b k s c t = parts_same a b k c s t
 
-pub chunk_lists_one : (one_text : OneText) (view : View) (before after then : Talk) (chunk : Chunk) (text another : List ℕ) → ListsChunk view before chunk text after → ListsChunk view before chunk another then → (text ≡ another) × (after ≡ then)
-chunk_lists_one one_text view before after then chunk text another a b =
+pub chunk_lists_one : (one_text : OneText) (one_day : OneDay) (view : View) (before after then : Talk) (chunk : Chunk) (text another : List ℕ) → ListsChunk view before chunk text after → ListsChunk view before chunk another then → (text ≡ another) × (after ≡ then)
+chunk_lists_one one_text one_day view before after then chunk text another a b =
     let who = chunk.sender in
-    let m = mark view.style.form who (since (first_time before.start chunk.micros) chunk.micros) in
+    let m = mark view.style.form who b.time in
     let start = (half_in who before).passed in
     let from = now_at chunk.micros before.known in
+    let times = time_one one_day view.style.form (started before.start chunk.micros) chunk.micros a.time b.time a.shown b.shown in
+    let each = subst (λ t. ListsFrames view (mark view.style.form who t) who start from a.front text after.known) times a.each in
     let one = rows_one (ListsFrame view m who) (λ k. Ends (side_in who k)) (lists_one one_text view m who) (λ k. ends_one (side_in who k)) (no_text view m who) after.known then.known start from a.front b.front text another
-    (half_in who after).rest (half_in who then).rest (half_in who after).stopped (half_in who then).stopped a.each a.ending b.each b.ending (sym a.whole ∙ b.whole) in
+    (half_in who after).rest (half_in who then).rest (half_in who after).stopped (half_in who then).stopped each a.ending b.each b.ending (sym a.whole ∙ b.whole) in
     let half = half_same (half_in who after) (half_in who then) (a.passed ∙ ap (λ l. start + length l) one.fronts ∙ sym b.passed) one.rests one.ends in
     (one.texts, talk_same who after then one.states half (a.same ∙ sym b.same) (a.start ∙ sym b.start))
 
@@ -86,14 +98,14 @@ chunks_of : (view : View) (from to : Talk) (chunks : List Chunk) (lines : List �
 chunks_of view from _ [] [] NoChunkListed = NoMore
 chunks_of view from to _ _ (OneChunkListed {chunks = chunks} {lines = lines} {here = here} chunk text before has) = chunk_more view here from to chunks chunk lines text (chunks_of view from here chunks lines before) has
 
-listed_one : (one_text : OneText) (view : View) (to too from : Talk) (cs ds : List Chunk) (lines others : List ℕ) → InOrder view to from cs lines → InOrder view too from ds others → cs ≡ ds → (lines ≡ others) × (to ≡ too)
-listed_one one_text view _ _ _ [] [] [] [] NoMore NoMore e = (refl, refl)
-listed_one one_text view _ too from [] _ [] _ NoMore (OneMore {chunks = ds} d u has tail) e = let h : 0 ≡ suc (length ds) = ap length e in absurd (omega (arith, h))
-listed_one one_text view to _ from _ [] _ [] (OneMore {chunks = cs} c t is rest) NoMore e = let h : suc (length cs) ≡ 0 = ap length e in absurd (omega (arith, h))
-listed_one one_text view to too from _ _ _ _ (OneMore {mid = mid} {chunks = cs} {lines = more} c t is rest) (OneMore {mid = last} {chunks = ds} {lines = less} d u has tail) e =
+listed_one : (one_text : OneText) (one_day : OneDay) (view : View) (to too from : Talk) (cs ds : List Chunk) (lines others : List ℕ) → InOrder view to from cs lines → InOrder view too from ds others → cs ≡ ds → (lines ≡ others) × (to ≡ too)
+listed_one one_text one_day view _ _ _ [] [] [] [] NoMore NoMore e = (refl, refl)
+listed_one one_text one_day view _ too from [] _ [] _ NoMore (OneMore {chunks = ds} d u has tail) e = let h : 0 ≡ suc (length ds) = ap length e in absurd (omega (arith, h))
+listed_one one_text one_day view to _ from _ [] _ [] (OneMore {chunks = cs} c t is rest) NoMore e = let h : suc (length cs) ≡ 0 = ap length e in absurd (omega (arith, h))
+listed_one one_text one_day view to too from _ _ _ _ (OneMore {mid = mid} {chunks = cs} {lines = more} c t is rest) (OneMore {mid = last} {chunks = ds} {lines = less} d u has tail) e =
     let first = ap (λ l. get_or l 0 c) e in
-    let one = chunk_lists_one one_text view from mid last d t u (subst (λ k. ListsChunk view from k t mid) first is) has in
-    let same = listed_one one_text view to too mid cs ds more less rest (subst (λ h. InOrder view too h ds less) (sym one.1) tail) (ap (λ l. drop 1 l) e) in
+    let one = chunk_lists_one one_text one_day view from mid last d t u (subst (λ k. ListsChunk view from k t mid) first is) has in
+    let same = listed_one one_text one_day view to too mid cs ds more less rest (subst (λ h. InOrder view too h ds less) (sym one.1) tail) (ap (λ l. drop 1 l) e) in
     (ap (λ l. l ++ more) one.0 ∙ ap (λ l. u ++ l) same.0, same.1)
 
 -- ---- the chunks of a recording
@@ -198,25 +210,25 @@ no_recording bytes rest chunks NoRecording e r = (refl, λ more same. e more (sy
 magic_first : (bytes rest : List ℕ) (chunks : List Chunk) → Records bytes true chunks rest → bytes ≡ magic ++ (flat_map chunk_bytes chunks ++ rest)
 magic_first bytes rest chunks r = r.whole ∙ append_assoc magic (flat_map chunk_bytes chunks) rest
 
-lines_one : (one_text : OneText) (view : View) (marking : Marking) (cs ds : List Chunk) (lines others : List ℕ) (to too : Talk) → ListsChunks view (begins marking) cs lines to → ListsChunks view (begins marking) ds others too → cs ≡ ds → lines ++ last_lines view to ≡ others ++ last_lines view too
-lines_one one_text view marking cs ds lines others to too a b e =
-    let one = listed_one one_text view to too (begins marking) cs ds lines others (chunks_of view (begins marking) to cs lines a) (chunks_of view (begins marking) too ds others b) e in
+lines_one : (one_text : OneText) (one_day : OneDay) (view : View) (marking : Marking) (cs ds : List Chunk) (lines others : List ℕ) (to too : Talk) → ListsChunks view (begins marking) cs lines to → ListsChunks view (begins marking) ds others too → cs ≡ ds → lines ++ last_lines view to ≡ others ++ last_lines view too
+lines_one one_text one_day view marking cs ds lines others to too a b e =
+    let one = listed_one one_text one_day view to too (begins marking) cs ds lines others (chunks_of view (begins marking) to cs lines a) (chunks_of view (begins marking) too ds others b) e in
     ap (λ l. l ++ last_lines view to) one.0 ∙ ap (λ t. others ++ last_lines view t) one.1
 
-by_begun : (one_text : OneText) (view : View) (marking : Marking) (bytes x y lines others : List ℕ) (p q : Bool) (a b : End) (to too : Talk) (m : HasLines view marking bytes p x lines to) (n : HasLines view marking bytes q y others too) → EndsBy p x a → EndsBy q y b
+by_begun : (one_text : OneText) (one_day : OneDay) (view : View) (marking : Marking) (bytes x y lines others : List ℕ) (p q : Bool) (a b : End) (to too : Talk) (m : HasLines view marking bytes p x lines to) (n : HasLines view marking bytes q y others too) → EndsBy p x a → EndsBy q y b
     → (a ≡ b) × (lines ++ last_lines view to ≡ others ++ last_lines view too)
-by_begun one_text view marking bytes x y lines others true true a b to too m n ea eb =
+by_begun one_text one_day view marking bytes x y lines others true true a b to too m n ea eb =
     let same = chunks_one m.chunks n.chunks x y m.records.each n.records.each (ends_none x a ea) (ends_none y b eb)
     (sym (drop-append_seam magic (flat_map chunk_bytes m.chunks ++ x)) ∙ ap (drop 20) (sym (magic_first bytes x m.chunks m.records) ∙ magic_first bytes y n.chunks n.records) ∙ drop-append_seam magic (flat_map chunk_bytes n.chunks ++ y)) in
-    (end_one y a b (subst (λ l. EndsBy true l a) same.1 ea) eb, lines_one one_text view marking m.chunks n.chunks lines others to too m.each n.each same.0)
-by_begun one_text view marking bytes x y lines others false false a b to too m n ea eb =
-    ((no_recording bytes x m.chunks a ea m.records).0 ∙ sym (no_recording bytes y n.chunks b eb n.records).0, lines_one one_text view marking m.chunks n.chunks lines others to too m.each n.each (m.records.none refl ∙ sym (n.records.none refl)))
-by_begun one_text view marking bytes x y lines others true false a b to too m n ea eb =
+    (end_one y a b (subst (λ l. EndsBy true l a) same.1 ea) eb, lines_one one_text one_day view marking m.chunks n.chunks lines others to too m.each n.each same.0)
+by_begun one_text one_day view marking bytes x y lines others false false a b to too m n ea eb =
+    ((no_recording bytes x m.chunks a ea m.records).0 ∙ sym (no_recording bytes y n.chunks b eb n.records).0, lines_one one_text one_day view marking m.chunks n.chunks lines others to too m.each n.each (m.records.none refl ∙ sym (n.records.none refl)))
+by_begun one_text one_day view marking bytes x y lines others true false a b to too m n ea eb =
     absurd ((no_recording bytes y n.chunks b eb n.records).1 (flat_map chunk_bytes m.chunks ++ x) (magic_first bytes x m.chunks m.records))
-by_begun one_text view marking bytes x y lines others false true a b to too m n ea eb =
+by_begun one_text one_day view marking bytes x y lines others false true a b to too m n ea eb =
     absurd ((no_recording bytes x m.chunks a ea m.records).1 (flat_map chunk_bytes n.chunks ++ y) (magic_first bytes y n.chunks n.records))
 
-pub one_listing : (one_text : OneText) (view : View) (marking : Marking) (bytes output another : List ℕ) (end ending : End) → IsListing view marking bytes end output → IsListing view marking bytes ending another → (end ≡ ending) × (output ≡ another)
-one_listing one_text view marking bytes output another end ending a b =
-    let one = by_begun one_text view marking bytes a.rest b.rest a.lines b.lines a.begun b.begun end ending a.talk b.talk a.each b.each a.ending b.ending in
+pub one_listing : (one_text : OneText) (one_day : OneDay) (view : View) (marking : Marking) (bytes output another : List ℕ) (end ending : End) → IsListing view marking bytes end output → IsListing view marking bytes ending another → (end ≡ ending) × (output ≡ another)
+one_listing one_text one_day view marking bytes output another end ending a b =
+    let one = by_begun one_text one_day view marking bytes a.rest b.rest a.lines b.lines a.begun b.begun end ending a.talk b.talk a.each b.each a.ending b.ending in
     (one.0, a.text ∙ one.1 ∙ sym b.text)

@@ -1,27 +1,26 @@
 -- Marks are printable.
-use Rattle.pgp_conversation.proofs.Common.{ℕ, ◌-◌, Bool, true, false, List, [], ◌∷◌, ◌++◌, length, refl, ◌/◌, ◌%◌, nat_lt, if◌then◌else◌, codes, decimal, blanks, IsPrinted, Form, Columns, Json, blank, plain, plain_join, plain_number, Sender, Client, Server, Told, between, last_mark, later, mark, member, members, millis, number, says, since, word, width_of, Plain}
+use Rattle.pgp_conversation.proofs.Common.{ℕ, ◌-◌, Bool, true, false, List, [], ◌∷◌, ◌++◌, length, refl, sym, subst, ◌/◌, ◌%◌, nat_lt, if◌then◌else◌, codes, decimal, blanks, IsPrinted, Form, Columns, Json, blank, plain, plain_join, plain_number, Sender, Client, Server, Start, Dated, Told, ShowsTime, between, clock, day_of, fraction, last_mark, later, mark, member, members, millis, number, origin, says, since, time_width, word, width_of, Plain}
+use Rattle.pgp_conversation.proofs.Instants.{clock_plain, day_plain, fraction_plain}
 use Rattle.pgp_conversation.specs.declared.placement.Told.TheVariants.{Number, Answer, Lost, Nothing, Uncounted}
 
 pub seconds : (n : ℕ) → Plain (number n)
 unfolding number
-seconds n =
-    let a = decimal (n / 1000000) ++ codes "." in
-    let b = a ++ decimal (n / 100000 % 10) in
-    let c = b ++ decimal (n / 10000 % 10) in
-    let d = c ++ decimal (n / 1000 % 10) in
-    let e = d ++ decimal (n / 100 % 10) in
-    let f = e ++ decimal (n / 10 % 10) in
-    let pa : Plain a = plain_join (decimal (n / 1000000)) (codes ".") (plain_number (n / 1000000)) refl in
-    let pb : Plain b = plain_join a (decimal (n / 100000 % 10)) pa (plain_number (n / 100000 % 10)) in
-    let pc : Plain c = plain_join b (decimal (n / 10000 % 10)) pb (plain_number (n / 10000 % 10)) in
-    let pd : Plain d = plain_join c (decimal (n / 1000 % 10)) pc (plain_number (n / 1000 % 10)) in
-    let pe : Plain e = plain_join d (decimal (n / 100 % 10)) pd (plain_number (n / 100 % 10)) in
-    let pf : Plain f = plain_join e (decimal (n / 10 % 10)) pe (plain_number (n / 10 % 10)) in
-    plain_join f (decimal (n % 10)) pf (plain_number (n % 10))
+seconds n = plain_join (decimal (n / 1000000)) (fraction n) (plain_number (n / 1000000)) (fraction_plain n)
 
 either_way : (b : Bool) (n k : ℕ) → Plain (if b then 45 ∷ number n else number k)
 either_way true n k = plain_join (45 ∷ []) (number n) refl (seconds n)
 either_way false n k = seconds k
+
+since_plain : (start micros : ℕ) → Plain (since start micros)
+since_plain start micros = either_way (nat_lt micros start) (start - micros) (micros - start)
+
+time_plain : (form : Form) (start : Start) (micros : ℕ) (time : List ℕ) → ShowsTime form start micros time → Plain time
+time_plain Columns Dated micros time s =
+    let front = plain_join s.0 (32 ∷ clock micros) (day_plain (day_of micros) s.0 s.1) (plain_join (32 ∷ []) (clock micros) refl (clock_plain micros)) in
+    subst Plain (sym s.2) (plain_join (s.0 ++ 32 ∷ clock micros) (fraction micros) front (fraction_plain micros))
+time_plain form start micros time s = subst Plain (sym s) (since_plain (origin start micros) micros)
+
+-- ---- a mark
 
 arrows : (who : Sender) → Plain (between who)
 arrows Client = refl
@@ -51,9 +50,6 @@ thousandths n =
 later_way : (b : Bool) (n k : ℕ) → Plain (if b then 45 ∷ millis n else 43 ∷ millis k)
 later_way true n k = plain_join (45 ∷ []) (millis n) refl (thousandths n)
 later_way false n k = plain_join (43 ∷ []) (millis k) refl (thousandths k)
-
-since_plain : (start micros : ℕ) → Plain (since start micros)
-since_plain start micros = either_way (nat_lt micros start) (start - micros) (micros - start)
 
 numbered : (n : ℕ) → Plain (codes "#" ++ decimal n)
 numbered n = plain_join (codes "#") (decimal n) refl (plain_number n)
@@ -90,9 +86,9 @@ word_plain Json told = members_plain told
 with_word : (form : Form) (m : List ℕ) (told : Told) → Plain m → IsPrinted (m ++ word form told)
 with_word form m told a = plain (m ++ word form told) (plain_join m (word form told) a (word_plain form told))
 
-pub mark_printable : (form : Form) (who : Sender) (start micros : ℕ) (told : Told) → IsPrinted (mark form who (since start micros) ++ word form told)
-mark_printable form who start micros told = with_word form (mark form who (since start micros)) told (around form who (since start micros) (since_plain start micros))
+pub mark_printable : (form : Form) (who : Sender) (start : Start) (micros : ℕ) (time : List ℕ) (told : Told) → ShowsTime form start micros time → IsPrinted (mark form who time ++ word form told)
+mark_printable form who start micros time told s = with_word form (mark form who time) told (around form who time (time_plain form start micros time s))
 
-pub last_printable : (form : Form) (who : Sender) (told : Told) → IsPrinted (last_mark form who ++ word form told)
-last_printable Columns who told = with_word Columns (mark Columns who []) told (around Columns who [] refl)
-last_printable Json who told = with_word Json (mark Json who (codes "null")) told (around Json who (codes "null") refl)
+pub last_printable : (form : Form) (start : Start) (who : Sender) (told : Told) → IsPrinted (last_mark form start who ++ word form told)
+last_printable Columns start who told = with_word Columns (last_mark Columns start who) told (plain_join (blanks (time_width start)) (between who) (blank (time_width start)) (arrows who))
+last_printable Json start who told = with_word Json (mark Json who (codes "null")) told (around Json who (codes "null") refl)

@@ -1,5 +1,5 @@
 -- A line with its mark is printable, and so is an object with the mark's members in it.
-use Rattle.pgp_conversation.proofs.Common.{◌≡◌, ◌≢◌, ℕ, ◌<◌, Bool, true, false, List, [], ◌∷◌, ◌++◌, length, drop, get_or, Option, refl, sym, ap, ◌∙◌, arith, append_assoc, nat_lt, ◌==◌, if◌then◌else◌, list_all, and_parts, eqb-true, IsPrinted, is_printable, Form, Columns, Json, Style, LineOf, Side, join, line_printable, plain, Sender, Told, mark, marked, since, word, Said, ShowsTyped, Types}
+use Rattle.pgp_conversation.proofs.Common.{◌≡◌, ◌≢◌, ℕ, ◌<◌, Bool, true, false, List, [], ◌∷◌, ◌++◌, length, drop, get_or, Option, refl, sym, ap, ◌∙◌, arith, append_assoc, nat_lt, ◌==◌, if◌then◌else◌, list_all, and_parts, eqb-true, IsPrinted, is_printable, Form, Columns, Json, Style, LineOf, Side, join, line_printable, plain, Sender, Start, Told, ShowsTime, mark, marked, word, Said, ShowsTyped, Types}
 use Rattle.std.specs.Char.{encode_utf8, len_utf8}
 use Rattle.std.specs.Str.{all_scalars, encode_utf8_all}
 use Rattle.std.proofs.lemmas.Str.{encode_ascii, length-encode}
@@ -62,14 +62,14 @@ printed : (form : Form) (m text line : List ℕ) → line ≡ text ++ 10 ∷ [] 
 printed Columns m text line e pm pt = before m text line e pm pt
 printed Json m text line e pm pt = inside m text line e pm pt
 
-pub marked_printable : (style : Style) (place : ℕ) (from to : Side) (frame line : List ℕ) (form : Form) (who : Sender) (start micros : ℕ) (told : Told) → LineOf style place from frame line to
-    → (text : List ℕ) × (marked form (mark form who (since start micros) ++ word form told) line ≡ text ++ 10 ∷ []) × IsPrinted text
-marked_printable style place from to frame line form who start micros told is =
+pub marked_printable : (style : Style) (place : ℕ) (from to : Side) (frame line : List ℕ) (form : Form) (who : Sender) (start : Start) (micros : ℕ) (time : List ℕ) (told : Told) → LineOf style place from frame line to
+    → ShowsTime form start micros time → (text : List ℕ) × (marked form (mark form who time ++ word form told) line ≡ text ++ 10 ∷ []) × IsPrinted text
+marked_printable style place from to frame line form who start micros time told is at_time =
     let one = line_printable style place from to frame line is in
-    printed form (mark form who (since start micros) ++ word form told) one.0 line one.1 (mark_printable form who start micros told) one.2
+    printed form (mark form who time ++ word form told) one.0 line one.1 (mark_printable form who start micros time told at_time) one.2
 
-pub typed_printable : (style : Style) (place len : ℕ) (from to : Side) (frame line typed : List ℕ) (said : Said) (types : Option Types) (form : Form) (who : Sender) (start micros : ℕ) (told shown : Told) → LineOf style place from frame line to
-    → ShowsTyped style place len told said types line typed → (text : List ℕ) × (marked form (mark form who (since start micros) ++ word form shown) typed ≡ text ++ 10 ∷ []) × IsPrinted text
-typed_printable style place len from to frame line typed said types form who start micros told shown is shows =
+pub typed_printable : (style : Style) (place len : ℕ) (from to : Side) (frame line typed : List ℕ) (said : Said) (types : Option Types) (form : Form) (who : Sender) (start : Start) (micros : ℕ) (time : List ℕ) (told shown : Told) → LineOf style place from frame line to
+    → ShowsTyped style place len told said types line typed → ShowsTime form start micros time → (text : List ℕ) × (marked form (mark form who time ++ word form shown) typed ≡ text ++ 10 ∷ []) × IsPrinted text
+typed_printable style place len from to frame line typed said types form who start micros time told shown is shows at_time =
     let one = typed_printed style place len told said types line typed (line_printable style place from to frame line is) shows in
-    printed form (mark form who (since start micros) ++ word form shown) one.0 typed one.1 (mark_printable form who start micros shown) one.2
+    printed form (mark form who time ++ word form shown) one.0 typed one.1 (mark_printable form who start micros time shown at_time) one.2

@@ -1,12 +1,9 @@
 -- The lines of a table are printable.
-use Rattle.pgp_conversation.proofs.Common.{◌≡◌, ℕ, ◌-◌, ◌/◌, ◌%◌, List, [], ◌∷◌, ◌++◌, length, refl, codes, decimal, blanks, IsPrinted, json_value, quoted, up_to, Form, Columns, Json, Style, Tally, line_of, blank, cut, join, json_val, plain, plain_join, plain_number, quote, millis, number, cell, columns, heading, row_by, row_of, times, Plain}
+use Rattle.pgp_conversation.proofs.Common.{ℕ, ◌-◌, ◌/◌, ◌%◌, List, [], ◌∷◌, ◌++◌, length, refl, codes, decimal, blanks, json_value, quoted, up_to, Form, Columns, Json, Style, Tally, line_of, blank, cut, join, json_val, plain, plain_join, plain_number, quote, millis, number, cell, columns, heading, row_by, row_of, times, Plain}
 use Rattle.pgp_summary.specs.declared.entry.Line.{Line}
 use Rattle.pgp_conversation.specs.Tables.{counts, members, percentage, shares}
 use Rattle.pgp_conversation.proofs.PrintedMarks.{seconds, thousandths}
-
--- a line, without the newline at its end
-abbrev pub IsPrintedLine : List ℕ → Type 0
-IsPrintedLine line = (text : List ℕ) × (line ≡ text ++ 10 ∷ []) × IsPrinted text
+use Rattle.pgp_conversation.proofs.PrintedTypes.{IsLine}
 
 in_cell : (width : ℕ) (text : List ℕ) → Plain text → Plain (cell width text)
 in_cell width text p = plain_join (blanks (width - length text) ++ text) (32 ∷ []) (plain_join (blanks (width - length text)) text (blank (width - length text)) p) refl
@@ -65,14 +62,14 @@ in_members l =
     let front = counts l ++ shares l in
     plain_join (front ++ times l) (codes ",\"statement\":") (plain_join front (times l) (plain_join (counts l) (shares l) (in_counts l) (in_shares l)) (in_times l)) refl
 
-row_printed : (form : Form) (limit : ℕ) (l : Line) (text : List ℕ) → IsPrintedLine (row_by form limit l text)
+row_printed : (form : Form) (limit : ℕ) (l : Line) (text : List ℕ) → IsLine (row_by form limit l text)
 row_printed Columns limit l text = (columns l ++ up_to limit (quoted Columns) text, refl, join (columns l) (up_to limit (quoted Columns) text) (plain (columns l) (in_columns l)) (cut (quoted Columns) (quote Columns) limit text))
 row_printed Json limit l text =
     let front = members l ++ json_value limit text in
     (front ++ codes "}", refl, join front (codes "}") (join (members l) (json_value limit text) (plain (members l) (in_members l)) (json_val limit text)) (plain (codes "}") refl))
 
-pub rows_printed : (style : Style) (whole : ℕ) (e : Tally) → IsPrintedLine (row_of style whole e)
+pub rows_printed : (style : Style) (whole : ℕ) (e : Tally) → IsLine (row_of style whole e)
 rows_printed style whole e = row_printed style.form style.limit (line_of whole e) e.text
 
-pub heading_printed : IsPrintedLine (heading Columns)
+pub heading_printed : IsLine (heading Columns)
 heading_printed = (codes "   count   errors       rows      total  share      least     median   greatest ms", refl, plain (codes "   count   errors       rows      total  share      least     median   greatest ms") refl)

@@ -1,5 +1,5 @@
 -- The listing of a recording, a chunk and a piece at a time.
-use Rattle.pgp_conversation.proofs.Common.{◌≡◌, ◌≢◌, ◌⊎◌, ℕ, ◌+◌, ◌-◌, ◌≤◌, Bool, true, false, List, [], ◌∷◌, ◌++◌, length, drop, Option, Result, Ok, Err, refl, sym, ap, subst, ◌∙◌, arith, inl, inr, append_assoc, length-append, IfErr, IfOk, OnErr, OnOk, Appends, Consumes, IsAtEnd, flat_map, AllByRecursion, Appends-nil, Appends-trans, Consumes-nil, Consumes-trans, Consumes-kept, append-nil, drop-drop, drop-append_seam, flat_map-cons, flat_map-append, Streams, AppendsFront, View, nothing_ends, none_taken, all_taken, more_taken, Client, Server, End, Marking, Known, NoChunkListed, OneChunkListed, Talk, at_first, begins, first_start, last_lines, last_of, left, told_by, Follows, ListsAllChunks, ListsPiece, ListsSome, Stays, Tracks, TracksTo, held_first, held_last, summary_in, unnumbered, ending_by, Chunk, EndsBy, IsChunk, IsPartial, Records, beginning, chunk_bytes, complaint_of, magic, Awaits, CutsLines, CutsListing, IsCutShort, HasLines, IsReadTo, IsReady, WasListed, ListsChunkTo, HeldTalk, Keeps, TakesChunk, TakesPart, chunk_of, end_of, hint_of}
+use Rattle.pgp_conversation.proofs.Common.{◌≡◌, ◌≢◌, ◌⊎◌, ℕ, ◌+◌, ◌-◌, ◌≤◌, Bool, true, false, List, [], ◌∷◌, ◌++◌, length, drop, Option, Result, Ok, Err, refl, sym, ap, subst, ◌∙◌, arith, inl, inr, append_assoc, length-append, IfErr, IfOk, OnErr, OnOk, Appends, Consumes, IsAtEnd, flat_map, AllByRecursion, Appends-nil, Appends-trans, Consumes-nil, Consumes-trans, Consumes-kept, append-nil, drop-drop, drop-append_seam, flat_map-cons, flat_map-append, Streams, AppendsFront, View, Start, nothing_ends, none_taken, all_taken, more_taken, Client, Server, End, Marking, Known, NoChunkListed, OneChunkListed, Talk, at_first, begins, first_start, last_lines, last_of, left, told_by, Follows, ListsAllChunks, ListsPiece, ListsSome, Stays, Tracks, TracksTo, held_first, held_last, summary_in, unnumbered, ending_by, Chunk, EndsBy, IsChunk, IsPartial, Records, beginning, chunk_bytes, complaint_of, magic, Awaits, CutsLines, CutsListing, IsCutShort, HasLines, IsReadTo, IsReady, WasListed, ListsChunkTo, HeldTalk, Keeps, TakesChunk, TakesPart, chunk_of, end_of, hint_of}
 use Rattle.std.specs.Io.KnownBytes.{Keeps as Same}
 use Rattle.pgp_conversation.specs.declared.chunk.Chunk as code
 use Rattle.pgp_conversation.specs.declared.chunk.Part.TheVariants as part
@@ -314,12 +314,14 @@ last_is : (view : View) (held : HeldTalk) (talk : Talk) → Keeps held talk → 
 last_is view held talk k =
     let told = told_by held.known.marked (unnumbered held.known.numbers) in
     let ends : List ℕ → List ℕ = ending_by view (summary_in held.known.numbers) in
-    ap (λ s. ends (last_of view told Client s held.client.left ++ last_of view told Server held.server.stopped held.server.left)) k.client.stopped
-    ∙ ap (λ n. ends (last_of view told Client talk.client.stopped n ++ last_of view told Server held.server.stopped held.server.left)) k.client.count
-    ∙ ap (λ s. ends (last_of view told Client talk.client.stopped (left talk.client) ++ last_of view told Server s held.server.left)) k.server.stopped
-    ∙ ap (λ n. ends (last_of view told Client talk.client.stopped (left talk.client) ++ last_of view told Server talk.server.stopped n)) k.server.count
+    let last = last_of view talk.start in
+    ap (λ (s : Start). ends (last_of view s told Client held.client.stopped held.client.left ++ last_of view s told Server held.server.stopped held.server.left)) k.start
+    ∙ ap (λ s. ends (last told Client s held.client.left ++ last told Server held.server.stopped held.server.left)) k.client.stopped
+    ∙ ap (λ n. ends (last told Client talk.client.stopped n ++ last told Server held.server.stopped held.server.left)) k.client.count
+    ∙ ap (λ s. ends (last told Client talk.client.stopped (left talk.client) ++ last told Server s held.server.left)) k.server.stopped
+    ∙ ap (λ n. ends (last told Client talk.client.stopped (left talk.client) ++ last told Server talk.server.stopped n)) k.server.count
     ∙ ap (λ (known : Known). ending_by view (summary_in known.numbers)
-    (last_of view (told_by known.marked (unnumbered known.numbers)) Client talk.client.stopped (left talk.client) ++ last_of view (told_by known.marked (unnumbered known.numbers)) Server talk.server.stopped (left talk.server))) k.known
+    (last (told_by known.marked (unnumbered known.numbers)) Client talk.client.stopped (left talk.client) ++ last (told_by known.marked (unnumbered known.numbers)) Server talk.server.stopped (left talk.server))) k.known
 
 said_is : (held : HeldTalk) (talk : Talk) (end : End) → Keeps held talk → held_said held end ≡ said_of talk end
 said_is held talk end k =

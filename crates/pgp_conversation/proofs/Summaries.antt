@@ -1,5 +1,5 @@
 -- Where a summary is asked for, the table is all that is written.
-use Rattle.pgp_conversation.proofs.Common.{◌≡◌, ℕ, ◌+◌, Bool, true, false, List, [], ◌∷◌, ◌++◌, length, Option, Some, None, Result, Ok, Err, refl, sym, ap, ◌∙◌, inl, inr, nat_lt, ◌==◌, ◌||◌, ◌&&◌, is_some, not, if◌then◌else◌, bytes_eq, codes, Error, Message, Authentication, AuthenticationOk, ClientMessage, SaslResponse, ClientError, Style, State, client_name, LineOf, client_frame_name, name_in, place_behind, server_name, Side, is_reported, View, color_of, has_word, is_listed, painted, shown, Beginning, Messages, Replicating, Encrypted, Sender, End, Marking, Role, Told, Known, ListsChunks, ListsFrame, ListsFrames, NoChunkListed, NoLines, OneChunkListed, OneLine, Talk, answer_to, begins, called, counts, either, first_time, half_in, last_lines, last_of, left, noted_in, now_at, relined, side_in, told_by, waited, with_numbers, with_side, with_types, mark, marked, since, word, Chunk, Numbers, at_time, first_numbers, role_in, summary_in, told_in, unnumbered, IsListing, summarized, Asking, asking_in, summed, summed_so, ending_by, table, false≢true}
+use Rattle.pgp_conversation.proofs.Common.{◌≡◌, ℕ, ◌+◌, Bool, true, false, List, [], ◌∷◌, ◌++◌, length, Option, Some, None, Result, Ok, Err, refl, sym, ap, ◌∙◌, inl, inr, nat_lt, ◌==◌, ◌||◌, ◌&&◌, is_some, not, if◌then◌else◌, bytes_eq, codes, Error, Message, Authentication, AuthenticationOk, ClientMessage, SaslResponse, ClientError, Style, State, client_name, LineOf, client_frame_name, name_in, place_behind, server_name, Side, is_reported, View, color_of, has_word, is_listed, painted, shown, Beginning, Messages, Replicating, Encrypted, Sender, End, Marking, Role, Told, Known, ListsChunks, ListsFrame, ListsFrames, NoChunkListed, NoLines, OneChunkListed, OneLine, Talk, answer_to, begins, called, counts, either, half_in, last_lines, last_of, left, noted_in, now_at, relined, side_in, told_by, waited, with_numbers, with_side, with_types, mark, marked, word, Chunk, Numbers, at_time, first_numbers, role_in, summary_in, told_in, unnumbered, IsListing, summarized, Asking, asking_in, summed, summed_so, ending_by, table, false≢true}
 use Rattle.pgp_trace.specs.Names.{name_of}
 use Rattle.pgp_trace.specs.Sides.{Server, Client}
 use Rattle.pgp_conversation.specs.declared.chunk.Sender.TheVariants as sides
@@ -84,7 +84,7 @@ pub chunks_none : (view : View) (from : Talk) (chunks : List Chunk) (lines : Lis
 chunks_none view from [] [] _ NoChunkListed = refl
 chunks_none view from _ _ to (OneChunkListed {chunks = chunks} {lines = lines} {here = here} chunk text before one) =
     ap (λ l. l ++ text) (chunks_none view from chunks lines here before)
-    ∙ frames_none view (mark view.style.form chunk.sender (since (first_time here.start chunk.micros) chunk.micros)) chunk.sender (half_in chunk.sender here).passed (now_at chunk.micros here.known) one.front text to.known one.each
+    ∙ frames_none view (mark view.style.form chunk.sender one.time) chunk.sender (half_in chunk.sender here).passed (now_at chunk.micros here.known) one.front text to.known one.each
 
 -- ---- the summary stays
 
@@ -126,7 +126,7 @@ frames_kept view m who place from _ _ to (OneLine {bytes = bytes} {lines = lines
 chunks_kept : (view : View) (from : Talk) (chunks : List Chunk) (lines : List ℕ) (to : Talk) → ListsChunks view from chunks lines to → is_summed to.known.numbers ≡ is_summed from.known.numbers
 chunks_kept view from [] [] _ NoChunkListed = refl
 chunks_kept view from _ _ to (OneChunkListed {chunks = chunks} {lines = lines} {here = here} chunk text before one) =
-    frames_kept view (mark view.style.form chunk.sender (since (first_time here.start chunk.micros) chunk.micros)) chunk.sender (half_in chunk.sender here).passed (now_at chunk.micros here.known) one.front text to.known one.each
+    frames_kept view (mark view.style.form chunk.sender one.time) chunk.sender (half_in chunk.sender here).passed (now_at chunk.micros here.known) one.front text to.known one.each
     ∙ time_kept chunk.micros here.known.numbers ∙ chunks_kept view from chunks lines here before
 
 -- ---- the table
@@ -156,6 +156,6 @@ pub table_alone : (view : View) (marking : Marking) (bytes output : List ℕ) (e
 table_alone view marking bytes output end numbered sums l =
     let all : is_summed l.talk.known.numbers ≡ true = chunks_kept (summarized true view) (begins marking) l.each.chunks l.lines l.talk l.each.each ∙ begins_summed (counts marking) marking.summed marking.folded (counted marking.numbered (not marking.raw) numbered) sums in
     let told = told_by l.talk.known.marked (unnumbered l.talk.known.numbers) in
-    let last = last_of (summarized true view) told sides.Client l.talk.client.stopped (left l.talk.client) ++ last_of (summarized true view) told sides.Server l.talk.server.stopped (left l.talk.server) in
+    let last = last_of (summarized true view) l.talk.start told sides.Client l.talk.client.stopped (left l.talk.client) ++ last_of (summarized true view) l.talk.start told sides.Server l.talk.server.stopped (left l.talk.server) in
     let t = table_in (summarized true view) last l.talk.known.numbers all in
     (t.0, t.1, l.text ∙ ap (λ x. x ++ last_lines (summarized true view) l.talk) (chunks_none view (begins marking) l.each.chunks l.lines l.talk l.each.each) ∙ t.2)

@@ -1,8 +1,8 @@
 -- What is asked and heard in turn in a listing.
-use Rattle.pgp_conversation.proofs.Common.{◌≡◌, ◌≢◌, ℕ, Bool, true, false, List, [], ◌∷◌, ◌++◌, ◌+◌, length, Option, Some, None, Result, Ok, Err, refl, sym, ap, subst, ◌∙◌, append_assoc, append-nil, place_behind, View, Sender, Marking, Noted, Role, Told, Known, ListsChunks, ListsFrames, NoChunkListed, NoLines, OneChunkListed, OneLine, begins, counts, first_time, half_in, note, noted_in, now_at, side_in, with_numbers, with_side, with_types, mark, since, Chunk, Numbers, at_time, first_numbers, placed, role_in, tell, told_in, Asking, asking_in, summed, name_in, State, false≢true}
+use Rattle.pgp_conversation.proofs.Common.{◌≡◌, ◌≢◌, ℕ, Bool, true, false, List, [], ◌∷◌, ◌++◌, ◌+◌, length, Option, Some, None, Result, Ok, Err, refl, sym, ap, subst, ◌∙◌, append_assoc, append-nil, place_behind, View, Sender, Marking, Noted, Role, Told, Known, ListsChunks, ListsFrames, NoChunkListed, NoLines, OneChunkListed, OneLine, begins, counts, half_in, note, noted_in, now_at, side_in, with_numbers, with_side, with_types, mark, Chunk, Numbers, at_time, first_numbers, placed, role_in, tell, told_in, Asking, asking_in, summed, name_in, State, false≢true}
 use Rattle.pgp_client.proofs.Exact.{turns_are_sent}
 use Rattle.pgp_client.proofs.Timely.{sent_in_turns, true_in_turns}
-use Rattle.pgp_client.specs.Taking.{asked, taken, taken_as, observed, observed_at, moved, event_of, is_aside, ready}
+use Rattle.pgp_client.specs.Taking.{asked, taken, taken_as, observed, observed_at, moved, event_of, is_aside, is_end, ready}
 use Rattle.pgp_client.specs.Talk.{Talk}
 use Rattle.pgp_client.specs.Telling.{Turn, Asks, Hears, Follows, start}
 use Rattle.pgp_client.specs.declared.request.Asked.{Asked}
@@ -80,16 +80,12 @@ next_in : Result (Event × Talk) Refusal → Talk → Talk
 next_in (Ok x) other = x.1
 next_in (Err e) other = other
 
-is_ended : Event → Bool
-is_ended Ended = true
-is_ended e = false
-
 is_over : Stage → Bool
 is_over Over = true
 is_over s = false
 
-over_event : (s : Stage) (n : ℕ) → is_ended (event_of s n) ≡ is_over s
-unfolding is_ended is_over
+over_event : (s : Stage) (n : ℕ) → is_end (event_of s n) ≡ is_over s
+unfolding is_over
 over_event Idle n = refl
 over_event Skipping n = refl
 over_event Over n = refl
@@ -110,13 +106,13 @@ over_kept t k e next false over is = absurd (refused t.name t.pending k e next (
     refused name pending k e next is = absurd cc
 
 moved_ends : (n : ℕ) (r : Result (Stage × List Asked) Refusal) (next : Talk) → moved n r ≡ Ok (Ended, next) → next.stage ≡ Over
-unfolding next_in event_in is_ended
-moved_ends n (Ok x) next is = ap (λ (t : Talk). t.stage) (sym (ap (λ r. next_in r next) is)) ∙ over_is x.0 (sym (over_event x.0 n) ∙ ap (λ r. is_ended (event_in r Ended)) is)
+unfolding next_in event_in
+moved_ends n (Ok x) next is = ap (λ (t : Talk). t.stage) (sym (ap (λ r. next_in r next) is)) ∙ over_is x.0 (sym (over_event x.0 n) ∙ ap (λ r. is_end (event_in r Ended)) is)
 moved_ends n (Err e) next is = absurd cc
 
 taken_ends : (t : Talk) (k : Kind) (next : Talk) (aside : Bool) → taken_as aside t k ≡ Ok (Ended, next) → next.stage ≡ Over
-unfolding event_in is_ended
-taken_ends t k next true is = absurd (false≢true (ap (λ r. is_ended (event_in r Ended)) is))
+unfolding event_in
+taken_ends t k next true is = absurd (false≢true (ap (λ r. is_end (event_in r Ended)) is))
 taken_ends t k next false is = moved_ends (ready t).name (observed_at (ready t).stage (ready t).pending k) next is
 
 ended : (t : Talk) (k : Kind) (next : Talk) → taken t k ≡ Ok (Ended, next) → next.stage ≡ Over
@@ -159,7 +155,7 @@ chunks_come : (view : View) (marking : Marking) (chunks : List Chunk) (lines : L
 chunks_come view marking [] [] _ NoChunkListed = none_came (counts marking) marking.summed marking.folded
 chunks_come view marking _ _ to (OneChunkListed {chunks = chunks} {lines = lines} {here = here} chunk text before one) =
     let turns = turns_in view (begins marking) chunks lines here before in
-    frames_come view (mark view.style.form chunk.sender (since (first_time here.start chunk.micros) chunk.micros)) chunk.sender (half_in chunk.sender here).passed (now_at chunk.micros here.known) one.front text to.known one.each turns
+    frames_come view (mark view.style.form chunk.sender one.time) chunk.sender (half_in chunk.sender here).passed (now_at chunk.micros here.known) one.front text to.known one.each turns
     (time_came chunk.micros here.known.numbers turns (chunks_come view marking chunks lines here before))
 
 pub turns_are_true : (view : View) (marking : Marking) (chunks : List Chunk) (lines : List ℕ) (talk : Listed) (numbers : Numbers) (dialogue : Talk) (l : ListsChunks view (begins marking) chunks lines talk)

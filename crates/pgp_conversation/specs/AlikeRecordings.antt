@@ -1,8 +1,8 @@
 -- Recordings that differ in their secrets alone: cut into frames alike, each of which is like that of the other recording in its place.
 use Rattle.std.specs.Prelude.{◌≡◌, ◌+◌, ℕ, Bool, List, [], ◌∷◌, ◌++◌, length}
 use Rattle.pgp_conversation.specs.Common.{Ends, Marking, Sender, View, place_behind}
-use Rattle.pgp_conversation.specs.Conversation.{Half, Known, ListsChunk, ListsFrame, Talk, begins, first_time, half_in, now_at, other, side_in}
-use Rattle.pgp_conversation.specs.Marks.{mark, since}
+use Rattle.pgp_conversation.specs.Conversation.{Half, Known, ListsChunk, ListsFrame, Talk, begins, half_in, now_at, other, side_in}
+use Rattle.pgp_conversation.specs.Marks.{mark}
 use Rattle.pgp_conversation.specs.Recording.{Chunk, Records}
 use Rattle.pgp_conversation.specs.Secrets.{AlikeIn}
 
@@ -28,7 +28,7 @@ pub record AlikeChunk (view : View) (before then : Talk) (chunk : Chunk) (bytes 
   pub lists : ListsChunk view before chunk text after
   pub front : List ℕ
   pub whole : (half_in chunk.sender then).rest ++ bytes ≡ front ++ (half_in chunk.sender later).rest
-  pub each : AlikeFrames view (mark view.style.form chunk.sender (since (first_time before.start chunk.micros) chunk.micros)) chunk.sender (half_in chunk.sender before).passed (now_at chunk.micros before.known) lists.front front text after.known
+  pub each : AlikeFrames view (mark view.style.form chunk.sender lists.time) chunk.sender (half_in chunk.sender before).passed (now_at chunk.micros before.known) lists.front front text after.known
   pub ending : Ends (side_in chunk.sender after.known) (half_in chunk.sender after).stopped (half_in chunk.sender later).rest
   pub same : half_in (other chunk.sender) later ≡ half_in (other chunk.sender) then
   pub left : AlikeTalks after later

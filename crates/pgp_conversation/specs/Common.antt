@@ -16,6 +16,8 @@ pub use Rattle.pgp_conversation.specs.declared.expectation.Noted.{Noted}
 pub use Rattle.pgp_conversation.specs.declared.placement.Told.{Told}
 pub use Rattle.pgp_conversation.specs.declared.placement.Told.TheVariants.{Answer, Lost, Nothing, Number, Uncounted}
 pub use Rattle.pgp_conversation.specs.declared.role.Role.{Role}
+pub use Rattle.pgp_conversation.specs.declared.start.Start.{Start}
+pub use Rattle.pgp_conversation.specs.declared.start.Start.TheVariants.{At, Dated, Pending}
 pub use Rattle.pgp_frontend.specs.ClientMessage.{Bind, CancelRequest, ClientMessage, Close, Describe, Execute, GssEncRequest, Parse, PasswordMessage, Query, Response, SaslInitialResponse, SaslResponse, SslRequest, Sync}
 pub use Rattle.pgp_frontend_read.specs.declared.error.ClientError.{ClientError}
 pub use Rattle.pgp_frontend_read.specs.declared.message.PasswordKind.{PasswordKind}

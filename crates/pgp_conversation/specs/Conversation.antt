@@ -1,6 +1,6 @@
 -- The listing of both sides of a connection, a chunk at a time.
-use Rattle.std.specs.Prelude.{◌≡◌, ℕ, ◌+◌, ◌-◌, nat_lt, Bool, true, false, not, ◌==◌, ◌||◌, if◌then◌else◌, List, [], ◌∷◌, ◌++◌, drop, length, Result, Ok, Err, Option, None, Some, bytes_eq, codes}
-use Rattle.pgp_conversation.specs.Common.{Error, Message, Authentication, AuthenticationCleartextPassword, AuthenticationMd5Password, AuthenticationSasl, AuthenticationSaslContinue, AuthenticationGss, AuthenticationSspi, AuthenticationGssContinue, ClientMessage, SslRequest, GssEncRequest, ClientError, PasswordKind, Length, Tag, Name, closing, followed, opening, Style, LineOf, name_in, place_behind, last_line, Side, Ends, Beginning, Messages, Replicating, Encrypted, View, shown, Sender, Client, Server, Marking, Noted, Told, Answer, Uncounted}
+use Rattle.std.specs.Prelude.{◌≡◌, ℕ, ◌+◌, ◌-◌, nat_lt, Bool, true, false, not, ◌==◌, ◌||◌, if◌then◌else◌, List, [], ◌∷◌, ◌++◌, drop, length, Result, Ok, Err, Option, bytes_eq, codes}
+use Rattle.pgp_conversation.specs.Common.{Error, Message, Authentication, AuthenticationCleartextPassword, AuthenticationMd5Password, AuthenticationSasl, AuthenticationSaslContinue, AuthenticationGss, AuthenticationSspi, AuthenticationGssContinue, ClientMessage, SslRequest, GssEncRequest, ClientError, PasswordKind, Length, Tag, Name, closing, followed, opening, Style, LineOf, name_in, place_behind, last_line, Side, Ends, Beginning, Messages, Replicating, Encrypted, View, shown, Sender, Client, Server, Start, Dated, Pending, Marking, Noted, Told, Answer, Uncounted}
 use Rattle.pgp_frontend_read.specs.declared.message.PasswordKind.TheVariants.{Password, Initial, Response}
 pub use Rattle.pgp_trace.specs.Rows.{Rows, NoLines, OneLine}
 use Rattle.pgp_trace.specs.Sides as side
@@ -9,7 +9,7 @@ use Rattle.pgp_conversation.specs.declared.expectation.Encryption.{Encryption}
 use Rattle.pgp_conversation.specs.declared.expectation.Encryption.TheVariants.{Tls, Gss}
 use Rattle.pgp_conversation.specs.declared.expectation.Noted.TheVariants.{Asks, Requests, Answers, Nothing}
 use Rattle.pgp_conversation.specs.Recording.{Chunk}
-use Rattle.pgp_conversation.specs.Marks.{last_mark, mark, marked, since, word}
+use Rattle.pgp_conversation.specs.Marks.{ShowsTime, last_mark, mark, marked, started, word}
 use Rattle.pgp_conversation.specs.Requests.{Numbers, at_time, first_numbers, role_in, summary_in, told_in, unnumbered}
 use Rattle.pgp_conversation.specs.Summing.{asking_in, summed}
 use Rattle.pgp_conversation.specs.Tables.{ending_by}
@@ -183,19 +183,19 @@ pub record Half : Type 0 where
   pub rest : List ℕ
   pub stopped : Bool
 
--- Of both: what is known, and what times are counted from, once it is.
+-- Of both: what is known, and what times are counted from.
 pub record Talk : Type 0 where
   pub known : Known
   pub client : Half
   pub server : Half
-  pub start : Option ℕ
+  pub start : Start
 
 abbrev pub nothing : Half
 nothing = record { passed = 0; rest = []; stopped = false }
 
--- what times are counted from: 1970, or the first chunk
-abbrev pub first_start : (absolute : Bool) → Option ℕ
-first_start absolute = if absolute then Some 0 else None
+-- times are dates, or they are counted from the first chunk
+abbrev pub first_start : (absolute : Bool) → Start
+first_start absolute = if absolute then Dated else Pending
 
 -- before the first chunk
 abbrev pub begins : Marking → Talk
@@ -209,19 +209,17 @@ abbrev pub other : Sender → Sender
 other Client = Server
 other Server = Client
 
-abbrev pub first_time : Option ℕ → ℕ → ℕ
-first_time None micros = micros
-first_time (Some start) micros = start
-
 -- The frames of its side that are complete with a chunk have their lines, with the chunk's mark, and come at its time; of the other side nothing has come.
 pub record ListsChunk (view : View) (before : Talk) (chunk : Chunk) (text : List ℕ) (after : Talk) : Type 0 where
+  pub time : List ℕ
+  pub shown : ShowsTime view.style.form (started before.start chunk.micros) chunk.micros time
   pub front : List ℕ
   pub whole : (half_in chunk.sender before).rest ++ chunk.bytes ≡ front ++ (half_in chunk.sender after).rest
-  pub each : ListsFrames view (mark view.style.form chunk.sender (since (first_time before.start chunk.micros) chunk.micros)) chunk.sender (half_in chunk.sender before).passed (now_at chunk.micros before.known) front text after.known
+  pub each : ListsFrames view (mark view.style.form chunk.sender time) chunk.sender (half_in chunk.sender before).passed (now_at chunk.micros before.known) front text after.known
   pub ending : Ends (side_in chunk.sender after.known) (half_in chunk.sender after).stopped (half_in chunk.sender after).rest
   pub passed : (half_in chunk.sender after).passed ≡ (half_in chunk.sender before).passed + length front
   pub same : half_in (other chunk.sender) after ≡ half_in (other chunk.sender) before
-  pub start : after.start ≡ Some (first_time before.start chunk.micros)
+  pub start : after.start ≡ started before.start chunk.micros
 
 -- These chunks have these lines.
 pub data ListsChunks (view : View) (from : Talk) : List Chunk → List ℕ → Talk → Type 0 where
@@ -232,8 +230,8 @@ pub data ListsChunks (view : View) (from : Talk) : List Chunk → List ℕ → T
 -- ---- what is left
 
 -- the last line of a side, where so many bytes of it are left, with a mark that says this of requests
-abbrev pub last_of : View → Told → Sender → (stopped : Bool) → ℕ → List ℕ
-last_of view told sender stopped n = if n == 0 then [] else marked view.style.form (last_mark view.style.form sender ++ word view.style.form told) (last_line view stopped n)
+abbrev pub last_of : View → Start → Told → Sender → (stopped : Bool) → ℕ → List ℕ
+last_of view start told sender stopped n = if n == 0 then [] else marked view.style.form (last_mark view.style.form start sender ++ word view.style.form told) (last_line view stopped n)
 
 abbrev pub left : Half → ℕ
 left half = place_behind (length half.rest)
@@ -241,4 +239,4 @@ left half = place_behind (length half.rest)
 -- the last lines of both sides, or the table of a summary in their place
 abbrev pub last_lines : View → Talk → List ℕ
 last_lines view talk = ending_by view (summary_in talk.known.numbers)
-    (last_of view (told_by talk.known.marked (unnumbered talk.known.numbers)) Client talk.client.stopped (left talk.client) ++ last_of view (told_by talk.known.marked (unnumbered talk.known.numbers)) Server talk.server.stopped (left talk.server))
+    (last_of view talk.start (told_by talk.known.marked (unnumbered talk.known.numbers)) Client talk.client.stopped (left talk.client) ++ last_of view talk.start (told_by talk.known.marked (unnumbered talk.known.numbers)) Server talk.server.stopped (left talk.server))

@@ -81,7 +81,7 @@ pub record IsFirst (marking : Marking) (begun : Bool) (held : HeldTalk) (rest : 
 -- the last lines, by what is kept of both sides
 abbrev pub held_last : View → HeldTalk → List ℕ
 held_last view held = ending_by view (summary_in held.known.numbers)
-    (last_of view (told_by held.known.marked (unnumbered held.known.numbers)) Client held.client.stopped held.client.left ++ last_of view (told_by held.known.marked (unnumbered held.known.numbers)) Server held.server.stopped held.server.left)
+    (last_of view held.start (told_by held.known.marked (unnumbered held.known.numbers)) Client held.client.stopped held.client.left ++ last_of view held.start (told_by held.known.marked (unnumbered held.known.numbers)) Server held.server.stopped held.server.left)
 
 -- and what is to be said then
 abbrev pub held_said : HeldTalk → End → List ℕ

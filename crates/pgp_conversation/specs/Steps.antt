@@ -1,7 +1,8 @@
 -- Private: a part of a recording and a frame at a time.
 use Rattle.std.specs.Prelude.{◌≡◌, ◌≢◌, ◌⊎◌, ℕ, ◌≤◌, ◌<◌, ◌+◌, Bool, true, false, ◌==◌, if◌then◌else◌, List, [], ◌∷◌, ◌++◌, length, Option, None, Some}
 use Rattle.pgp_client.specs.Talk as dialogue
-use Rattle.pgp_conversation.specs.Common.{Kept, Asked, Style, place_behind, Side, Ends, View, Sender, Client, Server, End, Whole, Cut, NoChunk, NoRecording}
+use Rattle.pgp_value_text.specs.Calendar.{ShowsDay}
+use Rattle.pgp_conversation.specs.Common.{Kept, Asked, Form, Columns, Style, place_behind, Side, Ends, View, Sender, Client, Server, Start, Dated, End, Whole, Cut, NoChunk, NoRecording}
 use Rattle.pgp_trace.specs.declared.frame.Next.{Next}
 use Rattle.pgp_trace.specs.declared.frame.Next.TheVariants as next
 use Rattle.pgp_trace.specs.Sides as side
@@ -17,6 +18,7 @@ use Rattle.pgp_conversation.specs.declared.summing.Asking as code_summing
 use Rattle.std.specs.Borrow.{Bor}
 use Rattle.std.specs.declared.collections.VecDeque.{VecDeque}
 use Rattle.pgp_conversation.specs.Conversation.{Half, ListsChunk, Known, Talk, ListsFrame, ListsFrames, is_replicating, side_in, with_side}
+use Rattle.pgp_conversation.specs.Marks.{ShowsTime, day_of}
 use Rattle.pgp_conversation.specs.Requests.{Numbers}
 use Rattle.pgp_conversation.specs.Summing.{Asking}
 use Rattle.pgp_conversation.specs.TypesKept.{types_in}
@@ -56,6 +58,24 @@ end_of false stopped bytes = NoRecording
 end_of true true bytes = NoChunk
 end_of true false [] = Whole
 end_of true false (first ∷ rest) = Cut
+
+-- ---- times
+
+abbrev pub is_date : Form → Start → Bool
+is_date Columns Dated = true
+is_date form start = false
+
+-- the date of a time was added
+abbrev pub AddsDay : ℕ → (old new : List ℕ) → Type 0
+AddsDay micros old new = (day : List ℕ) × ShowsDay (day_of micros) day × (new ≡ old ++ day)
+
+-- a time was
+abbrev pub AddsTime : Form → Start → ℕ → (old new : List ℕ) → Type 0
+AddsTime form start micros old new = (time : List ℕ) × ShowsTime form start micros time × (new ≡ old ++ time)
+
+-- as its date and the time of day
+abbrev pub AddsInstant : ℕ → (old new : List ℕ) → Type 0
+AddsInstant micros old new = AddsTime Columns Dated micros old new
 
 -- ---- what is kept
 
@@ -136,7 +156,7 @@ pub record HeldTalk : Type 0 where
   pub known : Known
   pub client : HeldHalf
   pub server : HeldHalf
-  pub start : Option ℕ
+  pub start : Start
 
 abbrev pub kept_of : {A : Type 0} → code_talk.Talk A → HeldTalk
 kept_of talk = record { known = known_of talk.known; client = half_of talk.client; server = half_of talk.server; start = talk.start }

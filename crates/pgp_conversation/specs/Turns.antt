@@ -4,8 +4,8 @@ use Rattle.pgp_client.specs.Flow.{Belong}
 use Rattle.pgp_client.specs.InTurns.{BelongInTurns}
 use Rattle.pgp_conversation.specs.Common.{Turn, Asks, Hears, asked_in, observed_in, reported_in, Event, Kind, place_behind, View, Sender, Role}
 use Rattle.pgp_conversation.specs.declared.role.Role.TheVariants as role
-use Rattle.pgp_conversation.specs.Conversation.{Known, ListsChunks, ListsFrames, NoChunkListed, NoLines, OneChunkListed, OneLine, Talk, first_time, half_in, now_at, side_in}
-use Rattle.pgp_conversation.specs.Marks.{mark, since}
+use Rattle.pgp_conversation.specs.Conversation.{Known, ListsChunks, ListsFrames, NoChunkListed, NoLines, OneChunkListed, OneLine, Talk, half_in, now_at, side_in}
+use Rattle.pgp_conversation.specs.Marks.{mark}
 use Rattle.pgp_conversation.specs.Recording.{Chunk}
 use Rattle.pgp_conversation.specs.Requests.{Numbers, next_number, place, role_in}
 
@@ -36,7 +36,7 @@ abbrev pub turns_in : (view : View) (from : Talk) (chunks : List Chunk) (lines :
 turns_in view from [] [] _ NoChunkListed = []
 turns_in view from _ _ to (OneChunkListed {chunks = chunks} {lines = lines} {here = here} chunk text before one) =
     turns_in view from chunks lines here before
-    ++ turns_of view (mark view.style.form chunk.sender (since (first_time here.start chunk.micros) chunk.micros)) chunk.sender (half_in chunk.sender here).passed (now_at chunk.micros here.known) one.front text to.known one.each
+    ++ turns_of view (mark view.style.form chunk.sender one.time) chunk.sender (half_in chunk.sender here).passed (now_at chunk.micros here.known) one.front text to.known one.each
 
 -- A server may send what was heard to what was asked, in these turns, and each message belongs where it is said to, and nowhere else.
 pub record AreTrue (turns : List Turn) : Type 0 where

@@ -3,13 +3,14 @@
 ghost use Rattle.std.specs.Prelude.{◌≡◌, ◌++◌, OnErr, OnOk, string_bytes};
 ghost use Rattle.pgp_trace.specs.Steps.{view_of};
 ghost use Rattle.pgp_conversation.specs.Conversation as spec;
-ghost use Rattle.pgp_conversation.specs.Conversation.{first_time, side_in};
+ghost use Rattle.pgp_conversation.specs.Conversation.{side_in};
 ghost use Rattle.pgp_conversation.specs.Steps.{ListsBytes, ListsChunkTo, Holds, Keeps, chunk_of, half_of, kept_of, known_of};
 
 use crate::chunk::{Chunk, Sender};
 use crate::frames::{Texts, list_frames};
 use crate::line_mark::put_mark;
 use crate::numbers::set_time;
+use crate::start::{Start, started};
 use crate::state::Known;
 use bytes::{Buf, BytesMut};
 use pgp_base::Memory;
@@ -36,8 +37,8 @@ pub struct Talk<A: MapMemory> {
     pub known: Known<A>,
     pub client: Half<A>,
     pub server: Half<A>,
-    /// What times are counted from, once it is known.
-    pub start: Option<u64>,
+    /// What times are counted from.
+    pub start: Start,
 }
 
 /// Adds the lines of all frames that are whole with this chunk.
@@ -50,16 +51,17 @@ pub fn list_chunk<A: MapMemory>(
     ensures lines { OnOk result ((before : spec.Talk) → Keeps (kept_of talk.old) before → ListsChunkTo (view_of view.entry) before (chunk_of chunk.entry) (kept_of talk.new) (string_bytes texts.old.lines) (string_bytes texts.new.lines)) }
     ensures lacks { OnErr result A.Lacks }
 {
-    let start = first_time(talk.start, chunk.micros);
+    let start = started(talk.start, chunk.micros);
     put_mark(
         view.style.form,
         chunk.sender,
         start,
         chunk.micros,
+        &mut texts.value,
         &mut texts.time,
         &mut texts.mark,
     )?;
-    talk.start = Some(start);
+    talk.start = start;
     set_time(chunk.micros, &mut talk.known.numbers);
     match chunk.sender {
         Sender::Client => list_bytes(
@@ -78,16 +80,6 @@ pub fn list_chunk<A: MapMemory>(
             &mut talk.known,
             texts,
         ),
-    }
-}
-
-/// What times are counted from, where a chunk came at this one.
-fn first_time(start: Option<u64>, micros: u64) -> u64
-    ensures { result ≡ first_time start micros }
-{
-    match start {
-        Some(first) => first,
-        None => micros,
     }
 }
 

@@ -32,7 +32,7 @@ pub struct Texts<A: MapMemory> {
     /// What a mark says of requests, and the mark with it.
     pub word: String<A>,
     pub stamp: String<A>,
-    /// The text of a value.
+    /// The text of a value, or of a day.
     pub value: BytesMut<A>,
     /// The line of a message, and the same with the mark.
     pub line: String<A>,

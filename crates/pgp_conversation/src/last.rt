@@ -14,6 +14,7 @@ use crate::line_mark::{put_last_mark, put_marked};
 use crate::numbers::{summary_of, unnumbered};
 use crate::placement::{Told, told_by};
 use crate::request_mark::put_word;
+use crate::start::Start;
 use crate::table::put_table;
 use pgp_base::Memory;
 use pgp_line::line::add_line;
@@ -44,24 +45,25 @@ fn add_both<A: MapMemory>(
     texts: &mut Texts<A>,
 ) -> Result<(), AllocError>
     ensures text { OnOk result (string_bytes texts.new.lines ≡ string_bytes texts.old.lines
-        ++ (last_of (view_of view.entry) (told_by talk.now.known.marked (unnumbered (numbers_in talk.now.known.numbers))) Sender.Client talk.now.client.stopped talk.now.client.left
-        ++ last_of (view_of view.entry) (told_by talk.now.known.marked (unnumbered (numbers_in talk.now.known.numbers))) Sender.Server talk.now.server.stopped talk.now.server.left)) }
+        ++ (last_of (view_of view.entry) talk.now.start (told_by talk.now.known.marked (unnumbered (numbers_in talk.now.known.numbers))) Sender.Client talk.now.client.stopped talk.now.client.left
+        ++ last_of (view_of view.entry) talk.now.start (told_by talk.now.known.marked (unnumbered (numbers_in talk.now.known.numbers))) Sender.Server talk.now.server.stopped talk.now.server.left)) }
     ensures lacks { OnErr result A.Lacks }
 {
     let told = told_by(talk.known.marked, unnumbered(&talk.known.numbers));
-    add_last(view, told, Sender::Client, &talk.client, texts)?;
-    add_last(view, told, Sender::Server, &talk.server, texts)
+    add_last(view, talk.start, told, Sender::Client, &talk.client, texts)?;
+    add_last(view, talk.start, told, Sender::Server, &talk.server, texts)
 }
 
 /// Adds the last line of a side, if bytes are left of it, with a mark that says this of requests.
 fn add_last<A: MapMemory>(
     view: View<'_>,
+    start: Start,
     told: Told,
     sender: Sender,
     half: &Half<A>,
     texts: &mut Texts<A>,
 ) -> Result<(), AllocError>
-    ensures text { OnOk result (string_bytes texts.new.lines ≡ string_bytes texts.old.lines ++ last_of (view_of view.entry) told sender half.now.stopped half.now.left) }
+    ensures text { OnOk result (string_bytes texts.new.lines ≡ string_bytes texts.old.lines ++ last_of (view_of view.entry) start told sender half.now.stopped half.now.left) }
     ensures lacks { OnErr result A.Lacks }
 {
     if half.left == 0 {
@@ -69,7 +71,7 @@ fn add_last<A: MapMemory>(
     }
     texts.line.clear();
     put_rest(view.style, half.stopped, half.left, &mut texts.line)?;
-    put_last_mark(view.style.form, sender, &mut texts.mark)?;
+    put_last_mark(view.style.form, start, sender, &mut texts.mark)?;
     put_word(view.style.form, told, &mut texts.word, &mut texts.mark)?;
     put_marked(
         view.style.form,

@@ -3,11 +3,11 @@
 ghost use Rattle.std.specs.Prelude.{◌≡◌, ◌≢◌, ◌∷◌, ◌++◌, [], ℕ, Bool, List, Option, Some, true};
 ghost use Rattle.pgp_client.specs.Talk.{Talk as Dialogue};
 ghost use Rattle.pgp_client.specs.declared.stage.Stage.TheVariants.{Over};
-ghost use Rattle.pgp_conversation.specs.Common.{IsPrinted, Form, Columns, Style, Tally, State, LineOf, Side, View, Sender, End, Marking, Told};
+ghost use Rattle.pgp_conversation.specs.Common.{IsPrinted, Form, Columns, Style, Tally, State, LineOf, Side, View, Sender, Start, End, Marking, Told};
 ghost use Rattle.pgp_trace.specs.Secrets.{quietly};
 ghost use Rattle.pgp_conversation.specs.AlikeRecordings.{AlikeRecordings};
 ghost use Rattle.pgp_conversation.specs.Conversation.{Known, ListsChunks, ListsFrame, Talk, begins, side_in};
-ghost use Rattle.pgp_conversation.specs.Marks.{last_mark, mark, marked, since, word};
+ghost use Rattle.pgp_conversation.specs.Marks.{ShowsTime, last_mark, mark, marked, word};
 ghost use Rattle.pgp_conversation.specs.Order.{IsSplit};
 ghost use Rattle.pgp_conversation.specs.Recording.{Chunk, EndsBy};
 ghost use Rattle.pgp_conversation.specs.Requests.{Numbers, summary_in};
@@ -19,13 +19,14 @@ ghost use Rattle.pgp_conversation.specs.Turns.{AreTrue, turns_in};
 ghost use Rattle.pgp_conversation.specs.Typed.{Said, ShowsTyped};
 ghost use Rattle.pgp_conversation.specs.Types.{Types};
 
-use pgp_value_text::laws::one_text;
+use pgp_value_text::laws::{one_text, texts_are_unique};
 
 /// A recording has one listing, and one end.
 pub fn one_listing()
     ensures { (view : View) (marking : Marking) (bytes output other : List ℕ) (end ending : End) → IsListing view marking bytes end output → IsListing view marking bytes ending other → (end ≡ ending) × (output ≡ other) }
 {
     one_text();
+    texts_are_unique();
 }
 
 /// Of each side the frames that were listed are, one after another, what that side sent in all its chunks, up to a rest in which none is whole: none is
@@ -46,12 +47,12 @@ pub fn numbers_say_where_messages_belong()
 /// A mark has characters alone that a terminal prints, whatever it says of requests, and so has a line with its mark, as text or as an object, with values
 /// as texts or without, before its newline.
 pub fn marked_lines_are_printable()
-    ensures lines { (style : Style) (place : ℕ) (from to : Side) (frame line : List ℕ) (form : Form) (who : Sender) (start micros : ℕ) (told : Told) → LineOf style place from frame line to →
-        (text : List ℕ) × (marked form (mark form who (since start micros) ++ word form told) line ≡ text ++ 10 ∷ []) × IsPrinted text }
-    ensures typed { (style : Style) (place len : ℕ) (from to : Side) (frame line typed : List ℕ) (said : Said) (types : Option Types) (form : Form) (who : Sender) (start micros : ℕ) (told shown : Told) → LineOf style place from frame line to →
-        ShowsTyped style place len told said types line typed → (text : List ℕ) × (marked form (mark form who (since start micros) ++ word form shown) typed ≡ text ++ 10 ∷ []) × IsPrinted text }
-    ensures marks { (form : Form) (who : Sender) (start micros : ℕ) (told : Told) → IsPrinted (mark form who (since start micros) ++ word form told) }
-    ensures last { (form : Form) (who : Sender) (told : Told) → IsPrinted (last_mark form who ++ word form told) }
+    ensures lines { (style : Style) (place : ℕ) (from to : Side) (frame line : List ℕ) (form : Form) (who : Sender) (start : Start) (micros : ℕ) (time : List ℕ) (told : Told) → LineOf style place from frame line to →
+        ShowsTime form start micros time → (text : List ℕ) × (marked form (mark form who time ++ word form told) line ≡ text ++ 10 ∷ []) × IsPrinted text }
+    ensures typed { (style : Style) (place len : ℕ) (from to : Side) (frame line typed : List ℕ) (said : Said) (types : Option Types) (form : Form) (who : Sender) (start : Start) (micros : ℕ) (time : List ℕ) (told shown : Told) → LineOf style place from frame line to →
+        ShowsTyped style place len told said types line typed → ShowsTime form start micros time → (text : List ℕ) × (marked form (mark form who time ++ word form shown) typed ≡ text ++ 10 ∷ []) × IsPrinted text }
+    ensures marks { (form : Form) (who : Sender) (start : Start) (micros : ℕ) (time : List ℕ) (told : Told) → ShowsTime form start micros time → IsPrinted (mark form who time ++ word form told) }
+    ensures last { (form : Form) (start : Start) (who : Sender) (told : Told) → IsPrinted (last_mark form start who ++ word form told) }
 {}
 
 /// Where a summary is asked for, nothing but its table is written.

@@ -1,34 +1,67 @@
 //! The mark before a line: when its message was whole, and who sent it.
 
 ghost use Rattle.std.specs.Prelude.{◌≡◌, ◌++◌, OnErr, OnOk, string_bytes};
-ghost use Rattle.pgp_conversation.specs.Marks.{between, last_mark, mark, marked, member, number, since};
+ghost use Rattle.pgp_conversation.specs.Marks.{IsMark, between, last_mark, mark, marked, member, number, since};
+ghost use Rattle.pgp_conversation.specs.Steps.{AddsTime, is_date};
 
 use crate::chunk::Sender;
+use crate::instant::{put_fraction, put_instant};
+use crate::start::{Start, origin, time_width};
+use bytes::BytesMut;
 use pgp_base::Memory;
 use pgp_line::line::{add_line, put_blanks};
 use pgp_line::style::Form;
 use pgp_names::MapMemory;
 use std::alloc::AllocError;
 
-/// How many characters a time takes.
+/// The least number of characters of seconds.
 const WIDTH: usize = 12;
 
-/// Writes the mark of a message that came at a time, where others are counted from another.
+/// Writes the mark of a message that came at a time, by way of a buffer for the text of its date, and one for its time.
 pub fn put_mark<A: MapMemory>(
     form: Form,
     sender: Sender,
-    start: u64,
+    start: Start,
     micros: u64,
+    buffer: &mut BytesMut<A>,
     time: &mut String<A>,
     text: &mut String<A>,
 ) -> Result<(), AllocError>
-    ensures text { OnOk result (string_bytes text.new ≡ mark form sender (since start micros)) }
+    ensures is { OnOk result (IsMark form sender start micros (string_bytes text.new)) }
     ensures lacks { OnErr result A.Lacks }
 {
     time.clear();
-    put_since(start, micros, time)?;
+    put_time(form, start, micros, buffer, time)?;
     text.clear();
-    put_time(form, sender, time.as_str(), text)
+    put_beside(form, sender, time.as_str(), text)
+}
+
+/// Adds a time.
+fn put_time<A: MapMemory>(
+    form: Form,
+    start: Start,
+    micros: u64,
+    buffer: &mut BytesMut<A>,
+    text: &mut String<A>,
+) -> Result<(), AllocError>
+    ensures adds { OnOk result (AddsTime form start micros (string_bytes text.old) (string_bytes text.new)) }
+    ensures lacks { OnErr result A.Lacks }
+{
+    if is_date(form, start) {
+        put_instant(micros, buffer, text)
+    } else {
+        put_since(origin(start, micros), micros, text)
+    }
+}
+
+/// Whether a time is shown as a date.
+fn is_date(form: Form, start: Start) -> bool
+    ensures { result ≡ is_date form start }
+{
+    match form {
+        Form::Columns => matches!(start, Start::Dated),
+        Form::Json => false,
+    }
 }
 
 /// Adds the seconds from one time to another.
@@ -55,17 +88,12 @@ pub fn put_number<A: MapMemory>(n: u64, text: &mut String<A>) -> Result<(), Allo
     ensures lacks { OnErr result A.Lacks }
 {
     let seconds = n / 1_000_000;
-    let a = n / 100_000 % 10;
-    let b = n / 10_000 % 10;
-    let c = n / 1_000 % 10;
-    let d = n / 100 % 10;
-    let e = n / 10 % 10;
-    let f = n % 10;
-    A::push_shown(text, format_args!("{seconds}.{a}{b}{c}{d}{e}{f}"))
+    A::push_shown(text, format_args!("{seconds}"))?;
+    put_fraction(n, text)
 }
 
 /// Adds a mark with this time.
-fn put_time<A: MapMemory>(
+fn put_beside<A: MapMemory>(
     form: Form,
     sender: Sender,
     time: &str,
@@ -91,16 +119,20 @@ fn put_time<A: MapMemory>(
 /// The mark of a line that says what is left.
 pub fn put_last_mark<A: MapMemory>(
     form: Form,
+    start: Start,
     sender: Sender,
     text: &mut String<A>,
 ) -> Result<(), AllocError>
-    ensures text { OnOk result (string_bytes text.new ≡ last_mark form sender) }
+    ensures text { OnOk result (string_bytes text.new ≡ last_mark form start sender) }
     ensures lacks { OnErr result A.Lacks }
 {
     text.clear();
     match form {
-        Form::Columns => put_time(form, sender, "", text),
-        Form::Json => put_time(form, sender, "null", text),
+        Form::Columns => {
+            put_blanks(time_width(start), text)?;
+            A::push_str(text, arrow_of(sender))
+        }
+        Form::Json => put_beside(form, sender, "null", text),
     }
 }
 

@@ -4,7 +4,6 @@ ghost use Rattle.std.specs.Prelude.{◌≡◌, ◌≤◌, ◌<◌, ◌++◌, ◌
 ghost use Rattle.pgp_conversation.specs.Common.{Appends, Keeps, GivesUp, Caused, AppendsFront, streams};
 ghost use Rattle.pgp_trace.specs.Steps.{view_of};
 ghost use Rattle.pgp_trace.specs.declared.marking.Marking.{Marking as Marks};
-ghost use Rattle.pgp_conversation.specs.Conversation.{first_start};
 ghost use Rattle.pgp_conversation.specs.Pieces.{Follows, IsFirst, ListsAllChunks, ListsPiece, ListsSome, SumsRecording, Tracks, held_first, held_last, held_nothing, held_said};
 ghost use Rattle.pgp_conversation.specs.Recording.{status_of};
 ghost use Rattle.pgp_conversation.specs.Session.{BreaksOff, CutsLines, IsCutShort, IsReadTo, ReadsWhenReady, WasListed, summarized};
@@ -20,6 +19,7 @@ use crate::frames::{Texts, no_texts};
 use crate::last::add_end;
 use crate::numbers::summary_of;
 use crate::outcome::Ended;
+use crate::start::{Start, first_start};
 use crate::state::{at_first, is_replicating};
 use bytes::{Buf, BytesMut};
 use pgp_base::Memory;
@@ -208,7 +208,7 @@ fn talk_at_first<A: MapMemory>(alloc: A, marking: Marking) -> Talk<A>
         known: at_first(alloc, marking),
         client: half_at_first(alloc),
         server: half_at_first(alloc),
-        start: None,
+        start: Start::Pending,
     }
 }
 
@@ -221,13 +221,6 @@ fn half_at_first<A: MapMemory>(alloc: A) -> Half<A>
         stopped: false,
         left: 0,
     }
-}
-
-/// What times are counted from, before the first chunk.
-fn first_start(absolute: bool) -> Option<u64>
-    ensures { result ≡ first_start absolute }
-{
-    if absolute { Some(0) } else { None }
 }
 
 /// Lists the chunks of a recording, a piece at a time. Returns whether no chunk comes after them.
