@@ -4,7 +4,7 @@
     relay.py [--tls] PORT HOST SERVER-PORT FILE.recording            takes one connection, and ends with it
     relay.py [--tls] PORT HOST SERVER-PORT CLIENT-FILE SERVER-FILE   the same, in a file for each side
     relay.py [--tls] PORT HOST SERVER-PORT FOLDER                    takes connections, many at a time, until it is interrupted (SIGINT or SIGTERM): that
-                                                                     which came Nth stands in FOLDER/N.recording
+                                                                     which came Nth stands in FOLDER/N.recording; the folder is made if need be
 
 A recording has both sides (docs/PGTRACE.md); `pgtrace session` lists it, also while it is written. With --tls the server is reached by TLS, whoever it is,
 and the client, which connects without, sees a server that declines encryption and offers no log-in that is bound to it: this is what is written down.
@@ -181,7 +181,8 @@ def serve(client, address, by_tls, *names):
             pass_on(client, server, sent)
             back.join()
     except OSError as error:
-        return f"relay.py: {address[0]}, port {address[1]}: {error.strerror or error}"
+        where = error.filename or f"{address[0]}, port {address[1]}"
+        return f"relay.py: {where}: {error.strerror or error}"
     return None
 
 
@@ -213,10 +214,12 @@ def main(words):
     try:
         with socket.create_server(("127.0.0.1", int(port))) as listener:
             if len(names) == 1 and not names[0].endswith(".recording"):
-                return serve_all(listener, pathlib.Path(names[0]), address, by_tls)
+                folder = pathlib.Path(names[0])
+                folder.mkdir(exist_ok=True)
+                return serve_all(listener, folder, address, by_tls)
             client = listener.accept()[0]
     except OSError as error:
-        return f"relay.py: port {port}: {error.strerror or error}"
+        return f"relay.py: {error.filename or f'port {port}'}: {error.strerror or error}"
     return serve(client, address, by_tls, *names)
 
 
