@@ -1,5 +1,5 @@
 /* shapes: letters and formats of requests, missing bytes, and values by their bytes. Unless another source is said, PostgreSQL 15.18 sent the bytes of the
-   values: they are those of crates/pgp_rows/data. */
+   values: they are those of crates/test_rows/data. */
 #include "checks.h"
 
 #define ONE "\x3f\xf0\0\0\0\0\0\0"
@@ -119,7 +119,7 @@ static void shapes_of(void)
 {
     struct pgp_point point, corners[3], p;
     struct pgp_box box, b;
-    struct pgp_line line, l;
+    struct pgtool_line line, l;
     struct pgp_lseg lseg, g;
     struct pgp_circle circle, k;
     struct pgp_cursor cursor = {7, 7, 7};
