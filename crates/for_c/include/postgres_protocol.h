@@ -496,6 +496,11 @@ pgp_status pgp_dialogue_ask(struct pgp_dialogue *dialogue, uint8_t request, uint
 pgp_status pgp_dialogue_take(struct pgp_dialogue *dialogue, uint8_t kind, struct pgp_event *event);
 /* Whether no request awaits an answer: a pooler may hand the server to another client. */
 pgp_status pgp_dialogue_is_idle(const struct pgp_dialogue *dialogue, bool *idle);
+/* The first request that is to end; PGP_DONE, and *name is unchanged, where all have ended. All that were asked before it have ended, each once: its last message
+   was reported, or the server passes over it, as over an Execute behind a Bind that failed, and nothing will be. Of names that rise those below *name have
+   ended. It changes where pgp_dialogue_take reports PGP_LAST or PGP_ENDED, or returns an error; and what is asked behind an error, before a Sync, has ended at
+   once. After a pgp_connection_take: of &connection->dialogue. */
+pgp_status pgp_dialogue_first_open(const struct pgp_dialogue *dialogue, uint64_t *name);
 
 /* ---- values in the binary format ---- */
 

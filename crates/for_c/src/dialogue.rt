@@ -2,9 +2,10 @@
 
 ghost use Rattle.std.specs.Prelude.{◌≡◌, ◌≢◌, ◌<◌, ◌≤◌, ◌⊎◌, None, Some, length, true, false};
 ghost use Rattle.pgp_client.specs.Codes.{refusal_at, request_at};
+ghost use Rattle.pgp_client.specs.Ending.{first_name, first_open};
 ghost use Rattle.pgp_client.specs.Slots.{capacity, slots_items};
 ghost use Rattle.pgp_client.specs.Talk.{shown};
-ghost use Rattle.pgp_client.specs.Taking.{asked, is_idle};
+ghost use Rattle.pgp_client.specs.Taking.{asked, first_in, is_idle};
 ghost use Rattle.for_c.specs.Dialogue.{IsBroken, KeepsRoom, RejectsMessage, TakesMessage, event_of, kind_at, talk_of};
 
 use pgp_client::{Dialogue, Event, Kind, Refusal, Request, Slot, Slots, Stage};
@@ -12,6 +13,9 @@ use std::mem;
 
 /// The result where there is no room for a request, or the dialogue's places are none of its room.
 const NO_ROOM: u32 = 1;
+
+/// The result where there is none.
+const DONE: u32 = 101;
 
 /// The result where a number names no request, or no kind of messages.
 const NO_KIND: u32 = 35;
@@ -109,6 +113,47 @@ pub extern "C" fn pgp_dialogue_is_idle(dialogue: &PgpDialogue<'_>, idle: &mut bo
     *idle = Stage::of_code(dialogue.stage) == Stage::Idle
         && Slots::await_none(&*dialogue.room, dialogue.start, dialogue.end);
     0
+}
+
+/// The name of the first request that is to end. All that were asked before it have ended.
+#[unsafe(no_mangle)]
+pub extern "C" fn pgp_dialogue_first_open(dialogue: &PgpDialogue<'_>, name: &mut u64) -> u32
+    ensures first { result ≡ 0 → first_open (talk_of dialogue.now) ≡ Some name.new }
+    ensures none { result ≡ 101 → first_open (talk_of dialogue.now) ≡ None }
+    ensures broken { result ≢ 0 → result ≢ 101 → (result ≡ 1) × IsBroken dialogue.now }
+    ensures left { result ≢ 0 → name.new ≡ name.old }
+{
+    if is_broken(dialogue) {
+        return NO_ROOM;
+    }
+    match first_open(dialogue) {
+        Some(first) => {
+            *name = first;
+            0
+        }
+        None => DONE,
+    }
+}
+
+fn first_open(dialogue: &PgpDialogue<'_>) -> Option<u64>
+    requires ordered { dialogue.now.start ≤ dialogue.now.end }
+    requires fits { dialogue.now.end ≤ length dialogue.now.room.now }
+    ensures { result ≡ first_open (talk_of dialogue.now) }
+{
+    match Stage::of_code(dialogue.stage) {
+        Stage::Idle => first_answered(dialogue, false),
+        Stage::Skipping => first_answered(dialogue, true),
+        Stage::Over => None,
+        _ => Some(dialogue.name),
+    }
+}
+
+fn first_answered(dialogue: &PgpDialogue<'_>, skipping: bool) -> Option<u64>
+    requires ordered { dialogue.now.start ≤ dialogue.now.end }
+    requires fits { dialogue.now.end ≤ length dialogue.now.room.now }
+    ensures { result ≡ first_name (first_in skipping (talk_of dialogue.now).pending) }
+{
+    Slots::first_answered_in(&*dialogue.room, dialogue.start, dialogue.end, skipping)
 }
 
 /// Whether the requests stand at no places of the room.
