@@ -1,7 +1,7 @@
 /* further: dialogues, whole lists in one call, decimal numbers, spans, JSON, SASLprep, and names. */
 #include "checks.h"
 
-/* Asks and takes by words, as "P1 B2 S3 <1 <2 <Z": what comes of each message is a letter and the request's number. */
+/* Asks and takes by words, as "P1 B2 S3 <1 <2 <Z": what comes of each message is a letter and the request's number; "^" is the first request that is to end. */
 static const char letters[] = "UQPBCdDEFScf";
 static uint8_t kind_of(char tag)
 {
@@ -22,7 +22,11 @@ static void talk(size_t room, const char *words, const char *want)
     d.room_len = room;
     for (; *words; words++) {
         if (*words == ' ') continue;
-        if (*words == '<') {
+        if (*words == '^') {
+            uint64_t name = 0;
+            pgp_status r = pgp_dialogue_first_open(&d, &name);
+            end += r == PGP_OK ? sprintf(end, "^%lu", (unsigned long)name) : sprintf(end, r == PGP_DONE && name == 0 ? "^-" : "!");
+        } else if (*words == '<') {
             pgp_status r = pgp_dialogue_take(&d, kind_of(*++words), &e);
             if (r != PGP_OK) end += sprintf(end, "%s", r == PGP_E_UNEXPECTED ? "x" : r == PGP_E_UNCERTAIN ? "?" : "!");
             else end += sprintf(end, e.what <= PGP_LAST ? "%c%lu" : "%c", " pl-e"[e.what], (unsigned long)e.name);
@@ -53,6 +57,10 @@ static void dialogues(void)
         talk(room, "Q1 <D", "x,");
         talk(room, "F1 <V <Z", "p1l1.");
         talk(room, "<E", "e,");
+        talk(room, "P1 B2 E3 S4 ^ <1 ^ <E ^ <Z ^", "^1l1^2l2^4l4^-.");
+        talk(room, "B1 <E E2 ^ Q3 ^ S4 ^ <Z ^", "l1^-^-^4l4^-.");
+        talk(room, "E1 S2 <G c3 ^ <C ^", "p1^1l1^-.");
+        talk(room, "Q1 <E ^ <Z <E ^", "p1^1l1e^-,");
     }
     talk(1, "S1 S2 <Z S3 <Z", "fulll1l3.");
     talk(0, "S1", "full.");
@@ -60,6 +68,7 @@ static void dialogues(void)
     same("no kind", pgp_dialogue_take(&d, 0, &e), PGP_E_KIND); same("no kind", pgp_dialogue_take(&d, 35, &e), PGP_E_KIND); same("as it was", e.what, 7);
     d.start = 1; same("no places", pgp_dialogue_take(&d, PGP_READY_FOR_QUERY, &e), PGP_NO_ROOM); same("no places", pgp_dialogue_ask(&d, 0, 1), PGP_NO_ROOM);
     same("no places", pgp_dialogue_is_idle(&d, &idle), PGP_NO_ROOM); same("as it was", idle, 1);
+    same("no places", pgp_dialogue_first_open(&d, &e.name), PGP_NO_ROOM); same("as it was", e.name, 7);
     d.end = 2; same("past the room", pgp_dialogue_ask(&d, 0, 1), PGP_NO_ROOM);
 }
 

@@ -93,6 +93,9 @@ def check_dialogues(same):
             continue
         dialogue, came = pg.Dialogue(1), []
         for word in words:
+            if word == '?':
+                came += ['none'] if dialogue.first_open is None else ['open', str(dialogue.first_open)]
+                continue
             if not word.startswith('<'):
                 request, _, number = word.partition(':')
                 dialogue.ask(ASKED[request], int(number))

@@ -10,6 +10,7 @@ import postgres_protocol as pg
 from postgres_protocol._library import declare
 from postgres_protocol.registry import DECODERS
 from faults import check_faults
+from pipelines import check_pipelines
 from rows import check_rows
 from server import scram_server
 from serving import check_server
@@ -275,6 +276,7 @@ queries()
 check_rows(same)
 check_typed(same, raises)
 check_sessions(same, raises)
+check_pipelines(same)
 check_server(same, refused)
 check_faults(same)
 print('Python: %d passed, %d failed' % (passed, failed))

@@ -20,3 +20,4 @@ mod MonitorBelongs
 mod MonitorFronts
 mod MonitorSteps
 pub mod Ending
+pub mod Loans

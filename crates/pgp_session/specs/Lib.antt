@@ -2,6 +2,7 @@ pub mod Mechanisms
 pub mod Serving
 pub mod Proxy
 pub mod Pooler
+pub mod Loans
 pub mod Login
 pub mod ServerState
 pub mod Settings

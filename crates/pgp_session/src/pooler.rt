@@ -1,17 +1,25 @@
 //! A pooler's core: it is handed the messages of both sides, and says where a session is idle, so that the server's
 //! connection can be lent to another client.
 
-ghost use Rattle.std.specs.Prelude.{◌≡◌, List, ℕ};
+ghost use Rattle.std.specs.Prelude.{◌≡◌, ◌⊎◌, ◌++◌, ◌∷◌, [], Err, List, Ok, ℕ};
 ghost use Rattle.std.specs.Bool.{Decides};
+ghost use Rattle.pgp_client.specs.InTurns.{BelongInTurns};
+ghost use Rattle.pgp_client.specs.Pool.{EachHearsOwn, EachStandsAlone, run_by_client, run_of};
+ghost use Rattle.pgp_client.specs.Telling.{Hears, reported_in};
+ghost use Rattle.pgp_client.specs.declared.event.Event.{Event as Reported};
+ghost use Rattle.pgp_client.specs.declared.event.Event.TheVariants.{Aside, Ended};
+ghost use Rattle.pgp_client.specs.declared.event.Refusal.{Refusal as Refused};
+ghost use Rattle.pgp_client.specs.declared.kind.Kind.{Kind as Heard};
 ghost use Rattle.pgp_frontend.specs.ClientMessage.{ClientMessage as Sent};
 ghost use Rattle.pgp_message.specs.BackendMessage.{Message as Received};
 ghost use Rattle.pgp_message.specs.Views.{view as received_view};
 ghost use Rattle.pgp_frontend_read.specs.Views.{view as sent_view};
+ghost use Rattle.pgp_session.specs.Loans.{Call as Called, Calls, Loan as Lent, Loans, calls_in, lending_of, lendings_of, received_in, sent_in};
 ghost use Rattle.pgp_session.specs.Pooler.{CanBeLent, IsQuiet, Receives, ReceivesResult, Saw, Sends, Shown, awaits, begun, extends, leaves, shown, waits};
 ghost use Rattle.pgp_session.specs.ServerState.{status};
 
 use pgp_base::{Error, Memory};
-use pgp_client::{Asked, Dialogue, Event, Kind, Refusal, Request};
+use pgp_client::{pool, Asked, Dialogue, Event, Kind, Refusal, Request};
 use pgp_frontend_read::ClientMessage;
 use pgp_message::{Message, Storage};
 use std::alloc::Global;
@@ -109,6 +117,31 @@ pub fn idle_sessions_can_be_lent()
         → CanBeLent sent received session }
 {
     pgp_client::laws::idle_dialogues_await_nothing();
+}
+
+/// What holds of a session that a pooler logged in, and then lent to its clients, one after the other, only where `Session::is_idle` was true: there it can be lent (`lent`).
+/// Each server's message belongs, by every reading of the whole run, to a request of the client to whom the connection was lent when it came, or to no request, whatever the
+/// calls of the last loan returned (`own`). What a client hears is what it would hear of a connection of its own (`alone`). Where the session is idle, the next message belongs
+/// to no request (`answered`). After an error of `received`, and after the session's end, the session is never idle again (`closed`, `ended`).
+pub fn no_client_of_a_pooler_hears_anothers_answer()
+    ensures lent { (login : List Called) (loans : List Lent) (first now : Shown) → Calls begun login first → Loans first loans now → IsQuiet now [] []
+        → CanBeLent (sent_in (login ++ calls_in loans)) (received_in (login ++ calls_in loans)) now }
+    ensures own { (pool : ℕ) (login : List Called) (loans : List Lent) (first now : Shown) (client : ℕ) (last : List Called) (truth : List Reported) → Calls begun login first
+        → Loans first loans now → IsQuiet now [] [] → BelongInTurns (run_by_client (lending_of pool login ∷ lendings_of loans ++ lending_of client last ∷ [])) truth
+        → EachHearsOwn (lending_of pool login ∷ lendings_of loans ++ lending_of client last ∷ []) truth }
+    ensures alone { (pool : ℕ) (login : List Called) (loans : List Lent) (first now : Shown) → Calls begun login first → Loans first loans now
+        → EachStandsAlone (lending_of pool login ∷ lendings_of loans) }
+    ensures answered { (pool : ℕ) (login : List Called) (loans : List Lent) (first now : Shown) (kind : Heard) (told : Reported) (truth : List Reported) → Calls begun login first → Loans first loans now
+        → IsQuiet now [] [] → BelongInTurns (run_of (lending_of pool login ∷ lendings_of loans) ++ Hears kind told ∷ []) truth
+        → (event : Reported) × (truth ≡ reported_in (run_of (lending_of pool login ∷ lendings_of loans)) ++ event ∷ []) × ((event ≡ Aside) ⊎ (event ≡ Ended)) }
+    ensures closed { (old new now : Shown) (message : Received) (refusal : Refused) (calls : List Called) → Receives message old new (Err refusal) → Calls new calls now → IsQuiet now [] [] → ⊥ }
+    ensures ended { (old new now : Shown) (message : Received) (calls : List Called) → Receives message old new (Ok Ended) → Calls new calls now → IsQuiet now [] [] → ⊥ }
+{
+    idle_sessions_can_be_lent();
+    pool::no_client_hears_anothers_answer();
+    pool::lendings_stand_alone();
+    pool::nothing_is_owed();
+    pool::closed_connections_are_not_lent();
 }
 
 /// Whether the server says in the end that it is ready.

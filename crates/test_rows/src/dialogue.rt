@@ -94,9 +94,24 @@ fn ask<Q: Queue>(dialogue: &mut Dialogue<Q>, word: &str, out: &mut Shown) -> Res
     Ok(())
 }
 
-/// Asks and takes in turns: `<T` is a message of the server with this tag.
+/// The first request that is to end.
+fn show_open<Q: Queue>(dialogue: &Dialogue<Q>, out: &mut Shown) {
+    match dialogue.first_open() {
+        Some(name) => {
+            out.word("open");
+            out.number(name);
+        }
+        None => out.word("none"),
+    }
+}
+
+/// Asks and takes in turns: `<T` is a message of the server with this tag, and `?` asks for the first request that is to end.
 fn run<Q: Queue>(dialogue: &mut Dialogue<Q>, words: &str, out: &mut Shown) -> Result<(), Fault> {
     for word in words.split(' ') {
+        if word == "?" {
+            show_open(dialogue, out);
+            continue;
+        }
         match word.strip_prefix('<') {
             Some(tag) => show(dialogue.take(answer_kind(tag).ok_or(Fault::Row)?), out),
             None => ask(dialogue, word, out)?,
