@@ -9,18 +9,18 @@ pub use Rattle.std.specs.Fmt.{decimal, signed_decimal, sign_text}
 pub use Rattle.std.specs.Prelude.{codes, ◌%◌, ◌^◌, IfOk, IsErr, [], ◌++◌, nat_eq, if◌then◌else◌, unsigned_abs, ⊤, IsTrue, ◌∷◌, drop, length, map, ◌+ℤ◌, string_bytes, OnOk}
 pub use Rattle.jiff.specs.Words.{IsEpochDay, IsCivilNanos}
 pub use Rattle.pgp_value_text.specs.Numbers.{day_1970, days_cycle, in_cycle, later, microseconds_cycle, nanos_1970}
-pub use Rattle.pgp_value_text.specs.Span.{span_text}
+pub use Rattle.pgp_value_text.specs.Span.{ShowsSpan, span_text}
 pub use Rattle.pgp_value_text.specs.Calendar.{ShowsDay, ShowsInstant, ShowsMoment, ShowsTime, WritesText, IsShownDay, IsShownInstant, IsShownTime, HasText, era, year_after, day_text, clock_text, date_text, instant_text}
 pub use Rattle.pgp_types.proofs.Numbers.{int8_spelling, int16_spelling, int32_spelling, int64_spelling, uint32_spelling, uint64_spelling}
 pub use Rattle.pgp_types.proofs.Spelling.{fixed_sound}
 pub use Rattle.pgp_types.specs.Scalar.{bool, bytea, char, int2, int4, int8, oid, lsn, float4, float8}
 pub use Rattle.pgp_types.specs.Time.{time}
-pub use Rattle.pgp_values.proofs.Fixed.{interval_sound, timetz_sound, circle_sound, line_sound, lseg_sound, tid_sound}
-pub use Rattle.pgp_values.proofs.MomentLemmas.{date_value_sound, timestamp_value_sound}
+pub use Rattle.pgp_values.proofs.Fixed.{timetz_sound, circle_sound, line_sound, lseg_sound, tid_sound}
+pub use Rattle.pgp_values.proofs.MomentLemmas.{date_value_sound, interval_value_sound, timestamp_value_sound}
 pub use Rattle.pgp_values.specs.DecimalText.{numeric_text}
-pub use Rattle.pgp_values.specs.Moment.{date_value, timestamp_value}
+pub use Rattle.pgp_values.specs.Moment.{date_value, interval_value, timestamp_value}
 pub use Rattle.pgp_values.specs.System.{xid8, money, tid}
-pub use Rattle.pgp_values.specs.Time.{interval, timetz}
+pub use Rattle.pgp_values.specs.Time.{timetz}
 pub use Rattle.pgp_values.specs.declared.moment.Moment.{Moment}
 pub use Rattle.pgp_values.specs.declared.moment.Moment.TheVariants.{PosInfinity, NegInfinity, Value}
 pub use Rattle.uuid.specs.Text.{hyphenated_text, lower}

@@ -1,5 +1,5 @@
 -- A value of each format has one text.
-use Rattle.pgp_value_text.proofs.Common.{◌≡◌, ℕ, ℤ, true, List, Option, Some, None, Ok, Err, refl, sym, ap, ◌∙◌, subst, IfOk, IsErr, false≢true, decimal, signed_decimal, hyphenated_text, lower, bool, bytea, char, int2, int4, int8, float4, float8, from_bits, binary32, binary64, ShowsFloat, oid, lsn, time, fixed_sound, int8_spelling, int16_spelling, int32_spelling, int64_spelling, uint32_spelling, uint64_spelling, numeric_text, date_value, timestamp_value, xid8, interval, timetz, Moment, PosInfinity, NegInfinity, Value, interval_sound, timetz_sound, date_value_sound, timestamp_value_sound, span_text, ShowsDay, ShowsInstant, ShowsMoment, ShowsTime, bool_text, char_text, hex_text, lsn_text, zone_of, As, IsPlainText, IsShown, In, ShowsNumeric, ShowsTimeTz, ◌∷◌, ShowsBox, ShowsCircle, ShowsLine, ShowsPath, ShowsPoint, ShowsSegment, circle_sound, line_sound, lseg_sound, tid_sound, has_netmask, network_text, octets_text, box, point, circle, line, lseg, bits_text, tid_text, path, IsSound, BinaryFormat, formats, format_in, box_spelling, point_spelling, inet, macaddr, uuid, inet_sound, money, tid, money_text, path_sound, varbit, varbit_sound, macaddr8}
+use Rattle.pgp_value_text.proofs.Common.{◌≡◌, ℕ, ℤ, true, List, Option, Some, None, Ok, Err, refl, sym, ap, ◌∙◌, subst, IfOk, IsErr, false≢true, decimal, signed_decimal, hyphenated_text, lower, bool, bytea, char, int2, int4, int8, float4, float8, from_bits, binary32, binary64, ShowsFloat, oid, lsn, time, fixed_sound, int8_spelling, int16_spelling, int32_spelling, int64_spelling, uint32_spelling, uint64_spelling, numeric_text, date_value, timestamp_value, xid8, interval_value, timetz, Moment, PosInfinity, NegInfinity, Value, timetz_sound, date_value_sound, interval_value_sound, timestamp_value_sound, ShowsSpan, span_text, ShowsDay, ShowsInstant, ShowsMoment, ShowsTime, bool_text, char_text, hex_text, lsn_text, zone_of, As, IsPlainText, IsShown, In, ShowsNumeric, ShowsTimeTz, ◌∷◌, ShowsBox, ShowsCircle, ShowsLine, ShowsPath, ShowsPoint, ShowsSegment, circle_sound, line_sound, lseg_sound, tid_sound, has_netmask, network_text, octets_text, box, point, circle, line, lseg, bits_text, tid_text, path, IsSound, BinaryFormat, formats, format_in, box_spelling, point_spelling, inet, macaddr, uuid, inet_sound, money, tid, money_text, path_sound, varbit, varbit_sound, macaddr8}
 use Rattle.pgp_value_text.proofs.Uniqueness.{one_date, one_instant, one_time}
 use Rattle.std.specs.Int.{w8, cast_unsigned}
 use Rattle.pgp_types.specs.Text.{text}
@@ -17,7 +17,7 @@ use Rattle.pgp_value_text.proofs.Zones.{one_zoned}
 pub macaddr8_sound : IsSound macaddr8
 macaddr8_sound = fixed_sound (record { sized = λ v has. has.1; has = λ bytes small l. (small, l); spelled = λ bytes small l. refl; again = λ v has. refl })
 
-one_moment : (shows : ℤ → List ℕ → Type 0) → ((n : ℤ) (a b : List ℕ) → shows n a → shows n b → a ≡ b) → (v : Moment ℤ) (a b : List ℕ) → ShowsMoment shows v a → ShowsMoment shows v b → a ≡ b
+one_moment : {T : Type 0} (shows : T → List ℕ → Type 0) → ((n : T) (a b : List ℕ) → shows n a → shows n b → a ≡ b) → (v : Moment T) (a b : List ℕ) → ShowsMoment shows v a → ShowsMoment shows v b → a ≡ b
 one_moment shows h PosInfinity a b s t = s ∙ sym t
 one_moment shows h NegInfinity a b s t = s ∙ sym t
 one_moment shows h (Value n) a b s t = h n a b s t
@@ -45,7 +45,7 @@ one_formatted Inet n = one_shown inet inet_sound (As (λ v. network_text (has_ne
 one_formatted Int2 n = one_shown int2 (fixed_sound int16_spelling) (As signed_decimal) (one_as signed_decimal)
 one_formatted Int4 n = one_shown int4 (fixed_sound int32_spelling) (As signed_decimal) (one_as signed_decimal)
 one_formatted Int8 n = one_shown int8 (fixed_sound int64_spelling) (As signed_decimal) (one_as signed_decimal)
-one_formatted Interval n = one_shown interval interval_sound (As span_text) (one_as span_text)
+one_formatted Interval n = one_shown interval_value interval_value_sound (ShowsMoment ShowsSpan) (one_moment ShowsSpan (one_as span_text))
 one_formatted Jsonb n = one_shown jsonb (label_sound 1) (As (λ text. text)) (one_as (λ text. text))
 one_formatted Jsonpath n = one_shown jsonpath (label_sound 1) (As (λ text. text)) (one_as (λ text. text))
 one_formatted LineFormat n = one_shown line line_sound ShowsLine one_line

@@ -61,10 +61,10 @@ ShowsInstant zone microseconds text =
     (dt : DateTime) × (civil_nanos dt ≡ nanos_1970 (in_cycle microseconds_cycle microseconds)) × (text ≡ instant_text (later microseconds_cycle microseconds) zone dt)
 
 -- a moment, or one of the two that are no day
-abbrev pub ShowsMoment : (ℤ → List ℕ → Type 0) → Moment ℤ → List ℕ → Type 0
+abbrev pub ShowsMoment : {T : Type 0} → (T → List ℕ → Type 0) → Moment T → List ℕ → Type 0
 ShowsMoment shows PosInfinity text = text ≡ codes "infinity"
 ShowsMoment shows NegInfinity text = text ≡ codes "-infinity"
-ShowsMoment shows (Value z) text = shows z text
+ShowsMoment shows (Value v) text = shows v text
 
 -- a time of day, the end of a day included
 abbrev pub IsShownTime : ℤ → Type 0

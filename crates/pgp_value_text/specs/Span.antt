@@ -1,7 +1,7 @@
 -- The text in which a server shows a span of time under `IntervalStyle` `iso_8601`: ISO 8601's format with designators, where each number
 -- has the sign of what it is a part of.
 -- PostgreSQL manual, "Date/Time Types", "Interval Output".
-use Rattle.std.specs.Prelude.{ℕ, ◌/◌, ◌%◌, ◌*◌, ◌==◌, ◌&&◌, if◌then◌else◌, ℤ, unsigned_abs, List, [], ◌∷◌, ◌++◌, codes, Bool, false}
+use Rattle.std.specs.Prelude.{◌≡◌, ℕ, ◌/◌, ◌%◌, ◌*◌, ◌==◌, ◌&&◌, if◌then◌else◌, ℤ, unsigned_abs, List, [], ◌∷◌, ◌++◌, codes, Bool, false}
 use Rattle.std.specs.Fmt.{sign_text}
 use Rattle.std.specs.Int.{is_negative}
 use Rattle.jiff_fmt.specs.Text.{unit_text, seconds_text}
@@ -41,3 +41,6 @@ is_zero v = unsigned_abs v.months == 0 && unsigned_abs v.days == 0 && unsigned_a
 abbrev pub span_text : Interval → List ℕ
 span_text v = if is_zero v then codes "PT0S"
     else 80 ∷ months_text v.months ++ days_text v.days ++ clock_text v.microseconds
+
+abbrev pub ShowsSpan : Interval → List ℕ → Type 0
+ShowsSpan v text = text ≡ span_text v

@@ -23,16 +23,16 @@ use Rattle.pgp_values.specs.DecimalText.{numeric_text}
 use Rattle.pgp_values.specs.Formats.{formats}
 use Rattle.pgp_values.specs.FormatTable.{format_in}
 use Rattle.pgp_values.specs.Geometry.{circle, line, lseg}
-use Rattle.pgp_values.specs.Moment.{date_value, timestamp_value}
+use Rattle.pgp_values.specs.Moment.{date_value, interval_value, timestamp_value}
 use Rattle.pgp_values.specs.Network.{cidr, macaddr8}
 use Rattle.pgp_values.specs.System.{money, tid, xid8}
 use Rattle.pgp_values.specs.Text.{jsonb, jsonpath}
-use Rattle.pgp_values.specs.Time.{interval, timetz}
+use Rattle.pgp_values.specs.Time.{timetz}
 use Rattle.pgp_value_text.specs.Bits.{bits_text, tid_text}
 use Rattle.pgp_value_text.specs.Figure.{ShowsBox, ShowsCircle, ShowsLine, ShowsPath, ShowsPoint, ShowsSegment}
 use Rattle.pgp_value_text.specs.Money.{money_text}
 use Rattle.pgp_value_text.specs.Network.{has_netmask, network_text, octets_text}
-use Rattle.pgp_value_text.specs.Span.{span_text}
+use Rattle.pgp_value_text.specs.Span.{ShowsSpan}
 use Rattle.pgp_value_text.specs.Calendar.{ShowsDay, ShowsInstant, ShowsMoment, ShowsTime}
 use Rattle.pgp_value_text.specs.Float.{ShowsFloat}
 use Rattle.pgp_value_text.specs.Zone.{ShowsTimeTz}
@@ -85,7 +85,7 @@ IsShown Inet type_oid = Shows inet (As (λ v. network_text (has_netmask v) v))
 IsShown Int2 type_oid = Shows int2 (As signed_decimal)
 IsShown Int4 type_oid = Shows int4 (As signed_decimal)
 IsShown Int8 type_oid = Shows int8 (As signed_decimal)
-IsShown Interval type_oid = Shows interval (As span_text)
+IsShown Interval type_oid = Shows interval_value (ShowsMoment ShowsSpan)
 IsShown Jsonb type_oid = Shows jsonb (As (λ document. document))
 IsShown Jsonpath type_oid = Shows jsonpath (As (λ path. path))
 IsShown LineFormat type_oid = Shows line ShowsLine

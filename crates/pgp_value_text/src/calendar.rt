@@ -1,7 +1,7 @@
 //! The texts in which a server shows days and times, under `DateStyle` `ISO` and with the time zone `UTC`.
 
 ghost use Rattle.std.specs.Prelude.{◌≡◌, ◌≤◌, [], ⊤, codes, length};
-ghost use Rattle.pgp_value_text.specs.Span.{span_text};
+ghost use Rattle.pgp_value_text.specs.Span.{ShowsSpan};
 ghost use Rattle.pgp_value_text.specs.Calendar.{ShowsDay, ShowsInstant, ShowsMoment, ShowsTime, IsShownDay, IsShownInstant, IsShownTime, HasText, WritesText};
 
 use crate::civil::{date_to_civil, time_to_civil, timestamp_to_civil};
@@ -116,13 +116,17 @@ pub fn time_to_text<B: Buffer>(microseconds: i64, out: &mut B) -> Result<(), Tex
 }
 
 /// Appends the text of an `interval` under `IntervalStyle` `iso_8601`, as `P1Y2M3DT4H5M6.5S`, or `PT0S`: each number has its own sign, as in
-/// `P-1MT2H`.
+/// `P-1MT2H`; since PostgreSQL 17 also as `infinity`.
 ///
 /// # Errors
 ///
 /// Returns `OutOfMemory` if the buffer can't grow; then the buffer is unchanged.
-pub fn interval_to_text<B: Buffer>(v: Interval, out: &mut B) -> Result<(), TextError>
-    ensures { WritesText (λ shown. shown ≡ span_text v) ⊤ B.Lacks (B.held out.old) (B.held out.new) result }
+pub fn interval_to_text<B: Buffer>(v: Moment<Interval>, out: &mut B) -> Result<(), TextError>
+    ensures { WritesText (ShowsMoment ShowsSpan v) ⊤ B.Lacks (B.held out.old) (B.held out.new) result }
 {
-    write(span_text(v).as_str(), out)
+    match v {
+        Moment::PosInfinity => write("infinity", out),
+        Moment::NegInfinity => write("-infinity", out),
+        Moment::Value(span) => write(span_text(span).as_str(), out),
+    }
 }

@@ -1,12 +1,11 @@
 //! Dates, times and spans of time.
 
 ghost use Rattle.std.specs.Prelude.{◌≡◌, nat_eq};
-ghost use Rattle.pgp_value_text.specs.Span.{span_text};
+ghost use Rattle.pgp_value_text.specs.Span.{ShowsSpan};
 ghost use Rattle.pgp_value_text.specs.Calendar.{ShowsDay, ShowsInstant, ShowsMoment, ShowsTime};
 ghost use Rattle.pgp_types.specs.Time.{time};
-ghost use Rattle.pgp_values.specs.Moment.{date_value, timestamp_value};
-ghost use Rattle.pgp_values.specs.Time.{interval};
-ghost use Rattle.pgp_value_text.specs.ValueText.{zone_of, As, Shows, Tells};
+ghost use Rattle.pgp_values.specs.Moment.{date_value, interval_value, timestamp_value};
+ghost use Rattle.pgp_value_text.specs.ValueText.{zone_of, Shows, Tells};
 
 use crate::calendar::{
     date_to_text, interval_to_text, time_to_text, timestamp_to_text, timestamptz_to_text,
@@ -15,7 +14,7 @@ use crate::put::told;
 use bytes::BytesMut;
 use pgp_base::{Memory, Oid};
 use pgp_types::time_from_sql;
-use pgp_values::{Moment, date_value_from_sql, interval_from_sql, timestamp_value_from_sql};
+use pgp_values::{Moment, date_value_from_sql, interval_value_from_sql, timestamp_value_from_sql};
 use std::alloc::AllocError;
 
 /// Adds the text of a `date`.
@@ -89,9 +88,9 @@ pub(crate) fn put_interval<A: Memory>(
     bytes: &[u8],
     text: &mut BytesMut<A>,
 ) -> Result<bool, AllocError>
-    ensures { Tells (Shows interval (As span_text) bytes.now) A.Lacks text.old.items text.new.items result }
+    ensures { Tells (Shows interval_value (ShowsMoment ShowsSpan) bytes.now) A.Lacks text.old.items text.new.items result }
 {
-    match interval_from_sql(bytes) {
+    match interval_value_from_sql(bytes) {
         Ok(v) => told(interval_to_text(v, text)),
         Err(_) => Ok(false),
     }

@@ -46,8 +46,8 @@ pub use integer::{
 };
 pub use made::record_values_to_sql;
 pub use moment::{
-    Moment, date_value_from_sql, date_value_to_sql, timestamp_value_from_sql,
-    timestamp_value_to_sql,
+    Moment, date_value_from_sql, date_value_to_sql, interval_value_from_sql, interval_value_to_sql,
+    timestamp_value_from_sql, timestamp_value_to_sql,
 };
 pub use multirange::{MultirangeRanges, multirange_from_sql, multirange_to_sql};
 pub use network::{cidr_from_sql, cidr_to_sql, macaddr8_from_sql, macaddr8_to_sql};

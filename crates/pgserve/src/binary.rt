@@ -110,7 +110,7 @@ fn put_moment(oid: Oid, word: &str, out: &mut BytesMut) -> Result<(), Unwritten>
     match oid {
         DATE => written(values::date_value_to_sql(read(date_of(word))?, out)),
         TIME => written(types::time_to_sql(read(clock_of(word))?, out)),
-        INTERVAL => written(values::interval_to_sql(read(interval_of(word))?, out)),
+        INTERVAL => written(values::interval_value_to_sql(read(interval_of(word))?, out)),
         TIMESTAMP => written(values::timestamp_value_to_sql(read(timestamp_of(word))?, out)),
         _ => written(values::timestamp_value_to_sql(read(timestamptz_of(word))?, out)),
     }

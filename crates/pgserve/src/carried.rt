@@ -7,6 +7,8 @@ use crate::command::{Command, SEPARATOR};
 use crate::cursor::Fetch;
 use crate::outbox::Outbox;
 use crate::session::Session;
+use crate::setting_name::is_known;
+use crate::setting_value::{is_no_boolean, rejection};
 use crate::settings::{Scope, Setting};
 use crate::transaction::Taken;
 use crate::wording::Wording;
@@ -48,17 +50,16 @@ fn joined(words: &str, out: &mut Outbox) -> Vec<u8> {
 impl<'h> Session<'h> {
     /// Up to when a setting is set that is said now.
     fn scope(&self, is_local: bool) -> Scope {
-        match self.transaction.status {
-            Status::Idle => Scope::Session,
-            _ if is_local => Scope::Local(self.transaction.depth()),
-            _ => Scope::Kept(self.transaction.depth()),
+        if is_local {
+            return Scope::Local(self.transaction.depth());
         }
+        Scope::Kept(self.transaction.depth())
     }
 
     /// Sets a setting to the value of these words.
     fn set(&mut self, name: &str, value: &str, is_local: bool, out: &mut Outbox) {
         let scope = self.scope(is_local);
-        if is_local && scope == Scope::Session {
+        if is_local && self.transaction.status == Status::Idle {
             return;
         }
         if value == "default" || (name == "timezone" && value == "local") {
@@ -200,6 +201,31 @@ impl<'h> Session<'h> {
         }
     }
 
+    /// Appends the error of a setting that there isn't, or that can't be set to this value, and returns whether there is one.
+    fn refuses_setting(&self, name: &str, value: &str, out: &mut Outbox) -> bool {
+        if self.settings.find(name.as_bytes()).is_none() && !is_known(name) {
+            let (front, name) = ("unrecognized configuration parameter \"", name.as_bytes());
+            refuse(Refusal::of("42704", front, name, "\""), out);
+            return true;
+        }
+        let given = joined(value, out);
+        if value == "default" {
+            return false;
+        }
+        if is_no_boolean(name, &given) {
+            let (name, behind) = (name.as_bytes(), "\" requires a Boolean value");
+            refuse(Refusal::of("22023", "parameter \"", name, behind), out);
+            return true;
+        }
+        match rejection(name, &given) {
+            Some(refusal) => {
+                refuse(refusal, out);
+                true
+            }
+            None => false,
+        }
+    }
+
     /// Carries out this command, and appends its answer.
     fn carry_out(
         &mut self,
@@ -223,6 +249,9 @@ impl<'h> Session<'h> {
                 };
                 return self.fetch(fetch, out);
             }
+            Command::Set { name, value, .. } if self.refuses_setting(name, value, out) => {
+                return Went::Wrong;
+            }
             _ => {}
         }
         if let Some(refusal) = self.rejects_command(command) {
@@ -243,7 +272,7 @@ impl<'h> Session<'h> {
     ) -> Went {
         let went = self.carry_out(command, &statement.bare, formats, out);
         if went == Went::Wrong {
-            self.fail_transaction();
+            self.fail_transaction(out);
         }
         went
     }

@@ -1,6 +1,6 @@
 //! What the lines of columns say, and which columns a further answer has.
 
-use crate::part::format_of;
+use crate::part::{COPY_ALONE, format_of};
 use crate::reader::Reader;
 use crate::script::{Column, Role, Statement};
 use crate::types::{PLAIN_TEXT, Type, type_of};
@@ -17,8 +17,11 @@ fn column_of(line: &str, reader: &mut Reader) -> Column {
         reader.wrong("a column has a name and, after a space, a type");
     }
     let (name, kind) = parts.unwrap_or(("", ""));
+    reader.base = name.len().saturating_add(1);
+    let kind = known_type(kind, reader);
+    reader.base = 0;
     Column {
-        kind: known_type(kind, reader),
+        kind,
         name: reader.text(name),
         table: 0,
         number: 0,
@@ -73,6 +76,9 @@ fn columns_of(columns: &[Column], reader: &mut Reader) -> Vec<Column> {
 impl Statement {
     /// Adds a column; rows stand after all of them.
     pub(crate) fn add_column(&mut self, line: &str, reader: &mut Reader) {
+        if self.copy.is_some() {
+            return reader.wrong_first(COPY_ALONE);
+        }
         if !self.rows.is_empty() {
             return reader.wrong("columns stand above the rows");
         }

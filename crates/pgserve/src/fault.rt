@@ -21,6 +21,7 @@ pub(crate) enum Fault {
     Verifier,
     NoVerifier,
     Nonce,
+    NoNonce,
     Certificate,
 }
 
@@ -42,6 +43,7 @@ impl Fault {
                 "the verifier is no text of the method's: SCRAM-SHA-256$.., or md5..",
             Fault::NoVerifier => "trust has no verifier",
             Fault::Nonce => "the nonce has to be printable ASCII without a comma",
+            Fault::NoNonce => "scram and scram-plus need a nonce: --nonce TEXT",
             Fault::Certificate => "the hash of the certificate has to be hexadecimal digits",
         }
     }

@@ -87,19 +87,31 @@ impl<'h> Host<'h> {
     ///
     /// # Errors
     ///
-    /// Returns `Verifier`, `Nonce` and `Certificate` if they have another form.
+    /// Returns `Verifier`, `Nonce` and `Certificate` if they have another form, and `NoNonce` if there is none.
     pub(crate) fn test(&self, alloc: Global) -> Result<(), Fault> {
         if self.account.auth != Auth::Trust {
             self.account.auth.test(alloc, self.account.verifier)?;
         }
         let is_bound = self.asks_for(Auth::ScramPlus);
-        if (is_bound || self.asks_for(Auth::Scram)) && !is_nonce(self.nonce) {
-            return Err(Fault::Nonce);
+        if is_bound || self.asks_for(Auth::Scram) {
+            self.test_nonce()?;
         }
         if is_bound && self.hash(alloc)?.is_none() {
             return Err(Fault::Certificate);
         }
         Ok(())
+    }
+
+    /// Tests the nonce.
+    fn test_nonce(&self) -> Result<(), Fault> {
+        if self.nonce.is_empty() {
+            return Err(Fault::NoNonce);
+        }
+        if is_nonce(self.nonce) {
+            Ok(())
+        } else {
+            Err(Fault::Nonce)
+        }
     }
 
     /// Whether a user is asked for this.

@@ -35,6 +35,8 @@ mod report;
 mod row_text;
 mod script;
 mod session;
+mod setting_name;
+mod setting_value;
 mod settings;
 mod simple;
 mod stream;

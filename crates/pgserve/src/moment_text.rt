@@ -154,8 +154,16 @@ fn add_part(interval: Interval, part: &str, unit: Option<&str>) -> Option<Interv
     }
 }
 
-/// An `interval`, as `1 year 2 mons -3 days 04:05:06.7`.
-pub(crate) fn interval_of(text: &str) -> Option<Interval> {
+/// An `interval`, as `1 year 2 mons -3 days 04:05:06.7`, or `infinity`.
+pub(crate) fn interval_of(text: &str) -> Option<Moment<Interval>> {
+    match span_in(text) {
+        Some(span) => Some(Moment::Value(span)),
+        None => infinity_of(text),
+    }
+}
+
+/// A span that has an end.
+fn span_in(text: &str) -> Option<Interval> {
     let mut interval = Interval {
         microseconds: 0,
         days: 0,

@@ -75,6 +75,9 @@ fn copy_of(line: &str, reader: &mut Reader) -> Copy {
     }
 }
 
+/// What is said of a copy beside columns, rows or another copy.
+pub(crate) const COPY_ALONE: &str = "an answer is one copy, or has columns and rows";
+
 impl Statement {
     /// The data that the server sends.
     fn chunks(&mut self) -> Option<&mut Vec<Vec<u8>>> {
@@ -92,12 +95,25 @@ impl Statement {
         self.end = end;
     }
 
+    /// Says that the answer is a copy: columns of the answer above aren't this one's.
+    fn add_copy(&mut self, line: &str, reader: &mut Reader) {
+        if self.has_old_columns {
+            self.columns.clear();
+            self.has_old_columns = false;
+        }
+        if self.copy.is_some() || !self.columns.is_empty() || !self.rows.is_empty() {
+            reader.wrong_first(COPY_ALONE);
+        }
+        self.copy = Some(copy_of(line, reader));
+    }
+
     /// Adds what a line of this first word says.
     pub(crate) fn add(&mut self, word: &str, rest: &str, reader: &mut Reader) {
         match word {
             "parameters" => self.parameters = types_of(rest, reader),
             "column" => self.add_column(rest, reader),
             "table" | "modifier" | "format" => self.add_to_column(word, rest, reader),
+            "row" if self.copy.is_some() => reader.wrong_first(COPY_ALONE),
             "row" => {
                 let row = row_of(&self.columns, &self.parameters, rest, reader);
                 reader.out.add(&mut self.rows, row);
@@ -109,7 +125,7 @@ impl Statement {
             "result" if self.is_function() => self.set_end(result_of(rest, reader), reader),
             "tag" => self.set_end(End::Tag(reader.text(rest)), reader),
             "error" => self.set_end(End::Error(report_of("ERROR", rest, reader)), reader),
-            "copy" => self.copy = Some(copy_of(rest, reader)),
+            "copy" => self.add_copy(rest, reader),
             "data" => {
                 let chunk = reader.raw(rest);
                 reader.add_to(self.chunks(), chunk, "this line stands below `copy out`");

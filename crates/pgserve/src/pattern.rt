@@ -3,17 +3,13 @@
 use crate::outbox::Outbox;
 use regex::{Error, Regex};
 
-/// Whether the pattern matches somewhere in the text; `None` where it is no regular expression.
-pub(crate) fn matches(pattern: &str, text: &str, out: &mut Outbox) -> Option<bool> {
+/// The regular expression of this text; `None` where it is none.
+pub(crate) fn regex_of(pattern: &str, out: &mut Outbox) -> Option<Regex> {
     match Regex::new(out.alloc, pattern) {
-        Ok(regex) => {
-            let found = is_found(&regex, text, out);
-            drop(regex);
-            Some(found)
-        }
+        Ok(regex) => Some(regex),
         Err(Error::OutOfMemory) => {
             out.lack();
-            Some(false)
+            None
         }
         Err(why) => {
             drop(why);
@@ -22,7 +18,8 @@ pub(crate) fn matches(pattern: &str, text: &str, out: &mut Outbox) -> Option<boo
     }
 }
 
-fn is_found(regex: &Regex, text: &str, out: &mut Outbox) -> bool {
+/// Whether it matches somewhere in the text.
+pub(crate) fn is_found(regex: &Regex, text: &str, out: &mut Outbox) -> bool {
     match regex.matcher(out.alloc) {
         Ok(mut matcher) => matcher.is_match(text),
         Err(_) => {

@@ -1,11 +1,11 @@
 //! A script, read from its text.
 
 use crate::fault::Fault;
-use crate::pattern::matches;
+use crate::pattern::regex_of;
 use crate::reader::Reader;
 use crate::report::report_of;
 use crate::script::{By, Pair, Role, Script, Statement};
-use crate::text::trimmed;
+use crate::text::{is_blank, trimmed};
 use crate::user::{Auth, User};
 use crate::wording::words_of;
 use std::alloc::Global;
@@ -33,22 +33,27 @@ pub(crate) fn pair_of(line: &str, reader: &mut Reader) -> Pair {
     }
 }
 
-/// A pattern of statements.
-fn pattern_of(pattern: &str, reader: &mut Reader) -> Vec<u8> {
-    if matches(pattern, "", &mut reader.out).is_none() {
+/// The statements in which this pattern matches.
+fn statements_like(pattern: &str, reader: &mut Reader) -> Statement {
+    let regex = regex_of(pattern, &mut reader.out);
+    if regex.is_none() {
         reader.wrong_at("a regular expression stands here", 2);
     }
-    reader.out.copy(pattern.as_bytes())
+    let (text, no_words) = (reader.out.copy(pattern.as_bytes()), reader.string(""));
+    let mut statement = Statement::new(By::Pattern, text, no_words, reader);
+    statement.regex = regex;
+    statement
 }
 
 /// A statement that begins here, which `~` makes a pattern.
 fn statement_of(rest: &str, by_words: bool, reader: &mut Reader) -> Statement {
     if let Some(pattern) = rest.strip_prefix("~ ") {
-        let pattern = pattern_of(pattern, reader);
-        let no_words = reader.string("");
-        return Statement::new(By::Pattern, pattern, no_words, reader);
+        return statements_like(pattern, reader);
     }
     let text = reader.text(rest);
+    if is_blank(trimmed(&text), &mut reader.out) {
+        reader.wrong("a statement has a text: an empty query is answered by itself");
+    }
     let words = words_of(trimmed(&text), &mut reader.out);
     if by_words {
         let text = reader.out.copy(words.as_bytes());

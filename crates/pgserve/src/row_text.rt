@@ -107,6 +107,10 @@ fn row_with_condition(
         reader.wrong_at(CONDITION, 5);
     }
     let (number, text, values) = parts.unwrap_or(("", "", ""));
+    if values.starts_with("and $") {
+        let at = len.saturating_sub(values.len());
+        reader.wrong_at("a row has one condition", at);
+    }
     let condition = Condition {
         place: place_of(number, reader),
         value: reader.text(text),

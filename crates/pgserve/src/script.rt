@@ -2,7 +2,7 @@
 
 use crate::idle::Later;
 use crate::outbox::Outbox;
-use crate::pattern::matches;
+use crate::pattern::is_found;
 use crate::pause::Pause;
 use crate::reader::Reader;
 use crate::text::trimmed;
@@ -11,6 +11,7 @@ use crate::user::User;
 use crate::wording::Wording;
 use pgp_base::Oid;
 use pgp_session::transaction::Status;
+use regex::Regex;
 use std::alloc::Global;
 
 /// A column of the rows.
@@ -119,6 +120,8 @@ pub(crate) struct Statement {
     pub(crate) role: Role,
     pub(crate) by: By,
     pub(crate) text: Vec<u8>,
+    /// That of the text, where it is a pattern.
+    pub(crate) regex: Option<Regex>,
     /// The text by its words.
     pub(crate) words: String,
     /// Whether its columns are those of the answer above.
@@ -163,6 +166,7 @@ impl Statement {
             role: Role::First,
             by,
             text,
+            regex: None,
             words,
             has_old_columns: false,
             parameters: Vec::new(alloc),
@@ -194,8 +198,10 @@ impl Statement {
 
     /// Whether the pattern matches the text.
     fn matches(&self, text: &str, out: &mut Outbox) -> bool {
-        let pattern = str::from_utf8(&self.text).unwrap_or("");
-        matches(pattern, text, out) == Some(true)
+        match &self.regex {
+            Some(regex) => is_found(regex, text, out),
+            None => false,
+        }
     }
 
     /// Whether a row is sent for some values of a parameter alone.

@@ -119,6 +119,9 @@ impl<'h> Session<'h> {
         self.channels.settle(self.transaction.status, out);
         put_notifications(&self.notifications, out);
         self.notifications.clear();
+        if self.transaction.status == Status::Idle {
+            self.settings.commit(out);
+        }
         self.settings.report(out);
         if put_ready(self.transaction.status, out) {
             put_later(&self.later, &mut self.settings, &mut self.pauses, out);
@@ -148,16 +151,17 @@ impl<'h> Session<'h> {
     }
 
     /// An error: a transaction that was begun has failed. What was asked for outside of one is undone.
-    pub(crate) fn fail_transaction(&mut self) {
+    pub(crate) fn fail_transaction(&mut self, out: &mut Outbox) {
         if self.transaction.status == Status::Idle {
             self.channels.roll_back(0);
+            self.settings.roll_back(0, out);
         }
         self.transaction.fail();
     }
 
     /// Appends the error of a request that stands alone.
     pub(crate) fn stop(&mut self, refusal: Refusal<'_>, out: &mut Outbox) {
-        self.fail_transaction();
+        self.fail_transaction(out);
         refuse(refusal, out);
     }
 
@@ -221,7 +225,7 @@ impl<'h> Session<'h> {
     /// What the statement does to the session by itself, and the cursor that it declares. Of a `NOTIFY` its lines `notify` say what is sent.
     fn follow(&mut self, statement: &Statement, went: Went, out: &mut Outbox) {
         if went == Went::Wrong {
-            return self.fail_transaction();
+            return self.fail_transaction(out);
         }
         if let Some(command) = command_of(&statement.words) {
             if !matches!(command, Command::Notify { .. }) {

@@ -7,6 +7,7 @@ ghost use Rattle.pgserve.specs.Sent.{Informs, Puts, setting};
 
 use crate::fault::Fault;
 use crate::outbox::Outbox;
+use crate::setting_value::shown;
 use pgp_message_write as reply;
 
 /// A setting.
@@ -57,9 +58,10 @@ struct Undo {
 /// Up to when a setting is set.
 #[derive(Clone, Copy, PartialEq, Eq)]
 pub(crate) enum Scope {
-    /// From now on, where no transaction is.
+    /// From the beginning on.
     Session,
-    /// From now on, unless the transaction is rolled back, or the part of it where so many savepoints are.
+    /// From now on, unless the transaction is rolled back, or the part of it where so many savepoints are; a request outside of one is
+    /// a transaction of its own.
     Kept(usize),
     /// Up to the end of the transaction.
     Local(usize),
@@ -70,24 +72,6 @@ pub(crate) enum Scope {
 pub(crate) struct Settings {
     list: Vec<Setting>,
     undo: Vec<Undo>,
-}
-
-/// The value as a server shows it.
-fn shown<'v>(name: &[u8], value: &'v [u8]) -> &'v [u8] {
-    if name == b"client_encoding".as_slice() && is_utf8(value) {
-        return b"UTF8";
-    }
-    if name == b"DateStyle".as_slice() && value.eq_ignore_ascii_case(b"iso") {
-        return b"ISO, MDY";
-    }
-    value
-}
-
-/// Whether it is a name of UTF-8.
-fn is_utf8(name: &[u8]) -> bool {
-    name.eq_ignore_ascii_case(b"utf8")
-        || name.eq_ignore_ascii_case(b"utf-8")
-        || name.eq_ignore_ascii_case(b"unicode")
 }
 
 impl Settings {
@@ -191,7 +175,7 @@ impl Settings {
         ensures { out.new.bytes ≡ out.old.bytes }
     {
         if let Some(setting) = self.list.get_mut(place) {
-            setting.value = out.copy(shown(&setting.name, value));
+            setting.value = shown(&setting.name, &setting.value, value, out);
         }
     }
 

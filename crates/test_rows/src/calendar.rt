@@ -2,7 +2,7 @@
 
 use crate::codec::{Answers, Codec, check_answer, check_written};
 use crate::fault::Fault;
-use crate::moments::moment;
+use crate::moments::{infinity, moment};
 use crate::row::Row;
 use crate::shown::Shown;
 use crate::word::Words;
@@ -13,14 +13,17 @@ use pgp_value_text::{
     time_to_civil, time_to_text, timestamp_from_civil, timestamp_to_civil, timestamp_to_text,
     timestamptz_from_instant, timestamptz_to_instant, timestamptz_to_text,
 };
-use pgp_values::Interval;
+use pgp_values::{Interval, Moment};
 
-/// Months, days and microseconds.
-fn interval(words: &mut Words<'_>) -> Interval {
-    Interval {
-        months: words.number(),
-        days: words.number(),
-        microseconds: words.number(),
+/// Months, days and microseconds, or one of the two infinities.
+fn interval(words: &mut Words<'_>) -> Moment<Interval> {
+    match infinity(words) {
+        Some(moment) => moment,
+        None => Moment::Value(Interval {
+            months: words.number(),
+            days: words.number(),
+            microseconds: words.number(),
+        }),
     }
 }
 

@@ -7,14 +7,24 @@ use std::fmt::Display;
 use std::num::ParseIntError;
 use std::str::FromStr;
 
-pub fn moment<N: FromStr<Err = ParseIntError> + Default>(words: &mut Words<'_>) -> Moment<N> {
+/// The infinity that the next word names.
+pub fn infinity<T>(words: &mut Words<'_>) -> Option<Moment<T>> {
     if words.takes("infinity") {
-        return Moment::PosInfinity;
+        return Some(Moment::PosInfinity);
     }
     if words.takes("-infinity") {
-        return Moment::NegInfinity;
+        return Some(Moment::NegInfinity);
     }
-    Moment::Value(words.number())
+    None
+}
+
+pub fn moment<N: FromStr<Err = ParseIntError> + Default + Drop>(
+    words: &mut Words<'_>,
+) -> Moment<N> {
+    match infinity(words) {
+        Some(moment) => moment,
+        None => Moment::Value(words.number()),
+    }
 }
 
 pub fn show_moment<N: Display + Drop>(moment: Moment<N>, out: &mut Shown) {
