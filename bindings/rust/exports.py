@@ -106,7 +106,7 @@ def shim(name, path, wanted, answer, contract):
 
 def shims():
     """The shim's text, and how many functions it has."""
-    structs, functions, count = {'Slot': 'pgp_client::Slot'}, '', 0
+    structs, functions, count = {'Slot': 'pgp_client::Slot', 'PgpWays': 'pgp_login::PgpWays'}, '', 0
     used = set()
     for file, text in sources():
         path = file[len('crates/'):-3].replace('/src/', '/').replace('/', '::')

@@ -107,6 +107,7 @@ SLICED = {'test_rows/client_read', 'test_rows/server'}
 
 def without_drop_bounds(text):
     """In Rattle `Drop` as a bound says that a value may be dropped; in Rust each may."""
+    text = re.sub(r'^((?:pub )?trait \w+(?:<[^>]*>)?): Drop \{$', r'\1 {', text, flags=re.M)
     text = re.sub(r'^ *\w+::\w+: Drop,\n|(?<=where\n) *\w+: Drop,\n', '', text.replace(' + Drop', ''), flags=re.M)
     return re.sub(r'^ *where\n(?= *\{)', '', re.sub(r'\b([A-Z]\w*): Drop\b', r'\1', text), flags=re.M)
 

@@ -114,6 +114,7 @@ static void early(void)
         {{PGP_TEXT("S\0\0\0\x09" "a\0b\0\0")}, PGP_E_NOT_DRAINED}, {{PGP_TEXT("S\0\0\0\x08" "a\0b\0")}, PGP_LOGIN_UNDUE},
         {{PGP_TEXT("N\0\0\0\x05\0")}, PGP_LOGIN_UNDUE}, {{PGP_TEXT("A\0\0\0\x0c\0\0\0\x01" "a\0b\0")}, PGP_LOGIN_UNDUE},
         {{PGP_TEXT("v\0\0\0\x0c\0\3\0\2\0\0\0\0")}, PGP_LOGIN_UNDUE}, {{PGP_TEXT("v\0\0\0\x0e\0\3\0\0\0\0\0\1a\0")}, PGP_LOGIN_UNDUE},
+        {{PGP_TEXT("v\0\0\0\x0e\0\3\0\0\0\0\0\0a\0")}, PGP_LOGIN_UNDUE}, /* more than it counts */
         {{PGP_TEXT(FINAL)}, PGP_LOGIN_UNDUE}, {{PGP_TEXT(CONTINUE)}, PGP_LOGIN_UNDUE},
         {{PGP_TEXT("R\0\0\0\x08\0\0\0\x02")}, PGP_LOGIN_NOT_ADMITTED}, {{PGP_TEXT("R\0\0\0\x08\0\0\0\x03")}, PGP_LOGIN_NOT_ADMITTED},
         {{PGP_TEXT("R\0\0\0\x0c\0\0\0\x05salt")}, PGP_LOGIN_NOT_ADMITTED}, {{PGP_TEXT(WELCOME)}, PGP_LOGIN_NOT_ADMITTED},
@@ -161,7 +162,12 @@ static void early(void)
     ENDS(OFFER, PGP_BAD_NONCE);
     begin(&h);
     w.nonce = pgp_text(NONCE); w.kind = 3;
-    ENDS(OFFER, PGP_BAD_BINDING);
+    ENDS(OFFER, PGP_LOGIN_NOT_ADMITTED);
+    begin(&h);
+    w = by(PGP_WAY_SCRAM);
+    TAKES(OFFER, PGP_PART, STARTUP, B(FIRST_SENT));
+    w.ways = PGP_WAY_PASSWORD;
+    ENDS(CONTINUE, PGP_LOGIN_NOT_ADMITTED);
     begin(&h);
     w = by(PGP_WAY_PASSWORD);
     w.password = pgp_bytes_of("a\0b", 3);

@@ -87,15 +87,16 @@ struct pgp_login {
  *   those of pgp_front               what came is no message. A FunctionCallResponse and a CopyBothResponse aren't read
  *   PGP_E_UNEXPECTED, _UNCERTAIN     the message has no place there, as pgp_dialogue_take has it
  *   PGP_LOGIN_UNDUE                  a setting, a notice or a notification came before the log-in is done, or an answer about versions that isn't due:
- *                                    one is, right behind the startup packet, where the server speaks 3.0 and rejects no option
+ *                                    one is, right behind the startup packet, where the server speaks 3.0 and lists no option. So send none (_pq_.)
  *   PGP_CONNECTION_NO_STATUS         a ReadyForQuery has another status than I, T and E
  *   PGP_LOGIN_UNDUE                  a request of the log-in isn't due, as AuthenticationOk in an exchange before the server has shown its signature
  *   PGP_LOGIN_NOT_ADMITTED           `ways` hasn't the way that the server asks for (GSSAPI, SSPI and Kerberos are none here); also where the server offers
- *                                    to bind SCRAM to a channel that isn't encrypted, unless the exchange is bound: encryption may have been taken away
+ *                                    to bind SCRAM to a channel that isn't encrypted, unless the exchange is bound: encryption may have been taken away;
+ *                                    and where `kind` is none of pgp_binding
  *   PGP_LOGIN_OTHER_MECHANISM        the mechanism isn't offered: SCRAM-SHA-256-PLUS of PGP_BINDING_TLS_SERVER_END_POINT, SCRAM-SHA-256 of the others. What
  *                                    is offered pgp_front and pgp_mechanism_next tell before, to choose `kind` by
  *   PGP_LOGIN_TOO_FEW_ROUNDS         the server asks for fewer rounds than `least_rounds` (0 is taken for 1; servers have 4096 unless configured otherwise)
- *   those of pgp_scram_update and pgp_scram_finish
+ *   those of pgp_scram_update and pgp_scram_finish, but for PGP_BAD_BINDING
  * Each setting that the server reports (a PARAMETER_STATUS: a server of PostgreSQL 15 reports 14, of some 400 bytes) is kept in the room for settings, with
  * the value that was reported last. Where the room has no byte none is kept, and the caller reads them of their messages.
  */

@@ -9,7 +9,8 @@ use Rattle.pgp_client.specs.declared.kind.Kind.{Kind}
 use Rattle.pgp_client.specs.declared.stage.Stage.TheVariants.{Over}
 use Rattle.pgp_message.specs.Rows.{TakesRow}
 use Rattle.pgp_message.specs.declared.message as code
-use Rattle.for_c_auth.specs.Answering.{HasAnswered, NothingAsked, asking}
+use Rattle.for_c_auth.specs.Answering.{HasAnswered, asking}
+use Rattle.pgp_login.specs.Machine.{NothingAsked}
 use Rattle.for_c_auth.specs.Connection.{FitsAt, IsMisplaced, IsTimely, Link, NoMemory, NoRoom, NoSettingRoom, NoStatus, NotRepliedTo, Rejects, Took, TookSo, Unanswered, Untimely, ended, is_done, noted, reported_as, with_login, with_talk}
 use Rattle.for_c_auth.specs.declared.connection.PgpTaken.{PgpTaken}
 
@@ -27,7 +28,7 @@ misplaced_so m old t k code is h = (h.0, t, subst (λ x. taken old.talk x ≡ Er
 
 -- a row is taken by the dialogue alone
 took_row_so : (w : PgpWays) (given : ℕ) (row : CountedBytes) (old : Link) (t : Talk) (e : Event) → taken old.talk (kind_of (DataRow row)) ≡ Ok (e, t) → Took w given (DataRow row) old (noted given (DataRow row) e (with_talk t old)) e []
-took_row_so w given row old t e takes = record { taken = takes; fit = (tt, refl); logged = record { reply = None; answers = NothingAsked refl; adds = refl }; is = refl }
+took_row_so w given row old t e takes = record { taken = takes; fit = (tt, refl); logged = record { reply = None; logs = NothingAsked; adds = refl }; is = refl }
 
 pub took_row : (w : PgpWays) (given : ℕ) (row : CountedBytes) (old new : Link) (t : Talk) (e : Event) (out : List ℕ) (said : PgpTaken) (frame : ℕ) → taken old.talk (kind_of (DataRow row)) ≡ Ok (e, t)
     → new ≡ noted given (DataRow row) e (with_talk t old) → said ≡ reported_as e frame → TookSo w given (DataRow row) old new said frame out out 0

@@ -1,6 +1,6 @@
 -- A client's connection in memory of the caller's: what each message of the server comes to, and what may be asked.
 -- PostgreSQL manual, "Message Flow".
-use Rattle.std.specs.Prelude.{◌≡◌, ◌≢◌, ◌⊎◌, ℕ, ◌+◌, ◌<◌, Bool, true, false, not, List, [], length, take, Some, Ok, Err, if◌then◌else◌, ◌==◌, ◌&&◌, min, pos}
+use Rattle.std.specs.Prelude.{◌≡◌, ◌≢◌, ◌⊎◌, ℕ, ◌+◌, ◌<◌, Bool, true, false, not, List, [], length, take, Some, Ok, Err, if◌then◌else◌, ◌==◌, ◌&&◌}
 use Rattle.pgp_base.specs.Error.{number_of}
 use Rattle.pgp_base.specs.declared.error.Error.{Error}
 use Rattle.pgp_client.specs.Codes.{refusal_at, stage_at}
@@ -15,17 +15,17 @@ use Rattle.pgp_client.specs.declared.event.Refusal.{Refusal}
 use Rattle.pgp_client.specs.declared.request.Request.{Request}
 use Rattle.pgp_client.specs.declared.request.Request.TheVariants as requests
 use Rattle.pgp_client.specs.declared.stage.Stage.TheVariants.{Over}
-use Rattle.pgp_message.specs.BackendMessage.{Message, BackendKeyData, NegotiateProtocolVersion, NoticeResponse, NotificationResponse, ParameterStatus, ReadyForQuery}
+use Rattle.pgp_message.specs.BackendMessage.{Message, BackendKeyData, ReadyForQuery}
 use Rattle.pgp_message.specs.Parts.{KeyData, Setting}
 use Rattle.pgp_message.specs.Stream.{IsPartial, Step, TakesFrame}
-use Rattle.for_c_auth.specs.Answering.{HasAnswered, NotAnsweredFor, asking}
+use Rattle.for_c_auth.specs.Answering.{HasAnswered, NotAnsweredFor, asking, awaits_request, done}
 use Rattle.for_c_auth.specs.Delivering.{Delivered}
-use Rattle.for_c_auth.specs.Login.{awaits_request, done}
 use Rattle.for_c_auth.specs.Settings.{kept_in, settled}
-use Rattle.for_c_auth.specs.declared.asking.PgpWays.{PgpWays}
+use Rattle.pgp_login.specs.Timely as timely
+use Rattle.pgp_login.specs.declared.face.PgpWays.{PgpWays}
 use Rattle.for_c_auth.specs.declared.connection.PgpConnection.{PgpConnection}
 use Rattle.for_c_auth.specs.declared.connection.PgpTaken.{PgpTaken}
-use Rattle.for_c_auth.specs.declared.login.PgpLogin.{PgpLogin}
+use Rattle.pgp_login.specs.declared.face.PgpLogin.{PgpLogin}
 use Rattle.for_c_auth.specs.declared.talk.PgpTalk.{PgpTalk}
 
 -- the dialogue that the caller keeps
@@ -67,18 +67,13 @@ is_done l = l.phase == done
 
 -- ---- what comes
 
--- how long a message may be now: no longer than 30,000 bytes of a server that has proved nothing yet, as libpq has it
+-- how long a message may be now
 abbrev pub limit_of : PgpWays → PgpLogin → ℕ
-limit_of w l = if is_done l then w.limit else min w.limit 30000
+limit_of w l = timely.limit_of (is_done l) w.limit
 
--- A message that may come now. Before the log-in is done a server asks for a password, reports an error, or answers about versions; what else it says would be kept of one
--- that has proved nothing. An answer about versions is due right behind the startup packet (`first`): the server speaks 3.0, and rejects no option of the packet.
+-- A message that may come now, where no protocol option was sent.
 abbrev pub IsTimely : Bool → Bool → Message → Type 0
-IsTimely logged_in first (ParameterStatus setting) = logged_in ≡ true
-IsTimely logged_in first (NoticeResponse fields) = logged_in ≡ true
-IsTimely logged_in first (NotificationResponse n) = logged_in ≡ true
-IsTimely logged_in first (NegotiateProtocolVersion v) = (first ≡ true) × (v.version ≡ pos 196608) × (v.count ≡ 0)
-IsTimely logged_in first m = Unit {0}
+IsTimely logged_in first m = timely.IsTimely logged_in first [] m
 
 abbrev pub ComesInTime : Link → Message → Type 0
 ComesInTime c m = IsTimely (is_done c.login) (is_between c.talk) m

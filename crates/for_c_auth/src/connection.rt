@@ -8,20 +8,18 @@ ghost use Rattle.pgp_message.specs.Views.{view};
 ghost use Rattle.for_c_auth.specs.Answering.{HasAnswered, asking};
 ghost use Rattle.for_c_auth.specs.Connection.{IsBroken, IsMisplaced, KeepsRoom, Rejects, TookNext, TookNone, TookSo, FitsAt, NotRepliedTo, asked_of, link_of, may_ask, noted, with_key};
 ghost use Rattle.for_c_auth.specs.Settings.{IsFull, value_of};
-ghost use Rattle.for_c_auth.specs.declared.asking.PgpWays.{PgpWays as Ways};
+ghost use Rattle.pgp_login.specs.declared.face.PgpWays.{PgpWays as Ways};
 
-use crate::answering::answer;
-use crate::asking::{PgpWays, asked_by};
 use crate::connection_parts::{
     attributed, is_end, is_too_long, limit, note, reported_as, status_after, unfit,
 };
 use crate::deliver::deliver;
-use crate::login::PgpLogin;
 use crate::settings::{PgpSettings, PgpSpan, is_full, keep, value_at};
 use crate::talk::{PgpTalk, is_between, is_broken, put_back, resumed};
 use bytes::BytesMut;
 use pgp_base::Memory;
 use pgp_client::{Event, Kind, Request, Slots, Stage};
+use pgp_login::{PgpLogin, PgpWays, answer};
 use pgp_message::{BackendKeyDataBody, DataRowBody, Message, Messages};
 use std::alloc::Global;
 
@@ -237,7 +235,7 @@ fn replied<A: Memory>(
     if code != 0 {
         return code;
     }
-    let code = answer(alloc, login, ways, asked_by(message), reply);
+    let code = answer(alloc, login, ways, message, reply);
     if code != 0 {
         return code;
     }

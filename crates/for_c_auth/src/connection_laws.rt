@@ -1,31 +1,36 @@
 //! What holds of all sessions of a connection.
 
-ghost use Rattle.std.specs.Prelude.{◌≡◌, ◌≢◌, ℕ, Bool, List, Some, if◌then◌else◌};
+ghost use Rattle.std.specs.Prelude.{◌≡◌, ◌≢◌, ℕ, List, Some, if◌then◌else◌};
 ghost use Rattle.std.specs.Str.{bytes_eq};
 ghost use Rattle.pgp_client.specs.InTurns.{BelongInTurns};
 ghost use Rattle.pgp_client.specs.Telling.{Turn, reported_in};
 ghost use Rattle.pgp_client.specs.declared.event.Event.{Event as Reported};
 ghost use Rattle.pgp_message.specs.BackendMessage.{Message as Received, ParameterStatus};
+ghost use Rattle.pgp_frontend.specs.ClientMessage.{ClientMessage as Written};
+ghost use Rattle.pgp_login.specs.Face.{ways_of};
+ghost use Rattle.pgp_login.specs.Session.{Admitted};
 ghost use Rattle.pgp_message.specs.Parts.{Setting};
 ghost use Rattle.for_c_auth.specs.Connection.{Link};
-ghost use Rattle.for_c_auth.specs.Login.{done};
-ghost use Rattle.for_c_auth.specs.Runs.{LetIn, Runs};
+ghost use Rattle.for_c_auth.specs.Answering.{done};
+ghost use Rattle.for_c_auth.specs.Runs.{Runs};
 ghost use Rattle.for_c_auth.specs.Settings.{settled, value_of};
-ghost use Rattle.for_c_auth.specs.declared.asking.PgpWays.{PgpWays as Ways};
+ghost use Rattle.pgp_login.specs.declared.face.PgpWays.{PgpWays as Ways};
 
-/// Whatever a server sends, a connection that is logged in came there by a way that is admitted; and where an exchange of SCRAM-SHA-256 was begun, by that alone, and only
+/// Whatever a server sends, a connection that is logged in came there by one way that is admitted, and gave away nothing but by that; and where an exchange of SCRAM-SHA-256 was begun, only
 /// where the server showed the signature of the password's verifier.
 pub fn who_is_let_in_has_signed()
-    ensures { (w : Ways) (begun : Bool) (heard : List Received) (turns : List Turn) (now : Link) → Runs w begun heard turns now → now.login.phase ≡ done → LetIn w heard begun }
-{}
+    ensures { (w : Ways) (gave : List Written) (heard : List Received) (turns : List Turn) (now : Link) → Runs w gave heard turns now → now.login.phase ≡ done → Admitted (ways_of w) heard gave }
+{
+    pgp_login::laws::sessions_follow();
+}
 
 /// Each message that was taken belongs to the request that was reported, and to no other.
 pub fn answers_belong_to_their_requests()
-    ensures belong { (w : Ways) (begun : Bool) (heard : List Received) (turns : List Turn) (now : Link) → Runs w begun heard turns now → BelongInTurns turns (reported_in turns) }
-    ensures alone { (w : Ways) (begun : Bool) (heard : List Received) (turns : List Turn) (now : Link) (truth : List Reported) → Runs w begun heard turns now → BelongInTurns turns truth
+    ensures belong { (w : Ways) (gave : List Written) (heard : List Received) (turns : List Turn) (now : Link) → Runs w gave heard turns now → BelongInTurns turns (reported_in turns) }
+    ensures alone { (w : Ways) (gave : List Written) (heard : List Received) (turns : List Turn) (now : Link) (truth : List Reported) → Runs w gave heard turns now → BelongInTurns turns truth
         → truth ≡ reported_in turns }
 {
-    pgp_client::laws::messages_belong_in_turns();
+    pgp_login::laws::sessions_follow();
 }
 
 /// Where memory is given for settings, one has the value that was reported last under its name, and each other the value that it had.

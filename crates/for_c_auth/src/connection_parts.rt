@@ -1,7 +1,6 @@
 //! What the calls of a connection test, and what they note.
 
 ghost use Rattle.std.specs.Prelude.{◌≡◌, ◌≢◌, ◌⊎◌, ◌≤◌, length, true, false, Some, Ok, Err, IfOk, IfErr};
-ghost use Rattle.std.specs.Bool.{Decides};
 ghost use Rattle.pgp_client.specs.Codes.{refusal_at};
 ghost use Rattle.pgp_client.specs.Limits.{is_longer, is_status, lacks_status};
 ghost use Rattle.pgp_client.specs.Slots.{capacity, is_full, slots_items};
@@ -12,16 +11,12 @@ ghost use Rattle.pgp_client.specs.declared.stage.Stage.TheVariants.{Over};
 ghost use Rattle.pgp_message.specs.Views.{view};
 ghost use Rattle.for_c_auth.specs.Connection.{KeepsRoom, IsTimely, is_done, limit_of, may_ask_at, may_follow, reported_as, status_after, talk_of};
 
-use crate::asking::PgpWays;
 use crate::connection::{NO_ROOM, PgpTaken, WRONG_PHASE};
-use crate::login::{AWAITS_REQUEST, DONE, PgpLogin, UNDUE};
+use crate::login::{AWAITS_REQUEST, DONE, UNDUE};
 use crate::talk::{PgpTalk, put_back, resumed};
-use pgp_base::FallibleIterator;
 use pgp_client::{Dialogue, Event, Kind, Refusal, Request, Slots};
 use pgp_message::Message;
-
-/// How long a message may be of a server that has proved nothing yet, as libpq has it.
-const EARLY_LIMIT: u32 = 30_000;
+use pgp_login::{NoneSent, PgpLogin, PgpWays, is_timely};
 
 /// The result where a ReadyForQuery has a status that is none.
 const NO_STATUS: u32 = 93;
@@ -37,10 +32,7 @@ fn is_done(login: &PgpLogin) -> bool
 pub(crate) fn limit(ways: &PgpWays<'_>, login: &PgpLogin) -> u32
     ensures { result ≡ limit_of ways.now login.now }
 {
-    if is_done(login) {
-        return ways.limit;
-    }
-    ways.limit.min(EARLY_LIMIT)
+    pgp_login::limit(is_done(login), ways.limit)
 }
 
 /// Whether the bytes begin with a header that announces more bytes than the limit.
@@ -89,27 +81,13 @@ pub(crate) fn unfit(login: &PgpLogin, first: bool, message: &Message<&[u8]>) -> 
     ensures why { result ≢ 0 → ((result ≡ 89) × ¬ IsTimely (is_done login.now) first (view message.now))
         ⊎ ((result ≡ 93) × IsTimely (is_done login.now) first (view message.now) × (lacks_status (view message.now) ≡ true)) }
 {
-    if !is_timely(is_done(login), first, message) {
+    if !is_timely(is_done(login), first, &NoneSent, message) {
         return UNDUE;
     }
     if lacks_status(message) {
         return NO_STATUS;
     }
     0
-}
-
-/// Whether a message may come now.
-fn is_timely(logged_in: bool, first: bool, message: &Message<&[u8]>) -> bool
-    ensures { Decides result (IsTimely logged_in first (view message.now)) }
-{
-    match message {
-        Message::ParameterStatus(_) => logged_in,
-        Message::NoticeResponse(_) | Message::NotificationResponse(_) => logged_in,
-        Message::NegotiateProtocolVersion(answer) => first
-            && answer.version() == 196_608
-            && answer.options().size_hint().0 == 0,
-        _ => true,
-    }
 }
 
 /// Whether it is a ReadyForQuery whose status is none of the three that there are.
