@@ -564,7 +564,7 @@ pgp_status pgp_put_numeric(bool negative, int16_t weight, uint16_t scale, const 
                            uint8_t *out, size_t room, size_t *written);
 pgp_status pgp_get_numeric(const void *bytes, size_t len, struct pgp_numeric *value);
 
-/* An interval: months, days and microseconds are apart. A timetz: microseconds since midnight, and seconds west of Greenwich. */
+/* An interval: months, days and microseconds are apart; since PostgreSQL 17 the greatest value of all three is infinity, the least of all three -infinity. A timetz: microseconds since midnight, and seconds west of Greenwich. */
 struct pgp_interval { int64_t microseconds; int32_t days, months; };
 struct pgp_timetz { int64_t microseconds; int32_t zone; };
 pgp_status pgp_put_interval(const struct pgp_interval *value, uint8_t *out, size_t room, size_t *written);
