@@ -30,8 +30,8 @@ pub struct Ways<'a, E> {
     pub cleartext: Option<&'a [u8]>,
     /// Whether the server may let the client in without a password.
     pub none: bool,
-    /// The least rounds of an exchange (RFC 7677 wants 4096; libpq takes any). 0 is taken for 1: with no round at all each password has a key
-    /// that is known.
+    /// The least rounds of an exchange (RFC 7677 wants 4096; libpq takes any). 0 is taken for 1: RFC 8018 has no key of no rounds, so a server
+    /// that asks for 0 is rejected.
     pub least_rounds: u32,
     /// Whether the connection is encrypted, as by TLS from its first byte; a `Connection` adds what the server answers to `request_encryption`. On one that isn't, a server
     /// that offers to bind the exchange to the channel ends it, unless the exchange is bound: encryption may have been taken away on the way.
