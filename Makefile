@@ -85,4 +85,4 @@ live:
 	@[ -e out/c/libpostgres_protocol.so ] || scripts/library build
 	@scripts/wheel
 	@rm -rf out/venv && python3 -m venv --system-site-packages out/venv && out/venv/bin/pip install -q --no-index out/wheel/*.whl
-	@live/run $(NAMES)
+	@live/run $(if $(SERVER),--server $(SERVER)) $(NAMES)
