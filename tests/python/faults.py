@@ -108,13 +108,13 @@ def check_limits(same):
 def _two(connection):
     """What a call raises while another thread's runs, and what the other one raises: the server closes the connection after the first answer."""
     found, entered = [], threading.Event()
-    original = connection._event
+    original = connection._acts['read']
 
     def slow():
         entered.set()
         threading.Event().wait(0.3)
         return original()
-    connection._event = slow
+    connection._acts['read'] = slow
     thread = threading.Thread(target=lambda: found.append(_error(lambda: connection.execute(SELECT, (5,)))))
     thread.start()
     entered.wait(5)

@@ -9,6 +9,7 @@ import threading
 import postgres_protocol as pg
 from postgres_protocol._library import declare
 from postgres_protocol.registry import DECODERS
+from calls import check_what_ends_what
 from faults import check_faults
 from rows import check_rows
 from server import scram_server
@@ -277,5 +278,6 @@ check_typed(same, raises)
 check_sessions(same, raises)
 check_server(same, refused)
 check_faults(same)
+check_what_ends_what(same)
 print('Python: %d passed, %d failed' % (passed, failed))
 sys.exit(failed != 0)

@@ -181,6 +181,16 @@ class Connection:
         self._stream.terminate()
         self._state.end()
 
+    @property
+    def has_unsent(self) -> bool:
+        """Whether bytes are to be sent."""
+        return bool(self._out) or self._stream.length > 0
+
+    @property
+    def is_faulty(self) -> bool:
+        """Whether the server sent what it may not: nothing can be asked any more."""
+        return self._fault is not None
+
     def data_to_send(self) -> bytes:
         """The bytes that are to be sent now."""
         if not self._out:

@@ -1,10 +1,11 @@
 """Cursors of the blocking client."""
 from typing import TYPE_CHECKING, Any, Iterable, Iterator, List, Optional, Sequence, Tuple
 
-from .copying import BinaryReader, binary_rows
+from .copying import binary_rows
 from .errors import InterfaceError, ProgrammingError
 from .session import Result, Statement, count_of
 from .shared import RowFactory, shaped
+from .streams import Copied, CopiedRows, Stream
 
 if TYPE_CHECKING:
     from .client import Connection
@@ -64,7 +65,7 @@ class Cursor:
         if kept is not None and self.name is not None and self.connection._core.status == 'T' and not self.connection.closed:
             self.connection._run(self.connection._session.close_portal(self.name))
 
-    def execute(self, sql: str, parameters: Sequence[Any] = (), timeout: Optional[float] = None) -> 'Cursor':
+    def execute(self, sql: str, parameters: Optional[Sequence[Any]] = None, timeout: Optional[float] = None) -> 'Cursor':
         """Runs a statement with these values for `$1`, `$2`, .. `timeout` is the limit of time of this call, in seconds."""
         self._begin()
         session = self.connection._session
@@ -93,10 +94,10 @@ class Cursor:
         """The data of a `COPY .. TO STDOUT`, a row each."""
         return list(self.copy_stream(sql))
 
-    def copy_stream(self, sql: str) -> Iterator[bytes]:
-        """The same as they come. No other call runs on the connection until they are at their end, or the iterator is closed."""
+    def copy_stream(self, sql: str) -> Stream:
+        """The same as they come. No other call runs on the connection until they are at their end, or the stream is closed: `with cursor.copy_stream(..) as stream`."""
         self._begin()
-        return self.connection._iterate(self.connection._session.copy_out(sql))
+        return Stream(self.connection, Copied(self.connection._session, sql))
 
     def copy_rows_in(self, table: str, rows: Iterable[Sequence[Any]], columns: Sequence[str] = ()) -> 'Cursor':
         """Copies rows of values to a table (`name` or `schema.name`, as SQL has it) in the binary format: to all columns, or to those of these names."""
@@ -105,14 +106,10 @@ class Cursor:
         types = session.known(self._described(select))
         return self.copy_in('COPY %s %s FROM STDIN (FORMAT binary)' % (table, names), binary_rows(rows, types))
 
-    def copy_rows_out(self, query: str) -> Iterator[Any]:
+    def copy_rows_out(self, query: str) -> Stream:
         """Rows of values of a query, copied in the binary format, as they come."""
-        statement = self._described(query)
-        self.connection._session.known(statement)
-        make = None if self.row_factory is None else self.row_factory([field.name for field in statement.fields])
-        reader = BinaryReader(statement.decoders)
-        for piece in self.copy_stream('COPY (%s) TO STDOUT (FORMAT binary)' % query):
-            yield from reader.take(piece) if make is None else map(make, reader.take(piece))
+        self._begin()
+        return Stream(self.connection, CopiedRows(self.connection._session, query, self.row_factory))
 
     def _described(self, sql: str) -> Statement:
         self._begin()

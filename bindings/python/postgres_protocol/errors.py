@@ -1,5 +1,5 @@
 """The exceptions of DB-API 2.0, chosen by an error's SQLSTATE."""
-from typing import Any, Dict, NamedTuple, Optional
+from typing import Any, Dict, NamedTuple, Optional, Type
 
 
 class Warning(Exception):  # noqa: A001 (the name is DB-API's)
@@ -86,16 +86,16 @@ class NotSupportedError(DatabaseError):
     """The server doesn't support it (class 0A)."""
 
 
-_CLASSES = {'0A': NotSupportedError, '22': DataError, '23': IntegrityError, 'XX': InternalError}
+_CLASSES: Dict[str, Type[DatabaseError]] = {'0A': NotSupportedError, '22': DataError, '23': IntegrityError, 'XX': InternalError}
 _CLASSES.update({c: OperationalError for c in ('08', '28', '40', '53', '54', '55', '57', '58')})
 _CLASSES.update({c: InternalError for c in ('24', '25', '2D', '38', '39', '3B')})
 _CLASSES.update({c: ProgrammingError for c in ('26', '34', '3D', '3F', '42', '44')})
 
 
-def of_fields(fields: Dict[str, str]) -> DatabaseError:
-    """The exception of a server's error."""
+def of_fields(fields: Dict[str, str], kind: Optional[Type[DatabaseError]] = None) -> DatabaseError:
+    """The exception of a server's error; of this class where one is given."""
     state = fields.get('C', '')
-    return _CLASSES.get(state[:2], DatabaseError)('%s: %s' % (state, fields.get('M', '')), fields)
+    return (_CLASSES.get(state[:2], DatabaseError) if kind is None else kind)('%s: %s' % (state, fields.get('M', '')), fields)
 
 
 def is_end(fields: Dict[str, str], request: Optional[int]) -> bool:

@@ -27,10 +27,11 @@ _PAIR = re.compile(r"\s*(\w+)\s*=\s*(?:'((?:[^'\\]|\\.)*)'|((?:[^\s'\\]|\\.)(?:[
 
 
 class Place(NamedTuple):
-    """A server: its name, the address where that is given too, and its port."""
+    """A server: its name, the address where that is given too, and its port; the user that a process behind a Unix socket has to be, if any."""
     host: str
     address: str
     port: int
+    peer: str = ''
 
     @property
     def is_local(self) -> bool:

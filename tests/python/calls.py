@@ -1,0 +1,133 @@
+"""What ends what: streams within blocks, blocks within blocks, calls of other tasks and threads, limits; with a server that plays bytes, of the manual's
+"Message Flow", to the blocking client and to the one for asyncio."""
+import asyncio
+import contextlib
+import threading
+import time
+
+from postgres_protocol import aio, client
+from faults import ANSWERED, COPY_OUT, OPENED, SELECT, _error, error_of, play
+from server import frame
+from sessions import DESCRIBED, PREPARED, READY, with_server
+
+BEGUN = frame(b'1', b'') + frame(b'2', b'') + frame(b'C', b'BEGIN\0')
+INSERTED = BEGUN + ANSWERED[:-1] + b'T'
+QUERIED = frame(b'C', b'BEGIN\0') + OPENED
+ENDED = (error_of(b'57014', b'canceling statement due to user request') + frame(b'Z', b'E'),)
+TAKEN_BACK = frame(b'C', b'ROLLBACK\0') + READY
+ONE_PIECE = COPY_OUT + frame(b'd', b'1\n')
+NOTHING = frame(b'1', b'') + frame(b't', b'\0\0') + DESCRIBED + OPENED
+ONE_ROW = COPY_OUT + frame(b'd', b'PGCOPY\n\xff\r\n\0' + bytes(8) + b'\0\2\0\0\0\4\0\0\0\5\0\0\0\1x')
+
+
+def aplay(answers, run, **more):
+    """As `play`, for asyncio: `run` is a coroutine function."""
+    async def whole(port):
+        connection = await aio.connect('127.0.0.1', port, 'alice', sslmode='disable', timeout=5, **more)
+        try:
+            return await asyncio.wait_for(run(connection), 10)
+        except Exception as error:
+            return error
+        finally:
+            await connection.close()
+    found, seen = with_server(answers, lambda port: asyncio.run(whole(port)))
+    return found, b''.join(tag for tag, _ in seen), seen
+
+
+async def _failure(call):
+    try:
+        return await call
+    except Exception as error:
+        return error
+
+
+def check_streams(same):
+    """A stream in a block ends with the block, which is rolled back, and the caller's exception stays; a commit behind it says that nothing is committed."""
+    rolled, texts = [PREPARED, INSERTED, ONE_PIECE, ENDED, TAKEN_BACK, b''], (b'COPY (SELECT 1) TO STDOUT\0', b'ROLLBACK\0')
+    streams = (('copy_stream', ONE_PIECE, [], b'1\n'), ('copy_rows_out', ONE_ROW, [NOTHING], (5, 'x')))
+
+    def fails(call, keeps):
+        def run(c):
+            c.execute(SELECT, (5,))
+            stream = getattr(c.cursor(), call)('COPY (SELECT 1) TO STDOUT')
+            for piece in stream:
+                kept.append(piece)
+                if keeps == 'break':
+                    return
+                raise KeyError('mine')
+        return run
+    for call, piece, before, wanted in streams:
+        for keeps in ('raise', 'break'):
+            kept = []
+
+            def block(c):
+                try:
+                    with c:
+                        fails(call, keeps)(c)
+                except Exception as error:
+                    return type(error), c.in_transaction, c.closed
+            found, tags, _ = play([PREPARED, INSERTED, *before, piece, ENDED, TAKEN_BACK, b''], block)
+            same('%s, %s' % (call, keeps), (found, kept), ((KeyError if keeps == 'raise' else client.InternalError, False, False), [wanted]))
+            same('%s, %s: what is sent' % (call, keeps), tags, b'PDS' b'PBEBES' + (b'PDS' if before else b'') + b'Q' b'cancel' b'Q' b'X')
+    found, tags, seen = play(rolled, lambda c: _error(lambda: _within(c)))
+    same('what is asked', ([payload for tag, payload in seen if tag == b'Q'], repr(found)), (list(texts), "KeyError('mine')"))
+
+    def closed(c):
+        with c.transaction():
+            with c.cursor().copy_stream('COPY (SELECT 1) TO STDOUT') as stream:
+                first = next(stream)
+            return first, c.is_idle, type(_error(lambda: c.execute(SELECT, (5,)))), list(stream)
+    found, tags, _ = play([QUERIED, ONE_PIECE, ENDED, error_of(b'25P02', b'aborted') + frame(b'Z', b'E'), TAKEN_BACK, b''], closed)
+    same('closed by its block', (found if isinstance(found, tuple) else type(found), tags), (client.InternalError, b'QQ' b'cancel' b'PDS' b'Q' b'X'))
+    found, tags, _ = play([ONE_PIECE, ENDED[:1] and (error_of(b'57014', b'canceling') + READY,), PREPARED, ANSWERED, b''],
+                          lambda c: ([piece for piece in [next(iter(c.cursor().copy_stream('COPY t TO STDOUT')))]], c.execute(SELECT, (5,)).fetchall()), autocommit=True)
+    same('dropped', (found, tags), (([b'1\n'], [(7, 'hello')]), b'Q' b'cancel' b'PDSBESX'))
+
+
+def _within(c):
+    with c:
+        c.execute(SELECT, (5,))
+        stream = c.cursor().copy_stream('COPY (SELECT 1) TO STDOUT')
+        for _ in stream:
+            raise KeyError('mine')
+
+
+def check_asyncio_streams(same):
+    """The same of asyncio: and a call in a stream's loop raises, where one of another task waits, up to its limit."""
+    async def fails(c):
+        try:
+            async with c.transaction():
+                stream = c.copy_stream('COPY (SELECT 1) TO STDOUT')
+                async for _ in stream:
+                    raise KeyError('mine')
+        except Exception as error:
+            return type(error), c.in_transaction, c.closed
+    for _ in range(2):
+        found, tags, _ = aplay([QUERIED, ONE_PIECE, ENDED, TAKEN_BACK, b''], fails)
+        same('asyncio, a block that fails', (found, tags), ((KeyError, False, False), b'QQ' b'cancel' b'QX'))
+
+    async def inside(c):
+        stream, other = c.copy_stream('COPY t TO STDOUT'), None
+        async for _ in stream:
+            first = type(await _failure(c.execute(SELECT, (5,))))
+            begin = time.monotonic()
+            other = type(await _failure(asyncio.ensure_future(c.execute(SELECT, (5,), timeout=0.2))))
+            waiting = asyncio.ensure_future(c.execute(SELECT, (5,)))
+            await asyncio.sleep(0)
+            await stream.aclose()
+        return first, other, time.monotonic() - begin < 2, (await waiting).rows
+    found, tags, _ = aplay([ONE_PIECE, (error_of(b'57014', b'canceling') + READY,), PREPARED, ANSWERED, b''], inside)
+    same('asyncio, a call in a stream', (found, tags), ((client.InterfaceError, client.Timeout, True, [(7, 'hello')]), b'Q' b'cancel' b'PDSBESX'))
+
+    async def dropped(c):
+        async for piece in c.copy_stream('COPY t TO STDOUT'):
+            break
+        return piece, (await asyncio.ensure_future(c.execute(SELECT, (5,)))).rows
+    found, tags, _ = aplay([ONE_PIECE, (error_of(b'57014', b'canceling') + READY,), PREPARED, ANSWERED, b''], dropped)
+    same('asyncio, dropped', (found, tags), ((b'1\n', [(7, 'hello')]), b'Q' b'cancel' b'PDSBESX'))
+
+
+def check_what_ends_what(same):
+    """All of them."""
+    for check in (check_streams, check_asyncio_streams):
+        check(same)
