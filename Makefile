@@ -20,7 +20,7 @@ help:
 	  '  make install PREFIX=DIR [LIBDIR= DESTDIR=]    all of it, proved                                   60 to 120' \
 	  '  make check-c, check-vendor  tests of the proved library; the commands of docs/VENDORING.md        10 to 40' \
 	  '  make edits [CRATES=pgp_base]    each wrong body by itself                                         hours' \
-	  '  make bench [WORKS=write]    times the works of crates/pgp_bench                                   10' \
+	  '  make bench [WORKS=write]    times the works of crates/test_bench                                   10' \
 	  '' \
 	  'For who changes it: make live tries it all with a PostgreSQL server of this machine; make contracts writes docs/CONTRACTS.md.'
 
@@ -74,12 +74,12 @@ contracts:
 
 bench:
 	$(needs_rt)
-	cd crates/pgp_bench && rt run -- check
+	cd crates/test_bench && rt run -- check
 	@printf 'nanoseconds for each unit:\n'
-	@./crates/pgp_bench/out/pgp_bench $(WORKS)
+	@./crates/test_bench/out/test_bench $(WORKS)
 
 live:
-	cd crates/pgp_rows && rt run >/dev/null 2>&1 || [ -x out/pgp_rows ]
+	cd crates/test_rows && rt run >/dev/null 2>&1 || [ -x out/test_rows ]
 	cd crates/pgserve && rt run -- --version >/dev/null 2>&1 || [ -x out/pgserve ]
 	cd crates/pgtrace && rt run -- --version >/dev/null 2>&1 || [ -x out/pgtrace ]
 	@[ -e out/c/libpostgres_protocol.so ] || scripts/library build

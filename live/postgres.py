@@ -1,4 +1,4 @@
-"""A PostgreSQL server of this machine, in a folder of its own, for what is tried beside one; and the program of crates/pgp_rows."""
+"""A PostgreSQL server of this machine, in a folder of its own, for what is tried beside one; and the program of crates/test_rows."""
 import os
 import pathlib
 import pwd
@@ -8,7 +8,7 @@ import sys
 import tempfile
 
 TOP = pathlib.Path(__file__).resolve().parent.parent
-ROWS = TOP / "crates" / "pgp_rows"
+ROWS = TOP / "crates" / "test_rows"
 
 
 def fail(why):
@@ -23,12 +23,12 @@ def tool(name):
 
 def run_rows(family, rows):
     """What the program prints of these rows of a family, but for the lines `FILE: N rows`."""
-    if not (ROWS / "out" / "pgp_rows").exists():
-        fail("the program isn't built: rt run in crates/pgp_rows builds it")
+    if not (ROWS / "out" / "test_rows").exists():
+        fail("the program isn't built: rt run in crates/test_rows builds it")
     with tempfile.TemporaryDirectory() as folder:
         for file in (ROWS / "data").glob("*.rows"):
             (pathlib.Path(folder) / file.name).write_text("\n".join(rows) + "\n" if file.stem == family else "")
-        text = subprocess.run([ROWS / "out" / "pgp_rows"], cwd=folder, capture_output=True, text=True, check=True).stdout
+        text = subprocess.run([ROWS / "out" / "test_rows"], cwd=folder, capture_output=True, text=True, check=True).stdout
     return [line for line in text.splitlines() if not line.endswith(" rows")]
 
 

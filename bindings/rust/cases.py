@@ -5,16 +5,16 @@ import generate
 from asking import answering
 from erase import Unknown, erase
 
-CRATES = ['pgp_test_alloc', 'pgp_uses']
+CRATES = ['test_alloc', 'pgp_uses']
 # The program that tries tables.
-TABLES = ['pgp_rows']
+TABLES = ['test_rows']
 # Where something stays that calls what doesn't: file, text, its substitute.
 CALLS = {
-    ('pgp_rows', 'codec.rt'): ('    grows::<C>(case, out)\n', '    Ok(())\n'),
-    ('pgp_rows', 'connection.rt'): ('with_each_failing(&list, row.right, out)', 'Ok(())'),
-    ('pgp_rows', 'server.rt'): ('    with_each_failing(bytes, wanted, out)?;\n', ''),
-    ('pgp_rows', 'value_text.rt'): ('if !is_refused(alloc, type_oid, bytes, number, out)', 'if number == 1'),
-    ('pgp_rows', 'walks.rt'): ('!is_modest(', '!is_collected('),
+    ('test_rows', 'codec.rt'): ('    grows::<C>(case, out)\n', '    Ok(())\n'),
+    ('test_rows', 'connection.rt'): ('with_each_failing(&list, row.right, out)', 'Ok(())'),
+    ('test_rows', 'server.rt'): ('    with_each_failing(bytes, wanted, out)?;\n', ''),
+    ('test_rows', 'value_text.rt'): ('if !is_refused(alloc, type_oid, bytes, number, out)', 'if number == 1'),
+    ('test_rows', 'walks.rt'): ('!is_modest(', '!is_collected('),
 }
 LEFT_OUT = re.compile(r'\b(?:Refusing|LocalHeap|linked_list_allocator|laws)\b')
 ITEM = re.compile(r'\n\n(?=\S)')

@@ -3,7 +3,7 @@ import functools, os, re
 import generate
 from erase import Unknown, erase
 
-CRATES = ['pgp_c', 'pgp_c_auth']
+CRATES = ['for_c', 'for_c_auth']
 EXPORT = re.compile(r'#\[unsafe\(no_mangle\)\]\n(?:#\[[^\n]*\]\n)*pub extern "C" fn (\w+)\(((?:[^()]|\([^()]*\))*)\) -> (\w+)(.*?)\n\{\n', re.S)
 HEAD = '''//! The functions of the headers for C, each over a function of the sources without their contracts. Of a caller they need what the headers say:
 //! pointers to so many items, nobody else's while the call lasts where they are written; NULL where there are 0 items.

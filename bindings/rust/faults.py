@@ -20,12 +20,12 @@ FAULTS = [
     ('pgp_auth/escape.rs', "memchr(b'\\\\', input.as_bytes())", "memchr(b'/', input.as_bytes())"),
     ('pgp_base/writing.rs', 'Ok(size as u32)', 'Ok(size as u16 as u32)'),
     ('pgp_values/numeric.rs', 'const BASE: u16 = 10_000', 'const BASE: u16 = 10_001'),
-    ('pgp_conversation/table.rs', 'width.saturating_sub(part.len())', 'width.saturating_sub(part.len() + 1)'),
-    ('pgp_conversation/table.rs', "    Global::push_char(text, ' ')\n", '    Ok(())\n'),
-    ('pgp_c/inet.rs', 'if netmask as usize > 8 * address.len() {', 'if netmask as usize > 128 {'),
-    ('pgp_c/cursor.rs', '        items[at].write(item);\n', ''),
-    ('pgp_c/proved.rs', '    0\n', '    1\n'),
-    ('pgp_conversation/run.rs', '+unproved', ''),
+    ('pgtrace_session/table.rs', 'width.saturating_sub(part.len())', 'width.saturating_sub(part.len() + 1)'),
+    ('pgtrace_session/table.rs', "    Global::push_char(text, ' ')\n", '    Ok(())\n'),
+    ('for_c/inet.rs', 'if netmask as usize > 8 * address.len() {', 'if netmask as usize > 128 {'),
+    ('for_c/cursor.rs', '        items[at].write(item);\n', ''),
+    ('for_c/proved.rs', '    0\n', '    1\n'),
+    ('pgtrace_session/run.rs', '+unproved', ''),
     ('c/src/lib.rs', '    if answer == 0 {\n        value.write(value_made);\n    }\n', '    value.write(value_made);\n'),
     ('c/src/lib.rs', 'if answer != 35 {', 'if answer == 0 {'),
     ('c/src/lib.rs', '    written.write(written_made);\n', ''),
@@ -63,7 +63,7 @@ def tests():
 
 def tables():
     build('tables')
-    return as_stored('pgp_rows')
+    return as_stored('test_rows')
 
 
 def programs():
@@ -80,7 +80,7 @@ def in_c():
     build('postgres_protocol')
     with tempfile.TemporaryDirectory() as folder:
         program = os.path.join(folder, 'test')
-        subprocess.run(['gcc', '-std=c99', '-DPROVED=0', '-I' + os.path.join(top, 'crates/pgp_c/include'), *C_TESTS, os.path.join(made, 'libpostgres_protocol.a'),
+        subprocess.run(['gcc', '-std=c99', '-DPROVED=0', '-I' + os.path.join(top, 'crates/for_c/include'), *C_TESTS, os.path.join(made, 'libpostgres_protocol.a'),
                         '-lgcc_s', '-lpthread', '-lm', '-ldl', '-o', program], check=True)
         return run(program).returncode == 0
 
@@ -98,7 +98,7 @@ def seen(file, old, new):
     text = open(path).read()
     with open(path, 'w') as module:
         module.write(text.replace(old, new))
-    checks = sorted(CHECKS, key=lambda check: (check[0] is in_c) != file.startswith(('c/', 'parts/', 'pgp_c/')))
+    checks = sorted(CHECKS, key=lambda check: (check[0] is in_c) != file.startswith(('c/', 'parts/', 'for_c/')))
     by = next((name for check, name in checks if not check()), '')
     with open(path, 'w') as module:
         module.write(text)

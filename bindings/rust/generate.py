@@ -26,7 +26,7 @@ MORE = [name for name in below('postgres_protocol') if name not in CORE]
 # Whose calls the packages show as they are, so that their conditions are assertions.
 SHOWN = {'pgp_auth', 'pgp_saslprep', *MORE}
 # The crates that a `use` may name; else it names a module.
-NAMES = set(CORE + MORE) | {'pgp_rows', 'postgres_protocol', 'std', 'crate', 'bytes', 'self', 'super'}
+NAMES = set(CORE + MORE) | {'test_rows', 'postgres_protocol', 'std', 'crate', 'bytes', 'self', 'super'}
 HEAD = '//! The generated modules: the proved sources without their contracts. Change the sources, not these.\n'
 LEFT_OUT = re.compile(r'^(laws|memory|scanning|tests)(/|\.rt$)')
 

@@ -73,26 +73,26 @@ PLACES = [
     # The public crate's own call has no answer.
     ('pgp_message/parser', 1, 'buf.reserve(room(header, buf.len()))', 'Global::reserve_ahead(buf, room(header, buf.len()))'),
     # What C hands over is taken out and put back.
-    ('pgp_c/dialogue', 1, 'mem::replace(&mut dialogue.room, &mut [])', 'dialogue.room.take()'),
-    ('pgp_c_auth/talk', 1, 'mem::replace(&mut dialogue.room, &mut [])', 'dialogue.room.take()'),
-    ('pgp_c/dialogue', 1, 'dialogue.room = room;', 'dialogue.room.put_back(room);'),
-    ('pgp_c_auth/talk', 1, 'dialogue.room = room;', 'dialogue.room.put_back(room);'),
+    ('for_c/dialogue', 1, 'mem::replace(&mut dialogue.room, &mut [])', 'dialogue.room.take()'),
+    ('for_c_auth/talk', 1, 'mem::replace(&mut dialogue.room, &mut [])', 'dialogue.room.take()'),
+    ('for_c/dialogue', 1, 'dialogue.room = room;', 'dialogue.room.put_back(room);'),
+    ('for_c_auth/talk', 1, 'dialogue.room = room;', 'dialogue.room.put_back(room);'),
     # Room for structs that hold nothing yet.
-    ('pgp_c/cursor', 1, '    type Item: Copy;\n', '    type Item: Copy + Default;\n'),
-    ('pgp_c/cursor', 1, 'let code = next_counted::<L>(bytes, &mut here, &mut items[at]);',
+    ('for_c/cursor', 1, '    type Item: Copy;\n', '    type Item: Copy + Default;\n'),
+    ('for_c/cursor', 1, 'let code = next_counted::<L>(bytes, &mut here, &mut items[at]);',
      'let mut item = L::Item::default();\n        let code = next_counted::<L>(bytes, &mut here, &mut item);'),
-    ('pgp_c/cursor', 1, 'return if code == DONE { 0 } else { code };\n        }\n', 'return if code == DONE { 0 } else { code };\n        }\n        items[at].write(item);\n'),
-    ('pgp_c/row', 1, 'columns[i] = column;', 'columns[i].write(column);'),
-    ('pgp_c/row', 1, 'columns[i] = null();', 'columns[i].write(null());'),
+    ('for_c/cursor', 1, 'return if code == DONE { 0 } else { code };\n        }\n', 'return if code == DONE { 0 } else { code };\n        }\n        items[at].write(item);\n'),
+    ('for_c/row', 1, 'columns[i] = column;', 'columns[i].write(column);'),
+    ('for_c/row', 1, 'columns[i] = null();', 'columns[i].write(null());'),
     # The library and the programs say that they aren't proved.
-    ('pgp_c/proved', 1, '\n    1\n', '\n    0\n'),
-    ('pgp_conversation/run', 1, f'"pgtrace {VERSION}\\n"', f'"pgtrace {UNPROVED}\\n"'),
+    ('for_c/proved', 1, '\n    1\n', '\n    0\n'),
+    ('pgtrace_session/run', 1, f'"pgtrace {VERSION}\\n"', f'"pgtrace {UNPROVED}\\n"'),
     ('pgserve/words', 1, f'.version("{VERSION}")', f'.version("{UNPROVED}")'),
     # The shim's trait has one call.
-    ('pgp_test_alloc/counting', 1, '    fn next_u32(&mut self) -> u32 {\n        self.next_word()\n    }\n\n    fn next_u64(&mut self) -> u64 {\n        utils::next_u64_via_u32(self)\n    }\n\n', ''),
+    ('test_alloc/counting', 1, '    fn next_u32(&mut self) -> u32 {\n        self.next_word()\n    }\n\n    fn next_u64(&mut self) -> u64 {\n        utils::next_u64_via_u32(self)\n    }\n\n', ''),
     # A call would hand these over by way of memory.
-    ('pgp_c/cursor', 1, 'pub fn next_counted<', '#[inline(always)]\npub fn next_counted<'),
-    ('pgp_c/front', 1, '#[inline(never)]\n', '#[inline(always)]\n'),
+    ('for_c/cursor', 1, 'pub fn next_counted<', '#[inline(always)]\npub fn next_counted<'),
+    ('for_c/front', 1, '#[inline(never)]\n', '#[inline(always)]\n'),
     # The adapter compiles these for single tags.
     ('pgp_message/message', 1, '    pub fn parse(', '    #[inline(always)]\n    pub fn parse('),
     ('pgp_message/parser', 1, '    pub fn parse(', '    #[inline(always)]\n    pub fn parse('),
@@ -102,7 +102,7 @@ PLACES = [
 # Where a buffer's own method `as_slice` is called: the public crates have none. Where these are named it is a trait's, but for
 # two files.
 OF_A_TRAIT = re.compile(r'\b(?:Buffer|Storage)\b')
-SLICED = {'pgp_rows/client_read', 'pgp_rows/server'}
+SLICED = {'test_rows/client_read', 'test_rows/server'}
 
 
 def without_drop_bounds(text):
@@ -124,8 +124,8 @@ def global_allocator(text):
     text = re.sub(r'\*[\w.]+\.allocator\(\)', 'Global', text)
     text = re.sub(r'\b(IndexMap|String|Vec|VecDeque|BytesMut)::new\((?:Global|[a-z.]*\balloc(?:\(\))?|memory)\)', r'\1::new()', text)
     text = re.sub(r'^use std::alloc::[^;]*;\n', '', text, flags=re.M)
-    text = re.sub(r'^(use (?:crate|pgp_base|pgp_names)::\{?[^;]*?)\b(?:(?:Map)?Memory, |, (?:Map)?Memory\b)', r'\1', text, flags=re.M)
-    text = re.sub(r'^use (?:pgp_base|pgp_names|crate::memory)::(?:Map)?Memory;\n', '', text, flags=re.M)
+    text = re.sub(r'^(use (?:crate|pgp_base|pgtrace_names)::\{?[^;]*?)\b(?:(?:Map)?Memory, |, (?:Map)?Memory\b)', r'\1', text, flags=re.M)
+    text = re.sub(r'^use (?:pgp_base|pgtrace_names|crate::memory)::(?:Map)?Memory;\n', '', text, flags=re.M)
     return re.sub(r'^(use [\w:]+::)\{(\w+)\};', r'\1\2;', text, flags=re.M)
 
 
@@ -224,17 +224,20 @@ def without_idle_prelude(text):
     return text if OF_PRELUDE.search(text) else text.replace(PRELUDE, '', 1)
 
 
+LIBRARY = r'(?:(?:pgp|pgtool|pgtrace|pgwire)_\w+|for_c\w*)'
+
+
 def in_one_crate(text, crate):
-    text = re.sub(r'^ *(?:pgp_\w+::)?laws::\w+(?:::<[^>]*>)?\([^;]*\);\n', '', text, flags=re.M)
+    text = re.sub(rf'^ *(?:{LIBRARY}::)?laws::\w+(?:::<[^>]*>)?\([^;]*\);\n', '', text, flags=re.M)
     if not re.search(r'\blaws::', text):
         text = re.sub(r'^(use [^;]*?)(?:\blaws, |, laws\b)', r'\1', text, flags=re.M)
-    text = re.sub(r'^use (?:crate|pgp_\w+)::laws;\n', '', text, flags=re.M)
-    for law in re.findall(r'^use (?:crate|pgp_\w+)::laws::(\w+);\n', text, flags=re.M):
-        text = re.sub(rf'^use (?:crate|pgp_\w+)::laws::{law};\n|^ *{law}\(\);\n', '', text, flags=re.M)
+    text = re.sub(rf'^use (?:crate|{LIBRARY})::laws;\n', '', text, flags=re.M)
+    for law in re.findall(rf'^use (?:crate|{LIBRARY})::laws::(\w+);\n', text, flags=re.M):
+        text = re.sub(rf'^use (?:crate|{LIBRARY})::laws::{law};\n|^ *{law}\(\);\n', '', text, flags=re.M)
     text = re.sub(r'^(?:pub )?mod (?:laws|memory|scanning|tests);\n|^#\[cfg\(test\)\]\n|^pub use memory::.*\n', '', text, flags=re.M)
     text = re.sub(r'\bcrate::(?!kit\b)', f'crate::proved::{crate}::', text)
-    text = re.sub(r'(?<![\w:])(pgp_\w+|postgres_protocol)::', r'crate::proved::\1::', text)
-    return re.sub(r'^((?:pub )?use )(pgp_\w+) as', r'\1crate::proved::\2 as', text, flags=re.M)
+    text = re.sub(rf'(?<![\w:])({LIBRARY}|postgres_protocol)::', r'crate::proved::\1::', text)
+    return re.sub(rf'^((?:pub )?use )({LIBRARY}) as', r'\1crate::proved::\2 as', text, flags=re.M)
 
 
 def single_places(text, name, used):

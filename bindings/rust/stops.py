@@ -15,11 +15,11 @@ CASES = [
     ('pgp_session/src/proxy.rt', '\nuse ', '\nuse std::alloc::Layout as Allocator;\n// left\ntype Other = Allocator;\nuse ', 'crates/pgp_session/src/proxy.rt:'),
     ('pgp_message/src/parser.rt', 'let Some(front) =', 'let Some(Front { tag, total }) =', 'crates/pgp_message/src/parser.rt'),
     ('pgp_types/src/range.rt', '\nuse ', '\nghost lemma {\nuse ', 'crates/pgp_types/src/range.rt:'),
-    ('pgp_c/src/inet.rt', 'bytes.len()', 'bytes.len() + 0', ''),
-    ('pgp_c/src/system.rt', 'left { result ≢ 0 →', 'left { result ≡ 35 →', 'crates/pgp_c/src/system.rt:'),
-    ('pgp_c/src/dialogue.rt', 'dialogue.room = room;', 'dialogue.room = { room };', 'crates/pgp_c/src/dialogue.rt'),
-    ('pgp_c/src/numeric.rt', 'pub extern "C" fn pgp_get_numeric(', 'pub unsafe extern "C" fn pgp_get_numeric(', 'crates/pgp_c/src/numeric.rt:'),
-    ('pgp_rows/src/walks.rt', '!is_modest(', '!is_meek(', 'crates/pgp_rows/src/walks.rt'),
+    ('for_c/src/inet.rt', 'bytes.len()', 'bytes.len() + 0', ''),
+    ('for_c/src/system.rt', 'left { result ≢ 0 →', 'left { result ≡ 35 →', 'crates/for_c/src/system.rt:'),
+    ('for_c/src/dialogue.rt', 'dialogue.room = room;', 'dialogue.room = { room };', 'crates/for_c/src/dialogue.rt'),
+    ('for_c/src/numeric.rt', 'pub extern "C" fn pgp_get_numeric(', 'pub unsafe extern "C" fn pgp_get_numeric(', 'crates/for_c/src/numeric.rt:'),
+    ('test_rows/src/walks.rt', '!is_modest(', '!is_meek(', 'crates/test_rows/src/walks.rt'),
 ]
 
 

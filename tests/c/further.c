@@ -123,7 +123,7 @@ static void values(void)
     same("no text", pgp_put_jsonb(B("\xff"), out, sizeof out, &n), PGP_E_NOT_UTF8); same("nothing", n, 0);
 }
 
-/* Bytes that PostgreSQL 15.18 sent (numeric_send; crates/pgp_rows/data/numerics.rows), and their halves by hand: high * 2^64 + low. */
+/* Bytes that PostgreSQL 15.18 sent (numeric_send; crates/test_rows/data/numerics.rows), and their halves by hand: high * 2^64 + low. */
 static void integers(void)
 {
     static const struct { const char *bytes; size_t len; int64_t high; uint64_t low; } cases[] = {

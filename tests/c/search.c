@@ -1,4 +1,4 @@
-/* search: tsvector and tsquery. The bytes are those that PostgreSQL 15.18 sent (tsvectorsend, tsquerysend; crates/pgp_rows/data/values.rows has them); those that are
+/* search: tsvector and tsquery. The bytes are those that PostgreSQL 15.18 sent (tsvectorsend, tsquerysend; crates/test_rows/data/values.rows has them); those that are
    refused are worked by hand. */
 #include "checks.h"
 

@@ -1,5 +1,5 @@
 /* shapes: letters and formats of requests, missing bytes, and values by their bytes. Unless another source is said, PostgreSQL 15.18 sent the bytes of the
-   values: they are those of crates/pgp_rows/data. */
+   values: they are those of crates/test_rows/data. */
 #include "checks.h"
 
 #define ONE "\x3f\xf0\0\0\0\0\0\0"

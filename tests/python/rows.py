@@ -1,10 +1,10 @@
-"""The tables of crates/pgp_rows/data through the Python module: what a client writes, and which message answers which request."""
+"""The tables of crates/test_rows/data through the Python module: what a client writes, and which message answers which request."""
 import pathlib
 import re
 
 import postgres_protocol as pg
 
-DATA = pathlib.Path(__file__).resolve().parent.parent.parent / 'crates' / 'pgp_rows' / 'data'
+DATA = pathlib.Path(__file__).resolve().parent.parent.parent / 'crates' / 'test_rows' / 'data'
 #: Calls of the tables whose arguments the module has in other forms, or that only Rattle has.
 ASKED = {'U': 'Startup', 'Q': 'Query', 'P': 'Parse', 'B': 'Bind', 'C': 'Close', 'DS': 'DescribeStatement', 'DP': 'DescribePortal', 'E': 'Execute',
          'F': 'FunctionCall', 'S': 'Sync', 'c': 'CopyDone', 'f': 'CopyFail'}

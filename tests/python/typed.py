@@ -32,7 +32,7 @@ VALUES = (
     (1231, [Decimal('1.5')], '00000001' '00000000' '000006a4' '00000001' '00000001' '0000000c' '0002000000000001' '0001' '1388'),
     (3904, pg.Range(('in', 1), ('ex', 5)), '02' '0000000400000001' '0000000400000005'), (3904, pg.Range(None, None), '01'),
     (3912, pg.Range(('none', None), ('ex', datetime.date(2000, 1, 2))), '08' '0000000400000001'),
-    # (the bytes of these are those of crates/pgp_rows/data: shapes.rows, values.rows, texts.rows)
+    # (the bytes of these are those of crates/test_rows/data: shapes.rows, values.rows, texts.rows)
     (600, pg.Point(1.5, -2.0), '3ff8000000000000' 'c000000000000000'), (603, pg.Box(pg.Point(3.0, 4.0), pg.Point(1.0, 2.0)), THREE + FOUR + ONE + TWO),
     (628, pg.Line(1.0, 2.0, 3.0), ONE + TWO + THREE), (601, pg.Lseg(pg.Point(1.0, 2.0), pg.Point(3.0, -4.5)), ONE + TWO + THREE + 'c012000000000000'),
     (718, pg.Circle(pg.Point(1.0, 2.0), 3.0), ONE + TWO + THREE),

@@ -1,4 +1,4 @@
-//! What no row of `pgp_rows` says of each crate's public calls. They stand here and not in those crates, since a crate with
+//! What no row of `test_rows` says of each crate's public calls. They stand here and not in those crates, since a crate with
 //! tests is proved once with them and once without.
 
 mod arrays;

@@ -7,7 +7,7 @@
 
 Each request returns a number, and each event says the number of the request that it answers.
 """
-from typing import Any, Callable, Dict, List, Mapping, Optional, Sequence, Tuple
+from typing import Any, Callable, Dict, List, Mapping, Optional, Sequence, Set, Tuple
 
 from . import _rows, events
 from ._library import MORE, NO_ROOM, OK, WRONG_PHASE, ProtocolError
@@ -61,6 +61,9 @@ class Connection:
         self._taken: List[Tuple[Optional[int], bool, Any]] = []
         self._fault: Optional[Exception] = None
         self._last, self._encrypting = 0, encrypt
+        #: The first request of which it isn't reported yet that it ended; and those that end the data of a copy, which have no answer of their own.
+        self._told = 1
+        self._ends: Set[int] = set()
         #: Whether a series of extended queries waits for its Sync; whether values of rows are passed over.
         self.needs_sync = self.skips_values = False
         #: `I`, `T` or `E`, as the last Ready said; the settings that the server reported.
@@ -170,11 +173,11 @@ class Connection:
 
     def copy_done(self) -> None:
         """Ends the data of a copy."""
-        self._ask('CopyDone', self._stream.copy_done)
+        self._ends.add(self._ask('CopyDone', self._stream.copy_done))
 
     def copy_fail(self, reason: str) -> None:
         """Gives a copy up, with a text for the server's error."""
-        self._ask('CopyFail', self._stream.copy_fail, reason.encode())
+        self._ends.add(self._ask('CopyFail', self._stream.copy_fail, reason.encode()))
 
     def terminate(self) -> None:
         """Ends the session."""
@@ -243,13 +246,37 @@ class Connection:
 
         Raises ProtocolError for bytes that no server sends there, and LogInError: the connection is to be closed then."""
         while True:
-            if not self._taken and not self._take_more():
-                return None
+            if not self._taken:
+                passed = None if self._fault is not None else self._passed_over(None)
+                if passed is not None:
+                    return passed
+                if not self._take_more():
+                    return None
             if self._encrypting:
                 return self._encryption()
-            event = self._event(*self._taken.pop())
+            request, is_last, what = self._taken[-1]
+            passed = self._passed_over(request)
+            if passed is not None:
+                return passed
+            self._taken.pop()
+            if is_last and request is not None:
+                self._told = request + 1
+            event = self._event(request, is_last, what)
             if event is not None:
                 return event
+
+    def _passed_over(self, request: Optional[int]) -> Optional[events.Event]:
+        """The next request that has ended without an answer: before a message of a request all before that have, and where all is reported that was taken, those
+        that the state knows of."""
+        while self._told <= self._last:
+            first = request if self._taken else self._state.first_open or self._last + 1
+            if first is None or self._told >= first:
+                return None
+            self._told += 1
+            if self._told - 1 not in self._ends:
+                return events.PassedOver(self._told - 1)
+            self._ends.discard(self._told - 1)
+        return None
 
     def _take_more(self) -> bool:
         """Takes the messages that are there; False where there is none."""

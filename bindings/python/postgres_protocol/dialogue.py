@@ -3,7 +3,7 @@ import ctypes
 from ctypes import POINTER, Structure, byref, c_bool, c_size_t, c_uint8, c_uint64
 from typing import Callable, NamedTuple, Optional
 
-from ._library import NO_ROOM, OK, ProtocolError, as_integer, declare
+from ._library import DONE, NO_ROOM, OK, ProtocolError, as_integer, declare
 from .reading import KINDS
 
 #: What may be asked, in the order of the library's numbers.
@@ -28,6 +28,7 @@ class _Event(Structure):
 _ask = declare('dialogue_ask', POINTER(DialogueState), c_uint8, c_uint64)
 _take = declare('dialogue_take', POINTER(DialogueState), c_uint8, POINTER(_Event))
 _is_idle = declare('dialogue_is_idle', POINTER(DialogueState), POINTER(c_bool))
+_first_open = declare('dialogue_first_open', POINTER(DialogueState), POINTER(c_uint64))
 _PART, _LAST, _ASIDE = 1, 2, 3
 
 
@@ -60,6 +61,18 @@ class Requests:
             status = self._asked(_ASKED[request], number)
         if status != OK:
             raise ProtocolError(status)
+
+    @property
+    def first_open(self) -> Optional[int]:
+        """The number of the first request that is to end; None where all have ended. Those that were asked before it have ended: the last message of their
+        answer was taken, or the server passes over them, as over an Execute behind a Bind that failed."""
+        number = c_uint64()
+        status = _first_open(byref(self._dialogue), byref(number))
+        if status == DONE:
+            return None
+        if status != OK:
+            raise ProtocolError(status)
+        return number.value
 
     @property
     def address(self) -> int:

@@ -5,7 +5,7 @@ from typing import Any, Dict, List, Optional, Tuple
 from .reading import Field
 
 __all__ = ['Columns', 'CommandCompleted', 'Completed', 'CopyBytes', 'CopyStarted', 'Encryption', 'Event', 'Failed', 'LoggedIn', 'Notice', 'Notification',
-           'Parameters', 'Ready', 'Rows', 'Setting']
+           'Parameters', 'PassedOver', 'Ready', 'Rows', 'Setting']
 
 
 @dataclass(frozen=True)
@@ -78,6 +78,11 @@ class CopyBytes(Event):
 class Failed(Event):
     """An error, by the letters of its fields (`C` the SQLSTATE, `M` the message). Where `request` is None the session is over."""
     fields: Dict[str, str]
+
+
+@dataclass(frozen=True)
+class PassedOver(Event):
+    """The server passes over the request, as over what stands behind an error up to the next Sync: no message answers it."""
 
 
 @dataclass(frozen=True)

@@ -55,7 +55,7 @@ first_ends skipping (a ∷ rs) = go (is_passed skipping a.request) (first_ends s
     go true rest = one_before a rs (first_in skipping rs) rest
     go false rest = all_end (a ∷ rs)
 
-same_some : (a b : List Asked) → Some a ≡ Some b → a ≡ b
+pub same_some : (a b : List Asked) → Some a ≡ Some b → a ≡ b
 same_some a b e = cc
 
 behind_ends : (rs behind : List Asked) → behind_copy rs ≡ Some behind → Ends rs behind
@@ -67,7 +67,7 @@ behind_ends (a ∷ rest) behind e = at a.request (behind_ends rest behind) e
     at requests.CopyDone more x = one_before a rest behind (subst (Ends rest) (same_some rest behind x) (all_end rest))
     at r more x = cc
 
-same_ok : (a b : Stage × List Asked) → (let x : Result (Stage × List Asked) Refusal = Ok a in x ≡ Ok b) → a ≡ b
+pub same_ok : (a b : Stage × List Asked) → (let x : Result (Stage × List Asked) Refusal = Ok a in x ≡ Ok b) → a ≡ b
 same_ok a b e = cc
 
 -- what a message leaves of the requests are the last of them
@@ -94,7 +94,7 @@ module _ (rs : List Asked) (x : Stage × List Asked) where
   pending_ends TakingCopy k e = copied_ends _ _ k e
   pending_ends s k e = goes_ends (follows s k) e
 
-idle_ends : (k : Kind) (rs : List Asked) (x : Stage × List Asked) → goes (at_idle k) rs ≡ Ok x → x.0 ≡ Over
+pub idle_ends : (k : Kind) (rs : List Asked) (x : Stage × List Asked) → goes (at_idle k) rs ≡ Ok x → x.0 ≡ Over
 idle_ends kinds.ErrorResponse rs x e = sym (ap (λ (y : Stage × List Asked). y.0) (same_ok (Over, rs) x e))
 idle_ends k rs x e = cc
 
@@ -110,7 +110,7 @@ reported_at rs ps Skipping n h = h
 reported_at rs ps Over n h = tt
 reported_at rs ps s n h = h
 
-same_step : (a b : Event × Talk) → (let x : Result (Event × Talk) Refusal = Ok a in x ≡ Ok b) → a ≡ b
+pub same_step : (a b : Event × Talk) → (let x : Result (Event × Talk) Refusal = Ok a in x ≡ Ok b) → a ≡ b
 same_step a b e = cc
 
 module _ (rs : List Asked) where
@@ -204,12 +204,12 @@ module _ (k : Kind) (n : ℕ) (now : Talk) where
       subst (λ (l : List Asked). Under l n now.pending × Rests now.stage) (append_assoc rs (a ∷ []) (asked_in turns)) (last_in (rs ++ a ∷ []) (asked t a) turns (asked_within rs t a w) f)
   last_in rs t (Hears j e ∷ turns) w f = last_in rs f.0 turns (taken_within rs (is_aside j) t j (e, f.0) w f.1 f.2).1 f.3
 
-tails : (a b : Asked) (xs ys : List Asked) → a ∷ xs ≡ b ∷ ys → (a ≡ b) × (xs ≡ ys)
+pub tails : (a b : Asked) (xs ys : List Asked) → a ∷ xs ≡ b ∷ ys → (a ≡ b) × (xs ≡ ys)
 tails a b xs ys e = (cc, cc)
 
 -- of a name that no other request has there is one place
 module _ (a last : Asked) (rest behind : List Asked) (same : a.name ≡ last.name) where
-  one_place : (gone before : List Asked) → gone ++ a ∷ rest ≡ before ++ last ∷ behind → (IsAmong last.name (names (before ++ behind)) → ⊥) → rest ≡ behind
+  pub one_place : (gone before : List Asked) → gone ++ a ∷ rest ≡ before ++ last ∷ behind → (IsAmong last.name (names (before ++ behind)) → ⊥) → rest ≡ behind
   one_place [] [] e alone = (tails a last rest behind e).1
   one_place [] (b ∷ before) e alone = absurd (alone (inl (sym same ∙ ap (λ (x : Asked). x.name) (tails a b rest (before ++ last ∷ behind) e).0)))
   one_place (x ∷ gone) [] e alone =

@@ -10,7 +10,7 @@ use Rattle.pgp_client.proofs.Exact.{Run, Stops, AsksOne, HearsOne, exact, stands
 -- ---- what was taken before some were asked is taken where it is known that they were asked after it
 
 module _ (more : List Asked) where
-  first_more : (b : Bool) (ps : List Asked) → (first_in b ps ≡ [])
+  pub first_more : (b : Bool) (ps : List Asked) → (first_in b ps ≡ [])
       ⊎ ((x : Asked) × (rest : List Asked) × (first_in b ps ≡ x ∷ rest) × (first_in b (ps ++ more) ≡ x ∷ (rest ++ more)))
   first_more b [] = inl refl
   first_more b (p ∷ ps) =

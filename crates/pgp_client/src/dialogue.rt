@@ -1,6 +1,7 @@
 //! A client's requests and a server's messages.
 
 ghost use Rattle.std.specs.Prelude.{◌≡◌, ◌++◌, ◌∷◌, [], OnOk, OnErr};
+ghost use Rattle.pgp_client.specs.Ending.{first_open};
 ghost use Rattle.pgp_client.specs.Talk.{shown};
 ghost use Rattle.pgp_client.specs.Telling.{start};
 ghost use Rattle.pgp_client.specs.Taking.{Moves, Takes, asked, begun, behind_copy, awaits_data, completes, copied, fails, first_in, follows, goes, observed, observed_at, is_between, is_copying, is_idle, ready, starts_with_sync, taken};
@@ -19,9 +20,9 @@ use std::marker::Model;
 /// Says which of a server's messages belongs to which of a client's requests.
 ///
 /// A client asks each request in the order in which it sends them, before it takes a message that answers one of them, and takes all
-/// messages of the server in the order in which they come; when it asks besides changes nothing. What is reported of a request ends
-/// all that was asked before: of a request of which no `Last` was reported by then, nothing will be, since the server passed over it
-/// after an error.
+/// messages of the server in the order in which they come; when it asks besides changes nothing. Every request ends
+/// once, in the order in which they are asked: with its `Last`, or because the server passes over it, after an error or in a copy; then nothing is reported of it.
+/// `first_open` says which have ended.
 ///
 /// Where an Execute or a Query may ask for the data of a copy, a Sync is best sent after the CopyDone or CopyFail, and a Flush before
 /// it: a server passes over a Sync while it awaits the data, and where such a copy fails nobody can know whether it did. `take` then
@@ -119,6 +120,21 @@ impl<Q: Queue> Dialogue<Q> {
             return false;
         }
         !self.pending.has_end()
+    }
+
+    /// The name of the first request that is to end; `None` where all that were asked have ended. All that were asked before it have ended: of each the
+    /// last message was reported (`Event::Last`), or the server passes over it, and nothing will be. So of requests whose names rise those below this
+    /// one have ended. It changes where `Last` or `Ended` is reported, or a message is rejected; and a request that is asked behind an error, of which
+    /// none is answered before a Sync, has ended at once.
+    pub fn first_open(&self) -> Option<u64>
+        ensures { result ≡ first_open (shown Q.items self.now) }
+    {
+        match self.stage {
+            Stage::Idle => self.pending.first_answered(false),
+            Stage::Skipping => self.pending.first_answered(true),
+            Stage::Over => None,
+            _ => Some(self.name),
+        }
     }
 
     /// Takes note of a request, in the order in which they are sent. The events of its answer tell this name.

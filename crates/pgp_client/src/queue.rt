@@ -1,10 +1,11 @@
 //! Where a dialogue keeps the requests whose answers are to come.
 
 ghost use Rattle.std.specs.Prelude.{◌≡◌, ◌++◌, ◌∷◌, [], ℕ, List, None, OnErr, OnOk, option_to_list, length};
-ghost use Rattle.pgp_client.specs.Taking.{awaits_none, has_end, starts_with_sync};
+ghost use Rattle.pgp_client.specs.Ending.{first_name};
+ghost use Rattle.pgp_client.specs.Taking.{awaits_none, first_in, has_end, starts_with_sync};
 ghost use Rattle.pgp_client.specs.declared.request.Asked.{Asked as Item};
 
-use crate::request::{Asked, awaits_none, has_end, is_sync};
+use crate::request::{Asked, awaits_none, first_answered, has_end, is_sync};
 use pgp_base::Memory;
 use std::collections::VecDeque;
 
@@ -43,6 +44,10 @@ pub trait Queue {
     /// Whether the first is a Sync.
     fn starts_with_sync(&self) -> bool
         ensures { result ≡ starts_with_sync (items self.now) };
+
+    /// The name of the first that is answered, where the server is after an error or after none; `None` where it passes over all of them.
+    fn first_answered(&self, skipping: bool) -> Option<u64>
+        ensures { result ≡ first_name (first_in skipping (items self.now)) };
 }
 
 /// There is no room, or no memory, for another request.
@@ -87,6 +92,14 @@ impl<A: Memory> Queue for VecDeque<Asked, A> {
         match self.front() {
             Some(asked) => is_sync(asked.request),
             None => false,
+        }
+    }
+
+    fn first_answered(&self, skipping: bool) -> Option<u64> {
+        let (first, second) = self.as_slices();
+        match first_answered(first, skipping) {
+            Some(name) => Some(name),
+            None => first_answered(second, skipping),
         }
     }
 }

@@ -19,3 +19,4 @@ mod MonitorListed
 mod MonitorBelongs
 mod MonitorFronts
 mod MonitorSteps
+pub mod Ending

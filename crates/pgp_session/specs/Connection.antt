@@ -7,6 +7,7 @@ use Rattle.std.specs.Str.{bytes_eq}
 use Rattle.pgp_base.specs.Items.{CountedItems}
 use Rattle.pgp_base.specs.declared.error.Error.{Error}
 use Rattle.pgp_base.specs.declared.error.Error.TheVariants.{OutOfMemory as NoMemory}
+use Rattle.pgp_client.specs.Ending.{first_open}
 use Rattle.pgp_client.specs.Kinds.{kind_of, request_of}
 use Rattle.pgp_client.specs.Limits.{is_longer, lacks_status}
 use Rattle.pgp_client.specs.Taking.{asked, awaits_data, is_between, is_copying, is_end, taken}
@@ -381,3 +382,17 @@ shown c = record { phase = c.state.phase; login = seen c.state.login; out = c.st
 -- the frame of the message that is read in place, or nothing
 abbrev pub current : {A : Type 0} → Kept A → List ℕ
 current c = c.incoming.current
+
+-- ---- what has ended
+
+abbrev pub name_or : ℕ → Option ℕ → ℕ
+name_or n None = n
+name_or n (Some m) = m
+
+abbrev pub open_in_phase : ConnectionPhase → Shown → ℕ
+open_in_phase Started c = name_or c.names (first_open c.talk)
+open_in_phase p c = c.names
+
+-- the requests whose names are below this one have ended; where all have, it is the name of the next
+abbrev pub open_from : Shown → ℕ
+open_from c = open_in_phase c.phase c

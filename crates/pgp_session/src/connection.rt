@@ -10,7 +10,7 @@ ghost use Rattle.pgp_session.specs.Login.{given};
 ghost use Rattle.pgp_client.specs.Taking.{is_idle};
 ghost use Rattle.pgp_session.specs.Settings.{value_of};
 ghost use Rattle.pgp_session.specs.Incoming.{Reads};
-ghost use Rattle.pgp_session.specs.Connection.{Advances, Answers, Feeds, Nexts, Sends, Starts, Writes, begun, can_send, current, dropped, is_logged_in, limit_of, may_ask, nexted, shown};
+ghost use Rattle.pgp_session.specs.Connection.{Advances, Answers, Feeds, Nexts, Sends, Starts, Writes, begun, can_send, current, dropped, is_logged_in, limit_of, may_ask, nexted, open_from, shown};
 
 use crate::connection_error::ConnectionError;
 use crate::connection_parts::{encrypts, may_send, next_name, put_startup};
@@ -372,6 +372,21 @@ impl<'a, A: Memory> Connection<'a, A> {
         ensures { result ≡ is_idle (shown self.now).talk }
     {
         self.state.dialogue.is_idle()
+    }
+
+    /// All requests whose names are below this one have ended: of each the last message was reported, or the server passes over it, as over an Execute
+    /// behind a Bind that failed, and nothing will be. The request of this name, if one was sent under it, is to end. A Flush and data of a copy end
+    /// with what was sent before them. After the end all have ended.
+    pub fn open_from(&self) -> u64
+        ensures { result ≡ open_from (shown self.now) }
+    {
+        if self.state.phase != ConnectionPhase::Started {
+            return self.names;
+        }
+        match self.state.dialogue.first_open() {
+            Some(name) => name,
+            None => self.names,
+        }
     }
 
     /// The status of the last ReadyForQuery: `I` (no transaction), `T` (in a transaction) or `E` (in a failed one); `None` before the first.

@@ -1,7 +1,11 @@
 //! What holds of a connection after any calls, and of all that a monitor let through.
 
-ghost use Rattle.std.specs.Prelude.{◌≡◌, ◌⊎◌, ◌≤◌, ◌++◌, ℕ, Bool, List, Ok, Option, false, length};
+ghost use Rattle.std.specs.Prelude.{◌≡◌, ◌⊎◌, ◌<◌, ◌≤◌, ◌^◌, ◌++◌, ℕ, Bool, List, Ok, Option, false, length};
+ghost use Rattle.pgp_client.specs.Ending.{open_after};
+ghost use Rattle.pgp_client.specs.InTurns.{IsAmong};
 ghost use Rattle.pgp_client.specs.Limits.{is_longer};
+ghost use Rattle.pgp_client.specs.Telling.{asked_in, names};
+ghost use Rattle.pgp_client.specs.declared.request.Asked.{Asked as Named};
 ghost use Rattle.pgp_client.specs.declared.event.Event.{Event as Reported};
 ghost use Rattle.pgp_client.specs.declared.kind.Kind.{Kind as SentKind};
 ghost use Rattle.pgp_client.specs.declared.request.Request.{Request as Asked};
@@ -9,7 +13,7 @@ ghost use Rattle.pgp_frontend.specs.ClientMessage.{ClientMessage as Written, Ssl
 ghost use Rattle.pgp_frontend.specs.Reading.{IsNamed};
 ghost use Rattle.pgp_message.specs.BackendMessage.{Message as Observed};
 ghost use Rattle.pgp_message.specs.Stream.{IsPartial, TakesFrame};
-ghost use Rattle.pgp_session.specs.Connection.{HasStarted, Sent, Shown, Took, Wrote, begun, dropped, fed, in_phase, told, with_incoming};
+ghost use Rattle.pgp_session.specs.Connection.{HasStarted, Sent, Shown, Took, Wrote, begun, dropped, fed, in_phase, open_from, told, with_incoming};
 ghost use Rattle.pgp_session.specs.Answered.{Answered};
 ghost use Rattle.pgp_session.specs.Incoming.{Reads};
 ghost use Rattle.pgp_session.specs.Login.{Ways as Admitting};
@@ -47,6 +51,17 @@ pub fn sessions_follow()
 {
     pgp_client::laws::only_answers_are_taken();
     pgp_client::laws::messages_belong_in_turns();
+}
+
+/// Of what was sent over a connection every request ends once: those whose names are below `Connection::open_from` have ended, in the order in which they were
+/// sent, and the others are to end.
+pub fn names_below_have_ended()
+    ensures { (ways : Admitting) (h : History) (now : Shown) → now.phase ≡ Started → length h.written < 2 ^ 64 → Known ways h now
+        → (ended : List Named) × (asked_in h.turns ≡ ended ++ open_after h.turns)
+        × ((n : ℕ) → IsAmong n (names ended) → n < open_from now) × ((n : ℕ) → IsAmong n (names (open_after h.turns)) → open_from now ≤ n) }
+{
+    pgp_client::laws::every_request_ends_once();
+    pgp_client::laws::first_open_requests_are_told();
 }
 
 /// A message that is read in place is the one that `advance` took: of one frame there is one message.

@@ -2,9 +2,9 @@
 #![tactic(auto)]
 
 use pgp_base::Memory;
-use pgp_conversation::files::Recordings;
-use pgp_conversation::run::run_own;
-use pgp_trace::pipe::Pipe;
+use pgtrace_lines::pipe::Pipe;
+use pgtrace_session::files::Recordings;
+use pgtrace_session::run::run_own;
 use std::cell::Cell;
 use std::fs::File;
 use std::io::{self, ErrorKind, IsTerminal, Read};

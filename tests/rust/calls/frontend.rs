@@ -1,4 +1,4 @@
-//! What no row of `pgp_rows` says of the messages of a client: counts past their fields, and serializers that reject or
+//! What no row of `test_rows` says of the messages of a client: counts past their fields, and serializers that reject or
 //! aren't called. Expected bytes are from the message formats of the PostgreSQL manual.
 
 use bytes::BytesMut;

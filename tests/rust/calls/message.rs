@@ -1,4 +1,4 @@
-//! What no row of `pgp_rows` says of a server's messages: parsers that go on, what they remember, and what a message keeps.
+//! What no row of `test_rows` says of a server's messages: parsers that go on, what they remember, and what a message keeps.
 //! Expected bytes are from the message formats of the PostgreSQL manual.
 
 use crate::reads::{buffer, row};

@@ -1,4 +1,4 @@
-//! What no row of `pgp_rows` says of ranges: what a closure appends for no bound, and errors of the closures.
+//! What no row of `test_rows` says of ranges: what a closure appends for no bound, and errors of the closures.
 
 use crate::reads::buffer;
 use bytes::BytesMut;

@@ -1,4 +1,4 @@
-//! What no row of `pgp_rows` says of records: one whose field is an array of records, and how often a serializer is called.
+//! What no row of `test_rows` says of records: one whose field is an array of records, and how often a serializer is called.
 
 use crate::reads::buffer;
 use bytes::BytesMut;

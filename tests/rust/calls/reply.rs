@@ -1,4 +1,4 @@
-//! What no row of `pgp_rows` says of the messages of a server: lists of as many items as a count says, and of one more. Expected
+//! What no row of `test_rows` says of the messages of a server: lists of as many items as a count says, and of one more. Expected
 //! bytes are from the message formats of the PostgreSQL manual.
 
 use bytes::BytesMut;

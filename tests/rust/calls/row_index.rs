@@ -1,4 +1,4 @@
-//! What no row of `pgp_rows` says of the columns of a row: their places in a table, by a table that is made again, and without one.
+//! What no row of `test_rows` says of the columns of a row: their places in a table, by a table that is made again, and without one.
 //! Expected bytes are from the message formats of the PostgreSQL manual.
 
 use super::message::ROW;

@@ -1,4 +1,4 @@
-//! What no row of `pgp_rows` says of a client's messages that are read: lists of as many items as a count says.
+//! What no row of `test_rows` says of a client's messages that are read: lists of as many items as a count says.
 
 use bytes::BytesMut;
 use erased::kit::AsSlice as _;

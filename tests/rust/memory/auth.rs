@@ -11,7 +11,7 @@ use erased::proved::pgp_auth::escape::{escape_identifier, escape_literal};
 use erased::proved::pgp_auth::password::{md5, scram_sha_256, scram_sha_256_salt};
 use erased::proved::pgp_base::Error;
 use erased::proved::pgp_saslprep::SaslPrepRfc4013;
-use tests::proved::pgp_test_alloc::counting::Counting;
+use tests::proved::test_alloc::counting::Counting;
 
 const SALT: [u8; 16] = [1, 2, 3, 4, 5, 6, 7, 8, 9, 10, 11, 12, 13, 14, 15, 16];
 

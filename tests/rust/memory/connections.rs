@@ -1,5 +1,5 @@
 //! A client's connection that is read in place, which asks for no memory, and what it holds once a large message was read; and a dialogue by itself. What a
-//! connection does where a request is refused stands in the rows of `pgp_rows`. Messages are after the formats of the PostgreSQL manual.
+//! connection does where a request is refused stands in the rows of `test_rows`. Messages are after the formats of the PostgreSQL manual.
 
 use crate::memory::{live, refused, within};
 use erased::kit::asking::counted;

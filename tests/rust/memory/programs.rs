@@ -6,9 +6,9 @@ use crate::programs::listing;
 use crate::programs::process::Words;
 use crate::programs::wire;
 use erased::kit::Global;
-use erased::proved::pgp_conversation::files::Recordings;
-use erased::proved::pgp_conversation::run::run as trace;
-use erased::proved::pgp_wire::run::run_own;
+use erased::proved::pgtrace_session::files::Recordings;
+use erased::proved::pgtrace_session::run::run as trace;
+use erased::proved::pgwire_engines::run::run_own;
 use std::io::{self, Read};
 
 /// Room for all that a program writes.

@@ -1,4 +1,4 @@
-//! The tables of rows, and the values in them. The writers of values are tried by their rows (`pgp_rows`).
+//! The tables of rows, and the values in them. The writers of values are tried by their rows (`test_rows`).
 
 use crate::memory::message::FIVE_NULLS;
 use crate::memory::{comes_to, refused};

@@ -1,5 +1,5 @@
 //! The writers that all messages are made of, each on a buffer that holds a message and has no room left, or some. Those of messages are tried by their rows
-//! (`pgp_rows`).
+//! (`test_rows`).
 
 use crate::calls::protocol::calls::plain;
 use crate::memory::{refused, refused_at};

@@ -1,6 +1,6 @@
 //! Readers and writers for the tests: those that fail, and those that give what they have in pieces.
 
-use erased::proved::pgp_conversation::files::Recordings;
+use erased::proved::pgtrace_session::files::Recordings;
 use std::io::{self, Read, Write};
 
 /// A reader that gives these bytes, so many at a time, and then fails.

@@ -4,8 +4,8 @@
 use crate::programs::failing::{Alone, FailingReader, FailingWriter, PieceReader};
 use erased::kit::calls::Fail;
 use erased::kit::Global;
-use erased::proved::pgp_conversation::run::run;
-use erased::proved::pgp_trace::pipe::Pipe;
+use erased::proved::pgtrace_session::run::run;
+use erased::proved::pgtrace_lines::pipe::Pipe;
 use std::cell::Cell;
 use std::io::{Read, Write};
 

@@ -4,7 +4,7 @@
 use crate::programs::failing::{FailingReader, FailingWriter, PieceReader};
 use crate::programs::process::Words;
 use erased::kit::Global;
-use erased::proved::pgp_wire::run::{run, run_own};
+use erased::proved::pgwire_engines::run::{run, run_own};
 use std::io::{Read, Write};
 
 /// Words and an input, and what they come to.

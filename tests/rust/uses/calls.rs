@@ -10,7 +10,7 @@ use erased::proved::postgres_protocol::message::frontend;
 use erased::proved::postgres_protocol::session::{ClientStream, StreamParser};
 use erased::proved::postgres_protocol::{BindError, Error};
 use std::ops::Range;
-use tests::proved::pgp_test_alloc::counting::Counting;
+use tests::proved::test_alloc::counting::Counting;
 use tests::proved::pgp_uses::columns::{column_names, NamesError};
 use tests::proved::pgp_uses::filter::{pass, FilterError};
 use tests::proved::pgp_uses::login::{begin, equals, respond, set_password};

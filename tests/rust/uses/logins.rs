@@ -7,7 +7,7 @@ use erased::kit::Global;
 use erased::proved::pgp_saslprep::SaslPrepRfc4013;
 use erased::proved::postgres_protocol::authentication::sasl::{is_nonce, ChannelBinding, NoPrep, ScramSha256};
 use erased::proved::postgres_protocol::Error;
-use tests::proved::pgp_test_alloc::counting::Counting;
+use tests::proved::test_alloc::counting::Counting;
 use tests::proved::pgp_uses::login::begin_prepared;
 
 pub(crate) const CHALLENGE: &[u8; 85] =

@@ -4,7 +4,7 @@ use erased::kit::Global;
 use erased::proved::pgp_auth::authentication::sasl::{
     ChannelBinding, ChannelOffer, NoPrep, ScramServer, ScramSha256, StoredVerifier,
 };
-use tests::proved::pgp_test_alloc::counting::Counting;
+use tests::proved::test_alloc::counting::Counting;
 
 // The salt of RFC 7677's example and its password `pencil`, with one round; the keys are python3's.
 const STORED: &[u8] =

@@ -6,7 +6,7 @@ use erased::proved::pgp_auth::authentication::sasl::{NoPrep, SaslPrep};
 use erased::proved::pgp_auth::password::{scram_sha_256, scram_sha_256_salt};
 use erased::proved::pgp_base::Error;
 use std::cell::Cell;
-use tests::proved::pgp_test_alloc::counting::Counting;
+use tests::proved::test_alloc::counting::Counting;
 
 const SALT: [u8; 16] = [1, 2, 3, 4, 5, 6, 7, 8, 9, 10, 11, 12, 13, 14, 15, 16];
 

@@ -3,7 +3,7 @@
 use super::drawn::{begins, binding_of, ends, offer_of};
 use erased::kit::Global;
 use erased::proved::pgp_auth::authentication::sasl::{NoPrep, ScramServer, ScramSha256, StoredVerifier};
-use tests::proved::pgp_test_alloc::counting::Counting;
+use tests::proved::test_alloc::counting::Counting;
 
 /// A verifier of `pencil` with so many rounds, and a salt of so many bytes.
 fn verifier_of(count: u32, salt_len: usize) -> Option<StoredVerifier> {

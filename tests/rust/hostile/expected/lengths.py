@@ -1,4 +1,4 @@
-"""Makes the tables lengths.rows and server_lengths.rows of crates/pgp_rows: `python3 expected/lengths.py ../../../crates/pgp_rows/data`, in tests/rust/hostile.
+"""Makes the tables lengths.rows and server_lengths.rows of crates/test_rows: `python3 expected/lengths.py ../../../crates/test_rows/data`, in tests/rust/hostile.
 
 Written from the manual's "Message Formats" (the message `v` from this project's profile of protocol 3.2) and from what PostgreSQL's `array_send`, `hstore_send`, `path_send`, `range_send`,
 `varbit_send`, `network_send` (of `inet` and `cidr`), `record_send`, `multirange_send`, `poly_send`, `pg_snapshot_send`, `tsvectorsend`, `tsquerysend` and `numeric_send` write, and not from the code of this repository. Which refusal comes for what is the table of refusals in the

@@ -1,0 +1,35 @@
+//! What holds of all sessions of a connection.
+
+ghost use Rattle.std.specs.Prelude.{◌≡◌, ◌≢◌, ℕ, Bool, List, Some, if◌then◌else◌};
+ghost use Rattle.std.specs.Str.{bytes_eq};
+ghost use Rattle.pgp_client.specs.InTurns.{BelongInTurns};
+ghost use Rattle.pgp_client.specs.Telling.{Turn, reported_in};
+ghost use Rattle.pgp_client.specs.declared.event.Event.{Event as Reported};
+ghost use Rattle.pgp_message.specs.BackendMessage.{Message as Received, ParameterStatus};
+ghost use Rattle.pgp_message.specs.Parts.{Setting};
+ghost use Rattle.for_c_auth.specs.Connection.{Link};
+ghost use Rattle.for_c_auth.specs.Login.{done};
+ghost use Rattle.for_c_auth.specs.Runs.{LetIn, Runs};
+ghost use Rattle.for_c_auth.specs.Settings.{settled, value_of};
+ghost use Rattle.for_c_auth.specs.declared.asking.PgpWays.{PgpWays as Ways};
+
+/// Whatever a server sends, a connection that is logged in came there by a way that is admitted; and where an exchange of SCRAM-SHA-256 was begun, by that alone, and only
+/// where the server showed the signature of the password's verifier.
+pub fn who_is_let_in_has_signed()
+    ensures { (w : Ways) (begun : Bool) (heard : List Received) (turns : List Turn) (now : Link) → Runs w begun heard turns now → now.login.phase ≡ done → LetIn w heard begun }
+{}
+
+/// Each message that was taken belongs to the request that was reported, and to no other.
+pub fn answers_belong_to_their_requests()
+    ensures belong { (w : Ways) (begun : Bool) (heard : List Received) (turns : List Turn) (now : Link) → Runs w begun heard turns now → BelongInTurns turns (reported_in turns) }
+    ensures alone { (w : Ways) (begun : Bool) (heard : List Received) (turns : List Turn) (now : Link) (truth : List Reported) → Runs w begun heard turns now → BelongInTurns turns truth
+        → truth ≡ reported_in turns }
+{
+    pgp_client::laws::messages_belong_in_turns();
+}
+
+/// Where memory is given for settings, one has the value that was reported last under its name, and each other the value that it had.
+pub fn settings_have_their_last_values()
+    ensures { (given : ℕ) (s : Setting) (kept : List Setting) (name : List ℕ) → given ≢ 0
+        → value_of name (settled given (ParameterStatus s) kept) ≡ (if bytes_eq s.name name then Some s.value else value_of name kept) }
+{}

@@ -1,5 +1,0 @@
-use Rattle.std.proofs.Common.{length}
-use Rattle.pgp_bench.proofs.streams.lengths.Given as goal
-
-abbrev pub decreases-values : goal.decreases-values
-decreases-values l = length l.ranges.items

@@ -1,5 +1,0 @@
-use Rattle.std.proofs.Common.{length}
-use Rattle.pgp_bench.proofs.streams.read.Given as goal
-
-abbrev pub decreases-messages : goal.decreases-messages
-decreases-messages l = length l.buf.items

@@ -1,6 +1,0 @@
-use Rattle.pgp_c.proofs.Common.{rules, Ok, Some, DataRow}
-use Rattle.pgp_c.proofs.Fronts.{reported}
-use Rattle.pgp_c.proofs.front.pgp_front.Goals as goal
-
-pub returns-in-Some : goal.returns-in-Some
-returns-in-Some c = reported c.args.bytes.now c.rest.result.now (Ok (Some (DataRow c.in-Some.row))) _ _ (search rules) (search rules) (search rules) (search rules, search rules, search rules) (search rules) (search rules)

@@ -1,6 +1,0 @@
-use Rattle.pgp_c.proofs.Common.{rules, refl}
-use Rattle.pgp_c.proofs.PointLists.{begins_path}
-use Rattle.pgp_c.proofs.points.pgp_get_path.Goals as goal
-
-pub returns-in-Ok-clause-read : goal.returns-in-Ok-clause-read
-returns-in-Ok-clause-read c z = begins_path c.args.bytes.now _ _ _ _ c.in-Ok.ensures.value (search rules) (search rules) refl

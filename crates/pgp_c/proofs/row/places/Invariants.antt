@@ -1,5 +1,0 @@
-use Rattle.pgp_c.proofs.Rows.{Reading}
-use Rattle.pgp_c.proofs.row.places.Given as goal
-
-abbrev pub invariant-values : goal.invariant-values
-invariant-values l = Reading l.bytes l.end l.count l.fn.columns l.rest l.i l.columns

@@ -1,5 +1,0 @@
-use Rattle.pgp_conversation.proofs.OneSession.{one_listing}
-use Rattle.pgp_conversation.proofs.laws.one_listing.Goals as goal
-
-pub returns : goal.returns
-returns c = one_listing c.one_text.ensures c.texts_are_unique.ensures.of_date

@@ -1,6 +1,0 @@
--- The bytes so far were added.
-use Rattle.pgp_line.proofs.Common.{◌≡◌, ◌++◌, take, string_bytes, flat_map, hex_byte}
-use Rattle.pgp_line.proofs.hex.put_hexes.Given as goal
-
-abbrev pub invariant-loop-byte : goal.invariant-loop-byte
-invariant-loop-byte g l = string_bytes l.line ≡ string_bytes l.fn.line ++ flat_map hex_byte (take l.byte-index l.bytes)

@@ -1,5 +1,0 @@
-use Rattle.pgp_line.proofs.JsonReads.{string_stands}
-use Rattle.pgp_line.proofs.laws.strings_are_read.Goals as goal
-
-pub returns : goal.returns
-returns c = string_stands

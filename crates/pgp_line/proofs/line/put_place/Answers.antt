@@ -1,8 +1,0 @@
-use Rattle.pgp_line.proofs.Common.{◌≡◌, ◌++◌, ap, subst, ◌∙◌, string_bytes, OnOk, styled_decimal}
-use Rattle.pgp_line.proofs.Columns.{right_10}
-use Rattle.pgp_line.proofs.line.put_place.Goals as goal
-
-pub returns-clause-text : goal.returns-clause-text
-returns-clause-text g c =
-    subst (λ l. OnOk c.push_shown.result (string_bytes c.push_shown.new.text ≡ string_bytes c.args.line.now ++ l))
-    (ap (λ s. styled_decimal s c.args.place) c.laid_out.ensures ∙ right_10 c.args.place) c.push_shown.ensures.bytes

@@ -1,8 +1,0 @@
-use Rattle.pgp_names.proofs.FoundLemmas.{apart_put, apart_without}
-use Rattle.pgp_names.proofs.laws.names_stay_apart.Goals as goal
-
-pub returns-clause-put : goal.returns-clause-put
-returns-clause-put g c = apart_put
-
-pub returns-clause-without : goal.returns-clause-without
-returns-clause-without g c = apart_without

@@ -1,5 +1,0 @@
-use Rattle.pgp_summary.proofs.Tallies.{all_tallied}
-use Rattle.pgp_summary.proofs.laws.runs_are_tallied.Goals as goal
-
-pub returns : goal.returns
-returns c = all_tallied

@@ -1,6 +1,0 @@
-use Rattle.pgp_wire.proofs.Common.{rules}
-use Rattle.pgp_wire.proofs.ScriptLemmas.{never_said}
-use Rattle.pgp_wire.proofs.script.request_of.Goals as goal
-
-pub returns-in_default-word-clause-other : goal.returns-in_default-word-clause-other
-returns-in_default-word-clause-other g c = never_said c.args.line.now c.words.result.0.now c.words.result.1.now c.words.ensures.parts c.words.ensures.first (search rules) (search rules) (search rules) (search rules) (search rules) (search rules) (search rules)

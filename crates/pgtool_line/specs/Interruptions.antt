@@ -1,0 +1,16 @@
+-- Calls that are interrupted, and those that fail.
+use Rattle.std.specs.Prelude.{◌≡◌, ◌≢◌, ◌⊎◌, ℕ, ◌+◌}
+use Rattle.std.specs.IoError.{error_kind}
+use Rattle.std.specs.declared.io.Error.{Error}
+use Rattle.std.specs.declared.io.ErrorKind.TheVariants.{Interrupted}
+use Rattle.pgtool_line.specs.Words.{greatest}
+
+-- A call that is rejected so was interrupted, one call in a row more than before it; or it failed.
+pub record Refuses {S : Type 0} (fails : Type 0) (interrupted : S → ℕ → Type 0) (old new : S) (e : Error) : Type 0 where
+  pub failed : error_kind e ≢ Interrupted → fails
+  pub once : error_kind e ≡ Interrupted → interrupted new 1
+  pub again : error_kind e ≡ Interrupted → (n : ℕ) → interrupted old n → interrupted new (n + 1)
+
+-- Why no more is tried: a call failed, or as many in a row were interrupted as can be counted.
+abbrev pub GivesUp : {S : Type 0} → Type 0 → (S → ℕ → Type 0) → Type 0
+GivesUp {S} fails interrupted = fails ⊎ ((now : S) × interrupted now greatest)
