@@ -1,14 +1,14 @@
 """What ends what: streams within blocks, blocks within blocks, calls of other tasks and threads, limits; with a server that plays bytes, of the manual's
 "Message Flow", to the blocking client and to the one for asyncio."""
 import asyncio
-import contextlib
+import socket
 import threading
 import time
 
-from postgres_protocol import aio, client
+from postgres_protocol import aio, client, settings
 from faults import ANSWERED, COPY_OUT, OPENED, SELECT, _error, error_of, play
 from server import frame
-from sessions import DESCRIBED, PREPARED, READY, with_server
+from sessions import AUTHENTICATED, DESCRIBED, PREPARED, READY, with_server
 
 BEGUN = frame(b'1', b'') + frame(b'2', b'') + frame(b'C', b'BEGIN\0')
 INSERTED = BEGUN + ANSWERED[:-1] + b'T'
@@ -17,6 +17,7 @@ ENDED = (error_of(b'57014', b'canceling statement due to user request') + frame(
 TAKEN_BACK = frame(b'C', b'ROLLBACK\0') + READY
 ONE_PIECE = COPY_OUT + frame(b'd', b'1\n')
 NOTHING = frame(b'1', b'') + frame(b't', b'\0\0') + DESCRIBED + OPENED
+REPLANNED = frame(b'E', b'SERROR\0VERROR\0C0A000\0Mcached plan must not change result type\0RRevalidateCachedQuery\0\0')
 ONE_ROW = COPY_OUT + frame(b'd', b'PGCOPY\n\xff\r\n\0' + bytes(8) + b'\0\2\0\0\0\4\0\0\0\5\0\0\0\1x')
 
 
@@ -127,7 +128,86 @@ def check_asyncio_streams(same):
     same('asyncio, dropped', (found, tags), ((b'1\n', [(7, 'hello')]), b'Q' b'cancel' b'PDSBESX'))
 
 
+def check_once(same):
+    """A statement that was kept, and fails by an error that looks like that of a stale one, runs once: only where its Bind failed is it prepared anew."""
+    for state, failure in (('26000', error_of(b'26000', b'prepared statement "x" does not exist')), ('0A000', REPLANNED)):
+        whole = frame(b'2', b'') + failure + READY
+        found, tags, _ = play([PREPARED, ANSWERED, whole, b''], lambda c: (c.execute(SELECT, (5,)).fetchall(), _error(lambda: c.execute(SELECT, (5,))).sqlstate), autocommit=True)
+        same('runs once', (found[1], tags), (state, b'PDSBESBESX'))
+
+
+def check_encodings(same):
+    """A session in another encoding than UTF8 is closed, at its log-in and by SET: its texts would become others."""
+    latin = frame(b'S', b'client_encoding\0LATIN1\0')
+    found, _, _ = play([PREPARED, frame(b'2', b'') + latin + frame(b'C', b'SET\0') + READY], lambda c: (_error(lambda: c.execute(SELECT, (5,))), c.closed), autocommit=True)
+    same('SET client_encoding', (type(found[0]), found[1], 'LATIN1' in str(found[0])), (client.Broken, True, True))
+    listening = socket.create_server(('127.0.0.1', 0))
+
+    def serve():
+        for _ in range(2):
+            peer = listening.accept()[0]
+            peer.recv(1000)
+            peer.sendall(AUTHENTICATED + latin + READY)
+            peer.recv(1000)
+            peer.close()
+    thread = threading.Thread(target=serve, daemon=True)
+    thread.start()
+    port = listening.getsockname()[1]
+    for call in (lambda: client.connect('127.0.0.1', port, 'alice', sslmode='disable'), lambda: asyncio.run(aio.connect('127.0.0.1', port, 'alice', sslmode='disable'))):
+        same('another encoding', type(_error(call)), client.Broken)
+    thread.join(10)
+    listening.close()
+    for encoding in ('utf-8', 'UTF8', 'unicode'):
+        same('names of UTF8', settings.Options({'host': 'h', 'user': 'u', 'client_encoding': encoding}).parameters, {})
+
+
+def check_blocks(same):
+    """`async with connection` commits, or rolls back, as the blocking one does; within a block of `transaction` neither is taken, nor a block of another task or thread."""
+    committed = [PREPARED, INSERTED, frame(b'C', b'COMMIT\0') + READY, b'']
+
+    async def commits(c):
+        async with c:
+            await c.execute(SELECT, (5,))
+        return c.closed, c.in_transaction
+    found, tags, seen = aplay(committed, commits, autocommit=False)
+    same('asyncio, committed', (found, tags, seen[-2][1]), ((False, False), b'PDS' b'PBEBES' b'QX', b'COMMIT\0'))
+
+    async def rolls_back(c):
+        try:
+            async with c:
+                await c.execute(SELECT, (5,))
+                raise KeyError('mine')
+        except KeyError:
+            return c.closed, c.in_transaction
+    found, tags, seen = aplay([PREPARED, INSERTED, TAKEN_BACK, b''], rolls_back, autocommit=False)
+    same('asyncio, rolled back', (found, seen[-2][1]), ((False, False), b'ROLLBACK\0'))
+
+    def inside(c):
+        with c.transaction():
+            found = [type(_error(call)) for call in (c.commit, c.rollback, lambda: c.__exit__(None, None, None))]
+            thread = threading.Thread(target=lambda: found.append(type(_error(lambda: c.transaction().__enter__()))))
+            thread.start()
+            thread.join(10)
+        return found, c.in_transaction
+    found, tags, _ = play([QUERIED, frame(b'C', b'COMMIT\0') + READY, b''], inside)
+    same('within a block', (found, tags), (([client.ProgrammingError] * 4, False), b'QQX'))
+
+    async def tasks(c):
+        async with c.transaction():
+            return [type(await _failure(call)) for call in (c.commit(), c.rollback(), asyncio.ensure_future(c.transaction().__aenter__()))]
+    found, tags, _ = aplay([QUERIED, frame(b'C', b'COMMIT\0') + READY, b''], tasks)
+    same('asyncio, within a block', (found, tags), ([client.ProgrammingError] * 3, b'QQX'))
+    gone = error_of(b'57P01', b'terminating', b'FATAL')
+    for block, before in ((lambda c: c, [PREPARED, INSERTED]), (lambda c: c.transaction(), [QUERIED, PREPARED[:-1] + b'T', ANSWERED[:-1] + b'T'])):
+        def fails(c):
+            with block(c):
+                c.execute(SELECT, (5,))
+                raise KeyError('mine')
+        found, _, _ = play([*before, gone], fails)
+        same("the caller's exception", repr(found), "KeyError('mine')")
+
+
 def check_what_ends_what(same):
     """All of them."""
-    for check in (check_streams, check_asyncio_streams):
+    for check in (check_streams, check_asyncio_streams, check_once, check_encodings, check_blocks):
         check(same)

@@ -11,7 +11,7 @@ import math
 import os
 import ssl as tls
 from types import TracebackType
-from typing import Any, AsyncIterable, AsyncIterator, Iterable, List, Optional, Sequence, Type, Union
+from typing import Any, AsyncIterable, AsyncIterator, Iterable, List, Mapping, Optional, Sequence, Type, Union
 
 from . import events
 from .copying import binary_rows
@@ -208,11 +208,11 @@ class Connection(Shared):
 async def connect(host: Optional[str] = None, port: Union[int, str, None] = None, user: Optional[str] = None, password: Optional[str] = None, dbname: Optional[str] = None, *,
                   autocommit: bool = True, ssl: Optional[tls.SSLContext] = None, sslmode: Optional[str] = None, require_auth: Union[str, Sequence[str], None] = None,
                   connect_timeout: Optional[float] = None, timeout: Optional[float] = None, prepare: int = 256, row_factory: Optional[RowFactory] = None,
-                  registry: Optional[Registry] = None, **parameters: str) -> Connection:
+                  registry: Optional[Registry] = None, settings: Optional[Mapping[str, str]] = None, **parameters: str) -> Connection:
     """Opens a connection, as `postgres_protocol.client.connect` does; `autocommit` is True here by default."""
     given = {'host': host, 'port': port, 'user': user, 'password': password, 'dbname': dbname, 'sslmode': sslmode, 'require_auth': require_auth,
              'connect_timeout': connect_timeout, **parameters}
-    options, behaviour = Options(given, ssl), Behaviour(autocommit, timeout, prepare, row_factory, registry)
+    options, behaviour = Options(given, ssl, settings), Behaviour(autocommit, timeout, prepare, row_factory, registry)
     tries = attempts(options)
     attempt = next(tries)
     while True:

@@ -14,7 +14,7 @@ import os
 import ssl as tls
 import threading
 from types import TracebackType
-from typing import Any, Iterable, Iterator, List, Optional, Sequence, Type, Union
+from typing import Any, Iterable, Iterator, List, Mapping, Optional, Sequence, Type, Union
 
 from . import events
 from ._library import ProtocolError
@@ -168,14 +168,14 @@ class Connection(Shared):
 def connect(host: Optional[str] = None, port: Union[int, str, None] = None, user: Optional[str] = None, password: Optional[str] = None, dbname: Optional[str] = None, *,
             autocommit: bool = False, ssl: Optional[tls.SSLContext] = None, sslmode: Optional[str] = None, require_auth: Union[str, Sequence[str], None] = None,
             connect_timeout: Optional[float] = None, timeout: Optional[float] = None, prepare: int = 256, row_factory: Optional[RowFactory] = None,
-            registry: Optional[Registry] = None, **parameters: str) -> Connection:
+            registry: Optional[Registry] = None, settings: Optional[Mapping[str, str]] = None, **parameters: str) -> Connection:
     """Opens a connection. `host` may be a connection string, `host=.. user=..`, or a URL, `postgresql://..`; what isn't given is taken from the service
     file, the environment and the password file, as libpq has them. A host that begins with `/` is the folder of a Unix socket. `sslmode` is one of libpq's; the context `ssl`
     says which certificates count, and requires encryption. `require_auth` names the admitted ways of logging in. `connect_timeout` is the limit of time of the
-    log-in, `timeout` that of each call, in seconds. `prepare` is how many prepared statements are kept, 0 for a pooler. Other names are settings of the session, as `application_name`."""
+    log-in, `timeout` that of each call, in seconds. `prepare` is how many prepared statements are kept, 0 for a pooler. `settings` are those of the session, as `work_mem`; other names are libpq's options, as `application_name`."""
     given = {'host': host, 'port': port, 'user': user, 'password': password, 'dbname': dbname, 'sslmode': sslmode, 'require_auth': require_auth,
              'connect_timeout': connect_timeout, **parameters}
-    options = Options(given, ssl)
+    options = Options(given, ssl, settings)
     tries = attempts(options)
     attempt = next(tries)
     while True:

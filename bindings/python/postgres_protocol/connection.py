@@ -272,6 +272,7 @@ class Connection:
             first = request if self._taken else self._state.first_open or self._last + 1
             if first is None or self._told >= first:
                 return None
+            self._decoders.pop(self._told, None)
             self._told += 1
             if self._told - 1 not in self._ends:
                 return events.PassedOver(self._told - 1)

@@ -52,8 +52,12 @@ class Wire(Limits):
         super().__init__(limit)
         self._core, self._unsent = core, memoryview(b'')
         sock = connected(place, limit)
-        #: The server, at the address that answered.
-        self.place = reached(place, sock)
+        try:
+            #: The server, at the address that answered.
+            self.place = reached(place, sock)
+        except BaseException:
+            sock.close()
+            raise
         self._take(sock)
 
     def _take(self, sock: socket.socket) -> None:
@@ -192,7 +196,6 @@ def reached(place: Place, sock: Any) -> Place:
         except KeyError:
             name = str(number)
         if name != place.peer:
-            sock.close()
             raise OperationalError('requirepeer: the server runs as %r, not as %r' % (name, place.peer))
     return place
 
