@@ -207,7 +207,37 @@ def check_blocks(same):
         same("the caller's exception", repr(found), "KeyError('mine')")
 
 
+def check_mistakes(same):
+    """What a caller gets wrong ends neither the connection nor its transaction where nothing was sent for it, and is no value: None alone is no parameters."""
+    calls = (('a generator', TypeError, lambda c: c.execute(SELECT, (x for x in [5]))), ('a dict', TypeError, lambda c: c.execute(SELECT, {'a': 5})), ('a set', TypeError, lambda c: c.execute(SELECT, {5})),
+             ('a str', TypeError, lambda c: c.execute(SELECT, '5')), ('bytes', TypeError, lambda c: c.execute(SELECT, b'5')), ('a number', TypeError, lambda c: c.execute(SELECT, 5)),
+             ('NUL', client.DataError, lambda c: c.execute('SELECT \0')), ('a surrogate', client.DataError, lambda c: c.execute('SELECT \ud800')), ('NUL in a script', client.DataError, lambda c: c.script('SELECT \0')),
+             ('a surrogate in a script', client.DataError, lambda c: c.script('SELECT \ud800')), ('NUL in a copy', client.DataError, lambda c: c.cursor().copy_out('COPY \0')),
+             ('many numbers', TypeError, lambda c: c.cursor().executemany(SELECT, [1, 2])), ('no list', TypeError, lambda c: c.cursor().executemany(SELECT, 5)),
+             ('itersize', OverflowError, lambda c: c.cursor('x', -1).execute(SELECT, (5,))), ('itersize 0', OverflowError, lambda c: c.cursor('x', 0).execute(SELECT, (5,))),
+             ('itersize x', TypeError, lambda c: c.cursor('x', 'x').execute(SELECT, (5,))), ('no value', client.DataError, lambda c: c.execute(SELECT, ('x',))),
+             ('an index', client.DataError, lambda c: c.execute(SELECT, (Wrong(),))), ('too few', client.InterfaceError, lambda c: c.execute(SELECT, None)))
+
+    def mistakes(c):
+        c.execute(SELECT, (5,))
+        found = [(what, type(_error(lambda: call(c))), c.closed, c.in_transaction) for what, _, call in calls]
+        return found, c.execute(SELECT, [5]).fetchall()
+    found, tags, _ = play([PREPARED, INSERTED, ANSWERED[:-1] + b'T', b''], mistakes)
+    same('mistakes', (found, tags), (([(what, error, False, True) for what, error, _ in calls], [(7, 'hello')]), b'PDS' b'PBEBES' b'BES' b'X'))
+    none = frame(b'1', b'') + frame(b't', b'\0\0') + DESCRIBED + READY
+    found, tags, _ = play([none, ANSWERED, b''], lambda c: c.execute('SELECT 1', None).fetchall(), autocommit=True)
+    same('no parameters', (found, tags), ([(7, 'hello')], b'PDSBESX'))
+
+
+class Wrong(int):
+    """No number: what asks for it gets the exception of an index."""
+
+    def __le__(self, other):
+        raise IndexError('mine')
+    __ge__ = __lt__ = __gt__ = __le__
+
+
 def check_what_ends_what(same):
     """All of them."""
-    for check in (check_streams, check_asyncio_streams, check_once, check_encodings, check_blocks):
+    for check in (check_mistakes, check_streams, check_asyncio_streams, check_once, check_encodings, check_blocks):
         check(same)
