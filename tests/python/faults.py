@@ -59,8 +59,8 @@ def check_copies(same):
         same('a copy by another call', (type(found), tags), (client.ProgrammingError, b'QfX'))
     found, tags, _ = play([COPY_OUT + frame(b'd', b'1\n') + frame(b'c', b'') + frame(b'C', b'COPY 1\0') + READY, b''], lambda c: c.execute('COPY t TO STDOUT'), autocommit=True)
     same('data that nobody asked for', (type(found), tags), (client.ProgrammingError, b'QX'))
-    same('the first word', [copying.first_word(sql) for sql in ('copy t', ' /* a /* b */ c */-- d\n\tCopy', '-- x', '/* COPY', 'COPYX', '')],
-         ['COPY', 'COPY', '', '', 'COPYX', ''])
+    same('the first word', [copying.first_word(sql) for sql in ('copy t', ' /* a /* b */ c */-- d\n\tCopy', '-- x', '/* COPY', 'COPYX', '', ';; /* x */ ;copy t')],
+         ['COPY', 'COPY', '', '', 'COPYX', '', 'COPY'])
     types = [Registry().get(oid) for oid in (23, 25)]
     wanted = b'PGCOPY\n\xff\r\n\0' + bytes(8) + b'\0\2\0\0\0\4\0\0\0\5\xff\xff\xff\xff' + b'\0\2\0\0\0\4\xff\xff\xff\xff\0\0\0\1x' + b'\xff\xff'
     same('rows in binary', b''.join(copying.binary_rows([(5, None), (-1, 'x')], types)), wanted)

@@ -19,7 +19,7 @@ from .errors import Error, InterfaceError, OperationalError, Timeout
 from .link import Link, Turns, cancel, drive
 from .settings import Options, Place
 from .registry import Registry
-from .session import CANCEL, CHUNK, ENCRYPT, READ, SEND, Flow, Result, Statement
+from .session import CANCEL, CHUNK, ENCRYPT, READ, SEND, Flow, Result
 from .shared import END, Behaviour, RowFactory, Shared, as_chunk, attempts, dict_row, namedtuple_row, shaped, translated
 from .streams import AsyncStream, Copied, CopiedRows, Parts, Source
 
@@ -156,9 +156,8 @@ class Connection(Shared):
 
     async def copy_rows_in(self, table: str, rows: Iterable[Sequence[Any]], columns: Sequence[str] = ()) -> Result:
         """Copies rows of values to a table, as the blocking cursor's call."""
-        names, select = self._session.columns(table, columns)
-        statement: Statement = await self._run(self._session.describe(select))
-        return await self.copy_in('COPY %s %s FROM STDIN (FORMAT binary)' % (table, names), binary_rows(rows, self._session.known(statement)))
+        sql, types = await self._run(self._session.columns(table, columns))
+        return await self.copy_in(sql, binary_rows(rows, types))
 
     def copy_rows_out(self, query: str) -> AsyncStream:
         """Rows of values of a query, copied in the binary format, as they come."""
@@ -193,8 +192,11 @@ class Connection(Shared):
         await cancel(self._wire.place, self._core, self._options.context() if self._wire.is_encrypted else None)
 
     async def close(self) -> None:
-        """Ends the session. What isn't committed is rolled back."""
-        if not self._is_closed and self._process == os.getpid():
+        """Ends the session. What isn't committed is rolled back. A process that was forked ends nothing."""
+        if self._process != os.getpid():
+            self._is_closed = True
+            return
+        if not self._is_closed:
             self._core.terminate()
             self._wire.write()
         await self._closed()

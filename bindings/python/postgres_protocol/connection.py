@@ -20,6 +20,8 @@ __all__ = ['Connection', 'DecodeError', 'LogInError', 'METHODS']
 
 #: The requests that a Sync has to follow.
 _SERIES = frozenset(('Parse', 'Bind', 'Execute', 'DescribeStatement', 'DescribePortal', 'Close'))
+#: So many settings are kept.
+_SETTINGS = 1000
 _ASIDE = ('NoticeResponse', 'NotificationResponse', 'ParameterStatus')
 
 
@@ -346,7 +348,8 @@ class Connection:
         first, second = message.first.decode(errors='replace'), message.second.decode(errors='replace')
         if message.kind == 'NotificationResponse':
             return events.Notification(None, message.number, first, second)
-        self.settings[first] = second
+        if first in self.settings or len(self.settings) < _SETTINGS:
+            self.settings[first] = second
         return events.Setting(None, first, second)
 
     def _answer(self, message: Message, request: Optional[int], is_last: bool) -> Optional[events.Event]:

@@ -100,21 +100,15 @@ class Cursor:
         return Stream(self.connection, Copied(self.connection._session, sql))
 
     def copy_rows_in(self, table: str, rows: Iterable[Sequence[Any]], columns: Sequence[str] = ()) -> 'Cursor':
-        """Copies rows of values to a table (`name` or `schema.name`, as SQL has it) in the binary format: to all columns, or to those of these names."""
-        session = self.connection._session
-        names, select = session.columns(table, columns)
-        types = session.known(self._described(select))
-        return self.copy_in('COPY %s %s FROM STDIN (FORMAT binary)' % (table, names), binary_rows(rows, types))
+        """Copies rows of values to a table (`name` or `schema.name`, as SQL has it) in the binary format: to all columns that aren't generated, or to those of these names."""
+        self._begin()
+        sql, types = self.connection._run(self.connection._session.columns(table, columns))
+        return self.copy_in(sql, binary_rows(rows, types))
 
     def copy_rows_out(self, query: str) -> Stream:
         """Rows of values of a query, copied in the binary format, as they come."""
         self._begin()
         return Stream(self.connection, CopiedRows(self.connection._session, query, self.row_factory))
-
-    def _described(self, sql: str) -> Statement:
-        self._begin()
-        statement: Statement = self.connection._run(self.connection._session.describe(sql))
-        return statement
 
     def _rows(self) -> List[Any]:
         if self._is_closed:
@@ -143,6 +137,8 @@ class Cursor:
     def fetchmany(self, size: Optional[int] = None) -> List[Any]:
         """The next rows, `arraysize` of them unless another number is given."""
         count = self.arraysize if size is None else size
+        if count < 0:
+            raise ProgrammingError('fetchmany: a number of rows is expected, not %d' % count)
         self._more(count)
         self._at += count
         return self._rows()[self._at - count:self._at]

@@ -2,7 +2,7 @@
 for asyncio run the same generators."""
 from array import array
 from collections import OrderedDict
-from typing import Any, Callable, Dict, Generator, List, NamedTuple, Optional, Sequence, Tuple
+from typing import Any, Callable, Dict, Generator, List, NamedTuple, Optional, Sequence, Set, Tuple
 
 from . import errors, events
 from ._library import EMBEDDED_NULL, INT32, ProtocolError, as_integer
@@ -22,6 +22,9 @@ Found = Generator[str, Any, List[events.Event]]
 _PIECE, _NOTICES = 65536, 1000
 #: So many seconds a cancelled statement has for its answer; then the connection is closed.
 GRACE = 5
+#: (A server before version 12 has no generated columns, nor `attgenerated`.)
+_COLUMNS = ("SELECT attname::text FROM pg_catalog.pg_attribute a WHERE attrelid = $1::regclass AND attnum > 0 AND NOT attisdropped "
+            "AND coalesce(to_jsonb(a)->>'attgenerated', '') = '' ORDER BY attnum")
 _OTHER_CALL = 'the statement copies: copy_in(..) and copy_out(..) are the calls for it'
 
 
@@ -57,6 +60,8 @@ class Session:
         self._dropped: List[str] = []
         self._named = 0
         self._settled = -1
+        #: How often the session was outside a transaction, and the names of the portals that are open since then.
+        self._idles, self._open_since, self._open = 0, 0, set()  # type: int, int, Set[str]
         #: The request that failed last, and the Executes of the last series.
         self._failed_at: Optional[int] = None
         self._executed: Dict[Optional[int], Result] = {}
@@ -149,6 +154,7 @@ class Session:
                     raise failed
             elif isinstance(event, events.Ready) and event.request == last:
                 self._settled = last
+                self._idles += event.status == 'I'
                 if failed is not None:
                     raise failed
                 return found
@@ -189,10 +195,13 @@ class Session:
         """The parameters and columns of a statement, which isn't kept."""
         return (yield from self._prepare('', sql, True))
 
-    def columns(self, table: str, names: Sequence[str]) -> Tuple[str, str]:
-        """The columns of a copy, quoted and in parentheses, or nothing for all; and the query that describes them."""
+    def columns(self, table: str, names: Sequence[str]) -> Flow:
+        """The COPY of rows of values to a table, and the types of its columns: of those of these names, or of all that aren't generated."""
+        if not names:
+            names = [row[0] for row in (yield from self.execute(_COLUMNS, (table,))).rows]
         quoted = ', '.join(escape_identifier(name.encode()).decode() for name in names)
-        return quoted and '(%s)' % quoted, 'SELECT %s FROM %s' % (quoted or '*', table)
+        statement: Statement = yield from self.describe('SELECT %s FROM %s' % (quoted, table))
+        return 'COPY %s %s FROM STDIN (FORMAT binary)' % (table, quoted and '(%s)' % quoted), self.known(statement)
 
     def known(self, statement: Statement) -> List[Type]:
         """The types of a statement's columns, all of which have to be known in the binary format."""
@@ -287,7 +296,11 @@ class Session:
         row, most = as_row(values), as_integer(size, 'itersize', 1, INT32[1])
         if self.autocommit and self.connection.status == 'I':
             raise errors.ProgrammingError('rows that come in parts need a transaction')
+        if portal in self._open and self._open_since == self._idles:
+            raise errors.ProgrammingError('another cursor of this name is open')
         statement, results = yield from self._run(sql, [row], portal, most)
+        self._open = {portal, *(self._open if self._open_since == self._idles else ())}
+        self._open_since = self._idles
         return statement, results[0]
 
     def fetch(self, portal: str, statement: Statement, size: int) -> Flow:
@@ -298,6 +311,7 @@ class Session:
 
     def close_portal(self, portal: str) -> Flow:
         """Closes a portal."""
+        self._open.discard(portal)
         self.connection.close('P', portal)
         yield from self._until_ready(self.connection.sync())
 
