@@ -187,27 +187,22 @@ class Turns:
     """So many places, which are given to those that wait in their order."""
 
     def __init__(self, places: int = 1) -> None:
-        self._free, self._waiting = places, deque()  # type: int, Deque[asyncio.Future[None]]
-
-    @property
-    def waiting(self) -> int:
-        """How many wait."""
-        return len(self._waiting)
+        self._free, self.waiting = places, deque()  # type: int, Deque[asyncio.Future[None]]
 
     async def take(self, limit: Optional[float], why: str) -> None:
         """Waits for a place. Who doesn't get one, or is cancelled, has none."""
-        if self._free and not self._waiting:
+        if self._free and not self.waiting:
             self._free -= 1
             return
         loop = asyncio.get_running_loop()
         turn: 'asyncio.Future[None]' = loop.create_future()
-        self._waiting.append(turn)
+        self.waiting.append(turn)
         timer = None if limit is None else loop.call_later(limit, self._late, turn, Timeout(why % limit))
         try:
             await turn
         except BaseException:
-            if turn in self._waiting:
-                self._waiting.remove(turn)
+            if turn in self.waiting:
+                self.waiting.remove(turn)
             elif not turn.cancelled() and turn.exception() is None:
                 self.give()
             raise
@@ -217,13 +212,13 @@ class Turns:
 
     def _late(self, turn: 'asyncio.Future[None]', error: Timeout) -> None:
         if not turn.done():
-            self._waiting.remove(turn)
+            self.waiting.remove(turn)
             turn.set_exception(error)
 
     def give(self) -> None:
         """Gives a place back."""
-        while self._waiting:
-            turn = self._waiting.popleft()
+        while self.waiting:
+            turn = self.waiting.popleft()
             if not turn.done():
                 turn.set_result(None)
                 return

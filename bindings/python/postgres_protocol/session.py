@@ -331,6 +331,12 @@ class Session:
         """A statement that opens no transaction but its own."""
         yield from self._until_ready(self.connection.query(sql))
 
+    def discard(self) -> Flow:
+        """`DISCARD ALL`: the server keeps nothing of the session, and no statement."""
+        yield from self.plain('DISCARD ALL')
+        self._statements.clear()
+        self._dropped.clear()
+
     def finish(self, sql: str, limit: Callable[[float], None]) -> Flow:
         """`COMMIT` or `ROLLBACK`, where a transaction is open. The server rolls one that failed back at its COMMIT: that is an error. Where the answer is
         late it is cancelled, by a further limit, and what came of it is what counts."""

@@ -1,5 +1,6 @@
 """What the blocking connection and the one for asyncio have in common."""
 import os
+import time
 from typing import TYPE_CHECKING, Any, Callable, Generator, List, NamedTuple, Optional, Tuple
 
 from . import errors, events
@@ -61,8 +62,8 @@ class Shared:
     def __init__(self, options: Options, place: Place, encrypts: bool, behaviour: Behaviour) -> None:
         self._options, self._core = options, options.core(place, encrypts)
         self._session, self._is_closed = Session(self._core, behaviour.registry, behaviour.prepare), False
-        self._session.autocommit = behaviour.autocommit
-        self._portals, self._process = 0, os.getpid()
+        self._session.autocommit, self._behaviour = behaviour.autocommit, behaviour
+        self._portals, self._process, self._born = 0, os.getpid(), time.monotonic()
         self._blocks: List[Block] = []
         #: The stream that holds the connection; whether a call runs, and whether it is at what the caller gave it.
         self._source: Optional['Source'] = None
@@ -174,6 +175,17 @@ class Shared:
         if self._blocks:
             raise errors.ProgrammingError('%s within a block of transaction(), which ends by itself' % sql)
         yield from self._session.finish(sql, self._wire.set_limit)
+
+    def _restore(self, reset: str) -> Flow:
+        """Makes the connection as it was at its beginning, for another borrower of a pool."""
+        self._blocks = []
+        if reset != 'none':
+            yield from self._session.finish('ROLLBACK', self._wire.set_limit)
+        if reset == 'discard':
+            yield from self._session.discard()
+        self._session.autocommit, self.timeout, _, self.row_factory, _ = self._behaviour
+        self.notices.clear()
+        self.notifications.clear()
 
     def _last_words(self, error: BaseException) -> BaseException:
         """The server's own error, where it sent one before the connection broke."""
