@@ -244,6 +244,30 @@ class Wrong(int):
 COMMITTED = frame(b'C', b'COMMIT\0') + READY
 
 
+def check_rows_and_modes(same):
+    """Rows by `next`, by a class and as a value; the modes of a transaction."""
+    two = frame(b'2', b'') + ROW * 2 + frame(b'C', b'SELECT 2\0') + READY
+
+    def use(c):
+        cursor = c.execute(SELECT, (5,))
+        found = [next(cursor), next(cursor), type(_error(lambda: next(cursor)))]
+        for factory in (client.scalar_row, client.class_row(lambda id, name: (name, id))):
+            cursor.row_factory = factory
+            found.append(list(cursor.execute(SELECT, (5,))))
+        return found
+    found, _, _ = play([PREPARED, two, two, two, b''], use, autocommit=True)
+    same('rows', found, [(7, 'hello'), (7, 'hello'), StopIteration, [7, 7], [('hello', 7)] * 2])
+    null = frame(b'2', b'') + frame(b'D', b'\0\2\xff\xff\xff\xff\xff\xff\xff\xff') + ROW + frame(b'C', b'SELECT 2\0') + READY
+    same('a value that is null ends no rows', play([PREPARED, null, b''], lambda c: list(c.execute(SELECT, (5,))), autocommit=True, row_factory=client.scalar_row)[0], [None, 7])
+
+    def modes(c):
+        with c.transaction('serializable', read_only=True, deferrable=True):
+            found = type(_error(lambda: c.transaction('serializable').__enter__()))
+        return found, type(_error(lambda: c.transaction('strict').__enter__()))
+    found, tags, seen = play([QUERIED, COMMITTED, b''], modes)
+    same('modes', (found, seen[0][1]), ((client.ProgrammingError,) * 2, b'BEGIN ISOLATION LEVEL SERIALIZABLE, READ ONLY, DEFERRABLE\0'))
+
+
 def check_late(same):
     """A limit of time: a commit whose answer comes is done, and one that is cancelled isn't; waiting for notifications ends, whatever else comes; and no cancel waits for other work."""
     def late(c):
@@ -387,5 +411,5 @@ def _closed(connection, run):
 
 def check_what_ends_what(same):
     """All of them."""
-    for check in (check_late, check_small, check_mistakes, check_streams, check_asyncio_streams, check_once, check_encodings, check_blocks):
+    for check in (check_rows_and_modes, check_late, check_small, check_mistakes, check_streams, check_asyncio_streams, check_once, check_encodings, check_blocks):
         check(same)

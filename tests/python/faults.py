@@ -4,6 +4,7 @@ import asyncio
 import datetime
 import os
 import pathlib
+import pickle
 import pwd
 import socket
 import ssl
@@ -73,7 +74,7 @@ def check_copies(same):
 def check_calls(same):
     gone = error_of(b'57P01', b'terminating', b'FATAL')
     found, _, _ = play([PREPARED, gone], lambda c: (_error(lambda: c.execute(SELECT, (5,))), c.closed), autocommit=True)
-    same('a server that goes', (type(found[0]), found[0].sqlstate, found[1]), (client.OperationalError, '57P01', True))
+    same('a server that goes', (type(found[0]), found[0].sqlstate, found[1]), (pg.errors.AdminShutdown, '57P01', True))
     found, _, _ = play([PREPARED], lambda c: (_error(lambda: c.execute(SELECT, (5,))), c.closed), autocommit=True)
     same('a server that is gone', (isinstance(found[0], client.OperationalError), found[1]), (True, True))
     stale = error_of(b'26000', b'prepared statement "s1" does not exist') + READY
@@ -90,6 +91,11 @@ def check_calls(same):
     found, _, _ = play([READY, b''], lambda c: _error(lambda: c.execute('SELECT \0')), autocommit=True)
     same('a statement that can not be sent', (type(found), str(found)), (client.DataError, 'what is given can not be sent: EmbeddedNull'))
     error = client.IntegrityError('x', {'C': '23505', 'n': 't_pkey', 'D': 'Key (id)=(1)', 'F': 'nbtinsert.c', 'V': 'ERROR'})
+    text = pg.errors.of_fields({'C': '23505', 'M': 'twice', 'P': '8', 'D': 'Key (id)=(1) exists.'})
+    same('an error by its SQLSTATE', (type(text), isinstance(text, client.IntegrityError), str(text)), (pg.errors.UniqueViolation, True, '23505: twice (at character 8)\nDETAIL: Key (id)=(1) exists.'))
+    copied = pickle.loads(pickle.dumps(text))
+    same('an error, copied', (type(copied), str(copied), copied.fields), (type(text), str(text), text.fields))
+    same('an error by its class', [type(pg.errors.of_fields({'C': state})) for state in ('23999', '99999')], [client.IntegrityError, client.DatabaseError])
     same('diag', (error.diag.sqlstate, error.diag.constraint_name, error.diag.message_detail, error.diag.source_file, error.diag.severity_nonlocalized, error.diag.table_name),
          ('23505', 't_pkey', 'Key (id)=(1)', 'nbtinsert.c', 'ERROR', None))
 
@@ -220,7 +226,7 @@ def check_peer(same):
                 thread.start()
                 error = _error(call)
                 thread.join(10)
-                same('requirepeer', (type(error), str(error)[:11], found[0] == b''), (client.OperationalError, '28P01: no', False) if wanted == own else (client.OperationalError, 'requirepeer', True))
+                same('requirepeer', (type(error), str(error)[:11], found[0] == b''), (pg.errors.InvalidPassword, '28P01: no', False) if wanted == own else (client.OperationalError, 'requirepeer', True))
             listening.close()
             os.unlink(folder + '/.s.PGSQL.5432')
 

@@ -6,7 +6,7 @@ import socket
 import threading
 
 import postgres_protocol as pg
-from postgres_protocol import aio, client, events
+from postgres_protocol import aio, client, errors, events
 from postgres_protocol.connection import Connection, DecodeError, LogInError
 from server import Exchange, frame
 
@@ -304,7 +304,7 @@ def check_client(same, raises):
             cursor = connection.cursor()
             cursor.execute('SELECT id, name FROM t WHERE id = $1', (5,))
             found = cursor.fetchone(), cursor.fetchall(), cursor.fetchone(), cursor.rowcount, [d[:2] for d in cursor.description]
-        raises('an error by its class', client.IntegrityError, '23505: twice', lambda: connection.execute('SELECT id, name FROM t WHERE id = $1', (6,)))
+        raises('an error by its SQLSTATE', errors.UniqueViolation, '23505: twice', lambda: connection.execute('SELECT id, name FROM t WHERE id = $1', (6,)))
         raises('too few values', client.InterfaceError, 'the statement has 1 parameters, and 0', lambda: connection.execute('SELECT id, name FROM t WHERE id = $1'))
         raises('a value of another type', client.DataError, 'a parameter is no value of its type', lambda: connection.execute('SELECT id, name FROM t WHERE id = $1', ('x',)))
         connection.close()

@@ -20,10 +20,10 @@ from .link import Link, Turns, cancel, drive
 from .settings import Options, Place
 from .registry import Registry
 from .session import CANCEL, CHUNK, ENCRYPT, READ, SEND, Flow, Result
-from .shared import END, Behaviour, RowFactory, Shared, as_chunk, attempts, dict_row, namedtuple_row, shaped, translated
+from .shared import END, Behaviour, RowFactory, Shared, as_chunk, attempts, class_row, dict_row, modes_of, namedtuple_row, scalar_row, shaped, translated
 from .streams import AsyncStream, Copied, CopiedRows, Parts, Source
 
-__all__ = ['Connection', 'Result', 'connect', 'dict_row', 'namedtuple_row']
+__all__ = ['Connection', 'Result', 'class_row', 'connect', 'dict_row', 'namedtuple_row', 'scalar_row']
 Chunks = Union[Iterable[bytes], AsyncIterable[bytes]]
 
 
@@ -172,9 +172,10 @@ class Connection(Shared):
         await self._run(self._finish('ROLLBACK'), ends=True)
 
     @contextlib.asynccontextmanager
-    async def transaction(self) -> AsyncIterator['Connection']:
-        """A transaction, or a savepoint within one: `async with connection.transaction(): ..`. It is taken back where an exception is raised."""
-        block = await self._run(self._begin_block(asyncio.current_task()))
+    async def transaction(self, isolation: Optional[str] = None, read_only: bool = False, deferrable: bool = False) -> AsyncIterator['Connection']:
+        """A transaction, or a savepoint within one: `async with connection.transaction(): ..`. It is taken back where an exception is raised. `isolation` is a
+        level, as 'serializable'."""
+        block = await self._run(self._begin_block(asyncio.current_task(), modes_of(isolation, read_only, deferrable)))
         try:
             yield self
         except BaseException:

@@ -25,14 +25,14 @@ from .errors import (Broken, DatabaseError, DataError, Error, IntegrityError, In
 from .settings import Options, Place
 from .registry import Registry
 from .session import CANCEL, CHUNK, ENCRYPT, GRACE, READ, SEND, Flow, Result
-from .shared import END, Behaviour, RowFactory, Shared, as_chunk, attempts, dict_row, namedtuple_row, translated
+from .shared import END, Behaviour, RowFactory, Shared, as_chunk, attempts, class_row, dict_row, modes_of, namedtuple_row, scalar_row, translated
 from .streams import Parts, Source, Stream
 from .wire import Wire, cancel, drive
 
 __all__ = ['BINARY', 'Binary', 'Broken', 'Connection', 'Cursor', 'DATETIME', 'DataError', 'DatabaseError', 'Date', 'DateFromTicks', 'Error', 'IntegrityError',
            'InterfaceError', 'InternalError', 'NUMBER', 'NotSupportedError', 'OperationalError', 'ProgrammingError', 'ROWID', 'Result', 'STRING', 'Time',
-           'TimeFromTicks', 'Timeout', 'Timestamp', 'TimestampFromTicks', 'Warning', 'apilevel', 'connect', 'dict_row', 'namedtuple_row', 'paramstyle',
-           'threadsafety']
+           'TimeFromTicks', 'Timeout', 'Timestamp', 'TimestampFromTicks', 'Warning', 'apilevel', 'class_row', 'connect', 'dict_row', 'namedtuple_row',
+           'paramstyle', 'scalar_row', 'threadsafety']
 
 apilevel, threadsafety = '2.0', 1
 #: `$1`, `$2`, ..: PEP 249 has no name for the server's own style.
@@ -127,9 +127,10 @@ class Connection(Shared):
         self._run(self._finish('ROLLBACK'), ends=True)
 
     @contextlib.contextmanager
-    def transaction(self) -> Iterator['Connection']:
-        """A transaction, or a savepoint within one: `with connection.transaction(): ..`. It is taken back where an exception is raised."""
-        block = self._run(self._begin_block(threading.get_ident()))
+    def transaction(self, isolation: Optional[str] = None, read_only: bool = False, deferrable: bool = False) -> Iterator['Connection']:
+        """A transaction, or a savepoint within one: `with connection.transaction(): ..`. It is taken back where an exception is raised. `isolation` is a level,
+        as 'serializable'."""
+        block = self._run(self._begin_block(threading.get_ident(), modes_of(isolation, read_only, deferrable)))
         try:
             yield self
         except BaseException:

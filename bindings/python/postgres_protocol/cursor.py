@@ -30,8 +30,14 @@ class Cursor:
     def __exit__(self, *what: object) -> None:
         self.close()
 
-    def __iter__(self) -> Iterator[Any]:
-        return iter(self.fetchone, None)
+    def __iter__(self) -> 'Cursor':
+        return self
+
+    def __next__(self) -> Any:
+        self._more(1)
+        if self._at >= len(self._rows()):
+            raise StopIteration
+        return self.fetchone()
 
     @property
     def description(self) -> Optional[List[Tuple[str, int, None, Optional[int], None, None, None]]]:

@@ -1,7 +1,7 @@
 """What the blocking connection and the one for asyncio have in common."""
 import os
 import time
-from typing import TYPE_CHECKING, Any, Callable, Generator, List, NamedTuple, Optional, Tuple
+from typing import TYPE_CHECKING, Any, Callable, Generator, List, NamedTuple, Optional, Sequence, Tuple
 
 from . import errors, events
 from ._library import ProtocolError
@@ -29,6 +29,16 @@ def namedtuple_row(names: List[str]) -> Callable[[Tuple[Any, ...]], Any]:
     made: Any = namedtuple('Row', names, rename=True)  # type: ignore[misc]
     make: Callable[[Tuple[Any, ...]], Any] = made._make
     return make
+
+
+def scalar_row(names: List[str]) -> Callable[[Tuple[Any, ...]], Any]:
+    """The first value of each row."""
+    return lambda row: row[0]
+
+
+def class_row(kind: Callable[..., Any]) -> RowFactory:
+    """Rows as objects of a class, which is called with the columns' names and values: `row_factory=class_row(Customer)`."""
+    return lambda names: lambda row: kind(**dict(zip(names, row)))
 
 
 def shaped(result: Result, factory: Optional[RowFactory]) -> Result:
@@ -144,12 +154,14 @@ class Shared:
             self._source = None
         return items
 
-    def _begin_block(self, owner: object) -> Flow:
-        """Begins a block of `transaction`: a transaction, or a savepoint within one."""
+    def _begin_block(self, owner: object, modes: Sequence[str]) -> Flow:
+        """Begins a block of `transaction`: a transaction of these modes, or a savepoint within one."""
         if self._blocks and self._blocks[-1].owner != owner:
             raise errors.ProgrammingError('another thread or task has a block of transaction() open on this connection')
-        begin, block = 'BEGIN', Block(owner, 'COMMIT', 'ROLLBACK')
+        begin, block = ' '.join(['BEGIN', ', '.join(modes)]).strip(), Block(owner, 'COMMIT', 'ROLLBACK')
         if self.in_transaction:
+            if modes:
+                raise errors.ProgrammingError('a block within a transaction has its modes')
             self._portals += 1
             name = 'block_%d' % self._portals
             begin, block = 'SAVEPOINT ' + name, Block(owner, 'RELEASE ' + name, 'ROLLBACK TO %s; RELEASE %s' % (name, name))
@@ -247,6 +259,13 @@ class Shared:
     def setting(self, name: str) -> Optional[str]:
         """The value of a setting that the server reports, as `server_version`."""
         return self._core.settings.get(name)
+
+
+def modes_of(isolation: Optional[str], read_only: bool, deferrable: bool) -> List[str]:
+    """The modes of a transaction."""
+    if isolation is not None and isolation not in ('serializable', 'repeatable read', 'read committed', 'read uncommitted'):
+        raise errors.ProgrammingError('isolation: no level has the name %r' % isolation)
+    return ([] if isolation is None else ['ISOLATION LEVEL ' + isolation.upper()]) + ['READ ONLY'] * read_only + ['DEFERRABLE'] * deferrable
 
 
 def translated(error: BaseException) -> BaseException:
