@@ -29,7 +29,7 @@ class Calls:
         try:
             self.same(what, call(), error)
         except client.Error as raised:
-            self.same(what, type(raised), error)
+            self.same('%s (%r)' % (what, raised), isinstance(raised, error), True)
 
     def run(self):
         with contextlib.closing(self.connect(autocommit=True)) as admin:

@@ -231,7 +231,7 @@ class Faults:
                     try:
                         self.same('asyncio, data that are rejected', await asyncio.wait_for(c.copy_in('COPY f FROM STDIN', chunks(ends)), 5), error)
                     except Exception as raised:
-                        self.same('asyncio, data that are rejected', type(raised), error)
+                        self.same('asyncio, data that are rejected', isinstance(raised, error), True)
                     self.same('asyncio, it goes on', (await asyncio.wait_for(c.execute('SELECT 1'), 5)).rows, [(1,)])
             self.check('asyncio', lambda: asyncio.run(run()))
 

@@ -6,7 +6,7 @@ import socket
 import threading
 
 import postgres_protocol as pg
-from postgres_protocol import aio, client, events
+from postgres_protocol import aio, client, errors, events
 from postgres_protocol.connection import Connection, DecodeError, LogInError
 from server import Exchange, frame
 
@@ -256,14 +256,23 @@ def check_mutations(same, raises):
 
 
 def play(listening, answers, seen):
-    """A server that answers each Sync, Query, CopyDone, CopyFail or Terminate with the next of these bytes."""
+    """A server that answers each Sync, Query, CopyDone, CopyFail or Terminate with the next of these bytes; those in a tuple it sends once a request to cancel came."""
     peer = listening.accept()[0]
     file = peer.makefile('rb')
     file.read(int.from_bytes(file.read(4), 'big') - 4)
-    peer.sendall(AUTHENTICATED + READY)
+    peer.sendall(AUTHENTICATED + frame(b'K', b'\0\0\0\1\0\0\0\2') + READY)
     for answer in answers:
+        if isinstance(answer, tuple):
+            other = listening.accept()[0]
+            seen.append((b'cancel', other.recv(16)))
+            other.close()
+            peer.sendall(answer[0])
+            continue
         while True:
-            tag = file.read(1)
+            try:
+                tag = file.read(1)
+            except ConnectionError:
+                tag = b''
             payload = file.read(int.from_bytes(file.read(4), 'big') - 4) if tag else b''
             seen.append((tag, payload))
             if tag in (b'S', b'Q', b'X', b'c', b'f', b''):
@@ -295,7 +304,7 @@ def check_client(same, raises):
             cursor = connection.cursor()
             cursor.execute('SELECT id, name FROM t WHERE id = $1', (5,))
             found = cursor.fetchone(), cursor.fetchall(), cursor.fetchone(), cursor.rowcount, [d[:2] for d in cursor.description]
-        raises('an error by its class', client.IntegrityError, '23505: twice', lambda: connection.execute('SELECT id, name FROM t WHERE id = $1', (6,)))
+        raises('an error by its SQLSTATE', errors.UniqueViolation, '23505: twice', lambda: connection.execute('SELECT id, name FROM t WHERE id = $1', (6,)))
         raises('too few values', client.InterfaceError, 'the statement has 1 parameters, and 0', lambda: connection.execute('SELECT id, name FROM t WHERE id = $1'))
         raises('a value of another type', client.DataError, 'a parameter is no value of its type', lambda: connection.execute('SELECT id, name FROM t WHERE id = $1', ('x',)))
         connection.close()

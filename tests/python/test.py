@@ -9,8 +9,10 @@ import threading
 import postgres_protocol as pg
 from postgres_protocol._library import declare
 from postgres_protocol.registry import DECODERS
+from calls import check_what_ends_what
 from faults import check_faults
 from pipelines import check_pipelines
+from pools import check_pools
 from rows import check_rows
 from server import scram_server
 from serving import check_server
@@ -279,5 +281,7 @@ check_sessions(same, raises)
 check_pipelines(same)
 check_server(same, refused)
 check_faults(same)
+check_what_ends_what(same)
+check_pools(same)
 print('Python: %d passed, %d failed' % (passed, failed))
 sys.exit(failed != 0)

@@ -1,5 +1,6 @@
 """Values as Python's, by the numbers of their types. The bytes are those that PostgreSQL 15 sends for these values."""
 import datetime
+import enum
 import ipaddress
 import uuid
 from decimal import Decimal
@@ -70,11 +71,29 @@ WRONG = ((23, 'x', TypeError), (23, 2 ** 31, OverflowError), (16, 1, TypeError),
          (1266, datetime.time(1, 0), TypeError), (1007, [[1], [2, 3]], ValueError), (1700, 'abc', pg.ProtocolError), (1700, '1e200000', pg.ProtocolError),
          (3614, [pg.Lexeme('a', (pg.Position(16384),))], OverflowError), (3614, [pg.Lexeme('a\0')], pg.ProtocolError), (3615, [pg.Operator('-')], ValueError),
          (790, 2 ** 63, OverflowError), (5069, -1, OverflowError), (22, [1, None], TypeError), (22, [32768], OverflowError), (30, [-1], OverflowError))
+# Values that other types have, or that lack a part: none of them is made to fit.
+WRONG += ((17, 5, TypeError), (17, [1, 2], TypeError), (17, 'x', TypeError), (1009, 'abc', TypeError), (869, 'fe80::1%eth0', ValueError), (1700, '1_0', pg.ProtocolError), (1700, True, pg.ProtocolError), (1009, {'a'}, TypeError), (1009, {'a': 1}, TypeError), (1009, iter(['a']), TypeError),
+          (1007, range(3), TypeError), (600, (1.0,), ValueError), (600, (), ValueError), (600, (1.0, 2.0, 3.0), ValueError), (628, (1.0, 2.0), ValueError), (603, ((1.0, 2.0), (3.0,)), ValueError),
+          (603, ((1.0, 2.0),), ValueError), (601, ((1.0,), (2.0, 3.0, 4.0)), ValueError), (718, ((1.0,), 2.0), ValueError), (718, ((1.0, 2.0), 3.0, 4.0), ValueError), (27, (1, 2, 3), ValueError), (27, (1,), ValueError),
+          (1083, datetime.time(1, 0, tzinfo=UTC), TypeError), (1083, datetime.datetime(2000, 1, 1), TypeError), (1266, datetime.datetime(2000, 1, 1, tzinfo=UTC), TypeError),
+          (1266, datetime.time(1, 0, tzinfo=datetime.timezone(datetime.timedelta(microseconds=1))), TypeError), (1562, '1_0', TypeError), (1562, ' 1', TypeError), (1560, '2', TypeError), (1562, 10, TypeError),
+          (1114, datetime.datetime(2000, 1, 1, tzinfo=UTC), TypeError), (1114, datetime.date(2000, 1, 1), TypeError), (1082, datetime.datetime(2000, 1, 1), TypeError), (99999, [1], TypeError),
+          (99999, {'a': 1}, TypeError), (99999, object(), TypeError))
+
+
+class Color(str, enum.Enum):
+    """Members that are texts and numbers, which Python shows by their names."""
+    RED = 'red'
+
+
+class Size(enum.IntEnum):
+    BIG = 3
 
 
 #: Values of other types as texts, which the server reads as the same values.
 SHOWN = ((5, b'5'), (True, b'true'), (-0.5, b'-0.5'), (float('inf'), b'inf'), (Decimal('1.50'), b'1.50'), (datetime.date(2026, 1, 2), b'2026-01-02'),
-         (datetime.datetime(2026, 1, 2, 3, 4, tzinfo=datetime.timezone.utc), b'2026-01-02 03:04:00+00:00'), (ipaddress.ip_interface('10.0.0.1/8'), b'10.0.0.1/8'))
+         (datetime.datetime(2026, 1, 2, 3, 4, tzinfo=datetime.timezone.utc), b'2026-01-02 03:04:00+00:00'), (ipaddress.ip_interface('10.0.0.1/8'), b'10.0.0.1/8'),
+         (Color.RED, b'red'), (Size.BIG, b'3'))
 
 
 def check_typed(same, raises):

@@ -34,7 +34,7 @@ STATUSES: Dict[int, str] = {
     85: 'ScramInvalidFirst', 86: 'ScramOtherExchange', 87: 'ScramInvalidEncoding', 88: 'ScramInvalidProof',
     89: 'LoginUndue', 90: 'LoginNotAdmitted', 91: 'LoginOtherMechanism', 92: 'LoginTooFewRounds', 93: 'ConnectionNoStatus', 94: 'ConnectionTooLong',
 }
-OK, NO_ROOM, INVALID_LENGTH, WRONG_PHASE, MORE, DONE = 0, 1, 4, 32, 100, 101
+OK, NO_ROOM, EMBEDDED_NULL, INVALID_LENGTH, WRONG_PHASE, MORE, DONE = 0, 1, 2, 4, 32, 100, 101
 
 
 class ProtocolError(ValueError):

@@ -20,6 +20,8 @@ __all__ = ['Connection', 'DecodeError', 'LogInError', 'METHODS']
 
 #: The requests that a Sync has to follow.
 _SERIES = frozenset(('Parse', 'Bind', 'Execute', 'DescribeStatement', 'DescribePortal', 'Close'))
+#: So many settings are kept.
+_SETTINGS = 1000
 _ASIDE = ('NoticeResponse', 'NotificationResponse', 'ParameterStatus')
 
 
@@ -184,6 +186,16 @@ class Connection:
         self._stream.terminate()
         self._state.end()
 
+    @property
+    def has_unsent(self) -> bool:
+        """Whether bytes are to be sent."""
+        return bool(self._out) or self._stream.length > 0
+
+    @property
+    def is_faulty(self) -> bool:
+        """Whether the server sent what it may not: nothing can be asked any more."""
+        return self._fault is not None
+
     def data_to_send(self) -> bytes:
         """The bytes that are to be sent now."""
         if not self._out:
@@ -262,6 +274,7 @@ class Connection:
             first = request if self._taken else self._state.first_open or self._last + 1
             if first is None or self._told >= first:
                 return None
+            self._decoders.pop(self._told, None)
             self._told += 1
             if self._told - 1 not in self._ends:
                 return events.PassedOver(self._told - 1)
@@ -335,7 +348,8 @@ class Connection:
         first, second = message.first.decode(errors='replace'), message.second.decode(errors='replace')
         if message.kind == 'NotificationResponse':
             return events.Notification(None, message.number, first, second)
-        self.settings[first] = second
+        if first in self.settings or len(self.settings) < _SETTINGS:
+            self.settings[first] = second
         return events.Setting(None, first, second)
 
     def _answer(self, message: Message, request: Optional[int], is_last: bool) -> Optional[events.Event]:

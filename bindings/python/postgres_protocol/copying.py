@@ -8,7 +8,7 @@ _SIGNATURE = b'PGCOPY\n\xff\r\n\0'
 
 
 def first_word(sql: str) -> str:
-    """The first word of a statement, in capitals, behind white space and comments (which nest)."""
+    """The first word of a statement, in capitals, behind white space, empty statements and comments (which nest)."""
     at, depth = 0, 0
     while at < len(sql):
         two = sql[at:at + 2]
@@ -18,7 +18,7 @@ def first_word(sql: str) -> str:
             depth, at = depth - 1, at + 2
         elif two == '--' and not depth:
             at = sql.find('\n', at) % (len(sql) + 1)
-        elif depth or sql[at].isspace():
+        elif depth or sql[at].isspace() or sql[at] == ';':
             at += 1
         else:
             break

@@ -1,10 +1,11 @@
 """Cursors of the blocking client."""
 from typing import TYPE_CHECKING, Any, Iterable, Iterator, List, Optional, Sequence, Tuple
 
-from .copying import BinaryReader, binary_rows
+from .copying import binary_rows
 from .errors import InterfaceError, ProgrammingError
 from .session import Result, Statement, count_of
 from .shared import RowFactory, shaped
+from .streams import Copied, CopiedRows, Stream
 
 if TYPE_CHECKING:
     from .client import Connection
@@ -29,8 +30,14 @@ class Cursor:
     def __exit__(self, *what: object) -> None:
         self.close()
 
-    def __iter__(self) -> Iterator[Any]:
-        return iter(self.fetchone, None)
+    def __iter__(self) -> 'Cursor':
+        return self
+
+    def __next__(self) -> Any:
+        self._more(1)
+        if self._at >= len(self._rows()):
+            raise StopIteration
+        return self.fetchone()
 
     @property
     def description(self) -> Optional[List[Tuple[str, int, None, Optional[int], None, None, None]]]:
@@ -64,7 +71,7 @@ class Cursor:
         if kept is not None and self.name is not None and self.connection._core.status == 'T' and not self.connection.closed:
             self.connection._run(self.connection._session.close_portal(self.name))
 
-    def execute(self, sql: str, parameters: Sequence[Any] = (), timeout: Optional[float] = None) -> 'Cursor':
+    def execute(self, sql: str, parameters: Optional[Sequence[Any]] = None, timeout: Optional[float] = None) -> 'Cursor':
         """Runs a statement with these values for `$1`, `$2`, .. `timeout` is the limit of time of this call, in seconds."""
         self._begin()
         session = self.connection._session
@@ -93,31 +100,21 @@ class Cursor:
         """The data of a `COPY .. TO STDOUT`, a row each."""
         return list(self.copy_stream(sql))
 
-    def copy_stream(self, sql: str) -> Iterator[bytes]:
-        """The same as they come. No other call runs on the connection until they are at their end, or the iterator is closed."""
+    def copy_stream(self, sql: str) -> Stream:
+        """The same as they come. No other call runs on the connection until they are at their end, or the stream is closed: `with cursor.copy_stream(..) as stream`."""
         self._begin()
-        return self.connection._iterate(self.connection._session.copy_out(sql))
+        return Stream(self.connection, Copied(self.connection._session, sql))
 
     def copy_rows_in(self, table: str, rows: Iterable[Sequence[Any]], columns: Sequence[str] = ()) -> 'Cursor':
-        """Copies rows of values to a table (`name` or `schema.name`, as SQL has it) in the binary format: to all columns, or to those of these names."""
-        session = self.connection._session
-        names, select = session.columns(table, columns)
-        types = session.known(self._described(select))
-        return self.copy_in('COPY %s %s FROM STDIN (FORMAT binary)' % (table, names), binary_rows(rows, types))
-
-    def copy_rows_out(self, query: str) -> Iterator[Any]:
-        """Rows of values of a query, copied in the binary format, as they come."""
-        statement = self._described(query)
-        self.connection._session.known(statement)
-        make = None if self.row_factory is None else self.row_factory([field.name for field in statement.fields])
-        reader = BinaryReader(statement.decoders)
-        for piece in self.copy_stream('COPY (%s) TO STDOUT (FORMAT binary)' % query):
-            yield from reader.take(piece) if make is None else map(make, reader.take(piece))
-
-    def _described(self, sql: str) -> Statement:
+        """Copies rows of values to a table (`name` or `schema.name`, as SQL has it) in the binary format: to all columns that aren't generated, or to those of these names."""
         self._begin()
-        statement: Statement = self.connection._run(self.connection._session.describe(sql))
-        return statement
+        sql, types = self.connection._run(self.connection._session.columns(table, columns))
+        return self.copy_in(sql, binary_rows(rows, types))
+
+    def copy_rows_out(self, query: str) -> Stream:
+        """Rows of values of a query, copied in the binary format, as they come."""
+        self._begin()
+        return Stream(self.connection, CopiedRows(self.connection._session, query, self.row_factory))
 
     def _rows(self) -> List[Any]:
         if self._is_closed:
@@ -146,6 +143,8 @@ class Cursor:
     def fetchmany(self, size: Optional[int] = None) -> List[Any]:
         """The next rows, `arraysize` of them unless another number is given."""
         count = self.arraysize if size is None else size
+        if count < 0:
+            raise ProgrammingError('fetchmany: a number of rows is expected, not %d' % count)
         self._more(count)
         self._at += count
         return self._rows()[self._at - count:self._at]

@@ -1,5 +1,5 @@
 """The exceptions of DB-API 2.0, chosen by an error's SQLSTATE."""
-from typing import Any, Dict, NamedTuple, Optional
+from typing import Any, Dict, NamedTuple, Optional, Type
 
 
 class Warning(Exception):  # noqa: A001 (the name is DB-API's)
@@ -86,16 +86,36 @@ class NotSupportedError(DatabaseError):
     """The server doesn't support it (class 0A)."""
 
 
-_CLASSES = {'0A': NotSupportedError, '22': DataError, '23': IntegrityError, 'XX': InternalError}
+_CLASSES: Dict[str, Type[DatabaseError]] = {'0A': NotSupportedError, '22': DataError, '23': IntegrityError, 'XX': InternalError}
 _CLASSES.update({c: OperationalError for c in ('08', '28', '40', '53', '54', '55', '57', '58')})
 _CLASSES.update({c: InternalError for c in ('24', '25', '2D', '38', '39', '3B')})
 _CLASSES.update({c: ProgrammingError for c in ('26', '34', '3D', '3F', '42', '44')})
 
 
-def of_fields(fields: Dict[str, str]) -> DatabaseError:
-    """The exception of a server's error."""
-    state = fields.get('C', '')
-    return _CLASSES.get(state[:2], DatabaseError)('%s: %s' % (state, fields.get('M', '')), fields)
+#: The exceptions of single errors, by SQLSTATE (the manual's "PostgreSQL Error Codes"), as `errors.UniqueViolation`; each is one of its class.
+_WORDS = '''0A000 FeatureNotSupported 22001 StringDataRightTruncation 22003 NumericValueOutOfRange 22007 InvalidDatetimeFormat 22008 DatetimeFieldOverflow
+22012 DivisionByZero 22021 CharacterNotInRepertoire 22P02 InvalidTextRepresentation 23502 NotNullViolation 23503 ForeignKeyViolation 23505 UniqueViolation
+23514 CheckViolation 23P01 ExclusionViolation 25006 ReadOnlySqlTransaction 25P02 InFailedSqlTransaction 25P03 IdleInTransactionSessionTimeout
+28000 InvalidAuthorizationSpecification 28P01 InvalidPassword 3D000 InvalidCatalogName 3F000 InvalidSchemaName 40001 SerializationFailure 40P01 DeadlockDetected
+42501 InsufficientPrivilege 42601 SyntaxError 42701 DuplicateColumn 42702 AmbiguousColumn 42703 UndefinedColumn 42704 UndefinedObject 42710 DuplicateObject
+42804 DatatypeMismatch 42883 UndefinedFunction 42P01 UndefinedTable 42P02 UndefinedParameter 42P04 DuplicateDatabase 42P06 DuplicateSchema 42P07 DuplicateTable
+53100 DiskFull 53200 OutOfMemory 53300 TooManyConnections 55000 ObjectNotInPrerequisiteState 55006 ObjectInUse 55P03 LockNotAvailable 57014 QueryCanceled
+57P01 AdminShutdown 57P02 CrashShutdown 57P03 CannotConnectNow P0001 RaiseException P0002 NoDataFound P0003 TooManyRows'''.split()
+_BY_STATE: Dict[str, Type[DatabaseError]] = {
+    state: type(name, (_CLASSES.get(state[:2], DatabaseError),), {'__module__': __name__, '__doc__': 'SQLSTATE %s.' % state}) for state, name in zip(_WORDS[::2], _WORDS[1::2])}
+globals().update((kind.__name__, kind) for kind in _BY_STATE.values())
+
+
+def __getattr__(name: str) -> Any:
+    raise AttributeError('no error has the name %s' % name)  # (with this function here a checker of types takes the names above)
+
+
+def of_fields(fields: Dict[str, str], kind: Type[DatabaseError] = DatabaseError) -> DatabaseError:
+    """The exception of a server's error: that of its SQLSTATE, or of its class, as far as it is one of `kind`."""
+    state, text = fields.get('C', ''), fields.get('M', '')
+    found: Type[DatabaseError] = _BY_STATE.get(state, _CLASSES.get(state[:2], DatabaseError))
+    at, detail = fields.get('P'), fields.get('D')
+    return (found if issubclass(found, kind) else kind)('%s: %s%s%s' % (state, text, ' (at character %s)' % at if at else '', '\nDETAIL: ' + detail if detail else ''), fields)
 
 
 def is_end(fields: Dict[str, str], request: Optional[int]) -> bool:

@@ -49,7 +49,7 @@ _rows.setup(ProtocolError, timedelta, _EPOCH, _EPOCH_UTC, _EPOCH_DATE, NEGATIVE_
 
 
 #: What a server reads as Python shows it.
-_SHOWN = (str, int, float, Decimal, uuid.UUID, date, time, IPv4Interface, IPv6Interface)
+_SHOWN = (int, float, Decimal, uuid.UUID, date, time, IPv4Interface, IPv6Interface)
 
 
 class Type(NamedTuple):
@@ -91,7 +91,9 @@ def _timestamptz(value: Any) -> bytes:
     return _count(value, _EPOCH_UTC, _MICROSECOND, 'timestamp')
 
 
-def _microseconds(value: time) -> int:
+def _microseconds(value: time, has_zone: bool) -> int:
+    if not isinstance(value, time) or (value.tzinfo is not None) != has_zone:
+        raise TypeError('a time %s a zone is expected' % ('with' if has_zone else 'without'))
     return ((value.hour * 60 + value.minute) * 60 + value.second) * 1000000 + value.microsecond
 
 
@@ -107,10 +109,10 @@ def _get_timetz(data: bytes) -> time:
 
 
 def _put_timetz(value: time) -> bytes:
-    offset = value.utcoffset()
-    if offset is None:
-        raise TypeError('timetz: a time with a zone is expected')
-    return put_timetz(_microseconds(value), -(offset // timedelta(seconds=1)))
+    count, offset = _microseconds(value, True), value.utcoffset()
+    if offset is None or offset % timedelta(seconds=1):
+        raise TypeError('timetz: a zone of whole seconds is expected')
+    return put_timetz(count, -(offset // timedelta(seconds=1)))
 
 
 def _put_interval(value: Union[Interval, timedelta]) -> bytes:
@@ -126,6 +128,8 @@ def _get_interface(data: bytes) -> Union[IPv4Interface, IPv6Interface]:
 
 def _put_interface(value: Any) -> bytes:
     kept = ip_interface(str(value))
+    if '%' in str(value):
+        raise ValueError('an inet has no zone')
     return put_inet(kept.ip, kept.network.prefixlen)
 
 
@@ -155,21 +159,25 @@ def _get_bits(data: bytes) -> str:
 
 
 def _put_bits(value: str) -> bytes:
+    if not isinstance(value, str) or value.strip('01'):
+        raise TypeError('a str of 0 and 1 is expected')
     padded = value + '0' * (-len(value) % 8)
     return put_varbit(len(value), bytes(int(padded[i:i + 8], 2) for i in range(0, len(padded), 8)))
 
 
 def _text(value: Any) -> bytes:
     """A text. Of a parameter whose type the server doesn't know it takes `text`: so numbers, times and the like are sent as the server's texts of them."""
+    if isinstance(value, str):
+        return str.encode(value, errors='surrogateescape')
     if isinstance(value, bool):
         return b'true' if value else b'false'
     if not isinstance(value, _SHOWN):
         raise TypeError('a str is expected, not %s' % type(value).__name__)
-    return str(value).encode(errors='surrogateescape')
+    return (int.__repr__(value) if isinstance(value, int) else str(value)).encode()
 
 
 def _bytes(value: Any) -> bytes:
-    return bytes(value)
+    return bytes(memoryview(value))
 
 
 def _json(value: Any) -> bytes:
@@ -245,6 +253,8 @@ def _flat(value: Sequence[Any], is_element: Callable[[Any], bool]) -> Tuple[List
 def array_encoder(oid: int, element: Callable[[Any], bytes], is_element: Callable[[Any], bool] = _is_no_list) -> Callable[[Sequence[Any]], bytes]:
     """What writes an array of a list, or of lists in a list. A tuple is an element, as a point or a range, and what else `is_element` says."""
     def encode(value: Sequence[Any]) -> bytes:
+        if not isinstance(value, (list, tuple)):
+            raise TypeError('a list is expected, not %s' % type(value).__name__)
         lengths, elements = _flat(value, is_element)
         dimensions = [(n, 1) for n in lengths] if elements else []
         return put_array(oid, [None if part is None else element(part) for part in elements], dimensions)
@@ -290,7 +300,7 @@ _PLAIN: Sequence[Tuple[int, int, str, Decoder, Callable[[Any], bytes], bool]] = 
     (1042, 1014, 'bpchar', _D['text'], _text, False),
     (1043, 1015, 'varchar', _D['text'], _text, False),
     (1082, 1182, 'date', _D['date'], lambda value: _count(value, _EPOCH_DATE, _DAY, 'date'), False),
-    (1083, 1183, 'time', lambda data: _time(get('time', data)), lambda value: put('time', _microseconds(value)), False),
+    (1083, 1183, 'time', lambda data: _time(get('time', data)), lambda value: put('time', _microseconds(value, False)), False),
     (1114, 1115, 'timestamp', _D['timestamp'], lambda value: _count(value, _EPOCH, _MICROSECOND, 'timestamp'), False),
     (1184, 1185, 'timestamptz', _D['timestamptz'], _timestamptz, False),
     (1186, 1187, 'interval', get_interval, _put_interval, False),
@@ -385,4 +395,4 @@ def _no_record(value: Any) -> bytes:
 
 def _unknown(value: Any) -> bytes:
     """A parameter of a type that isn't known, as text."""
-    return value if isinstance(value, bytes) else str(value).encode()
+    return value if isinstance(value, bytes) else _text(value)

@@ -1,23 +1,30 @@
-"""What a client does on a connection, without input or output: each call is a generator that yields where it needs the next event. The blocking
-client and the one for asyncio run the same generators."""
+"""What a client does on a connection, without input or output: each call is a generator that yields what it needs. The blocking client and the one
+for asyncio run the same generators."""
 from array import array
-from typing import Any, Callable, Dict, Generator, List, NamedTuple, Optional, Sequence, Tuple
+from collections import OrderedDict
+from typing import Any, Callable, Dict, Generator, List, NamedTuple, Optional, Sequence, Set, Tuple
 
 from . import errors, events
+from ._library import EMBEDDED_NULL, INT32, ProtocolError, as_integer
 from .auth import escape_identifier
+from .binding import certificate_hash
 from .connection import Connection
 from .copying import first_word
 from .reading import Field
 from .registry import Decoder, Registry, Type
 
-#: What a generator yields where what was written is to be sent, and where it wants the next piece of a copy (None: there is none); data of a copy are
-#: given to the caller. Else it yields None, for the next event.
-SEND, CHUNK = 'send', 'chunk'
-Wanted = Optional[object]
-Flow = Generator[Wanted, Any, Any]
-Found = Generator[Wanted, Any, List[events.Event]]
-#: So many bytes of a copy are sent at once.
-_PIECE = 65536
+#: What a generator yields: READ where bytes of the server's are needed (what was written is sent first), SEND where what was written is to be sent, CHUNK
+#: for the next piece of a copy (None: there is none), CANCEL for a request to cancel, ENCRYPT for TLS, which gives the server's certificate.
+READ, SEND, CHUNK, CANCEL, ENCRYPT = 'read', 'send', 'chunk', 'cancel', 'encrypt'
+Flow = Generator[str, Any, Any]
+Found = Generator[str, Any, List[events.Event]]
+#: So many bytes of a copy are sent at once; so many notices are kept.
+_PIECE, _NOTICES = 65536, 1000
+#: So many seconds a cancelled statement has for its answer; then the connection is closed.
+GRACE = 5
+#: (A server before version 12 has no generated columns, nor `attgenerated`.)
+_COLUMNS = ("SELECT attname::text FROM pg_catalog.pg_attribute a WHERE attrelid = $1::regclass AND attnum > 0 AND NOT attisdropped "
+            "AND coalesce(to_jsonb(a)->>'attgenerated', '') = '' ORDER BY attnum")
 _OTHER_CALL = 'the statement copies: copy_in(..) and copy_out(..) are the calls for it'
 
 
@@ -46,23 +53,69 @@ class Session:
     def __init__(self, connection: Connection, registry: Optional[Registry] = None, most_statements: int = 256) -> None:
         self.connection, self.registry, self._most = connection, registry or Registry(), most_statements
         self.autocommit = True
-        self._statements: Dict[str, Statement] = {}
+        #: The notifications and notices that came, in their order.
+        self.notifications: List[events.Notification] = []
+        self.notices: List[events.Notice] = []
+        self._statements: 'OrderedDict[str, Statement]' = OrderedDict()
         self._dropped: List[str] = []
         self._named = 0
+        self._settled = -1
+        #: How often the session was outside a transaction, and the names of the portals that are open since then.
+        self._idles, self._open_since, self._open = 0, 0, set()  # type: int, int, Set[str]
+        #: The request that failed last, and the Executes of the last series.
+        self._failed_at: Optional[int] = None
+        self._executed: Dict[Optional[int], Result] = {}
+
+    @property
+    def is_settled(self) -> bool:
+        """Whether nothing is under way: all that was asked was sent, and its answers were read to their end."""
+        return self._settled == self.connection.last_number and not self.connection.has_unsent
+
+    def answer(self) -> Optional[events.Event]:
+        """The next event that answers a request, of the bytes that are there; others are kept."""
+        while True:
+            try:
+                event = self.connection.next_event()
+            except (ProtocolError, UnicodeDecodeError) as error:
+                raise errors.Broken('the server sent what it may not: %s' % error) from error
+            if event is None or event.request is not None:
+                return event
+            if isinstance(event, events.Notification):
+                self.notifications.append(event)
+            elif isinstance(event, events.Notice):
+                self.notices.append(event)
+                del self.notices[:-_NOTICES]
+            elif not isinstance(event, events.Setting):
+                return event
+            elif event.name == 'client_encoding' and event.value != 'UTF8':
+                raise errors.Broken('the client_encoding is %s, and none but UTF8 is supported: the connection is closed' % event.value)
+
+    def _next(self) -> Generator[str, Any, events.Event]:
+        while True:
+            event = self.answer()
+            if event is not None:
+                return event
+            yield READ
 
     @property
     def _begins(self) -> bool:
         """Whether the next statement opens a transaction: the one place that says so, at the time when the statement is sent."""
         return not self.autocommit and self.connection.status == 'I'
 
-    def log_in(self) -> Flow:
-        """Waits until the server is ready."""
-        while True:
-            event = yield None
-            if isinstance(event, events.LoggedIn):
-                return
+    def open(self, encrypts: bool, must_encrypt: bool) -> Flow:
+        """Encrypts the channel where that is asked for, and waits until the server is ready."""
+        if encrypts:
+            event = yield from self._next()
+            if isinstance(event, events.Encryption) and event.accepted:
+                self.connection.encrypted(certificate_hash((yield ENCRYPT)))
+            elif must_encrypt:
+                raise errors.OperationalError('the server does not encrypt')
+            else:
+                self.connection.not_encrypted()
+        while not isinstance(event := (yield from self._next()), events.LoggedIn):
             if isinstance(event, events.Failed):
-                raise errors.of_fields(event.fields)
+                raise errors.of_fields(event.fields, errors.OperationalError)
+        self._settled = self.connection.last_number
 
     def settle(self) -> Flow:
         """Ends what a call has left under way, and passes over its answers."""
@@ -73,11 +126,12 @@ class Session:
             if connection.needs_sync:
                 connection.sync()
             while not connection.is_idle:
-                event = yield None
+                event = yield from self._next()
                 if isinstance(event, events.CopyStarted):
                     self._give_up('the call was broken off')
                 elif isinstance(event, events.Failed) and errors.is_end(event.fields, event.request):
                     raise errors.of_fields(event.fields)
+            self._settled = connection.last_number
         finally:
             connection.skips_values = False
 
@@ -86,17 +140,21 @@ class Session:
         if self.connection.is_copying:
             self.connection.copy_fail(why)
 
-    def _until_ready(self, last: int) -> Found:
+    def _until_ready(self, last: int, found: Optional[List[events.Event]] = None) -> Found:
         """The events up to the Ready of a request; a server's error is raised then. A copy that isn't expected ends there."""
-        found: List[events.Event] = []
+        found = [] if found is None else found
         failed: Optional[Exception] = None
         while True:
-            event = yield None
-            if isinstance(event, events.Failed):
-                failed = failed or errors.of_fields(event.fields)
+            event = self.answer()
+            if event is None:
+                yield READ
+            elif isinstance(event, events.Failed):
+                failed = failed or self._error(event)
                 if errors.is_end(event.fields, event.request):
                     raise failed
             elif isinstance(event, events.Ready) and event.request == last:
+                self._settled = last
+                self._idles += event.status == 'I'
                 if failed is not None:
                     raise failed
                 return found
@@ -106,13 +164,17 @@ class Session:
             elif failed is None:
                 found.append(event)
 
+    def _error(self, event: events.Failed) -> errors.DatabaseError:
+        self._failed_at = event.request
+        return errors.of_fields(event.fields)
+
     def _described(self) -> Found:
         """The events up to a statement's columns."""
         found: List[events.Event] = []
         while True:
-            event = yield None
+            event = yield from self._next()
             if isinstance(event, events.Failed):
-                raise errors.of_fields(event.fields)
+                raise self._error(event)
             found.append(event)
             if isinstance(event, events.Columns) or (isinstance(event, events.Completed) and event.kind == 'NoData'):
                 return found
@@ -122,7 +184,7 @@ class Session:
         if not self._most:
             return (yield from self._prepare('', sql, False))
         if len(self._statements) >= self._most:
-            self._dropped.append(self._statements.pop(next(iter(self._statements))).name)
+            self._dropped.append(self._statements.popitem(last=False)[1].name)
         while self._dropped:
             self.connection.close('S', self._dropped.pop())
         self._named += 1
@@ -133,10 +195,13 @@ class Session:
         """The parameters and columns of a statement, which isn't kept."""
         return (yield from self._prepare('', sql, True))
 
-    def columns(self, table: str, names: Sequence[str]) -> Tuple[str, str]:
-        """The columns of a copy, quoted and in parentheses, or nothing for all; and the query that describes them."""
+    def columns(self, table: str, names: Sequence[str]) -> Flow:
+        """The COPY of rows of values to a table, and the types of its columns: of those of these names, or of all that aren't generated."""
+        if not names:
+            names = [row[0] for row in (yield from self.execute(_COLUMNS, (table,))).rows]
         quoted = ', '.join(escape_identifier(name.encode()).decode() for name in names)
-        return quoted and '(%s)' % quoted, 'SELECT %s FROM %s' % (quoted or '*', table)
+        statement: Statement = yield from self.describe('SELECT %s FROM %s' % (quoted, table))
+        return 'COPY %s %s FROM STDIN (FORMAT binary)' % (table, quoted and '(%s)' % quoted), self.known(statement)
 
     def known(self, statement: Statement) -> List[Type]:
         """The types of a statement's columns, all of which have to be known in the binary format."""
@@ -165,7 +230,7 @@ class Session:
             raise errors.InterfaceError('the statement has %d parameters, and %d values are given' % (len(statement.encoders), len(values)))
         try:
             return [None if v is None else encode(v) for encode, v in zip(statement.encoders, values)]
-        except (TypeError, ValueError, OverflowError, AttributeError) as error:
+        except (TypeError, ValueError, ArithmeticError, AttributeError, LookupError) as error:
             raise errors.DataError('a parameter is no value of its type: %s' % error) from error
 
     def _begin(self) -> None:
@@ -187,20 +252,26 @@ class Session:
         for number, data in enumerate(bound, 1 - len(bound)):
             asked = connection.run(place, name, statement.formats, data, statement.result_formats, size, statement.decoders, number == 0)
             results[asked] = Result(statement.fields, [], '')
+        self._executed = results
         found = yield from self._until_ready(connection.last_number if bound else connection.sync())
         return _gathered(results, found)
+
+    def _is_stale(self, error: errors.DatabaseError) -> bool:
+        """Whether the server dropped the statement, or its columns changed: its Bind failed then, and not what an Execute ran."""
+        return self._failed_at not in self._executed and errors.is_stale(error)
 
     def _run(self, sql: str, rows: Sequence[Sequence[Any]], portal: str = '', size: int = 0) -> Flow:
         """The same by a statement's text; the statement, and the results. A statement that was kept and went stale is prepared anew, unless its error ended a transaction of the caller's."""
         kept, began = self._statements.get(sql), self.connection.status == 'I'
         if kept is not None:
+            self._statements.move_to_end(sql)
             try:
                 return kept, (yield from self._execute(kept, rows, portal, size))
             except errors.DatabaseError as error:
                 # (of class 42 is an error too of a statement whose parameters have other types now)
-                if errors.is_stale(error) or (error.sqlstate or '')[:2] == '42':
+                if self._is_stale(error) or (error.sqlstate or '')[:2] == '42':
                     self._dropped.append(self._statements.pop(sql).name)
-                if not (began and errors.is_stale(error)):
+                if not (began and self._is_stale(error)):
                     raise
             if self.connection.status == 'E':
                 yield from self._until_ready(self.connection.query('ROLLBACK'))
@@ -209,21 +280,27 @@ class Session:
         statement: Statement = yield from self.prepare(sql)
         return statement, (yield from self._execute(statement, rows, portal, size))
 
-    def execute(self, sql: str, values: Sequence[Any] = ()) -> Flow:
+    def execute(self, sql: str, values: Optional[Sequence[Any]] = None) -> Flow:
         """Runs a statement; its rows are values of Python's."""
-        if not values and sql not in self._statements and first_word(sql) == 'COPY':
+        row = as_row(values)
+        if not row and sql not in self._statements and first_word(sql) == 'COPY':
             return (yield from self.script(sql))[-1]
-        return (yield from self._run(sql, [values]))[1][0]
+        return (yield from self._run(sql, [row]))[1][0]
 
     def execute_many(self, sql: str, rows: Sequence[Sequence[Any]]) -> Flow:
         """Runs a statement for each list of values, all in one piece: where one fails, none of them counts."""
-        return (yield from self._run(sql, rows))[1]
+        return (yield from self._run(sql, [as_row(row) for row in rows]))[1]
 
-    def open_portal(self, portal: str, sql: str, values: Sequence[Any], size: int) -> Flow:
+    def open_portal(self, portal: str, sql: str, values: Optional[Sequence[Any]], size: int) -> Flow:
         """The first rows of a statement, of which `fetch` gives the next ones, up to the transaction's end."""
+        row, most = as_row(values), as_integer(size, 'itersize', 1, INT32[1])
         if self.autocommit and self.connection.status == 'I':
             raise errors.ProgrammingError('rows that come in parts need a transaction')
-        statement, results = yield from self._run(sql, [values], portal, size)
+        if portal in self._open and self._open_since == self._idles:
+            raise errors.ProgrammingError('another cursor of this name is open')
+        statement, results = yield from self._run(sql, [row], portal, most)
+        self._open = {portal, *(self._open if self._open_since == self._idles else ())}
+        self._open_since = self._idles
         return statement, results[0]
 
     def fetch(self, portal: str, statement: Statement, size: int) -> Flow:
@@ -234,39 +311,75 @@ class Session:
 
     def close_portal(self, portal: str) -> Flow:
         """Closes a portal."""
+        self._open.discard(portal)
         self.connection.close('P', portal)
         yield from self._until_ready(self.connection.sync())
 
-    def _begin_query(self) -> Flow:
-        """Opens a transaction before a simple query, where one is due."""
+    def _begin_query(self, sql: str) -> Flow:
+        """Opens a transaction before a simple query, where one is due, and the query can be sent."""
         if self._begins:
+            if b'\0' in sql.encode():
+                raise ProtocolError(EMBEDDED_NULL)
             yield from self._until_ready(self.connection.query('BEGIN'))
 
     def script(self, sql: str) -> Flow:
         """Runs any number of statements as one simple query; their values are texts."""
-        yield from self._begin_query()
+        yield from self._begin_query(sql)
         return _results((yield from self._until_ready(self.connection.query(sql))))
 
     def plain(self, sql: str) -> Flow:
         """A statement that opens no transaction but its own."""
         yield from self._until_ready(self.connection.query(sql))
 
-    def finish(self, sql: str) -> Flow:
-        """`COMMIT` or `ROLLBACK`, where a transaction is open. The server rolls one that failed back at its COMMIT: that is an error."""
-        if self.connection.status in ('T', 'E'):
-            results: List[Result] = _results((yield from self._until_ready(self.connection.query(sql))))
-            if sql == 'COMMIT' and results[-1].tag == 'ROLLBACK':
-                raise errors.InternalError('the transaction failed before its COMMIT: it is rolled back')
+    def discard(self) -> Flow:
+        """`DISCARD ALL`: the server keeps nothing of the session, and no statement."""
+        yield from self.plain('DISCARD ALL')
+        self._statements.clear()
+        self._dropped.clear()
 
-    def _copy(self, sql: str, kind: str) -> Flow:
+    def finish(self, sql: str, limit: Callable[[float], None]) -> Flow:
+        """`COMMIT` or `ROLLBACK`, where a transaction is open. The server rolls one that failed back at its COMMIT: that is an error. Where the answer is
+        late it is cancelled, by a further limit, and what came of it is what counts."""
+        if self.connection.status not in ('T', 'E'):
+            return
+        number, found = self.connection.query(sql), []  # type: int, List[events.Event]
+        try:
+            yield from self._until_ready(number, found)
+        except errors.Timeout as error:
+            yield CANCEL
+            limit(GRACE)
+            try:
+                yield from self._until_ready(number, found)
+            except errors.DatabaseError:
+                raise error from None
+        if sql == 'COMMIT' and _results(found)[-1].tag == 'ROLLBACK':
+            raise errors.InternalError('the transaction failed before its COMMIT: it is rolled back')
+
+    def wait(self) -> Flow:
+        """Waits for notifications up to the call's limit, and returns those that came."""
+        self._settled = -1  # (bytes are read that answer nothing)
+        try:
+            while not self.notifications:
+                event = self.answer()
+                if isinstance(event, events.Failed):
+                    raise self._error(event)
+                if event is None and not self.notifications:
+                    yield READ
+        except errors.Timeout:
+            pass
+        self._settled = self.connection.last_number
+        found, self.notifications = self.notifications, []
+        return found
+
+    def copy(self, sql: str, kind: str) -> Flow:
         """Begins a copy in this direction; the number of its request."""
         if first_word(sql) != 'COPY':
             raise errors.ProgrammingError('the statement is no COPY')
-        yield from self._begin_query()
+        yield from self._begin_query(sql)
         number = self.connection.query(sql)
-        event = yield None
+        event = yield from self._next()
         if isinstance(event, events.Failed):
-            raise errors.of_fields(event.fields)
+            raise self._error(event)
         if not isinstance(event, events.CopyStarted):
             raise errors.ProgrammingError('the statement has run, and copies no data through the connection')
         if event.kind != kind:
@@ -275,7 +388,7 @@ class Session:
 
     def copy_in(self, sql: str) -> Flow:
         """Sends data to a `COPY .. FROM STDIN`."""
-        number = yield from self._copy(sql, 'CopyInResponse')
+        number = yield from self.copy(sql, 'CopyInResponse')
         held: List[bytes] = []
         size = 0
         while True:
@@ -292,17 +405,23 @@ class Session:
         self.connection.copy_done()
         return _results((yield from self._until_ready(number)))[-1]
 
-    def copy_out(self, sql: str) -> Flow:
-        """The data of a `COPY .. TO STDOUT`, which are yielded piece by piece."""
-        number = yield from self._copy(sql, 'CopyOutResponse')
-        while True:
-            event = yield None
-            if isinstance(event, events.CopyBytes):
-                yield event.data
-            elif isinstance(event, events.Failed):
-                raise errors.of_fields(event.fields)
-            elif isinstance(event, events.Ready) and event.request == number:
-                return
+    def is_end(self, event: events.Event, number: int) -> bool:
+        """Whether it is the end of a request's answer; a server's error is raised."""
+        if isinstance(event, events.Failed):
+            raise self._error(event)
+        if isinstance(event, events.Ready) and event.request == number:
+            self._settled = self.connection.last_number
+            return True
+        return False
+
+
+def as_row(values: Optional[Sequence[Any]]) -> Sequence[Any]:
+    """The values of a statement's parameters: a list or a tuple; None is none of them."""
+    if isinstance(values, (list, tuple)) or values is None:
+        return values or ()
+    if isinstance(values, Sequence) and not isinstance(values, (str, bytes, bytearray, memoryview)):
+        return tuple(values)
+    raise TypeError('parameters: a list or a tuple is expected, not %s' % type(values).__name__)
 
 
 def _formats(types: Sequence[Type]) -> bytes:

@@ -117,6 +117,8 @@ def _number(bits: int) -> float:
 
 
 def _put(name: str, coordinates: Sequence[float]) -> bytes:
+    if len(coordinates) != _COORDINATES[name]:
+        raise ValueError('%s: %d numbers are expected, not %d' % (name, _COORDINATES[name], len(coordinates)))
     kept = _BITS[name](*(_bits(c) for c in coordinates))
     return written(lambda *out: _PUTS[name](byref(kept), *out))
 
@@ -139,7 +141,8 @@ def get_point(data: Bytes) -> Point:
 
 def put_box(value: Box) -> bytes:
     """A `box`."""
-    return _put('box', (*value[0], *value[1]))
+    (a, b), (c, d) = value
+    return _put('box', (a, b, c, d))
 
 
 def get_box(data: Bytes) -> Box:
@@ -160,7 +163,8 @@ def get_line(data: Bytes) -> Line:
 
 def put_lseg(value: Lseg) -> bytes:
     """An `lseg`."""
-    return _put('lseg', (*value[0], *value[1]))
+    (a, b), (c, d) = value
+    return _put('lseg', (a, b, c, d))
 
 
 def get_lseg(data: Bytes) -> Lseg:
@@ -171,7 +175,8 @@ def get_lseg(data: Bytes) -> Lseg:
 
 def put_circle(value: Circle) -> bytes:
     """A `circle`."""
-    return _put('circle', (*value[0], value[1]))
+    (x, y), radius = value
+    return _put('circle', (x, y, radius))
 
 
 def get_circle(data: Bytes) -> Circle:
@@ -217,7 +222,8 @@ def get_path(data: Bytes) -> Path:
 
 def put_tid(value: Tuple[int, int]) -> bytes:
     """A `tid`."""
-    tid = _Tid(as_integer(value[0], 'block', *UINT32), as_integer(value[1], 'offset', 0, 65535))
+    block, offset = value
+    tid = _Tid(as_integer(block, 'block', *UINT32), as_integer(offset, 'offset', 0, 65535))
     return written(lambda *out: _put_tid(byref(tid), *out))
 
 

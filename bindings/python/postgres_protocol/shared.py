@@ -1,16 +1,19 @@
 """What the blocking connection and the one for asyncio have in common."""
-
-from typing import Any, Callable, Generator, List, NamedTuple, Optional, Tuple
+import os
+import time
+from typing import TYPE_CHECKING, Any, Callable, Generator, List, NamedTuple, Optional, Sequence, Tuple
 
 from . import errors, events
 from ._library import ProtocolError
-from .connection import Connection as Core, DecodeError, LogInError
+from .connection import DecodeError, LogInError
 from .settings import Options, Place
 from .registry import Registry
-from .session import Result, Session
+from .session import CANCEL, GRACE, Flow, Result, Session
+from .wire import Limits
 
-#: So many seconds a cancelled statement has for its answer; then the connection is closed.
-GRACE = 5
+if TYPE_CHECKING:
+    from .streams import Source
+
 #: What makes a row of a tuple, by the columns' names.
 RowFactory = Callable[[List[str]], Callable[[Tuple[Any, ...]], Any]]
 
@@ -26,6 +29,16 @@ def namedtuple_row(names: List[str]) -> Callable[[Tuple[Any, ...]], Any]:
     made: Any = namedtuple('Row', names, rename=True)  # type: ignore[misc]
     make: Callable[[Tuple[Any, ...]], Any] = made._make
     return make
+
+
+def scalar_row(names: List[str]) -> Callable[[Tuple[Any, ...]], Any]:
+    """The first value of each row."""
+    return lambda row: row[0]
+
+
+def class_row(kind: Callable[..., Any]) -> RowFactory:
+    """Rows as objects of a class, which is called with the columns' names and values: `row_factory=class_row(Customer)`."""
+    return lambda names: lambda row: kind(**dict(zip(names, row)))
 
 
 def shaped(result: Result, factory: Optional[RowFactory]) -> Result:
@@ -44,46 +57,173 @@ class Behaviour(NamedTuple):
     registry: Optional[Registry]
 
 
-class Shared:
-    """The state of a connection: its session, and what came aside."""
+class Block(NamedTuple):
+    """A block of `transaction`: whose it is, and the statements that end it and take it back."""
+    owner: object
+    end: str
+    back: str
 
-    def __init__(self, core: Core, behaviour: Behaviour) -> None:
-        self._core, self._session, self._is_closed = core, Session(core, behaviour.registry, behaviour.prepare), False
-        self._session.autocommit = behaviour.autocommit
-        self._savepoints = self._portals = 0
+
+class Shared:
+    """What the two connections have in common: their state, and the generators of their calls. All that is decided of a call is decided here and in `Session`;
+    a connection carries out what they yield, by its `_wire`."""
+    _wire: Limits
+
+    def __init__(self, options: Options, place: Place, encrypts: bool, behaviour: Behaviour) -> None:
+        self._options, self._core = options, options.core(place, encrypts)
+        self._session, self._is_closed = Session(self._core, behaviour.registry, behaviour.prepare), False
+        self._session.autocommit, self._behaviour = behaviour.autocommit, behaviour
+        self._portals, self._process, self._born = 0, os.getpid(), time.monotonic()
+        self._blocks: List[Block] = []
+        #: The stream that holds the connection; whether a call runs, and whether it is at what the caller gave it.
+        self._source: Optional['Source'] = None
+        self._is_busy = self._is_outside = False
         #: The limit of time of a call, in seconds; what makes a row of a tuple.
         self.timeout, self.row_factory = behaviour.timeout, behaviour.row_factory
-        #: The notifications and notices that came, in their order.
-        self.notifications: List[events.Notification] = []
-        self.notices: List[events.Notice] = []
 
-    def _answer(self) -> Optional[events.Event]:
-        """The next event that answers a request, of the bytes that are there; others are kept."""
-        while True:
+    def _call(self, flow: Flow, timeout: Optional[float], ends: bool = False, source: Optional['Source'] = None) -> Flow:
+        """A call: what is ended before it, its limit, and how it is cleared up where it is broken off. Where the one before was broken off in its clearing
+        up too, or the server sent what it may not, nothing is known of the connection: it is closed."""
+        self._check_open()
+        if self._is_busy or self._core.is_faulty:
+            self._end()
+            raise errors.Broken('the call before was broken off: the connection is closed' if self._is_busy else 'the server sent what it may not')
+        held = None if self._source is source else self._source
+        if held is not None and not (ends or held.is_dropped):
+            raise errors.InterfaceError('a stream is under way on this connection: read it to its end, or close it')
+        self._is_busy, self._is_outside = True, False
+        limit = self.timeout if timeout is None else timeout
+        self._wire.set_limit(limit)
+        try:
+            if held is not None:
+                yield from self._pass_over(True)
+                self._wire.set_limit(limit)
+            self._source = source if source is not None and source.holds else None
+            result = yield from flow
+        except GeneratorExit:
+            raise
+        except BaseException as error:
+            yield from self._clear_up(error)
+            raise self._last_words(error) from error.__cause__
+        self._is_busy = False
+        return result
+
+    def _pass_over(self, cancels: bool) -> Flow:
+        """Ends what is under way, by a request to cancel where its answers are not there yet."""
+        if self._source is not None:
+            self._source.is_over, self._source = True, None
+        for wanted in () if self._session.is_settled else self._session.settle():
+            if cancels:
+                cancels = False
+                self._wire.set_limit(GRACE)
+                yield CANCEL
+            yield wanted
+
+    def _clear_up(self, error: BaseException) -> Flow:
+        """Brings the connection to where the next call may begin, or closes it: where it is gone, or was broken off while bytes were under way. Which of these
+        it is says what was asked, sent and read."""
+        cancels, is_held = self._wire.is_waiting, self._source is not None
+        is_known = cancels or self._is_outside or isinstance(error, (errors.Error, DecodeError, ProtocolError))
+        if self._is_closed or is_over(error) or not (is_known or self._session.is_settled):
+            self._end()
+        else:
             try:
-                event = self._core.next_event()
-            except (ProtocolError, UnicodeDecodeError) as error:
-                raise errors.Broken('the server sent what it may not: %s' % error) from error
-            if event is None or event.request is not None:
-                return event
-            if isinstance(event, events.Notification):
-                self.notifications.append(event)
-            elif isinstance(event, events.Notice):
-                self.notices.append(event)
-            elif not isinstance(event, events.Setting):
-                return event
+                self._wire.set_limit(GRACE if cancels or self._is_outside else self.timeout)
+                yield from self._pass_over(cancels or (is_held and not getattr(error, 'fields', None)))
+            except BaseException as other:
+                self._end()
+                if not isinstance(other, (errors.Error, ProtocolError)):
+                    raise
+        self._is_busy = False
+
+    def _end(self) -> None:
+        """The connection is closed."""
+        self._is_closed = True
+        if self._source is not None:
+            self._source.is_over, self._source = True, None
+        self._wire.close()
+
+    def _pull(self, source: 'Source') -> Flow:
+        """The next list of a stream."""
+        if source.is_over:
+            raise errors.InterfaceError('the stream is over: a commit, a rollback or an error ended it')
+        source.is_over = True
+        items = yield from source.more()
+        source.is_over = not items
+        if not items:
+            self._source = None
+        return items
+
+    def _begin_block(self, owner: object, modes: Sequence[str]) -> Flow:
+        """Begins a block of `transaction`: a transaction of these modes, or a savepoint within one."""
+        if self._blocks and self._blocks[-1].owner != owner:
+            raise errors.ProgrammingError('another thread or task has a block of transaction() open on this connection')
+        begin, block = ' '.join(['BEGIN', ', '.join(modes)]).strip(), Block(owner, 'COMMIT', 'ROLLBACK')
+        if self.in_transaction:
+            if modes:
+                raise errors.ProgrammingError('a block within a transaction has its modes')
+            self._portals += 1
+            name = 'block_%d' % self._portals
+            begin, block = 'SAVEPOINT ' + name, Block(owner, 'RELEASE ' + name, 'ROLLBACK TO %s; RELEASE %s' % (name, name))
+        yield from self._session.plain(begin)
+        self._blocks.append(block)
+        return block
+
+    def _end_block(self, block: Block, fails: bool) -> Flow:
+        """Ends it, or takes it back."""
+        del self._blocks[self._blocks.index(block):]
+        if block.end == 'COMMIT':
+            yield from self._session.finish(block.back if fails else block.end, self._wire.set_limit)
+        elif fails or self._core.status == 'E':
+            if self.in_transaction:
+                yield from self._session.plain(block.back)
+            if not fails:
+                raise errors.InternalError('the block failed before its end: it is rolled back')
+        else:
+            yield from self._session.plain(block.end)
+
+    def _finish(self, sql: str) -> Flow:
+        """`COMMIT` or `ROLLBACK`."""
+        if self._blocks:
+            raise errors.ProgrammingError('%s within a block of transaction(), which ends by itself' % sql)
+        yield from self._session.finish(sql, self._wire.set_limit)
+
+    def _restore(self, reset: str) -> Flow:
+        """Makes the connection as it was at its beginning, for another borrower of a pool."""
+        self._blocks = []
+        if reset != 'none':
+            yield from self._session.finish('ROLLBACK', self._wire.set_limit)
+        if reset == 'discard':
+            yield from self._session.discard()
+        self._session.autocommit, self.timeout, _, self.row_factory, _ = self._behaviour
+        self.notices.clear()
+        self.notifications.clear()
 
     def _last_words(self, error: BaseException) -> BaseException:
         """The server's own error, where it sent one before the connection broke."""
         try:
-            event = self._answer() if isinstance(error, errors.Broken) else None
+            event = self._session.answer() if isinstance(error, errors.Broken) else None
             return errors.of_fields(event.fields) if isinstance(event, events.Failed) else translated(error)
         except errors.Broken:
             return error
 
+    @property
+    def notifications(self) -> List[events.Notification]:
+        """The notifications that came and no `wait` has returned, in their order."""
+        return self._session.notifications
+
+    @notifications.setter
+    def notifications(self, value: List[events.Notification]) -> None:
+        self._session.notifications = value
+
+    @property
+    def notices(self) -> List[events.Notice]:
+        """The last notices that came, in their order."""
+        return self._session.notices
+
     def _check_open(self) -> None:
-        if self._is_closed:
-            raise errors.InterfaceError('the connection is closed')
+        if self._is_closed or self._process != os.getpid():
+            raise errors.InterfaceError('the connection is closed' if self._is_closed else 'the connection is that of the process that forked this one')
 
     @property
     def closed(self) -> bool:
@@ -120,13 +260,12 @@ class Shared:
         """The value of a setting that the server reports, as `server_version`."""
         return self._core.settings.get(name)
 
-    def _block(self) -> Tuple[str, str, str]:
-        """The statements that begin a block of `transaction`, end it, and take it back."""
-        if self.in_transaction:
-            self._savepoints += 1
-            name = 'block_%d' % self._savepoints
-            return 'SAVEPOINT ' + name, 'RELEASE ' + name, 'ROLLBACK TO %s; RELEASE %s' % (name, name)
-        return 'BEGIN', 'COMMIT', 'ROLLBACK'
+
+def modes_of(isolation: Optional[str], read_only: bool, deferrable: bool) -> List[str]:
+    """The modes of a transaction."""
+    if isolation is not None and isolation not in ('serializable', 'repeatable read', 'read committed', 'read uncommitted'):
+        raise errors.ProgrammingError('isolation: no level has the name %r' % isolation)
+    return ([] if isolation is None else ['ISOLATION LEVEL ' + isolation.upper()]) + ['READ ONLY'] * read_only + ['DEFERRABLE'] * deferrable
 
 
 def translated(error: BaseException) -> BaseException:
@@ -135,7 +274,7 @@ def translated(error: BaseException) -> BaseException:
         return errors.DataError(str(error))
     if isinstance(error, LogInError):
         return errors.OperationalError(str(error))
-    if isinstance(error, ProtocolError):
+    if isinstance(error, (ProtocolError, UnicodeEncodeError)):
         return errors.DataError('what is given can not be sent: %s' % error)
     return error
 

@@ -1,28 +1,64 @@
 """A socket to a server: bytes sent and read up to a limit of time, TLS, and requests to cancel."""
+import math
+import pwd
 import select
 import socket
 import ssl as tls
+import struct
 import time
-from typing import Optional
+from typing import Any, Callable, Mapping, Optional
 
 from . import cancel_request, ssl_request
 from .connection import Connection as Core
 from .errors import Broken, OperationalError, Timeout
+from .session import ENCRYPT, READ, SEND, Flow
 from .settings import Place
 
 _READ, _PIECE = select.POLLIN | select.POLLHUP | select.POLLERR, 262144
 
 
-class Wire:
-    """A socket that goes on reading while it sends, so that neither side waits for the other for ever. `is_waiting` says, where a call was broken
-    off, that it was while it waited: then no byte is lost."""
+class Limits:
+    """How long a call may take. `is_waiting` says, where it was broken off, that it was while it waited: then no byte is lost."""
 
-    def __init__(self, place: Place, core: Core, limit: Optional[float]) -> None:
-        self.place, self._core = place, core
-        self.is_waiting = False
-        self._unsent = memoryview(b'')
+    def __init__(self, limit: Optional[float]) -> None:
         self.set_limit(limit)
-        self._take(connected(place, self._left()))
+
+    def set_limit(self, limit: Optional[float]) -> None:
+        """From now on no call takes longer than so many seconds together; None and infinity are no limit."""
+        self._limit, self._end = limit, None if limit is None or limit == math.inf else time.monotonic() + limit
+        self._is_late = self.is_waiting = False
+
+    def _left(self) -> Optional[float]:
+        """The time that is left; once 0, so that what has come by then is read."""
+        if self._end is None:
+            return None
+        left = self._end - time.monotonic()
+        if left > 0:
+            return left
+        if self._is_late:
+            raise Timeout('no answer within %s s' % self._limit)
+        self._is_late = True
+        return 0
+
+    def close(self) -> None:
+        """Closes the channel."""
+        raise NotImplementedError
+
+
+class Wire(Limits):
+    """A socket that goes on reading while it sends, so that neither side waits for the other for ever."""
+
+    def __init__(self, place: Place, core: Any, limit: Optional[float]) -> None:
+        super().__init__(limit)
+        self._core, self._unsent = core, memoryview(b'')
+        sock = connected(place, limit)
+        try:
+            #: The server, at the address that answered.
+            self.place = reached(place, sock)
+        except BaseException:
+            sock.close()
+            raise
+        self._take(sock)
 
     def _take(self, sock: socket.socket) -> None:
         sock.setblocking(False)
@@ -30,19 +66,6 @@ class Wire:
         self._reading, self._both = select.poll(), select.poll()
         self._reading.register(sock, select.POLLIN)
         self._both.register(sock, select.POLLIN | select.POLLOUT)
-
-    def set_limit(self, limit: Optional[float]) -> None:
-        """From now on no call takes longer than so many seconds together; None is no limit."""
-        self._limit, self._end = limit, None if limit is None else time.monotonic() + limit
-        self.is_waiting = False
-
-    def _left(self) -> Optional[float]:
-        if self._end is None:
-            return None
-        left = self._end - time.monotonic()
-        if left <= 0:
-            raise Timeout('no answer within %s s' % self._limit)
-        return left
 
     def _wait(self, poll: 'select.poll', timeout: Optional[float] = None) -> int:
         """Waits for the socket; what it is ready for, or 0."""
@@ -54,18 +77,27 @@ class Wire:
             if ready or timeout is not None:
                 return ready[0][1] if ready else 0
 
-    def encrypt(self, context: tls.SSLContext) -> None:
-        """Encrypts the channel."""
-        self._take(_encrypted(self._sock, self.place, context, self._left()))
+    def encrypt(self, context: tls.SSLContext) -> Optional[bytes]:
+        """Encrypts the channel; the server's certificate."""
+        sock = self._sock
+        sock.settimeout(self._left())
+        try:
+            self._take(context.wrap_socket(sock, server_hostname=self.place.host or self.place.address))
+        except socket.timeout as error:
+            raise Timeout('no encryption within %s s' % self._limit) from error
+        except OSError as error:
+            raise OperationalError('no encryption: %s' % error) from error
+        return self._sock.getpeercert(True) if isinstance(self._sock, tls.SSLSocket) else None
 
     @property
     def is_encrypted(self) -> bool:
         """Whether the channel is encrypted."""
         return isinstance(self._sock, tls.SSLSocket)
 
-    def certificate(self) -> Optional[bytes]:
-        """The server's certificate, where there is one."""
-        return self._sock.getpeercert(True) if isinstance(self._sock, tls.SSLSocket) else None
+    def exchange(self) -> None:
+        """Sends what is to be sent, and waits for bytes."""
+        self.send(self._core.data_to_send())
+        self.read()
 
     def read(self, timeout: Optional[float] = None) -> bool:
         """Waits for bytes; False where none came in this time."""
@@ -102,9 +134,37 @@ class Wire:
                 self.read(0)  # (the server's last words may be there)
                 raise Broken('the connection broke: %s' % error) from error
 
+    def flush(self) -> None:
+        """Sends what is to be sent."""
+        self.send(self._core.data_to_send())
+
+    def break_off(self) -> None:
+        """Ends the call that another thread waits in."""
+        try:
+            socket.socket.shutdown(self._sock, socket.SHUT_RDWR)
+        except OSError:
+            pass
+
     def close(self) -> None:
         """Closes the socket."""
         self._sock.close()
+
+
+def drive(flow: Flow, acts: Mapping[str, Callable[[], Any]]) -> Any:
+    """Carries out what a generator yields, up to its end; what an act raises is raised in it."""
+    step: Callable[[Any], str] = flow.send
+    value: Any = None
+    while True:
+        try:
+            wanted = step(value)
+            step = flow.send
+            value = acts[wanted]()
+        except BaseException as error:
+            if flow.gi_frame is None:
+                if isinstance(error, StopIteration):
+                    return error.value
+                raise
+            step, value = flow.throw, error
 
 
 def connected(place: Place, limit: Optional[float]) -> socket.socket:
@@ -125,28 +185,59 @@ def connected(place: Place, limit: Optional[float]) -> socket.socket:
         raise Broken('no connection to %s: %s' % (place, error)) from error
 
 
-def _encrypted(sock: socket.socket, place: Place, context: tls.SSLContext, limit: Optional[float]) -> tls.SSLSocket:
-    sock.settimeout(limit)
-    try:
-        return context.wrap_socket(sock, server_hostname=place.host or place.address)
-    except socket.timeout as error:
-        raise Timeout('no encryption within %s s' % limit) from error
-    except OSError as error:
-        raise OperationalError('no encryption: %s' % error) from error
+def reached(place: Place, sock: Any) -> Place:
+    """The place at the address that answered. Over a Unix socket its process has to be that of the user that `requirepeer` names."""
+    if not place.is_local:
+        return place._replace(host=place.host or place.address, address=sock.getpeername()[0])
+    if place.peer:
+        number = struct.unpack('3i', sock.getsockopt(socket.SOL_SOCKET, socket.SO_PEERCRED, 12))[1]
+        try:
+            name = pwd.getpwuid(number).pw_name
+        except KeyError:
+            name = str(number)
+        if name != place.peer:
+            raise OperationalError('requirepeer: the server runs as %r, not as %r' % (name, place.peer))
+    return place
+
+
+class Cancelling:
+    """A request to cancel what a connection runs, over a channel of its own, which is encrypted where that of the connection is."""
+
+    def __init__(self, core: Core, encrypts: bool) -> None:
+        if not core.secret_key:
+            raise OperationalError('the server gave no key to cancel with')
+        self._request, self._encrypts = cancel_request(core.process_id, core.secret_key), encrypts
+        self._out, self._in = b'', b''
+
+    def data_to_send(self) -> bytes:
+        """What is to be sent; it is handed out once."""
+        data, self._out = self._out, b''
+        return data
+
+    def receive_data(self, data: bytes) -> None:
+        """Takes bytes that came."""
+        self._in += data
+
+    def run(self) -> Flow:
+        """Sends it, and waits until the server has it: then it closes the channel."""
+        if self._encrypts:
+            self._out = ssl_request()
+            yield READ
+            if self._in != b'S':
+                raise OperationalError('the server does not encrypt the request to cancel')
+            yield ENCRYPT
+        self._out = self._request
+        try:
+            yield READ
+        except Broken:
+            pass
 
 
 def cancel(place: Place, core: Core, context: Optional[tls.SSLContext], limit: float = 5) -> None:
-    """Asks the server to cancel what runs, over a connection of its own, encrypted where a context is given; returns once the server has it."""
-    sock = connected(place, limit)
+    """Asks the server to cancel what runs; returns once the server has it."""
+    request = Cancelling(core, context is not None)
+    wire = Wire(place, request, limit)
     try:
-        if context is not None:
-            sock.sendall(ssl_request())
-            if sock.recv(1) != b'S':
-                raise OperationalError('the server does not encrypt the request to cancel')
-            sock = _encrypted(sock, place, context, limit)
-        sock.sendall(cancel_request(core.process_id, core.secret_key))
-        sock.recv(1)
-    except OSError as error:
-        raise OperationalError('no request to cancel: %s' % error) from error
+        drive(request.run(), {READ: wire.exchange, SEND: wire.flush, ENCRYPT: lambda: context and wire.encrypt(context)})
     finally:
-        sock.close()
+        wire.close()
