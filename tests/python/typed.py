@@ -19,6 +19,8 @@ VALUES = (
     (1082, datetime.date(2000, 1, 2), '00000001'), (1082, datetime.date(1999, 12, 31), 'ffffffff'), (1082, INFINITY, '7fffffff'), (1082, NEGATIVE_INFINITY, '80000000'),
     (1083, datetime.time(0, 0, 1), '00000000000f4240'), (1114, datetime.datetime(2000, 1, 1, 0, 0, 1), '00000000000f4240'),
     (1114, datetime.datetime(1999, 12, 31, 23, 59, 59, 999999), 'ffffffffffffffff'), (1114, INFINITY, '7fffffffffffffff'),
+    (1186, INFINITY, '7fffffffffffffff7fffffff7fffffff'), (1186, NEGATIVE_INFINITY, '80000000000000008000000080000000'),
+    (1187, [INFINITY, NEGATIVE_INFINITY], '0000000100000000000004a20000000200000001000000107fffffffffffffff7fffffff7fffffff0000001080000000000000008000000080000000'),
     (1184, datetime.datetime(2000, 1, 1, 0, 0, 1, tzinfo=UTC), '00000000000f4240'), (1184, NEGATIVE_INFINITY, '8000000000000000'),
     (1186, pg.Interval(14, -3, 4000000), '00000000003d0900fffffffd0000000e'),
     (1266, datetime.time(12, 0, tzinfo=datetime.timezone(datetime.timedelta(hours=2))), '0000000a0eebb000ffffe3e0'),

@@ -41,7 +41,7 @@ class _Infinity:
         return 'INFINITY' if self.sign > 0 else 'NEGATIVE_INFINITY'
 
 
-#: `infinity` and `-infinity` of `date`, `timestamp` and `timestamptz`.
+#: `infinity` and `-infinity` of `date`, `timestamp` and `timestamptz`; since PostgreSQL 17 also of `interval`.
 INFINITY, NEGATIVE_INFINITY = _Infinity(1), _Infinity(-1)
 _EPOCH, _EPOCH_UTC, _EPOCH_DATE = datetime(2000, 1, 1), datetime(2000, 1, 1, tzinfo=timezone.utc), date(2000, 1, 1)
 _MICROSECOND, _DAY = timedelta(microseconds=1), timedelta(days=1)
@@ -115,7 +115,18 @@ def _put_timetz(value: time) -> bytes:
     return put_timetz(count, -(offset // timedelta(seconds=1)))
 
 
-def _put_interval(value: Union[Interval, timedelta]) -> bytes:
+#: The spans that stand for the two infinities.
+_LONGEST, _SHORTEST = Interval(2 ** 31 - 1, 2 ** 31 - 1, 2 ** 63 - 1), Interval(-2 ** 31, -2 ** 31, -2 ** 63)
+
+
+def _get_interval(data: bytes) -> Union[Interval, _Infinity]:
+    value = get_interval(data)
+    return INFINITY if value == _LONGEST else NEGATIVE_INFINITY if value == _SHORTEST else value
+
+
+def _put_interval(value: Union[Interval, timedelta, _Infinity]) -> bytes:
+    if isinstance(value, _Infinity):
+        value = _LONGEST if value.sign > 0 else _SHORTEST
     if isinstance(value, timedelta):
         value = Interval(0, value.days, value.seconds * 1000000 + value.microseconds)
     return put_interval(value)
@@ -303,7 +314,7 @@ _PLAIN: Sequence[Tuple[int, int, str, Decoder, Callable[[Any], bytes], bool]] = 
     (1083, 1183, 'time', lambda data: _time(get('time', data)), lambda value: put('time', _microseconds(value, False)), False),
     (1114, 1115, 'timestamp', _D['timestamp'], lambda value: _count(value, _EPOCH, _MICROSECOND, 'timestamp'), False),
     (1184, 1185, 'timestamptz', _D['timestamptz'], _timestamptz, False),
-    (1186, 1187, 'interval', get_interval, _put_interval, False),
+    (1186, 1187, 'interval', _get_interval, _put_interval, False),
     (1266, 1270, 'timetz', _get_timetz, _put_timetz, False),
     (1560, 1561, 'bit', _get_bits, _put_bits, False),
     (1562, 1563, 'varbit', _get_bits, _put_bits, False),
