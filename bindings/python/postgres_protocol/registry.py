@@ -328,6 +328,7 @@ _PLAIN: Sequence[Tuple[int, int, str, Decoder, Callable[[Any], bytes], bool]] = 
     (3802, 3807, 'jsonb', lambda data: json.loads(get_jsonb(data)), lambda value: put_jsonb(json.dumps(value)), False),
     (4072, 4073, 'jsonpath', get_jsonb, put_jsonb, False),
     (5069, 271, 'xid8', lambda data: get('lsn', data), _putter('lsn'), False),
+    (6437, 6442, 'oid8', lambda data: get('lsn', data), _putter('lsn'), False),
 )
 #: The server's own ranges: number, that of its arrays, name, and that of the bounds.
 _RANGES = ((3904, 3905, 'int4range', 23), (3906, 3907, 'numrange', 1700), (3908, 3909, 'tsrange', 1114), (3910, 3911, 'tstzrange', 1184),

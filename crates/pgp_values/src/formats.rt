@@ -63,7 +63,7 @@ pub enum BinaryFormat {
 }
 
 #[rattlefmt::skip]
-static FORMATS: [(Oid, BinaryFormat); 176] = [
+static FORMATS: [(Oid, BinaryFormat); 181] = [
     (16, BinaryFormat::Bool), (17, BinaryFormat::Bytea), (18, BinaryFormat::Char),
     (19, BinaryFormat::Text), (20, BinaryFormat::Int8), (21, BinaryFormat::Int2),
     (22, BinaryFormat::Array), (23, BinaryFormat::Int4), (24, BinaryFormat::Oid),
@@ -97,19 +97,19 @@ static FORMATS: [(Oid, BinaryFormat); 176] = [
     (1263, BinaryFormat::Array), (1266, BinaryFormat::Timetz), (1270, BinaryFormat::Array),
     (1560, BinaryFormat::Varbit), (1561, BinaryFormat::Array), (1562, BinaryFormat::Varbit),
     (1563, BinaryFormat::Array), (1700, BinaryFormat::Numeric), (1790, BinaryFormat::Text),
-    (2201, BinaryFormat::Array), (2202, BinaryFormat::Oid), (2203, BinaryFormat::Oid),
-    (2204, BinaryFormat::Oid), (2205, BinaryFormat::Oid), (2206, BinaryFormat::Oid),
-    (2207, BinaryFormat::Array), (2208, BinaryFormat::Array), (2209, BinaryFormat::Array),
-    (2210, BinaryFormat::Array), (2211, BinaryFormat::Array), (2249, BinaryFormat::Record),
-    (2275, BinaryFormat::Text), (2277, BinaryFormat::Array), (2287, BinaryFormat::Array),
-    (2842, BinaryFormat::Record), (2843, BinaryFormat::Record), (2949, BinaryFormat::Array),
-    (2950, BinaryFormat::Uuid), (2951, BinaryFormat::Array), (2970, BinaryFormat::Snapshot),
-    (3220, BinaryFormat::Lsn), (3221, BinaryFormat::Array), (3361, BinaryFormat::Bytea),
-    (3402, BinaryFormat::Bytea), (3614, BinaryFormat::Tsvector), (3615, BinaryFormat::Tsquery),
-    (3643, BinaryFormat::Array), (3644, BinaryFormat::Array), (3645, BinaryFormat::Array),
-    (3734, BinaryFormat::Oid), (3735, BinaryFormat::Array), (3769, BinaryFormat::Oid),
-    (3770, BinaryFormat::Array), (3802, BinaryFormat::Jsonb), (3807, BinaryFormat::Array),
-    (3904, BinaryFormat::Range(23)), (3905, BinaryFormat::Array),
+    (2173, BinaryFormat::Record), (2201, BinaryFormat::Array), (2202, BinaryFormat::Oid),
+    (2203, BinaryFormat::Oid), (2204, BinaryFormat::Oid), (2205, BinaryFormat::Oid),
+    (2206, BinaryFormat::Oid), (2207, BinaryFormat::Array), (2208, BinaryFormat::Array),
+    (2209, BinaryFormat::Array), (2210, BinaryFormat::Array), (2211, BinaryFormat::Array),
+    (2249, BinaryFormat::Record), (2275, BinaryFormat::Text), (2277, BinaryFormat::Array),
+    (2287, BinaryFormat::Array), (2842, BinaryFormat::Record), (2843, BinaryFormat::Record),
+    (2949, BinaryFormat::Array), (2950, BinaryFormat::Uuid), (2951, BinaryFormat::Array),
+    (2970, BinaryFormat::Snapshot), (3220, BinaryFormat::Lsn), (3221, BinaryFormat::Array),
+    (3361, BinaryFormat::Bytea), (3402, BinaryFormat::Bytea), (3614, BinaryFormat::Tsvector),
+    (3615, BinaryFormat::Tsquery), (3643, BinaryFormat::Array), (3644, BinaryFormat::Array),
+    (3645, BinaryFormat::Array), (3734, BinaryFormat::Oid), (3735, BinaryFormat::Array),
+    (3769, BinaryFormat::Oid), (3770, BinaryFormat::Array), (3802, BinaryFormat::Jsonb),
+    (3807, BinaryFormat::Array), (3904, BinaryFormat::Range(23)), (3905, BinaryFormat::Array),
     (3906, BinaryFormat::Range(1700)), (3907, BinaryFormat::Array),
     (3908, BinaryFormat::Range(1114)), (3909, BinaryFormat::Array),
     (3910, BinaryFormat::Range(1184)), (3911, BinaryFormat::Array),
@@ -125,7 +125,8 @@ static FORMATS: [(Oid, BinaryFormat); 176] = [
     (5039, BinaryFormat::Array), (5069, BinaryFormat::Xid8), (5078, BinaryFormat::Array),
     (6101, BinaryFormat::Record), (6150, BinaryFormat::Array), (6151, BinaryFormat::Array),
     (6152, BinaryFormat::Array), (6153, BinaryFormat::Array), (6155, BinaryFormat::Array),
-    (6157, BinaryFormat::Array),
+    (6157, BinaryFormat::Array), (6437, BinaryFormat::Xid8), (6442, BinaryFormat::Array),
+    (6490, BinaryFormat::Oid), (6491, BinaryFormat::Array),
 ];
 
 // The table, by rising numbers.
