@@ -25,7 +25,7 @@ REPLANNED = frame(b'E', b'SERROR\0VERROR\0C0A000\0Mcached plan must not change r
 ONE_ROW = COPY_OUT + frame(b'd', b'PGCOPY\n\xff\r\n\0' + bytes(8) + b'\0\2\0\0\0\4\0\0\0\5\0\0\0\1x')
 
 
-def aplay(answers, run, **more):
+def aplay(answers, run, seen=None, **more):
     """As `play`, for asyncio: `run` is a coroutine function."""
     async def whole(port):
         connection = await aio.connect('127.0.0.1', port, 'alice', sslmode='disable', timeout=5, **more)
@@ -35,7 +35,7 @@ def aplay(answers, run, **more):
             return error
         finally:
             await connection.close()
-    found, seen = with_server(answers, lambda port: asyncio.run(whole(port)))
+    found, seen = with_server(answers, lambda port: asyncio.run(whole(port)), seen)
     return found, b''.join(tag for tag, _ in seen), seen
 
 
@@ -188,7 +188,7 @@ def check_blocks(same):
 
     def inside(c):
         with c.transaction():
-            found = [type(_error(call)) for call in (c.commit, c.rollback, lambda: c.__exit__(None, None, None))]
+            found = [type(_error(call)) for call in (c.commit, c.rollback, c.__enter__)]
             thread = threading.Thread(target=lambda: found.append(type(_error(lambda: c.transaction().__enter__()))))
             thread.start()
             thread.join(10)
@@ -201,6 +201,22 @@ def check_blocks(same):
             return [type(await _failure(call)) for call in (c.commit(), c.rollback(), asyncio.ensure_future(c.transaction().__aenter__()))]
     found, tags, _ = aplay([QUERIED, frame(b'C', b'COMMIT\0') + READY, b''], tasks)
     same('asyncio, within a block', (found, tags), ([client.ProgrammingError] * 3, b'QQX'))
+    for fails, answers in ((True, []), (False, [TAKEN_BACK, b''])):
+        async def cancelled(c):
+            async def block():
+                async with c:
+                    await c.execute(SELECT, (5,))
+                    if fails:
+                        raise KeyError('mine')
+            task = asyncio.ensure_future(block())
+            while not [text for tag, text in seen if tag == b'Q']:
+                await asyncio.sleep(0.01)
+            task.cancel()
+            await asyncio.wait([task])
+            return task.cancelled(), c.in_transaction and not c.closed
+        seen = []
+        found, _, _ = aplay([PREPARED, INSERTED, b'', ENDED, *answers], cancelled, seen, autocommit=False)
+        same('asyncio, cancelled at the end of a block', found, (True, False))
     gone = error_of(b'57P01', b'terminating', b'FATAL')
     for block, before in ((lambda c: c, [PREPARED, INSERTED]), (lambda c: c.transaction(), [QUERIED, PREPARED[:-1] + b'T', ANSWERED[:-1] + b'T'])):
         def fails(c):

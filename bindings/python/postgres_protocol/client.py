@@ -57,14 +57,19 @@ class Connection(Shared):
             raise translated(self._last_words(error)) from error.__cause__
 
     def __enter__(self) -> 'Connection':
+        self._no_block('a block of the connection')
         return self
 
     def __exit__(self, kind: Optional[Type[BaseException]], error: Optional[BaseException], trace: Optional[TracebackType]) -> None:
         """Commits, or rolls back where an exception is raised, which stays. The connection stays open."""
-        if kind is None:
+        if kind is not None:
+            self._take_back(self._roll_back())
+            return
+        try:
             self.commit()
-        else:
-            self._take_back(self._finish('ROLLBACK'))
+        except BaseException:
+            self._take_back(self._roll_back())
+            raise
 
     def _run(self, flow: Flow, timeout: Optional[float] = None, chunks: Optional[Iterable[bytes]] = None, ends: bool = False, source: Optional[Source] = None) -> Any:
         """Runs a call, which is cancelled at the server where it is broken off or takes longer than its limit."""
@@ -88,8 +93,10 @@ class Connection(Shared):
         try:
             if not self._is_closed:
                 self._run(flow, ends=True)
-        except Error:
+        except BaseException as error:
             self._end()
+            if not isinstance(error, Error):
+                raise
 
     def _more(self, source: Source) -> Any:
         return self._run(self._pull(source), source=source)
@@ -133,10 +140,10 @@ class Connection(Shared):
         block = self._run(self._begin_block(threading.get_ident(), modes_of(isolation, read_only, deferrable)))
         try:
             yield self
+            self._run(self._end_block(block, False), ends=True)
         except BaseException:
             self._take_back(self._end_block(block, True))
             raise
-        self._run(self._end_block(block, False), ends=True)
 
     def wait(self, timeout: Optional[float] = None) -> List[events.Notification]:
         """Waits for notifications, and returns those that came."""
