@@ -11,6 +11,7 @@ from postgres_protocol._library import declare
 from postgres_protocol.registry import DECODERS
 from calls import check_what_ends_what
 from faults import check_faults
+from limits import check_limits_and_others
 from pools import check_pools
 from rows import check_rows
 from server import scram_server
@@ -280,6 +281,7 @@ check_sessions(same, raises)
 check_server(same, refused)
 check_faults(same)
 check_what_ends_what(same)
+check_limits_and_others(same)
 check_pools(same)
 print('Python: %d passed, %d failed' % (passed, failed))
 sys.exit(failed != 0)

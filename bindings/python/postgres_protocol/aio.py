@@ -19,7 +19,8 @@ from .errors import Error, InterfaceError, OperationalError, Timeout
 from .link import Link, Turns, cancel, drive
 from .settings import Options, Place
 from .registry import Registry
-from .session import CANCEL, CHUNK, ENCRYPT, READ, SEND, Flow, Result
+from .results import Result
+from .session import CANCEL, CHUNK, ENCRYPT, READ, SEND, Flow
 from .shared import END, Behaviour, RowFactory, Shared, as_chunk, attempts, class_row, dict_row, modes_of, namedtuple_row, scalar_row, shaped, translated
 from .streams import AsyncStream, Copied, CopiedRows, Parts, Source
 

@@ -24,7 +24,8 @@ from .errors import (Broken, DatabaseError, DataError, Error, IntegrityError, In
                      Timeout, Warning)
 from .settings import Options, Place
 from .registry import Registry
-from .session import CANCEL, CHUNK, ENCRYPT, GRACE, READ, SEND, Flow, Result
+from .results import Result
+from .session import CANCEL, CHUNK, ENCRYPT, GRACE, READ, SEND, Flow
 from .shared import END, Behaviour, RowFactory, Shared, as_chunk, attempts, class_row, dict_row, modes_of, namedtuple_row, scalar_row, translated
 from .streams import Parts, Source, Stream
 from .wire import Wire, cancel, drive
@@ -178,9 +179,10 @@ def connect(host: Optional[str] = None, port: Union[int, str, None] = None, user
             connect_timeout: Optional[float] = None, timeout: Optional[float] = None, prepare: int = 256, row_factory: Optional[RowFactory] = None,
             registry: Optional[Registry] = None, settings: Optional[Mapping[str, str]] = None, **parameters: str) -> Connection:
     """Opens a connection. `host` may be a connection string, `host=.. user=..`, or a URL, `postgresql://..`; what isn't given is taken from the service
-    file, the environment and the password file, as libpq has them. A host that begins with `/` is the folder of a Unix socket. `sslmode` is one of libpq's; the context `ssl`
-    says which certificates count, and requires encryption. `require_auth` names the admitted ways of logging in. `connect_timeout` is the limit of time of the
-    log-in, `timeout` that of each call, in seconds. `prepare` is how many prepared statements are kept, 0 for a pooler. `settings` are those of the session, as `work_mem`; other names are libpq's options, as `application_name`."""
+    file, the environment and the password file, as libpq has them. A host that begins with `/` is the folder of a Unix socket. `sslmode` is one of libpq's;
+    the context `ssl` says which certificates count, and requires encryption. `require_auth` names the admitted ways of logging in. `connect_timeout` is the
+    limit of time of the log-in, `timeout` that of each call, in seconds. `prepare` is how many prepared statements are kept, 0 for a pooler. `settings` are
+    those of the session, as `work_mem`; other names are libpq's options, as `application_name`."""
     given = {'host': host, 'port': port, 'user': user, 'password': password, 'dbname': dbname, 'sslmode': sslmode, 'require_auth': require_auth,
              'connect_timeout': connect_timeout, **parameters}
     options = Options(given, ssl, settings)

@@ -8,7 +8,8 @@ from ._library import ProtocolError
 from .connection import DecodeError, LogInError
 from .settings import Options, Place
 from .registry import Registry
-from .session import CANCEL, GRACE, Flow, Result, Session
+from .results import Result
+from .session import CANCEL, GRACE, Flow, Session
 from .wire import Limits
 
 if TYPE_CHECKING:

@@ -4,8 +4,9 @@ from typing import TYPE_CHECKING, Any, AsyncIterator, Iterator, Optional, Sequen
 
 from . import events
 from .copying import BinaryReader
-from .errors import Error, InterfaceError
-from .session import READ, Flow, Result, Session, Statement
+from .errors import Error
+from .results import Result, Statement
+from .session import READ, Flow, Session
 from .shared import RowFactory, shaped
 
 if TYPE_CHECKING:
