@@ -1,18 +1,14 @@
 """What ends what: streams within blocks, blocks within blocks, calls of other tasks and threads, limits; with a server that plays bytes, of the manual's
 "Message Flow", to the blocking client and to the one for asyncio."""
 import asyncio
-import concurrent.futures
-import contextlib
-import os
 import socket
 import threading
 import time
-from unittest import mock
 
 from postgres_protocol import aio, client, settings
 from faults import ANSWERED, COPY_OUT, OPENED, SELECT, _error, error_of, play
 from server import frame
-from sessions import AUTHENTICATED, DESCRIBED, PREPARED, READY, ROW, connected, events_of, with_server
+from sessions import AUTHENTICATED, DESCRIBED, PREPARED, READY, ROW, with_server
 
 BEGUN = frame(b'1', b'') + frame(b'2', b'') + frame(b'C', b'BEGIN\0')
 INSERTED = BEGUN + ANSWERED[:-1] + b'T'
@@ -25,7 +21,7 @@ REPLANNED = frame(b'E', b'SERROR\0VERROR\0C0A000\0Mcached plan must not change r
 ONE_ROW = COPY_OUT + frame(b'd', b'PGCOPY\n\xff\r\n\0' + bytes(8) + b'\0\2\0\0\0\4\0\0\0\5\0\0\0\1x')
 
 
-def aplay(answers, run, **more):
+def aplay(answers, run, seen=None, **more):
     """As `play`, for asyncio: `run` is a coroutine function."""
     async def whole(port):
         connection = await aio.connect('127.0.0.1', port, 'alice', sslmode='disable', timeout=5, **more)
@@ -35,7 +31,7 @@ def aplay(answers, run, **more):
             return error
         finally:
             await connection.close()
-    found, seen = with_server(answers, lambda port: asyncio.run(whole(port)))
+    found, seen = with_server(answers, lambda port: asyncio.run(whole(port)), seen)
     return found, b''.join(tag for tag, _ in seen), seen
 
 
@@ -188,7 +184,7 @@ def check_blocks(same):
 
     def inside(c):
         with c.transaction():
-            found = [type(_error(call)) for call in (c.commit, c.rollback, lambda: c.__exit__(None, None, None))]
+            found = [type(_error(call)) for call in (c.commit, c.rollback, c.__enter__)]
             thread = threading.Thread(target=lambda: found.append(type(_error(lambda: c.transaction().__enter__()))))
             thread.start()
             thread.join(10)
@@ -201,6 +197,22 @@ def check_blocks(same):
             return [type(await _failure(call)) for call in (c.commit(), c.rollback(), asyncio.ensure_future(c.transaction().__aenter__()))]
     found, tags, _ = aplay([QUERIED, frame(b'C', b'COMMIT\0') + READY, b''], tasks)
     same('asyncio, within a block', (found, tags), ([client.ProgrammingError] * 3, b'QQX'))
+    for fails, answers in ((True, []), (False, [TAKEN_BACK, b''])):
+        async def cancelled(c):
+            async def block():
+                async with c:
+                    await c.execute(SELECT, (5,))
+                    if fails:
+                        raise KeyError('mine')
+            task = asyncio.ensure_future(block())
+            while not [text for tag, text in seen if tag == b'Q']:
+                await asyncio.sleep(0.01)
+            task.cancel()
+            await asyncio.wait([task])
+            return task.cancelled(), c.in_transaction and not c.closed
+        seen = []
+        found, _, _ = aplay([PREPARED, INSERTED, b'', ENDED, *answers], cancelled, seen, autocommit=False)
+        same('asyncio, cancelled at the end of a block', found, (True, False))
     gone = error_of(b'57P01', b'terminating', b'FATAL')
     for block, before in ((lambda c: c, [PREPARED, INSERTED]), (lambda c: c.transaction(), [QUERIED, PREPARED[:-1] + b'T', ANSWERED[:-1] + b'T'])):
         def fails(c):
@@ -268,148 +280,7 @@ def check_rows_and_modes(same):
     same('modes', (found, seen[0][1]), ((client.ProgrammingError,) * 2, b'BEGIN ISOLATION LEVEL SERIALIZABLE, READ ONLY, DEFERRABLE\0'))
 
 
-def check_late(same):
-    """A limit of time: a commit whose answer comes is done, and one that is cancelled isn't; waiting for notifications ends, whatever else comes; and no cancel waits for other work."""
-    def late(c):
-        with c.transaction():
-            c.timeout = 0.2
-    for answer, wanted in ((COMMITTED, None), (error_of(b'57014', b'canceling') + READY, client.Timeout)):
-        found, tags, _ = play([QUERIED, b'', (answer,), b''], late)
-        same('a late commit', (found if found is None else type(found), tags), (wanted, b'QQ' b'cancel' b'X'))
-
-        async def alike(c):
-            late_one = c.transaction()
-            await late_one.__aenter__()
-            c.timeout = 0.2
-            await late_one.__aexit__(None, None, None)
-        found, tags, _ = aplay([QUERIED, b'', (answer,), b''], alike)
-        same('asyncio, a late commit', (found if found is None else type(found), tags), (wanted, b'QQ' b'cancel' b'X'))
-
-    async def busy(c):
-        loop, work = asyncio.get_running_loop(), threading.Event()
-        loop.set_default_executor(concurrent.futures.ThreadPoolExecutor(1))
-        other = loop.run_in_executor(None, work.wait, 5)
-        begin = time.monotonic()
-        found = type(await _failure(c.script('SELECT 1', timeout=0.1)))
-        took = time.monotonic() - begin
-        work.set()
-        await other
-        return found, took < 2
-    found, _, _ = aplay([b'', (error_of(b'57014', b'canceling') + READY,), b''], busy)
-    same('asyncio, a cancel beside other work', found, (client.Timeout, True))
-    check_flood(same)
-
-
-def check_flood(same):
-    """A server that sends notices for ever: `wait` ends, and few of them are kept; and so of settings."""
-    listening, ends = socket.create_server(('127.0.0.1', 0)), threading.Event()
-
-    def serve():
-        peer = listening.accept()[0]
-        peer.recv(1000)
-        peer.sendall(AUTHENTICATED + b''.join(frame(b'S', b'name%d\0x\0' % n) for n in range(5000)) + READY)
-        with contextlib.suppress(OSError):
-            while not ends.wait(0.001):
-                peer.sendall(frame(b'N', b'SNOTICE\0C00000\0Mx\0\0') * 100)
-        peer.close()
-
-    async def waits(port):
-        c = await aio.connect('127.0.0.1', port, 'alice', sslmode='disable')
-        found = await c.wait(0.3)
-        await c.close()
-        return found, len(c.notices), len(c._core.settings)
-
-    def blocks(port):
-        with contextlib.closing(client.connect('127.0.0.1', port, 'alice', sslmode='disable')) as c:
-            return c.wait(0.3), len(c.notices), len(c._core.settings)
-    for call in (blocks, lambda port: asyncio.run(waits(port))):
-        ends.clear()
-        thread = threading.Thread(target=serve, daemon=True)
-        thread.start()
-        begin = time.monotonic()
-        found = _error(lambda: call(listening.getsockname()[1]))
-        same('a flood of notices', (found, time.monotonic() - begin < 3), (([], 1000, 1000), True))
-        ends.set()
-        thread.join(10)
-    listening.close()
-
-
-def check_small(same):
-    """Smaller ones: what a server says where there is no database, cursors of one name, a stray message, the statements that are kept, other threads and processes."""
-    listening = socket.create_server(('127.0.0.1', 0))
-
-    def serve():
-        for _ in range(2):
-            peer = listening.accept()[0]
-            peer.recv(1000)
-            peer.sendall(error_of(b'3D000', b'database "x" does not exist', b'FATAL'))
-            peer.close()
-    threading.Thread(target=serve, daemon=True).start()
-    port = listening.getsockname()[1]
-    for call in (lambda: client.connect('127.0.0.1', port, 'alice', sslmode='disable'), lambda: asyncio.run(aio.connect('127.0.0.1', port, 'alice', sslmode='disable'))):
-        error = _error(call)
-        same('no database', (type(error), error.sqlstate), (client.OperationalError, '3D000'))
-    listening.close()
-    suspended = BEGUN + frame(b'2', b'') + ROW + frame(b's', b'') + OPENED
-
-    def named(c):
-        first, second = c.cursor('x', 1).execute(SELECT, (5,)), c.cursor('x', 1)
-        found = [type(_error(lambda: second.execute(SELECT, (5,)))), c.in_transaction, type(_error(lambda: first.fetchmany(-1))), first.fetchone()]
-        first.close()
-        return found, second.execute(SELECT, (5,)).fetchall()
-    found, tags, _ = play([PREPARED, suspended, frame(b'3', b'') + OPENED, ANSWERED[:-1] + b'T', frame(b'3', b'') + OPENED, b''], named)
-    same('cursors of one name', (found, tags), (([client.ProgrammingError, True, client.ProgrammingError, (7, 'hello')], [(7, 'hello')]), b'PDS' b'PBEBES' b'CS' b'BES' b'X'))
-    found, _, _ = play([PREPARED, ANSWERED + READY, b''], lambda c: (c.execute(SELECT, (5,)).fetchall(), type(_error(lambda: c.execute(SELECT, (5,)))), c.closed), autocommit=True)
-    same('a stray ReadyForQuery', found, ([(7, 'hello')], client.Broken, True))
-    found, _, seen = play([PREPARED, ANSWERED, PREPARED, ANSWERED, ANSWERED, frame(b'3', b'') + PREPARED, ANSWERED, ANSWERED, b''],
-                          lambda c: [len(c.execute(sql, (5,)).fetchall()) for sql in ('one', 'two', 'one', 'three', 'one')], autocommit=True, prepare=2)
-    same('what was used last is kept', (found, [payload[:3] for tag, payload in seen if tag == b'C']), ([1] * 5, [b'Ss2']))
-    core = connected()
-    for _ in range(3):
-        core.run(b'', b's', b'', [], b'', 0, (4,), False)
-    core.sync()
-    core.receive_data(error_of(b'26000', b'gone') + READY)
-    same('decoders of what is passed over', (type(events_of(core)[-1]).__name__, core._decoders), ('Ready', {}))
-    check_others(same)
-
-
-def check_others(same):
-    """`close` from another thread ends a call; a process that was forked writes nothing to its parent's server; a request to cancel goes to the address that answered."""
-    def closes(c):
-        threading.Timer(0.2, c.close).start()
-        begin = time.monotonic()
-        error = _error(lambda: c.script('SELECT pg_sleep(5)'))
-        return type(error), c.closed, time.monotonic() - begin < 3
-    found, tags, _ = play([b'', b''], closes)
-    same('closed by another thread', (found, tags), ((client.Broken, True, True), b'Q'))
-
-    def forks(c):
-        child = os.fork()
-        if not child:
-            found = _error(lambda: c.script('SELECT 1'))
-            c.close()
-            os._exit(0 if isinstance(found, client.InterfaceError) else 1)
-        return os.waitpid(child, 0)[1], c.execute(SELECT, (5,)).fetchall()
-    found, tags, _ = play([PREPARED, ANSWERED, b''], forks, autocommit=True)
-    same('a fork', (found, tags), ((0, [(7, 'hello')]), b'PDSBESX'))
-
-    def elsewhere(c):
-        found = socket.getaddrinfo
-
-        def ask(host, *more):
-            return found('127.0.0.1' if host == '127.0.0.1' else '127.0.0.2', *more)
-        with mock.patch('socket.getaddrinfo', ask):
-            return _error(lambda: c.script('SELECT 1', timeout=0.1))
-    found, seen = with_server([b'', (error_of(b'57014', b'canceling') + READY,), b''], lambda port: _closed(client.connect('localhost', port, 'alice', sslmode='disable', autocommit=True), elsewhere))
-    same('a cancel to the same address', (type(found), [tag for tag, _ in seen]), (client.Timeout, [b'Q', b'cancel', b'X']))
-
-
-def _closed(connection, run):
-    with contextlib.closing(connection):
-        return run(connection)
-
-
 def check_what_ends_what(same):
     """All of them."""
-    for check in (check_rows_and_modes, check_late, check_small, check_mistakes, check_streams, check_asyncio_streams, check_once, check_encodings, check_blocks):
+    for check in (check_rows_and_modes, check_mistakes, check_streams, check_asyncio_streams, check_once, check_encodings, check_blocks):
         check(same)

@@ -282,8 +282,8 @@ def play(listening, answers, seen):
     peer.close()
 
 
-def with_server(answers, run):
-    listening, seen = socket.create_server(('127.0.0.1', 0)), []
+def with_server(answers, run, seen=None):
+    listening, seen = socket.create_server(('127.0.0.1', 0)), [] if seen is None else seen
     thread = threading.Thread(target=play, args=(listening, answers, seen), daemon=True)
     thread.start()
     result = run(listening.getsockname()[1])

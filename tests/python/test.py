@@ -12,6 +12,7 @@ from postgres_protocol.registry import DECODERS
 from calls import check_what_ends_what
 from faults import check_faults
 from pipelines import check_pipelines
+from limits import check_limits_and_others
 from pools import check_pools
 from rows import check_rows
 from server import scram_server
@@ -282,6 +283,7 @@ check_pipelines(same)
 check_server(same, refused)
 check_faults(same)
 check_what_ends_what(same)
+check_limits_and_others(same)
 check_pools(same)
 print('Python: %d passed, %d failed' % (passed, failed))
 sys.exit(failed != 0)

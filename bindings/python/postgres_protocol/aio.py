@@ -19,7 +19,8 @@ from .errors import Error, InterfaceError, OperationalError, Timeout
 from .link import Link, Turns, cancel, drive
 from .settings import Options, Place
 from .registry import Registry
-from .session import CANCEL, CHUNK, ENCRYPT, READ, SEND, Flow, Result
+from .results import Result
+from .session import CANCEL, CHUNK, ENCRYPT, READ, SEND, Flow
 from .shared import END, Behaviour, RowFactory, Shared, as_chunk, attempts, class_row, dict_row, modes_of, namedtuple_row, scalar_row, shaped, translated
 from .streams import AsyncStream, Copied, CopiedRows, Parts, Source
 
@@ -39,14 +40,19 @@ class Connection(Shared):
         self._acts = {READ: self._wire.exchange, SEND: self._wire.flush, CANCEL: self.cancel, ENCRYPT: lambda: self._wire.encrypt(options.context())}
 
     async def __aenter__(self) -> 'Connection':
+        self._no_block('a block of the connection')
         return self
 
     async def __aexit__(self, kind: Optional[Type[BaseException]], error: Optional[BaseException], trace: Optional[TracebackType]) -> None:
         """Commits, or rolls back where an exception is raised, which stays. The connection stays open."""
-        if kind is None:
+        if kind is not None:
+            await self._take_back(self._roll_back())
+            return
+        try:
             await self.commit()
-        else:
-            await self._take_back(self._finish('ROLLBACK'))
+        except BaseException:
+            await self._take_back(self._roll_back())
+            raise
 
     async def _open(self, encrypts: bool) -> None:
         await self._wire.connect()
@@ -104,8 +110,10 @@ class Connection(Shared):
         try:
             if not self._is_closed:
                 await self._run(flow, ends=True)
-        except Error:
+        except BaseException as error:
             self._end()
+            if not isinstance(error, Error):
+                raise
 
     async def _more(self, source: Source) -> Any:
         return await self._run(self._pull(source), source=source)
@@ -117,7 +125,6 @@ class Connection(Shared):
 
     def _dropped(self, source: Source) -> None:
         """Nobody has the stream any more: its turn is the next call's."""
-        source.is_dropped = True
         if self._source is source:
             with contextlib.suppress(RuntimeError):
                 self._loop.call_soon_threadsafe(self._turns.give)
@@ -178,10 +185,10 @@ class Connection(Shared):
         block = await self._run(self._begin_block(asyncio.current_task(), modes_of(isolation, read_only, deferrable)))
         try:
             yield self
+            await self._run(self._end_block(block, False), ends=True)
         except BaseException:
             await self._take_back(self._end_block(block, True))
             raise
-        await self._run(self._end_block(block, False), ends=True)
 
     async def wait(self, timeout: Optional[float] = None) -> List[events.Notification]:
         """Waits for notifications, and returns those that came."""

@@ -24,7 +24,8 @@ from .errors import (Broken, DatabaseError, DataError, Error, IntegrityError, In
                      Timeout, Warning)
 from .settings import Options, Place
 from .registry import Registry
-from .session import CANCEL, CHUNK, ENCRYPT, GRACE, READ, SEND, Flow, Result
+from .results import Result
+from .session import CANCEL, CHUNK, ENCRYPT, GRACE, READ, SEND, Flow
 from .shared import END, Behaviour, RowFactory, Shared, as_chunk, attempts, class_row, dict_row, modes_of, namedtuple_row, scalar_row, translated
 from .streams import Parts, Source, Stream
 from .wire import Wire, cancel, drive
@@ -57,14 +58,19 @@ class Connection(Shared):
             raise translated(self._last_words(error)) from error.__cause__
 
     def __enter__(self) -> 'Connection':
+        self._no_block('a block of the connection')
         return self
 
     def __exit__(self, kind: Optional[Type[BaseException]], error: Optional[BaseException], trace: Optional[TracebackType]) -> None:
         """Commits, or rolls back where an exception is raised, which stays. The connection stays open."""
-        if kind is None:
+        if kind is not None:
+            self._take_back(self._roll_back())
+            return
+        try:
             self.commit()
-        else:
-            self._take_back(self._finish('ROLLBACK'))
+        except BaseException:
+            self._take_back(self._roll_back())
+            raise
 
     def _run(self, flow: Flow, timeout: Optional[float] = None, chunks: Optional[Iterable[bytes]] = None, ends: bool = False, source: Optional[Source] = None) -> Any:
         """Runs a call, which is cancelled at the server where it is broken off or takes longer than its limit."""
@@ -88,8 +94,10 @@ class Connection(Shared):
         try:
             if not self._is_closed:
                 self._run(flow, ends=True)
-        except Error:
+        except BaseException as error:
             self._end()
+            if not isinstance(error, Error):
+                raise
 
     def _more(self, source: Source) -> Any:
         return self._run(self._pull(source), source=source)
@@ -133,10 +141,10 @@ class Connection(Shared):
         block = self._run(self._begin_block(threading.get_ident(), modes_of(isolation, read_only, deferrable)))
         try:
             yield self
+            self._run(self._end_block(block, False), ends=True)
         except BaseException:
             self._take_back(self._end_block(block, True))
             raise
-        self._run(self._end_block(block, False), ends=True)
 
     def wait(self, timeout: Optional[float] = None) -> List[events.Notification]:
         """Waits for notifications, and returns those that came."""
@@ -171,9 +179,10 @@ def connect(host: Optional[str] = None, port: Union[int, str, None] = None, user
             connect_timeout: Optional[float] = None, timeout: Optional[float] = None, prepare: int = 256, row_factory: Optional[RowFactory] = None,
             registry: Optional[Registry] = None, settings: Optional[Mapping[str, str]] = None, **parameters: str) -> Connection:
     """Opens a connection. `host` may be a connection string, `host=.. user=..`, or a URL, `postgresql://..`; what isn't given is taken from the service
-    file, the environment and the password file, as libpq has them. A host that begins with `/` is the folder of a Unix socket. `sslmode` is one of libpq's; the context `ssl`
-    says which certificates count, and requires encryption. `require_auth` names the admitted ways of logging in. `connect_timeout` is the limit of time of the
-    log-in, `timeout` that of each call, in seconds. `prepare` is how many prepared statements are kept, 0 for a pooler. `settings` are those of the session, as `work_mem`; other names are libpq's options, as `application_name`."""
+    file, the environment and the password file, as libpq has them. A host that begins with `/` is the folder of a Unix socket. `sslmode` is one of libpq's;
+    the context `ssl` says which certificates count, and requires encryption. `require_auth` names the admitted ways of logging in. `connect_timeout` is the
+    limit of time of the log-in, `timeout` that of each call, in seconds. `prepare` is how many prepared statements are kept, 0 for a pooler. `settings` are
+    those of the session, as `work_mem`; other names are libpq's options, as `application_name`."""
     given = {'host': host, 'port': port, 'user': user, 'password': password, 'dbname': dbname, 'sslmode': sslmode, 'require_auth': require_auth,
              'connect_timeout': connect_timeout, **parameters}
     options = Options(given, ssl, settings)

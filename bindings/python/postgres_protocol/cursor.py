@@ -1,9 +1,9 @@
 """Cursors of the blocking client."""
-from typing import TYPE_CHECKING, Any, Iterable, Iterator, List, Optional, Sequence, Tuple
+from typing import TYPE_CHECKING, Any, Iterable, List, Optional, Sequence, Tuple
 
 from .copying import binary_rows
 from .errors import InterfaceError, ProgrammingError
-from .session import Result, Statement, count_of
+from .results import Result, Statement, count_of
 from .shared import RowFactory, shaped
 from .streams import Copied, CopiedRows, Stream
 

@@ -102,7 +102,8 @@ _WORDS = '''0A000 FeatureNotSupported 22001 StringDataRightTruncation 22003 Nume
 53100 DiskFull 53200 OutOfMemory 53300 TooManyConnections 55000 ObjectNotInPrerequisiteState 55006 ObjectInUse 55P03 LockNotAvailable 57014 QueryCanceled
 57P01 AdminShutdown 57P02 CrashShutdown 57P03 CannotConnectNow P0001 RaiseException P0002 NoDataFound P0003 TooManyRows'''.split()
 _BY_STATE: Dict[str, Type[DatabaseError]] = {
-    state: type(name, (_CLASSES.get(state[:2], DatabaseError),), {'__module__': __name__, '__doc__': 'SQLSTATE %s.' % state}) for state, name in zip(_WORDS[::2], _WORDS[1::2])}
+    state: type(name, (_CLASSES.get(state[:2], DatabaseError),), {'__module__': __name__, '__doc__': 'SQLSTATE %s.' % state})
+    for state, name in zip(_WORDS[::2], _WORDS[1::2])}
 globals().update((kind.__name__, kind) for kind in _BY_STATE.values())
 
 
@@ -114,8 +115,9 @@ def of_fields(fields: Dict[str, str], kind: Type[DatabaseError] = DatabaseError)
     """The exception of a server's error: that of its SQLSTATE, or of its class, as far as it is one of `kind`."""
     state, text = fields.get('C', ''), fields.get('M', '')
     found: Type[DatabaseError] = _BY_STATE.get(state, _CLASSES.get(state[:2], DatabaseError))
-    at, detail = fields.get('P'), fields.get('D')
-    return (found if issubclass(found, kind) else kind)('%s: %s%s%s' % (state, text, ' (at character %s)' % at if at else '', '\nDETAIL: ' + detail if detail else ''), fields)
+    for letter, words in (('P', ' (at character %s)'), ('D', '\nDETAIL: %s')):
+        text += words % fields[letter] if fields.get(letter) else ''
+    return (found if issubclass(found, kind) else kind)('%s: %s' % (state, text), fields)
 
 
 def is_end(fields: Dict[str, str], request: Optional[int]) -> bool:

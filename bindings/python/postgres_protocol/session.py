@@ -1,8 +1,7 @@
 """What a client does on a connection, without input or output: each call is a generator that yields what it needs. The blocking client and the one
 for asyncio run the same generators."""
-from array import array
 from collections import OrderedDict
-from typing import Any, Callable, Dict, Generator, List, NamedTuple, Optional, Sequence, Set, Tuple
+from typing import Any, Callable, Dict, Generator, List, Optional, Sequence, Set
 
 from . import errors, events
 from ._library import EMBEDDED_NULL, INT32, ProtocolError, as_integer
@@ -11,7 +10,8 @@ from .binding import certificate_hash
 from .connection import Connection
 from .copying import first_word
 from .reading import Field
-from .registry import Decoder, Registry, Type
+from .registry import Registry, Type
+from .results import Result, Statement, as_row, formats_of, gathered, results_of
 
 #: What a generator yields: READ where bytes of the server's are needed (what was written is sent first), SEND where what was written is to be sent, CHUNK
 #: for the next piece of a copy (None: there is none), CANCEL for a request to cancel, ENCRYPT for TLS, which gives the server's certificate.
@@ -26,24 +26,6 @@ GRACE = 5
 _COLUMNS = ("SELECT attname::text FROM pg_catalog.pg_attribute a WHERE attrelid = $1::regclass AND attnum > 0 AND NOT attisdropped "
             "AND coalesce(to_jsonb(a)->>'attgenerated', '') = '' ORDER BY attnum")
 _OTHER_CALL = 'the statement copies: copy_in(..) and copy_out(..) are the calls for it'
-
-
-class Statement(NamedTuple):
-    """A prepared statement: its name, what encodes its parameters, its columns, what decodes them, and the formats of both."""
-    name: str
-    encoders: List[Callable[[Any], bytes]]
-    formats: bytes
-    fields: List[Field]
-    decoders: Tuple[Decoder, ...]
-    result_formats: bytes
-
-
-class Result(NamedTuple):
-    """What a statement came to: its columns, its rows, and the server's tag; whether a portal has further rows."""
-    fields: List[Field]
-    rows: List[Any]
-    tag: str
-    has_more: bool = False
 
 
 class Session:
@@ -222,7 +204,7 @@ class Session:
         types = [self.registry.get(oid) for oid in next((e.types for e in found if isinstance(e, events.Parameters)), [])]
         fields: List[Field] = next((e.fields for e in found if isinstance(e, events.Columns)), [])
         known = [self.registry.get(f.type_oid) for f in fields]
-        return Statement(name, [k.encode for k in types], _formats(types), fields, tuple(k.decode for k in known), _formats(known))
+        return Statement(name, [k.encode for k in types], formats_of(types), fields, tuple(k.decode for k in known), formats_of(known))
 
     def _values(self, statement: Statement, values: Sequence[Any]) -> List[Optional[bytes]]:
         """The parameters' bytes."""
@@ -254,14 +236,15 @@ class Session:
             results[asked] = Result(statement.fields, [], '')
         self._executed = results
         found = yield from self._until_ready(connection.last_number if bound else connection.sync())
-        return _gathered(results, found)
+        return gathered(results, found)
 
     def _is_stale(self, error: errors.DatabaseError) -> bool:
         """Whether the server dropped the statement, or its columns changed: its Bind failed then, and not what an Execute ran."""
         return self._failed_at not in self._executed and errors.is_stale(error)
 
     def _run(self, sql: str, rows: Sequence[Sequence[Any]], portal: str = '', size: int = 0) -> Flow:
-        """The same by a statement's text; the statement, and the results. A statement that was kept and went stale is prepared anew, unless its error ended a transaction of the caller's."""
+        """The same by a statement's text; the statement, and the results. A statement that was kept and went stale is prepared anew, unless its error ended a
+        transaction of the caller's."""
         kept, began = self._statements.get(sql), self.connection.status == 'I'
         if kept is not None:
             self._statements.move_to_end(sql)
@@ -307,7 +290,7 @@ class Session:
         """The next rows of a portal."""
         number = self.connection.execute(portal, size, statement.decoders)
         found = yield from self._until_ready(self.connection.sync())
-        return _gathered({number: Result(statement.fields, [], '')}, found)[0]
+        return gathered({number: Result(statement.fields, [], '')}, found)[0]
 
     def close_portal(self, portal: str) -> Flow:
         """Closes a portal."""
@@ -325,7 +308,7 @@ class Session:
     def script(self, sql: str) -> Flow:
         """Runs any number of statements as one simple query; their values are texts."""
         yield from self._begin_query(sql)
-        return _results((yield from self._until_ready(self.connection.query(sql))))
+        return results_of((yield from self._until_ready(self.connection.query(sql))))
 
     def plain(self, sql: str) -> Flow:
         """A statement that opens no transaction but its own."""
@@ -352,7 +335,7 @@ class Session:
                 yield from self._until_ready(number, found)
             except errors.DatabaseError:
                 raise error from None
-        if sql == 'COMMIT' and _results(found)[-1].tag == 'ROLLBACK':
+        if sql == 'COMMIT' and results_of(found)[-1].tag == 'ROLLBACK':
             raise errors.InternalError('the transaction failed before its COMMIT: it is rolled back')
 
     def wait(self) -> Flow:
@@ -403,7 +386,7 @@ class Session:
             if chunk is None:
                 break
         self.connection.copy_done()
-        return _results((yield from self._until_ready(number)))[-1]
+        return results_of((yield from self._until_ready(number)))[-1]
 
     def is_end(self, event: events.Event, number: int) -> bool:
         """Whether it is the end of a request's answer; a server's error is raised."""
@@ -413,53 +396,3 @@ class Session:
             self._settled = self.connection.last_number
             return True
         return False
-
-
-def as_row(values: Optional[Sequence[Any]]) -> Sequence[Any]:
-    """The values of a statement's parameters: a list or a tuple; None is none of them."""
-    if isinstance(values, (list, tuple)) or values is None:
-        return values or ()
-    if isinstance(values, Sequence) and not isinstance(values, (str, bytes, bytearray, memoryview)):
-        return tuple(values)
-    raise TypeError('parameters: a list or a tuple is expected, not %s' % type(values).__name__)
-
-
-def _formats(types: Sequence[Type]) -> bytes:
-    return array('h', [0 if one.is_text else 1 for one in types]).tobytes()
-
-
-def _gathered(results: Dict[Optional[int], Result], found: List[events.Event]) -> List[Result]:
-    """The results by their requests, with the rows and tags that came."""
-    for event in found:
-        kept = results.get(event.request)
-        if kept is None:
-            continue
-        if isinstance(event, events.Rows):
-            kept.rows.extend(event.rows)
-        elif isinstance(event, events.CommandCompleted):
-            results[event.request] = Result(kept.fields, kept.rows, event.tag)
-        elif isinstance(event, events.Completed) and event.kind == 'PortalSuspended':
-            results[event.request] = kept._replace(has_more=True)
-    return list(results.values())
-
-
-def _results(found: List[events.Event]) -> List[Result]:
-    """The results of a simple query."""
-    results: List[Result] = []
-    fields: List[Field] = []
-    rows: List[Tuple[Any, ...]] = []
-    for event in found:
-        if isinstance(event, events.Columns):
-            fields = event.fields
-        elif isinstance(event, events.Rows):
-            rows += event.rows
-        elif isinstance(event, events.CommandCompleted):
-            results.append(Result(fields, rows, event.tag))
-            fields, rows = [], []
-    return results
-
-
-def count_of(tag: str) -> int:
-    """How many rows a command was about, by its tag; -1 where it says none."""
-    word = tag.rsplit(' ', 1)[-1]
-    return int(word) if word.isdigit() else -1

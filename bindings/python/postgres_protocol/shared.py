@@ -8,7 +8,8 @@ from ._library import ProtocolError
 from .connection import DecodeError, LogInError
 from .settings import Options, Place
 from .registry import Registry
-from .session import CANCEL, GRACE, Flow, Result, Session
+from .results import Result
+from .session import CANCEL, GRACE, Flow, Session
 from .wire import Limits
 
 if TYPE_CHECKING:
@@ -170,8 +171,9 @@ class Shared:
         return block
 
     def _end_block(self, block: Block, fails: bool) -> Flow:
-        """Ends it, or takes it back."""
-        del self._blocks[self._blocks.index(block):]
+        """Ends it, or takes it back; what was begun within it and isn't ended goes with it."""
+        if block in self._blocks:
+            del self._blocks[self._blocks.index(block):]
         if block.end == 'COMMIT':
             yield from self._session.finish(block.back if fails else block.end, self._wire.set_limit)
         elif fails or self._core.status == 'E':
@@ -182,17 +184,24 @@ class Shared:
         else:
             yield from self._session.plain(block.end)
 
+    def _no_block(self, what: str) -> None:
+        if self._blocks:
+            raise errors.ProgrammingError('%s within a block of transaction(), which ends by itself' % what)
+
     def _finish(self, sql: str) -> Flow:
         """`COMMIT` or `ROLLBACK`."""
-        if self._blocks:
-            raise errors.ProgrammingError('%s within a block of transaction(), which ends by itself' % sql)
+        self._no_block(sql)
         yield from self._session.finish(sql, self._wire.set_limit)
+
+    def _roll_back(self) -> Flow:
+        """Takes all back behind an exception, and what is left of blocks."""
+        self._blocks = []
+        yield from self._session.finish('ROLLBACK', self._wire.set_limit)
 
     def _restore(self, reset: str) -> Flow:
         """Makes the connection as it was at its beginning, for another borrower of a pool."""
-        self._blocks = []
         if reset != 'none':
-            yield from self._session.finish('ROLLBACK', self._wire.set_limit)
+            yield from self._roll_back()
         if reset == 'discard':
             yield from self._session.discard()
         self._session.autocommit, self.timeout, _, self.row_factory, _ = self._behaviour

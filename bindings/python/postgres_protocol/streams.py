@@ -1,10 +1,12 @@
 """What comes in parts: the data of a copy, its rows, and the rows of a portal, for the blocking client and the one for asyncio."""
+import weakref
 from typing import TYPE_CHECKING, Any, AsyncIterator, Iterator, Optional, Sequence
 
 from . import events
 from .copying import BinaryReader
-from .errors import Error, InterfaceError
-from .session import READ, Flow, Result, Session, Statement
+from .errors import Error
+from .results import Result, Statement
+from .session import READ, Flow, Session
 from .shared import RowFactory, shaped
 
 if TYPE_CHECKING:
@@ -17,7 +19,13 @@ class Source:
     holds = True
 
     def __init__(self, session: Session) -> None:
-        self.session, self.is_over, self.is_dropped = session, False, False
+        self.session, self.is_over = session, False
+        self.owner: Optional['weakref.ref[Any]'] = None
+
+    @property
+    def is_dropped(self) -> bool:
+        """Whether nobody has its stream any more."""
+        return self.owner is not None and self.owner() is None
 
     def more(self) -> Flow:
         raise NotImplementedError
@@ -104,6 +112,7 @@ class Stream(Iterator[Any]):
 
     def __init__(self, connection: 'client.Connection', source: Source) -> None:
         self._connection, self._source, self._items = connection, source, iter(())  # type: client.Connection, Source, Iterator[Any]
+        source.owner = weakref.ref(self)
         self._is_done = False
 
     def __next__(self) -> Any:
@@ -126,9 +135,6 @@ class Stream(Iterator[Any]):
             if kind is None:
                 raise
 
-    def __del__(self) -> None:
-        self._source.is_dropped = True
-
     def close(self) -> None:
         """Ends it; what isn't read is given up."""
         self._items, self._is_done = iter(()), True
@@ -140,6 +146,7 @@ class AsyncStream(AsyncIterator[Any]):
 
     def __init__(self, connection: 'aio.Connection', source: Source) -> None:
         self._connection, self._source, self._items = connection, source, iter(())  # type: aio.Connection, Source, Iterator[Any]
+        source.owner = weakref.ref(self, lambda _: connection._dropped(source))
         self._is_done = False
 
     async def __anext__(self) -> Any:
@@ -161,9 +168,6 @@ class AsyncStream(AsyncIterator[Any]):
         except Error:
             if kind is None:
                 raise
-
-    def __del__(self) -> None:
-        self._connection._dropped(self._source)
 
     async def aclose(self) -> None:
         """Ends it; what isn't read is given up."""
