@@ -119,7 +119,7 @@ static void shapes_of(void)
 {
     struct pgp_point point, corners[3], p;
     struct pgp_box box, b;
-    struct pgtool_line line, l;
+    struct pgp_line line, l;
     struct pgp_lseg lseg, g;
     struct pgp_circle circle, k;
     struct pgp_cursor cursor = {7, 7, 7};

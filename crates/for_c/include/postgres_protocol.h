@@ -586,15 +586,15 @@ pgp_status pgp_get_ltxtquery(const void *bytes, size_t len, struct pgp_part *tex
 /* Geometry. A coordinate crosses as the bits of a float8 (pgp_float8_bits, pgp_float8_of). A line has the points with a * x + b * y + c = 0. */
 struct pgp_point { uint64_t x, y; };
 struct pgp_box { struct pgp_point upper_right, lower_left; };
-struct pgtool_line { uint64_t a, b, c; };
+struct pgp_line { uint64_t a, b, c; };
 struct pgp_lseg { struct pgp_point start, end; };
 struct pgp_circle { struct pgp_point center; uint64_t radius; };
 pgp_status pgp_put_point(const struct pgp_point *value, uint8_t *out, size_t room, size_t *written);
 pgp_status pgp_get_point(const void *bytes, size_t len, struct pgp_point *value);
 pgp_status pgp_put_box(const struct pgp_box *value, uint8_t *out, size_t room, size_t *written);
 pgp_status pgp_get_box(const void *bytes, size_t len, struct pgp_box *value);
-pgp_status pgp_put_line(const struct pgtool_line *value, uint8_t *out, size_t room, size_t *written);
-pgp_status pgp_get_line(const void *bytes, size_t len, struct pgtool_line *value);
+pgp_status pgp_put_line(const struct pgp_line *value, uint8_t *out, size_t room, size_t *written);
+pgp_status pgp_get_line(const void *bytes, size_t len, struct pgp_line *value);
 pgp_status pgp_put_lseg(const struct pgp_lseg *value, uint8_t *out, size_t room, size_t *written);
 pgp_status pgp_get_lseg(const void *bytes, size_t len, struct pgp_lseg *value);
 pgp_status pgp_put_circle(const struct pgp_circle *value, uint8_t *out, size_t room, size_t *written);
