@@ -24,7 +24,7 @@ help:
 	  '' \
 	  'For who changes it: make live tries it all with a PostgreSQL server of this machine; make contracts writes docs/CONTRACTS.md.'
 
-export QUICK LIBDIR DESTDIR
+export QUICK LIBDIR DESTDIR PYTHON
 
 run:
 	@scripts/sample

@@ -22,6 +22,7 @@
 //! they are proved over, and the other modules give them the API; neither is proved.
 #![forbid(unsafe_code)]
 #![warn(missing_docs, rust_2018_idioms)]
+#![allow(elided_lifetimes_in_paths)]
 
 pub mod authentication;
 pub mod escape;
