@@ -208,10 +208,16 @@ def serve_all(listener, folder, *words):
 
 
 def listening(port, in_background):
-    """Says so; in the background the caller's process ends here."""
+    """Says so; in the background the caller's process ends here, and what waits for the end of its output doesn't wait for this."""
     print(f"relay.py: listening on port {port}", file=sys.stderr, flush=True)
-    if in_background and os.fork():
+    if not in_background:
+        return
+    if os.fork():
         os._exit(0)
+    os.setsid()
+    nothing = os.open(os.devnull, os.O_RDWR)
+    os.dup2(nothing, 0)
+    os.dup2(nothing, 1)
 
 
 def main(words):
