@@ -11,6 +11,7 @@ help:
 	  '  make install QUICK=1 PREFIX=DIR [LIBDIR= DESTDIR=]    puts these there                            1' \
 	  '  make rust                   a Cargo package with the API of the Rust crate postgres-protocol      2 seconds' \
 	  '  make test                   all tests that need no proof                                          4 minutes' \
+	  '  make test TARGET=aarch64    (s390x, i686) packages, tables, programs and C under qemu, as root    10' \
 	  '  make check-rust             of these, the tests of the Cargo package                              1' \
 	  '' \
 	  'With rt, the Rattle toolchain (four processors):' \
@@ -24,7 +25,7 @@ help:
 	  '' \
 	  'For who changes it: make live tries it all with a PostgreSQL server of this machine; make contracts writes docs/CONTRACTS.md.'
 
-export QUICK LIBDIR DESTDIR
+export QUICK LIBDIR DESTDIR PYTHON
 
 run:
 	@scripts/sample
@@ -33,7 +34,7 @@ quick:
 	@scripts/quick
 
 test:
-	@scripts/test
+	@if [ -n "$(TARGET)" ]; then scripts/other_cpu "$(TARGET)"; else scripts/test; fi
 
 install:
 	@scripts/install "$(PREFIX)"
@@ -67,6 +68,7 @@ check-rust:
 	@scripts/check_rust
 
 check-vendor:
+	$(needs_rt)
 	@scripts/check_vendor $(LIBRARIES)
 
 contracts:
@@ -79,6 +81,7 @@ bench:
 	@./crates/test_bench/out/test_bench $(WORKS)
 
 live:
+	$(needs_rt)
 	cd crates/test_rows && rt run >/dev/null 2>&1 || [ -x out/test_rows ]
 	cd crates/pgserve && rt run -- --version >/dev/null 2>&1 || [ -x out/pgserve ]
 	cd crates/pgtrace && rt run -- --version >/dev/null 2>&1 || [ -x out/pgtrace ]

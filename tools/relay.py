@@ -1,14 +1,17 @@
 #!/usr/bin/env python3
 """Passes the bytes of connections to a port of this machine on to a server and back, and writes down what each side sent.
 
-    relay.py [--tls] PORT HOST SERVER-PORT FILE.recording            takes one connection, and ends with it
-    relay.py [--tls] PORT HOST SERVER-PORT CLIENT-FILE SERVER-FILE   the same, in a file for each side
-    relay.py [--tls] PORT HOST SERVER-PORT FOLDER                    takes connections, many at a time, until it is interrupted (SIGINT or SIGTERM): that
-                                                                     which came Nth stands in FOLDER/N.recording; the folder is made if need be
+    relay.py [--tls] [--background] PORT HOST SERVER-PORT FILE.recording            takes one connection, and ends with it
+    relay.py [--tls] [--background] PORT HOST SERVER-PORT CLIENT-FILE SERVER-FILE   the same, in a file for each side
+    relay.py [--tls] [--background] PORT HOST SERVER-PORT FOLDER                    takes connections, many at a time, until it is interrupted (SIGINT or
+                                                                                    SIGTERM): that which came Nth stands in FOLDER/N.recording; the
+                                                                                    folder is made if need be
 
+It says on standard error when it listens; with --background it goes on there as a process of its own, and the shell takes the next command.
 A recording has both sides (docs/PGTRACE.md); `pgtrace session` lists it, also while it is written. With --tls the server is reached by TLS, whoever it is,
 and the client, which connects without, sees a server that declines encryption and offers no log-in that is bound to it: this is what is written down.
 """
+import os
 import pathlib
 import signal
 import socket
@@ -204,18 +207,34 @@ def serve_all(listener, folder, *words):
     return None
 
 
+def listening(port, in_background):
+    """Says so; in the background the caller's process ends here, and what waits for the end of its output doesn't wait for this."""
+    print(f"relay.py: listening on port {port}", file=sys.stderr, flush=True)
+    if not in_background:
+        return
+    if os.fork():
+        os._exit(0)
+    os.setsid()
+    nothing = os.open(os.devnull, os.O_RDWR)
+    os.dup2(nothing, 0)
+    os.dup2(nothing, 1)
+
+
 def main(words):
-    by_tls = words[:1] == ["--tls"]
-    words = words[by_tls:]
+    by_tls, in_background = (word in words[:2] for word in ("--tls", "--background"))
+    words = words[by_tls + in_background :]
     if len(words) not in (4, 5) or not (words[0] + words[2]).isdecimal():
         return __doc__.partition("\n\n")[2].partition("\n\n")[0]
     port, host, server_port, *names = words
     address = host, int(server_port)
     try:
         with socket.create_server(("127.0.0.1", int(port))) as listener:
-            if len(names) == 1 and not names[0].endswith(".recording"):
-                folder = pathlib.Path(names[0])
+            is_one = len(names) == 2 or names[0].endswith(".recording")
+            folder = pathlib.Path(names[0])
+            if not is_one:
                 folder.mkdir(exist_ok=True)
+            listening(port, in_background)
+            if not is_one:
                 return serve_all(listener, folder, address, by_tls)
             client = listener.accept()[0]
     except OSError as error:

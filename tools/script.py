@@ -263,7 +263,11 @@ def without_commands(text, results):
 
 def listed(path, *words):
     with open(path, "rb") as file:
-        done = subprocess.run([os.environ.get("PGTRACE", "pgtrace"), "session", "--requests", "--json", "--full", *words], stdin=file, capture_output=True)
+        program = os.environ.get("PGTRACE", "pgtrace")
+        try:
+            done = subprocess.run([program, "session", "--requests", "--json", "--full", *words], stdin=file, capture_output=True)
+        except FileNotFoundError:
+            sys.exit(f"script.py: no command '{program}' on the PATH (PGTRACE names one elsewhere)")
     return [json.loads(line) for line in done.stdout.splitlines()]
 
 

@@ -4,6 +4,7 @@ import os, re
 import generate
 from asking import answering
 from erase import Unknown, erase
+from rules import without_let_else
 
 CRATES = ['test_alloc', 'pgp_uses']
 # The program that tries tables.
@@ -117,7 +118,7 @@ def program(out):
             raise Unknown(f'tests/rust/{name}: a test of another form')
         tests += [f'{path}::{test}' for test in found]
         text = re.sub(r'^mod ', 'pub mod ', TEST.sub('pub ', text), flags=re.M)
-        generate.write(os.path.join(out, 'src', name), text)
+        generate.write(os.path.join(out, 'src', name), without_let_else(text))
     calls = ''.join(f'    ("{test}", || Ended::ended({test}())),\n' for test in tests)
     with open(os.path.join(out, 'src/main.rs'), 'a') as file:
         file.write(f'\nconst TESTS: [(&str, fn()); {len(tests)}] = [\n{calls}];\n')

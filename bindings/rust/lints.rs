@@ -3,8 +3,8 @@
 #![allow(dead_code, unused_imports)]
 // The allocator is handed on, and here it is the global one.
 #![allow(unused_variables, clippy::let_unit_value)]
-// The sources say what a field is at its struct, and write lifetimes where Rattle asks for them.
-#![allow(missing_docs, elided_lifetimes_in_paths, clippy::needless_lifetimes)]
+// The sources say what a field is at its struct, and write lifetimes where Rattle asks for them (paths without: at the crate's head).
+#![allow(missing_docs, clippy::needless_lifetimes)]
 // Where contracts stood: after the text about a function, and between its parts.
 #![allow(clippy::empty_line_after_doc_comments)]
 // Names and signatures are those of the proved API: a `clone` that may fail, a `next` with an error, a `len` that is a field of a message.

@@ -16,7 +16,7 @@ def kit(root):
     names = lambda name: {file[:-3] for file in os.listdir(os.path.join(generate.here, name))}
     more = sorted(names('quick/kit') - names('kit'))
     with open(os.path.join(root, 'mod.rs')) as file:
-        text = file.read().replace('pub mod prelude {\n', 'pub mod prelude {\n    pub use super::{calls::*, host::{AllocGlobal, HostRuntime, Print}};\n', 1)
+        text = file.read().replace('pub mod prelude {\n', 'pub mod prelude {\n    pub use super::{calls::*, host::{AllocGlobal, HostRuntime, Print}, newer::*};\n', 1)
     # (what a test has refused, it says there)
     text = text.replace('\nmod asking;', '\npub mod asking;', 1)
     generate.write(os.path.join(root, 'mod.rs'), text + ''.join(f'pub mod {name};\n' for name in more))

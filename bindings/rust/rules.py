@@ -46,9 +46,15 @@ NAMES = [
     ('.cast_signed()', '.number()'),
     ('.div_ceil(', '.divided_up('),
     ('.split_first_chunk()', '.first_block()'),
+    ('.split_first_chunk::<', '.first_block::<'),
     ('.as_array()', '.whole_block()'),
     ('.checked_add_unsigned(', '.plus_unsigned('),
     ('.checked_sub_unsigned(', '.minus_unsigned('),
+    (', IsTerminal, ', ', '),
+    ('.trim_ascii()', '.trimmed()'),
+    ('.trim_ascii_end()', '.end_trimmed()'),
+    ('.split_at_checked(', '.parted('),
+    ('.split_at_mut_checked(', '.parted_mut('),
 ]
 
 # Crates of the kit whose names stand for modules of the shim.
@@ -72,6 +78,7 @@ PLACES = [
     ('pgp_message_write/row', 1, '        ];\n        put_fields(&fields, buf)\n', '        ], buf)\n'),
     # The public crate's own call has no answer.
     ('pgp_message/parser', 1, 'buf.reserve(room(header, buf.len()))', 'Global::reserve_ahead(buf, room(header, buf.len()))'),
+    ('pgwire_engines/ports', 1, 'self.read_to_end(bytes)', 'crate::kit::newer::read_whole(self, bytes)'),
     # What C hands over is taken out and put back.
     ('for_c/dialogue', 1, 'mem::replace(&mut dialogue.room, &mut [])', 'dialogue.room.take()'),
     ('for_c_auth/talk', 1, 'mem::replace(&mut dialogue.room, &mut [])', 'dialogue.room.take()'),
@@ -124,6 +131,8 @@ def global_allocator(text):
     text = re.sub(r': A\b(?=[,)])', ': Global', re.sub(r'\bA::', 'Global::', text))
     text = re.sub(r'\*[\w.]+\.allocator\(\)', 'Global', text)
     text = re.sub(r'\b(IndexMap|String|Vec|VecDeque|BytesMut)::new\((?:Global|[a-z.]*\balloc(?:\(\))?|memory)\)', r'\1::new()', text)
+    # (before Rust 1.67 an empty one asks for memory)
+    text = text.replace('VecDeque::new()', 'Global::empty_queue()')
     text = re.sub(r'^use std::alloc::[^;]*;\n', '', text, flags=re.M)
     text = re.sub(r'^(use (?:crate|pgp_base|pgtrace_names)::\{?[^;]*?)\b(?:(?:Map)?Memory, |, (?:Map)?Memory\b)', r'\1', text, flags=re.M)
     text = re.sub(r'^use (?:pgp_base|pgtrace_names|crate::memory)::(?:Map)?Memory;\n', '', text, flags=re.M)
@@ -275,6 +284,9 @@ def fit(text, crate, name, used):
     for old, new in NAMES:
         text = text.replace(old, new)
     text = SHIMS.sub(r'crate::kit::\1::', text)
+    # (before Rust 1.87 these are functions of the module alone)
+    if not re.search(r'^use std::str;', text, re.M):
+        text = re.sub(r'(?<![\w:])(?=str::from_utf8\()', 'std::', text)
     text = re.sub(r'(?<!&)\bBytes::as_slice\(self\)', '&self[..]', text)
     text = single_places(SHOWN.sub(by_parts, text), name, used)
     text = in_one_crate(inlined(shown_errors(without_let_else(without_idle_labels(text)))), crate)

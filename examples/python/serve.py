@@ -5,6 +5,7 @@
 """
 import os
 import select
+import shutil
 import socket
 import ssl
 import struct
@@ -52,7 +53,10 @@ def main(words):
         context = ssl.SSLContext(ssl.PROTOCOL_TLS_SERVER)
         context.load_cert_chain(*words[1:3])
         words = words[3:]
+    if not shutil.which(words[0]):
+        return f"serve.py: no command '{words[0]}' on the PATH"
     with socket.create_server(("127.0.0.1", port)) as listener:
+        print(f"serve.py: listening on port {port}", file=sys.stderr, flush=True)
         while True:
             threading.Thread(target=serve, args=(listener.accept()[0], context, words), daemon=True).start()
 

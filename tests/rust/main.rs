@@ -10,6 +10,7 @@ mod client_pieces;
 mod days;
 mod hostile;
 mod memory;
+mod newer;
 mod programs;
 mod reads;
 mod session;

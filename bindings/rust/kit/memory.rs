@@ -53,6 +53,11 @@ impl Global {
     }
 
     #[inline]
+    pub fn empty_queue<T>() -> VecDeque<T> {
+        asked(false, VecDeque::new).unwrap_or_default()
+    }
+
+    #[inline]
     pub fn push_back<T>(queue: &mut VecDeque<T>, value: T) -> Result<(), AllocFailed<T>> {
         if queue.len() == queue.capacity() && queue.try_reserve(1).is_err() {
             return Err(AllocFailed { value });
@@ -210,7 +215,7 @@ mod tests {
 
     #[test]
     fn queues_fillings_and_base64() {
-        let mut queue = VecDeque::new();
+        let mut queue = Global::empty_queue();
         assert!(Global::push_back(&mut queue, 1).is_ok() && Global::push_back(&mut queue, 2).is_ok());
         assert_eq!(queue, [1, 2]);
         assert_eq!(Global.list_filled(7, 3).unwrap(), [7, 7, 7]);

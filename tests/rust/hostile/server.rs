@@ -36,7 +36,7 @@ fn code(key: &[u8; 32], texts: Texts<'_>) -> [u8; 32] {
 fn goes_on(first: &str, last: &str) -> bool {
     first
         .split_once(",s=")
-        .is_some_and(|(nonce, _)| last.strip_prefix("c=biws,") == Some(nonce))
+        .map_or(false, |(nonce, _)| last.strip_prefix("c=biws,") == Some(nonce))
 }
 
 impl Server {
@@ -56,7 +56,7 @@ impl Server {
             return false;
         };
         let proof = STANDARD.decode(Global, proof);
-        goes_on(first, last) && proof.is_ok_and(|proof| self.is_proved(&proof, Texts { bare, first, last }))
+        goes_on(first, last) && proof.map_or(false, |proof| self.is_proved(&proof, Texts { bare, first, last }))
     }
 
     /// The server's last text.

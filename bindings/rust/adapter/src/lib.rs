@@ -22,6 +22,10 @@
 //! they are proved over, and the other modules give them the API; neither is proved.
 #![forbid(unsafe_code)]
 #![warn(missing_docs, rust_2018_idioms)]
+#![allow(elided_lifetimes_in_paths)]
+
+#[cfg(not(target_pointer_width = "64"))]
+compile_error!("postgres-protocol is for processors of 64 bits: its sources were proved for lengths of 64 bits");
 
 pub mod authentication;
 pub mod escape;

@@ -177,10 +177,11 @@ impl<'a> Command<'a> {
                 true => arg.is_long && name.strip_prefix("--") == Some(arg.name),
                 false => !arg.is_long && !given.iter().any(|(name, _)| *name == arg.name),
             });
-            let Some(arg) = known else {
+            let refused = || {
                 let tip = if is_option { format!("\n\n  tip: to pass '{name}' as a value, use '-- {name}'") } else { String::new() };
-                return Err(refuse(format!("unexpected argument '{name}' found{tip}"), Some(self.usage(program, if is_option { &given } else { &[] }))));
+                refuse(format!("unexpected argument '{name}' found{tip}"), Some(self.usage(program, if is_option { &given } else { &[] })))
             };
+            let arg = known.ok_or_else(refused)?;
             if given.iter().any(|(name, _)| *name == arg.name) {
                 return Err(refuse(format!("the argument '{}' cannot be used multiple times", arg.shown()), Some(self.usage(program, &[]))));
             }

@@ -3,8 +3,8 @@
 use super::Global;
 use std::fs::File;
 use std::io;
-use std::os::fd::{AsFd, BorrowedFd};
 use std::os::unix::ffi::OsStrExt;
+use std::os::unix::io::{AsFd, BorrowedFd};
 use std::time::Duration;
 
 #[derive(Clone, Copy)]

@@ -28,7 +28,7 @@ impl<K: Clone + Eq + Hash, V> IndexMap<K, V> {
         K: Borrow<Q>,
     {
         let last = self.last.get();
-        if self.pairs.get(last).is_some_and(|(had, _)| had.borrow() == key) {
+        if self.pairs.get(last).map_or(false, |(had, _)| had.borrow() == key) {
             return Some(last);
         }
         let place = *self.places.get(key)?;

@@ -135,7 +135,10 @@ mod text {
             if self.next_of(b"Zz").is_some() {
                 return Ok(Some(0));
             }
-            let Some(sign) = self.next_of(b"+-") else { return Ok(None) };
+            let sign = match self.next_of(b"+-") {
+                Some(sign) => sign,
+                None => return Ok(None),
+            };
             let mut seconds = self.number(2, 25)? * 3600;
             let is_extended = self.next_of(b":").is_some();
             let more = |reader: &Self| reader.0.first().map_or(false, u8::is_ascii_digit);

@@ -53,7 +53,10 @@ fn answer(connection: &mut Connection<'_>, server: &mut TcpStream, name: u64) ->
 
 fn main() -> Result<(), Box<dyn Error>> {
     let words: Vec<String> = std::env::args().skip(1).collect();
-    let [address, user, database, query] = &words[..] else { return Err("client HOST:PORT USER DATABASE QUERY".into()) };
+    let (address, user, database, query) = match &words[..] {
+        [address, user, database, query] => (address, user, database, query),
+        _ => return Err("client HOST:PORT USER DATABASE QUERY".into()),
+    };
     let password = std::env::var("PGPASSWORD").unwrap_or_default();
     let prep = SaslPrepRfc4013::new(Global);
     let scram = ScramSha256::new(Global, password.as_bytes(), ChannelBinding::unsupported(), &prep, &mut ThreadRng)?;

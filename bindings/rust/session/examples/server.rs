@@ -69,7 +69,10 @@ fn serve(mut client: TcpStream, password: &[u8]) -> Result<(), Box<dyn Error>> {
 
 fn main() -> Result<(), Box<dyn Error>> {
     let words: Vec<String> = std::env::args().skip(1).collect();
-    let [port, password] = &words[..] else { return Err("server PORT PASSWORD".into()) };
+    let (port, password) = match &words[..] {
+        [port, password] => (port, password),
+        _ => return Err("server PORT PASSWORD".into()),
+    };
     let listener = TcpListener::bind(("127.0.0.1", port.parse()?))?;
     for client in listener.incoming() {
         if let Err(e) = serve(client?, password.as_bytes()) {

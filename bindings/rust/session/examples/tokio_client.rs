@@ -49,7 +49,10 @@ impl Client {
 #[tokio::main(flavor = "current_thread")]
 async fn main() -> Result<(), Box<dyn Error>> {
     let words: Vec<String> = std::env::args().skip(1).collect();
-    let [address, user, database, queries @ ..] = &words[..] else { return Err("tokio_client HOST:PORT USER DATABASE QUERY..".into()) };
+    let (address, user, database, queries) = match &words[..] {
+        [address, user, database, queries @ ..] => (address, user, database, queries),
+        _ => return Err("tokio_client HOST:PORT USER DATABASE QUERY..".into()),
+    };
     let password = std::env::var("PGPASSWORD").unwrap_or_default();
     let prep = SaslPrepRfc4013::new(Global);
     let scram = ScramSha256::new(Global, password.as_bytes(), ChannelBinding::unsupported(), &prep, &mut ThreadRng)?;

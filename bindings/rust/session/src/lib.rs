@@ -41,6 +41,7 @@
 //! Conditions of a call (`requires`) are assertions here, which `README.md` lists.
 #![forbid(unsafe_code)]
 #![warn(missing_docs, rust_2018_idioms)]
+#![allow(elided_lifetimes_in_paths)]
 
 pub mod dialogue;
 mod errors;

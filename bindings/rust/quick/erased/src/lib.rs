@@ -2,5 +2,8 @@
 #![forbid(unsafe_code)]
 #![allow(unused, dropping_copy_types, clippy::all)]
 
+#[cfg(not(target_pointer_width = "64"))]
+compile_error!("this build is for processors of 64 bits: its sources were proved for lengths of 64 bits");
+
 pub mod kit;
 pub mod proved;

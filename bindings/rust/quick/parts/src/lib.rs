@@ -5,6 +5,7 @@
 #![allow(clippy::missing_safety_doc)]
 use std::marker::PhantomData;
 use std::ops::{Deref, DerefMut};
+use std::os::unix::io::AsRawFd;
 
 /// Items that are read.
 #[repr(C)]
@@ -101,4 +102,14 @@ pub unsafe fn room<'a, T>(at: *mut T, len: usize) -> &'a mut [T] {
     }
     // SAFETY: the caller's.
     unsafe { std::slice::from_raw_parts_mut(at, len) }
+}
+
+extern "C" {
+    fn isatty(fd: i32) -> i32;
+}
+
+/// Whether it is a terminal, as std says since Rust 1.70.
+pub fn is_terminal(file: &impl AsRawFd) -> bool {
+    // SAFETY: the file is open, and the C library's call takes any number.
+    unsafe { isatty(file.as_raw_fd()) == 1 }
 }
