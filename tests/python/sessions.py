@@ -57,6 +57,7 @@ def check_log_in(same, raises):
         connection.data_to_send()
         same(what + ': no password is sent', connection.data_to_send(), b'')
     raises('a way that is none', ValueError, 'require_auth: one of ', lambda: Connection('alice', require_auth=['gss']))
+    raises('a protocol option', ValueError, 'parameters: no protocol option ', lambda: Connection('alice', parameters={'_pq_.x': '1'}))
 
 
 class LogIn:

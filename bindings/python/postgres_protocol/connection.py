@@ -46,12 +46,16 @@ class Connection:
     """A client's end of a connection. `require_auth` names the ways of logging in that are admitted (`METHODS`), so that a server can't ask for
     the password in clear text where SCRAM is expected. `certificate` is the hash of the server's certificate (RFC 5929), with which SCRAM is
     bound to the TLS channel; with `must_bind` there is no log-in without that. An exchange of SCRAM with fewer than `least_rounds` is
-    rejected (RFC 7677 wants 4096; one is enough for libpq)."""
+    rejected (RFC 7677 wants 4096; one is enough for libpq). Of `parameters` none is a protocol option (`_pq_.`): an answer about those
+    would end the connection."""
 
     def __init__(self, user: str, password: Optional[str] = None, database: Optional[str] = None, parameters: Optional[Mapping[str, str]] = None,
                  require_auth: Sequence[str] = METHODS, max_message: int = 2 ** 30, encrypt: bool = False,
                  must_bind: bool = False, least_rounds: int = 1) -> None:
         self._state = State(user, password, require_auth, must_bind, least_rounds, max_message)
+        for name in parameters or {}:
+            if name.startswith('_pq_.'):
+                raise ValueError('parameters: no protocol option is expected, not %r' % (name,))
         self._startup = [(b'user', user.encode()), (b'database', (database or user).encode())]
         self._startup += [(name.encode(), value.encode()) for name, value in {'client_encoding': 'UTF8', **(parameters or {})}.items()]
         self._stream, self._max = Stream(), max_message

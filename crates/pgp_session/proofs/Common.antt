@@ -10,8 +10,6 @@ pub use Rattle.std.specs.Borrow.{Bor}
 pub use Rattle.std.specs.List.{AllByRecursion, list_any, flat_map, list_all, filter}
 pub use Rattle.std.specs.Prelude.{option_to_list, nat_lt, OnOk, IfErr, ◌&&◌, option_map, ◌<◌, if◌then◌else◌, ◌==◌}
 pub use Rattle.std.specs.Str.{bytes_eq}
-pub use Rattle.pgp_auth.specs.Md5Text.{md5_answer}
-pub use Rattle.pgp_auth.specs.ScramClient.{Client, Answers, Completes, message_of}
 pub use Rattle.pgp_base.proofs.Parts.{length-uint32, nothing_more, cut_back, front_left, front_then, more_twice, wants_more, wants_then}
 pub use Rattle.pgp_base.specs.Cause.{WantsMemory, Wants, Cause}
 pub use Rattle.pgp_base.specs.Held.{Held, ◌⊕◌, Leaves, items_held}
@@ -30,30 +28,32 @@ pub use Rattle.pgp_client.specs.declared.event.Event.{Event}
 pub use Rattle.pgp_client.specs.declared.event.Event.TheVariants.{Part, Aside, Ended, Last}
 pub use Rattle.pgp_client.specs.declared.request.Request.{Request}
 pub use Rattle.pgp_client.specs.declared.request.Request.TheVariants.{Bind, Parse}
-pub use Rattle.pgp_frontend.proofs.ClientRuns.{each_push, run_more, opened_more, nothing}
+pub use Rattle.pgp_frontend.proofs.ClientRuns.{run_more, opened_more, nothing}
 pub use Rattle.pgp_frontend.specs.ClientMessage.{ClientMessage, PasswordMessage, SaslInitialResponse, SaslResponse, PasswordKind, Terminate, Startup, CancelRequest, SslRequest, GssEncRequest}
 pub use Rattle.pgp_frontend.specs.Payload.{IsInRange, bytes_of, cause, WritesMessage, tag_of}
 pub use Rattle.pgp_frontend_read.specs.Step.{Unread, Refuses}
 pub use Rattle.pgp_frontend_read.specs.Whole.{plain}
-pub use Rattle.pgp_message.specs.BackendMessage.{Message, Authentication, AuthenticationOk, AuthenticationCleartextPassword, AuthenticationMd5Password, AuthenticationSasl, AuthenticationSaslContinue, AuthenticationSaslFinal, CopyData, DataRow}
+pub use Rattle.pgp_message.specs.BackendMessage.{Message, CopyData, DataRow}
 pub use Rattle.pgp_message.specs.Parts.{Setting}
 pub use Rattle.pgp_message.specs.Remembered.{header_of}
 pub use Rattle.pgp_message.specs.Stream.{BeginsWithHeader, IsPartial, BeginsWithKept, IsLengthFault, Step, TakesFrame, Frame, frame_bytes, Frames}
 pub use Rattle.pgp_message.specs.Views.{parsed, view}
-pub use Rattle.pgp_session.specs.Connection.{Advances, Comes, IsNone, IsUnfit, Nexts, Notes, SendsGiven, Sent, Shown, Stops, Took, asked_of, is_bulk, in_phase, is_logged_in, is_part, limit_of, may_ask, may_send, moved, next_name, noted, said, with_incoming, with_login, with_out, HasStarted, Wrote, begun, logged_in_at, OutOfTurn, IsLonger, IsCut, shown, in_state, left_at, dropped, fed, told, is_among, is_option}
+pub use Rattle.pgp_session.specs.Connection.{Advances, Comes, IsNone, IsUnfit, Nexts, Notes, SendsGiven, Sent, Shown, Stops, Took, asked_of, is_bulk, in_phase, is_logged_in, is_part, limit_of, may_ask, may_send, moved, next_name, noted, said, with_incoming, with_login, with_out, HasStarted, Wrote, begun, logged_in_at, OutOfTurn, IsLonger, IsCut, shown, in_state, left_at, dropped, fed, told, is_option, names_in}
 pub use Rattle.pgp_session.specs.Incoming.{Reads, HasFrame, Waiting}
-pub use Rattle.pgp_session.specs.Login.{Asking, Cleartext, Md5, Sasl, First, Final, Welcome, Login, LogsOn, NothingAsked, ByCleartext, ByMd5, ScramBegins, ScramGoesOn, ScramEnds, Welcomed, Trusted, Ways, asking, Added, AnswersFirst, CountsFirst, AsksCleartext, AsksMd5, AsksSasl, HearsDue, Nothing, Other, Puts, VerifiesFinal, WelcomesAt, is_due, AddsReply, LoggedOn, RepliesFirst, goes_on, given, seen}
+pub use Rattle.pgp_login.specs.Exchange.{Added, AddsReply}
+pub use Rattle.pgp_login.specs.Fault.{fault}
+pub use Rattle.pgp_login.specs.Login.{Puts}
+pub use Rattle.pgp_login.specs.Machine.{asking}
+pub use Rattle.pgp_session.specs.Login.{error_of, given, seen}
 pub use Rattle.pgp_session.specs.Proxy.{Call, ProxiesAll, PassesOn, NoneReceived, NoneRead, OneRead, Went, Stayed, Proxies, all_forwarded, statement_of}
-pub use Rattle.pgp_session.specs.Mechanisms.{Offers, ReceivedAmong, NoneWanted, OneReceived, OtherReceived, initial, offer, challenge, signature, admission}
+pub use Rattle.pgp_login.specs.Session.{ReceivedAmong, NoneWanted, OneReceived, OtherReceived}
 pub use Rattle.pgp_session.specs.ServerState.{newer, status, state_after}
 pub use Rattle.pgp_session.specs.Serving.{Due, Outcome, StepsAll, IsAsked, Proves, HasShown, IsUnderWay, IsChallenged, IsAdmitted, ReceivedIn, due, starts, at_opening, at_password, at_first, at_final, at_open, phase_after, password_message, first_message, final_message, NamesLast, NoneStands, OneStands, OtherStands, IsNewer}
-pub use Rattle.pgp_session.specs.Session.{Admitted, ByNone, ByPassword, ByHash, BySignature, IsAllowed, Plays, Begins, Encrypts, Writes, Hears, asks_hash, asks_password, is_secret, secrets_of, Follows, History, IsOpenedAt, Known, and_fed, and_observed, and_sent, and_wrote, good, requests_in, requests_of, turns_of, AreNamed, Rises}
+pub use Rattle.pgp_session.specs.Session.{is_secret, secrets_of, Follows, History, IsOpenedAt, Known, and_fed, and_observed, and_sent, and_wrote, good, requests_in, requests_of, turns_of, AreNamed, Rises}
 pub use Rattle.pgp_session.specs.Settings.{AreInOrder, HasRoom, Said, heard, cost, cost_at, is_before, most, put_in, setting_in, StandsAt, last_after, replaced, reported, said_after, settled, value_of, nothing_said, size, without}
 pub use Rattle.pgp_session.specs.declared.connection.ConnectionPhase.{ConnectionPhase}
 pub use Rattle.pgp_session.specs.declared.connection.ConnectionPhase.TheVariants.{Started, Encrypting, Over}
 pub use Rattle.pgp_session.specs.declared.connection_error.ConnectionError.{ConnectionError}
-pub use Rattle.pgp_session.specs.declared.login.LoginPhase.{LoginPhase}
-pub use Rattle.pgp_session.specs.declared.login.LoginPhase.TheVariants.{AwaitsOffer, AwaitsFirst, AwaitsFinal, AwaitsOk, Done}
 pub use Rattle.pgp_session.specs.Answered.{named_from, BeginsWithNone, IsFront, IsOne, kind_of_fault, named}
 pub use Rattle.pgp_client.specs.declared.kind.Kind.{Kind}
 pub use Rattle.pgp_client.specs.declared.request.Asked.{Asked}

@@ -1,14 +1,18 @@
 -- What the calls of a connection come to.
-use Rattle.pgp_session.proofs.Common.{◌≡◌, ℕ, ◌-◌, ◌≤◌, List, [], ◌∷◌, ◌++◌, length, get_or, Option, Some, None, Result, Ok, Err, refl, sym, ap, ap₂, subst, ◌∙◌, arith, inl, inr, Bool, true, false, not, OnOk, IfErr, ◌&&◌, WantsMemory, Error, Talk, Takes, taken, Event, Part, ClientMessage, bytes_of, cause, IsInRange, header_of, BeginsWithKept, IsLengthFault, IsPartial, Step, TakesFrame, parsed, view, InvalidLength, OutOfMemory, kind_of, request_of, awaits_data, is_copying, Request, Advances, Comes, IsNone, IsUnfit, Nexts, Notes, SendsGiven, Sent, Shown, Stops, Took, asked_of, is_bulk, is_end, in_phase, is_logged_in, is_part, is_longer, limit_of, may_ask, may_send, moved, next_name, noted, said, with_incoming, with_login, with_out, ConnectionError, ConnectionPhase, Started, Reads, Client, Added, AnswersFirst, Asking, CountsFirst, AsksCleartext, AsksMd5, AsksSasl, Cleartext, Final, First, HearsDue, Login, Md5, Nothing, NothingAsked, Other, Puts, Sasl, VerifiesFinal, Welcome, WelcomesAt, asking, is_due, LoginPhase, AwaitsOffer, HasRoom, Said, heard, most, setting_in, CopyData, DataRow, is_between, Decides, Over, take-append_seam, and_parts}
+use Rattle.pgp_session.proofs.Common.{◌≡◌, ℕ, ◌-◌, ◌≤◌, List, [], ◌∷◌, ◌++◌, length, get_or, Option, Some, None, Result, Ok, Err, refl, sym, ap, ap₂, subst, ◌∙◌, arith, inl, inr, Bool, true, false, not, OnOk, IfErr, ◌&&◌, WantsMemory, Error, Talk, Takes, taken, Event, Part, ClientMessage, bytes_of, cause, IsInRange, header_of, BeginsWithKept, IsLengthFault, IsPartial, Step, TakesFrame, parsed, view, InvalidLength, OutOfMemory, kind_of, request_of, awaits_data, is_copying, Request, Advances, Comes, IsNone, IsUnfit, Nexts, Notes, SendsGiven, Sent, Shown, Stops, Took, asked_of, is_bulk, is_end, in_phase, is_logged_in, is_part, is_longer, limit_of, may_ask, may_send, moved, next_name, noted, said, with_incoming, with_login, with_out, ConnectionError, ConnectionPhase, Started, Reads, Added, Puts, asking, error_of, fault, HasRoom, Said, heard, most, setting_in, CopyData, DataRow, is_between, Decides, Over, take-append_seam, and_parts}
 use Rattle.std.specs.Prelude.{drop, take, ◌≢◌}
 use Rattle.std.specs.Int.{w32, from_be_bytes}
 use Rattle.pgp_client.specs.declared.event.Refusal.{Refusal}
 use Rattle.pgp_message.specs.declared.message.Message.{Message}
-use Rattle.pgp_session.specs.Connection.{ComesInTime, Hears, IsTimely}
+use Rattle.pgp_session.specs.Connection.{ComesInTime, Hears, done_at}
+use Rattle.pgp_login.specs.Login.{DeclinesSo, Kept as Login}
+use Rattle.pgp_login.specs.Machine.{NothingAsked}
+use Rattle.pgp_login.specs.Timely.{IsTimely}
+use Rattle.pgp_login.specs.declared.fault.LoginError.{LoginError}
+use Rattle.pgp_login.specs.declared.fault.LoginError.TheVariants as login
 use Rattle.pgp_session.specs.declared.connection_error.ConnectionError.TheVariants.{Malformed, OutOfMemory as OutOfMemoryThere}
 use Rattle.pgp_client.specs.declared.stage.Stage.TheVariants.{Over as NothingMore}
 use Rattle.pgp_session.proofs.Incomings.{frame_there, rest_there}
-use Rattle.pgp_session.specs.Login as login
 use Rattle.pgp_message.specs.BackendMessage.{Message as Meant}
 
 pub announced : (bytes : List ℕ) → 5 ≤ length bytes → header_of bytes ≡ Some (get_or bytes 0 0, from_be_bytes w32 (get_or bytes 1 0 ∷ get_or bytes 2 0 ∷ get_or bytes 3 0 ∷ get_or bytes 4 0 ∷ []))
@@ -109,13 +113,13 @@ pub took_so : (m : Meant) (l : Login) (out : List ℕ) (t : Talk) (k : Said) (ol
     → record { phase = old.phase; login = l; out = out; incoming = old.incoming; talk = t; server = k; options = old.options; names = old.names; limit = old.limit } ≡ with_login l out (moved old.phase t m old)
 took_so m l out t k old e = ap (λ (s : Said). record { phase = old.phase; login = l; out = out; incoming = old.incoming; talk = t; server = s; options = old.options; names = old.names; limit = old.limit }) e
 
-module _ (c : Shown) (m : Meant) (first result : Bool) (sent : List (List ℕ)) (at : first ≡ is_between c.talk) (same : sent ≡ c.options) (is : Decides result (IsTimely c.login.phase first sent m)) where
+module _ (c : Shown) (m : Meant) (first result : Bool) (sent : List (List ℕ)) (at : first ≡ is_between c.talk) (same : sent ≡ c.options) (is : Decides result (IsTimely (done_at c.login.phase) first sent m)) where
   pub timely_by : result ≡ true → ComesInTime c m
-  timely_by test = subst (λ (b : Bool). IsTimely c.login.phase b c.options m) at (subst (λ (l : List (List ℕ)). IsTimely c.login.phase first l m) same (is.0 test))
+  timely_by test = subst (λ (b : Bool). IsTimely (done_at c.login.phase) b c.options m) at (subst (λ (l : List (List ℕ)). IsTimely (done_at c.login.phase) first l m) same (is.0 test))
 
   pub untimely_by : result ≡ false → ¬ ComesInTime c m
   untimely_by test timely =
-      let there = subst (λ (l : List (List ℕ)). IsTimely c.login.phase first l m) (sym same) (subst (λ (b : Bool). IsTimely c.login.phase b c.options m) (sym at) timely) in
+      let there = subst (λ (l : List (List ℕ)). IsTimely (done_at c.login.phase) first l m) (sym same) (subst (λ (b : Bool). IsTimely (done_at c.login.phase) b c.options m) (sym at) timely) in
       absurd (let both : true ≡ false = sym (is.1 there) ∙ test in cc)
 
 part_goes_on : (e : Event) → is_part e ≡ true → is_end e ≡ false
@@ -125,8 +129,8 @@ part_goes_on e is = cc
 -- a row and data of a copy come to nothing else
 pub took_bulk : (m : Meant) (e : Event) (t : Talk) (old : Shown) → is_bulk m e ≡ true → taken old.talk (kind_of m) ≡ Ok (e, t)
     → Took m old (record { phase = old.phase; login = old.login; out = old.out; incoming = old.incoming; talk = t; server = old.server; options = old.options; names = old.names; limit = old.limit }) e
-took_bulk (DataRow row) e t old bulk is = record { taken = is; due = tt; sound = refl; kept = tt; goes_on = part_goes_on e bulk; logged = record { reply = None; logs = NothingAsked; adds = refl }; is = refl }
-took_bulk (CopyData bytes) e t old bulk is = record { taken = is; due = tt; sound = refl; kept = tt; goes_on = part_goes_on e bulk; logged = record { reply = None; logs = NothingAsked; adds = refl }; is = refl }
+took_bulk (DataRow row) e t old bulk is = record { taken = is; due = tt; sound = refl; kept = tt; goes_on = part_goes_on e bulk; logged = λ w encrypted s stands. record { state = s; logged = record { reply = None; logs = NothingAsked; adds = refl }; stands = stands }; is = refl }
+took_bulk (CopyData bytes) e t old bulk is = record { taken = is; due = tt; sound = refl; kept = tt; goes_on = part_goes_on e bulk; logged = λ w encrypted s stands. record { state = s; logged = record { reply = None; logs = NothingAsked; adds = refl }; stands = stands }; is = refl }
 took_bulk m e t old bulk is = cc
 
 -- the bytes that came are the same
@@ -151,48 +155,16 @@ module _ (old : Shown) (all rest behind : List ℕ) (left : ℕ) (same : all ≡
   not_taken lacks OutOfMemory s = absurd s.1
   not_taken lacks e s = (behind_it (Err e) s, λ p. cc)
 
--- a log-in lacks memory for its replies alone
+-- of the errors of a log-in none is that the call may be made again
 module _ (A : Type 0) (lacks : Type 0) where
-  no_cleartext : (way : Option (List ℕ)) (old new : Login) (out grown : List ℕ) → AsksCleartext {A = A} lacks way old new out grown (Err OutOfMemoryThere) → ⊥
-  no_cleartext None old new out grown h = cc
-  no_cleartext (Some password) old new out grown h = absurd h
-
-  no_md5 : (way : Option (List ℕ × List ℕ)) (salt : List ℕ) (old new : Login) (out grown : List ℕ) → AsksMd5 {A = A} lacks way salt old new out grown (Err OutOfMemoryThere) → ⊥
-  no_md5 None salt old new out grown h = cc
-  no_md5 (Some who) salt old new out grown h = absurd h
-
-  no_sasl : (way : Option Client) (mechanisms : List ℕ) (old new : Login) (out grown : List ℕ) → AsksSasl {A = A} lacks way mechanisms old new out grown (Err OutOfMemoryThere) → ⊥
-  no_sasl None mechanisms old new out grown h = cc
-  no_sasl (Some x) mechanisms old new out grown (inl h) = let e = h.0 in cc
-  no_sasl (Some x) mechanisms old new out grown (inr (inl h)) = let e = h.0 in cc
-  no_sasl (Some x) mechanisms old new out grown (inr (inr h)) = absurd h.2
-
-  no_first : (way : Option Client) (text : List ℕ) (old new : Login) (out grown : List ℕ) → AnswersFirst {A = A} lacks way text old new out grown (Err OutOfMemoryThere) → ⊥
-  no_first None text old new out grown h = cc
-  no_first (Some x) text old new out grown h = absurd h.1
-
-  no_count : (text : List ℕ) (old new : Login) (out grown : List ℕ) → CountsFirst {A = A} lacks text old new out grown (Err OutOfMemoryThere) → ⊥
-  no_count text old new out grown (inl h) = let e = h.1 in cc
-  no_count text old new out grown (inr h) = no_first old.ways.scram text old new out grown h.1
-
-  no_final : (way : Option Client) (text : List ℕ) (old new : Login) → VerifiesFinal {A = A} lacks way text old new (Err OutOfMemoryThere) → ⊥
-  no_final None text old new h = cc
-  no_final (Some x) text old new h = absurd h
-
-  no_welcome : (phase : LoginPhase) (way : Bool) (old new : Login) → WelcomesAt {A = A} phase way old new (Err OutOfMemoryThere) → ⊥
-  no_welcome AwaitsOffer false old new h = cc
-  no_welcome phase way old new h = let e = h.0 in cc
-
-  no_login : (due : Bool) (asked : Asking) (old new : Login) (out grown : List ℕ) → HearsDue {A = A} lacks due asked old new out grown (Err OutOfMemoryThere) → ⊥
-  no_login false asked old new out grown h = cc
-  no_login true Nothing old new out grown h = let e = h.0 in cc
-  no_login true Cleartext old new out grown h = no_cleartext old.ways.cleartext old new out grown h
-  no_login true (Md5 salt) old new out grown h = no_md5 old.ways.md5 salt old new out grown h
-  no_login true (Sasl mechanisms) old new out grown h = no_sasl old.ways.scram mechanisms old new out grown h
-  no_login true (First text) old new out grown h = no_count text old new out grown h
-  no_login true (Final text) old new out grown h = no_final old.ways.scram text old new h.0
-  no_login true Welcome old new out grown h = no_welcome old.phase old.ways.none old new h.0
-  no_login true Other old new out grown h = cc
+  no_memory : (f : LoginError A) → OutOfMemoryThere ≡ error_of f → ⊥
+  no_memory login.Undue e = cc
+  no_memory login.NotAdmitted e = cc
+  no_memory login.NotOffered e = cc
+  no_memory login.TooFewRounds e = cc
+  no_memory login.BadNonce e = cc
+  no_memory (login.Scram r) e = cc
+  no_memory (login.Unwritten r) e = cc
 
   no_unfit : (c : Shown) (m : Meant) → IsUnfit {A = A} lacks c m OutOfMemoryThere → ⊥
   no_unfit c m (inl h) = let e = h.1 in cc
@@ -202,7 +174,7 @@ module _ (A : Type 0) (lacks : Type 0) where
   no_stop phase m old new (inl h) = let e = h.2 in cc
   no_stop phase m old new (inr (inl h)) = no_unfit old m h.2
   no_stop phase m old new (inr (inr (inl h))) = let e = h.4 in cc
-  no_stop phase m old new (inr (inr (inr h))) = no_login (is_due old.login.phase (asking m)) (asking m) old.login new.login old.out old.out h.4
+  no_stop phase m old new (inr (inr (inr h))) = no_memory h.4.0 h.4.1
 
   stops_else : (phase : ConnectionPhase) (m : Meant) (old new : Shown) (e : ConnectionError A) → Stops {A = A} lacks phase m old new e → e ≢ OutOfMemoryThere
   stops_else phase m old new e h same = no_stop phase m old new (subst (λ x. Stops {A = A} lacks phase m old new x) same h)
@@ -233,16 +205,16 @@ stops_over lacks m old new e (inr (inr (inl h))) = inr (inr (inl (h.0, h.1, h.2,
 stops_over lacks m old new e (inr (inr (inr h))) = inr (inr (inr (h.0, h.1, h.2, h.3, h.4, h.5, ap (λ (c : Shown). in_phase Over c) h.6)))
 
 -- the log-in stopped at a message, with nothing appended
-pub stopped_log_in : {A : Type 0} (lacks : Type 0) (m : Meant) (old : Shown) (t : Talk) (l : Login) (grown : List ℕ) (k : Said) (e : Event) (x : ConnectionError A) → taken old.talk (kind_of m) ≡ Ok (e, t)
-    → HasRoom most (setting_in m) old.server.settings → is_end e ≡ false → login.Hears lacks (asking m) old.login l old.out grown (Err x) → grown ≡ old.out → l.phase ≡ old.login.phase → k ≡ heard m old.server
+pub stopped_log_in : {A : Type 0} (lacks : Type 0) (m : Meant) (old : Shown) (t : Talk) (l : Login) (grown : List ℕ) (k : Said) (e : Event) (f : LoginError A) (x : ConnectionError A) → taken old.talk (kind_of m) ≡ Ok (e, t)
+    → HasRoom most (setting_in m) old.server.settings → is_end e ≡ false → x ≡ error_of f → DeclinesSo lacks (asking m) old.login (fault f) → grown ≡ old.out → l.phase ≡ old.login.phase → k ≡ heard m old.server
     → Stops {A = A} lacks old.phase m old (record { phase = old.phase; login = l; out = grown; incoming = old.incoming; talk = t; server = k; options = old.options; names = old.names; limit = old.limit }) x
-stopped_log_in {A} lacks m old t l grown k e x is room live hears same phase known =
+stopped_log_in lacks m old t l grown k e f x is room live error declines same phase known =
     inr (inr (inr (
       (e, t),
       is,
       room,
       live,
-      subst (λ (o : List ℕ). login.Hears {A = A} lacks (asking m) old.login l old.out o (Err x)) same hears,
+      (f, error, declines),
       phase,
       ap₂ (λ (o : List ℕ) (s : Said). record { phase = old.phase; login = l; out = o; incoming = old.incoming; talk = t; server = s; options = old.options; names = old.names; limit = old.limit }) same known,
     )))

@@ -1,28 +1,11 @@
 -- Under names that rise, the requests below the first that is to end have ended.
-use Rattle.pgp_session.proofs.Common.{◌≡◌, ◌≢◌, true, false, ℕ, ◌+◌, ◌<◌, ◌≤◌, List, [], ◌∷◌, ◌++◌, length, ◌^◌, Option, Some, None, refl, sym, ap, subst, ◌∙◌, arith, inl, inr, append_assoc, append-nil, option_to_list, Turn, Asks, asked_in, start, Talk, Event, Ended, Request, Asked, ClientMessage, Message, kind_of, request_of, Shown, asked_of, is_end, Login, Ways, History, Known, Plays, Begins, Writes, Hears, Encrypts, turns_of, AreNamed, Rises, ConnectionPhase, Started}
+use Rattle.pgp_session.proofs.Common.{◌≡◌, ◌≢◌, true, false, ℕ, ◌+◌, ◌<◌, ◌≤◌, List, [], ◌∷◌, ◌++◌, length, ◌^◌, Option, Some, None, refl, sym, ap, subst, ◌∙◌, arith, inl, inr, append_assoc, append-nil, option_to_list, Turn, Asks, asked_in, start, Talk, Event, Ended, Request, Asked, ClientMessage, Shown, History, Known, AreNamed, Rises, ConnectionPhase, Started}
 use Rattle.pgp_session.specs.Connection.{name_or, open_from, open_in_phase}
 use Rattle.pgp_client.specs.Ending.{first_name, first_open, open_after, Rises as RisesAll}
 use Rattle.pgp_client.specs.InTurns.{IsAmong}
-use Rattle.pgp_client.specs.Telling.{Hears as HearsTurn, FollowsTo, names}
-
-still_on : (e : Event) → is_end e ≡ false → e ≢ Ended
-still_on e on = λ is. let f : true ≡ false = ap is_end (sym is) ∙ on in cc
-
-turn_asked_to : (r : Option Request) (n : ℕ) (t now : Talk) (rest : List Turn) → FollowsTo (asked_of r n t) rest now → FollowsTo t (turns_of r n ++ rest) now
-turn_asked_to None n t now rest f = f
-turn_asked_to (Some r) n t now rest f = f
-
-module _ {ways : Ways} where
-  plays_to : {written : List ClientMessage} {observed : List Message} {turns : List Turn} {t : Talk} {l : Login} → Plays ways written observed turns t l → (rest : List Turn) (now : Talk) → FollowsTo t rest now → FollowsTo start (turns ++ rest) now
-  plays_to Begins rest now f = f
-  plays_to (Writes {turns = turns} {t = t} m name secret p) rest now f =
-      subst (λ ts. FollowsTo start ts now) (sym (append_assoc turns (turns_of (request_of m) name) rest)) (plays_to p (turns_of (request_of m) name ++ rest) now (turn_asked_to (request_of m) name t now rest f))
-  plays_to (Encrypts encrypts p) rest now f = plays_to p rest now f
-  plays_to (Hears {turns = turns} {next = next} m e is on logs p) rest now f =
-      subst (λ ts. FollowsTo start ts now) (sym (append_assoc turns (HearsTurn (kind_of m) e ∷ []) rest)) (plays_to p (HearsTurn (kind_of m) e ∷ rest) now (next, is, still_on e on, f))
-
-  plays_followed : {written : List ClientMessage} {observed : List Message} {turns : List Turn} {t : Talk} {l : Login} → Plays ways written observed turns t l → FollowsTo start turns t
-  plays_followed {turns = turns} {t = t} p = subst (λ ts. FollowsTo start ts t) (append-nil turns) (plays_to p [] t refl)
+use Rattle.pgp_client.specs.Telling.{FollowsTo, names}
+use Rattle.pgp_login.proofs.Dialogues.{follows_to}
+use Rattle.pgp_login.specs.Machine.{Ways}
 
 ends_above : (low : ℕ) (ns : List ℕ) (high : ℕ) → Rises low ns high → low ≤ high
 ends_above low [] high r = r
@@ -61,7 +44,7 @@ pub below_ended : (ways : Ways) (h : History) (now : Shown) → ((turns : List T
     → ((turns : List Turn) (now : Talk) (first : ℕ) → FollowsTo start turns now → RisesAll (names (asked_in turns)) → first_open now ≡ Some first → Divides (asked_in turns) (open_after turns) first)
     → now.phase ≡ Started → length h.written < 2 ^ 64 → Known ways h now → Divides (asked_in h.turns) (open_after h.turns) (open_from now)
 below_ended ways h now once first numbers on few known =
-    let f = plays_followed known.plays in
+    let f = follows_to ways known.talks in
     let named = (known.named few).0 in
     let ended = once h.turns now.talk f in
     let at : open_from now ≡ name_or now.names (first_open now.talk) = ap (λ (p : ConnectionPhase). open_in_phase p now) on in

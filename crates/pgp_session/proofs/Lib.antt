@@ -8,8 +8,6 @@ pub mod Placed
 pub mod Reported
 pub mod Served
 pub mod StartupNames
-pub mod LogIns
-pub mod Admissions
 pub mod Sessions
 pub mod Incomings
 pub mod Binds

@@ -1,10 +1,7 @@
 -- A client's connection: what each call makes of it.
 -- PostgreSQL manual, "Message Flow"; "SSL Session Encryption".
-use Rattle.std.specs.Prelude.{◌≡◌, ◌≢◌, ◌⊎◌, ℕ, ◌+◌, nat_eq, Bool, true, false, not, List, [], ◌∷◌, ◌++◌, drop, map, take, Option, Some, None, Result, Ok, Err, if◌then◌else◌, codes, ◌==◌, ◌&&◌, ◌||◌, min, ℤ, pos}
-use Rattle.std.specs.Int.Signed.{lt_z}
-use Rattle.std.specs.List.{filter, list_all, list_any, starts_with}
-use Rattle.std.specs.Str.{bytes_eq}
-use Rattle.pgp_base.specs.Items.{CountedItems}
+use Rattle.std.specs.Prelude.{◌≡◌, ◌≢◌, ◌⊎◌, ℕ, ◌+◌, nat_eq, Bool, true, false, not, List, [], ◌∷◌, ◌++◌, drop, map, take, Option, Some, None, Result, Ok, Err, if◌then◌else◌, codes, ◌==◌, ◌&&◌}
+use Rattle.std.specs.List.{filter, starts_with}
 use Rattle.pgp_base.specs.declared.error.Error.{Error}
 use Rattle.pgp_base.specs.declared.error.Error.TheVariants.{OutOfMemory as NoMemory}
 use Rattle.pgp_client.specs.Ending.{first_open}
@@ -19,15 +16,21 @@ use Rattle.pgp_client.specs.declared.request.Request.{Request}
 use Rattle.pgp_client.specs.declared.stage.Stage.TheVariants.{Over as NothingMore}
 use Rattle.pgp_frontend.specs.ClientMessage.{ClientMessage, Bind, CancelRequest, Close, CopyData, CopyDone, CopyFail, Describe, Execute, Flush, Parse, Query, Startup, Sync}
 use Rattle.pgp_frontend.specs.Payload.{bytes_of}
-use Rattle.pgp_message.specs.BackendMessage.{Message, CopyData as DataCame, DataRow, NegotiateProtocolVersion, NoticeResponse, NotificationResponse, ParameterStatus}
-use Rattle.pgp_message.specs.Items.{StringSpelled, StringRefused}
-use Rattle.pgp_message.specs.Parts.{Negotiation}
+use Rattle.pgp_login.specs.Exchange.{Added, Unsent}
+use Rattle.pgp_login.specs.Fault.{fault}
+use Rattle.pgp_login.specs.Login.{DeclinesSo, Kept as Login, Simulates}
+use Rattle.pgp_login.specs.Machine.{asking}
+use Rattle.pgp_login.specs.Timely.{IsTimely}
+use Rattle.pgp_login.specs.Timely as timely
+use Rattle.pgp_login.specs.declared.fault.LoginError.{LoginError}
+use Rattle.pgp_login.specs.declared.login.LoginPhase.{LoginPhase}
+use Rattle.pgp_login.specs.declared.login.LoginPhase.TheVariants.{Done}
+use Rattle.pgp_message.specs.BackendMessage.{Message, CopyData as DataCame, DataRow}
 use Rattle.pgp_client.specs.declared.event.Refusal.{Refusal}
 use Rattle.pgp_message.specs.Stream.{BeginsWithKept, IsPartial, Step, TakesFrame}
 use Rattle.pgp_message.specs.Views.{view}
 use Rattle.pgp_message.specs.declared.message as code
-use Rattle.pgp_session.specs.Login.{Added, LoggedOn, Login, Unsent, Ways, asking, encrypted_by, seen}
-use Rattle.pgp_session.specs.Login as login
+use Rattle.pgp_session.specs.Login.{encrypted_by, error_of, seen}
 use Rattle.pgp_session.specs.Settings.{HasRoom, IsUnkept, Said, heard, most, nothing_said, setting_in}
 use Rattle.pgp_session.specs.declared.connection.Connection.{Connection as Kept}
 use Rattle.pgp_session.specs.Incoming.{Reads}
@@ -37,8 +40,7 @@ use Rattle.pgp_session.specs.declared.connection.ConnectionPhase.TheVariants.{Op
 use Rattle.pgp_session.specs.declared.connection_error.ConnectionError.{ConnectionError}
 use Rattle.pgp_session.specs.declared.connection_error.ConnectionError.TheVariants.{BadAnswer, BadStatus, Malformed, Misplaced, OutOfMemory, OutOfPhase, TooLong, Undue, Unkept, Unwritten}
 use Rattle.pgp_session.specs.declared.server_state.BackendKey.{BackendKey}
-use Rattle.pgp_session.specs.declared.login.LoginPhase.{LoginPhase}
-use Rattle.pgp_session.specs.declared.login.LoginPhase.TheVariants.{AwaitsOffer, Done}
+use Rattle.pgp_session.specs.declared.protocol_options.OptionNames.{OptionNames}
 
 pub record Shown : Type 0 where
   pub phase : ConnectionPhase
@@ -57,8 +59,9 @@ pub record Shown : Type 0 where
   -- how long a message may be
   pub limit : ℕ
 
-abbrev pub begun : Ways → ℕ → Shown
-begun ways limit = record { phase = Opening; login = record { phase = AwaitsOffer; ways = ways }; out = []; incoming = []; talk = start; server = nothing_said; options = []; names = 0; limit = limit }
+-- a connection of which nothing was sent, with this log-in
+abbrev pub begun : Login → ℕ → Shown
+begun login limit = record { phase = Opening; login = login; out = []; incoming = []; talk = start; server = nothing_said; options = []; names = 0; limit = limit }
 
 -- the log-in is done
 abbrev pub done_at : LoginPhase → Bool
@@ -162,13 +165,9 @@ Feeds lacks piece old new (Err OutOfPhase) = (old.phase ≢ Started) × (new ≡
 Feeds lacks piece old new (Err OutOfMemory) = (old.phase ≡ Started) × lacks × (new ≡ old)
 Feeds lacks piece old new (Err e) = ⊥
 
--- how long a message of a server may be that has proved nothing yet, its length counted, as libpq has it
-abbrev pub early_limit : ℕ
-early_limit = 30000
-
--- how long one may be now
+-- how long a message may be now
 abbrev pub limit_of : Shown → ℕ
-limit_of c = if is_logged_in c then c.limit else min c.limit early_limit
+limit_of c = timely.limit_of (is_logged_in c) c.limit
 
 abbrev pub in_phase : ConnectionPhase → Shown → Shown
 in_phase phase c = record { phase = phase; login = c.login; out = c.out; incoming = c.incoming; talk = c.talk; server = c.server; options = c.options; names = c.names; limit = c.limit }
@@ -188,34 +187,9 @@ with_login l out c = record { phase = c.phase; login = l; out = out; incoming = 
 abbrev pub left_at : ConnectionPhase → Talk → Login → Said → Shown → Shown
 left_at phase t l s c = record { phase = phase; login = l; out = c.out; incoming = c.incoming; talk = t; server = s; options = c.options; names = c.names; limit = c.limit }
 
--- the version's number is that of 3.0
-abbrev pub is_3_0 : ℤ → Bool
-is_3_0 version = not (lt_z version (pos 196608) || lt_z (pos 196608) version)
-
--- this name is one of these
-abbrev pub is_among : List (List ℕ) → List ℕ → Bool
-is_among sent name = list_any (λ (s : List ℕ). bytes_eq s name) sent
-
--- An answer about versions is due once, right behind the startup packet. It says that the server speaks the packet's version, 3.0, and lists, to the end, protocol
--- options of the packet alone.
-pub record IsAnswered (first : Bool) (asked : List (List ℕ)) (v : Negotiation) : Type 0 where
-  pub due : first ≡ true
-  pub version : is_3_0 v.version ≡ true
-  pub options : List (List ℕ)
-  pub whole : CountedItems StringSpelled StringRefused v.count v.options options None
-  pub sent : list_all (is_among asked) options ≡ true
-
--- A message that may come now. Before the log-in is done a server asks for a password, reports an error, or answers about versions; what else it says would be kept of one
--- that has proved nothing. `first` says that no message came before.
-abbrev pub IsTimely : LoginPhase → Bool → List (List ℕ) → Message → Type 0
-IsTimely p first sent (ParameterStatus setting) = done_at p ≡ true
-IsTimely p first sent (NoticeResponse fields) = done_at p ≡ true
-IsTimely p first sent (NotificationResponse n) = done_at p ≡ true
-IsTimely p first sent (NegotiateProtocolVersion v) = IsAnswered first sent v
-IsTimely p first sent m = Unit {0}
-
+-- A message that may come now.
 abbrev pub ComesInTime : Shown → Message → Type 0
-ComesInTime c m = IsTimely c.login.phase (is_between c.talk) c.options m
+ComesInTime c m = IsTimely (done_at c.login.phase) (is_between c.talk) c.options m
 
 abbrev pub is_part : Event → Bool
 is_part (Part n) = true
@@ -234,7 +208,7 @@ pub record Took (m : Message) (old new : Shown) (e : Event) : Type 0 where
   pub sound : lacks_status m ≡ false
   pub kept : HasRoom most (setting_in m) old.server.settings
   pub goes_on : is_end e ≡ false
-  pub logged : LoggedOn (asking m) old.login new.login old.out new.out
+  pub logged : Simulates (asking m) old.login new.login old.out new.out
   pub is : new ≡ with_login new.login new.out (moved old.phase new.talk m old)
 
 -- It ended the session.
@@ -257,7 +231,7 @@ module _ {A : Type 0} (lacks : Type 0) where
       ⊎ ((x : Event × Talk) × (taken old.talk (kind_of m) ≡ Ok x) × (cause : Error) × IsUnkept lacks most (setting_in m) old.server.settings cause × (e ≡ Unkept cause)
       × (new ≡ left_at phase x.1 old.login old.server old))
       ⊎ ((x : Event × Talk) × (taken old.talk (kind_of m) ≡ Ok x) × HasRoom most (setting_in m) old.server.settings × (is_end x.0 ≡ false)
-      × login.Hears lacks (asking m) old.login new.login old.out old.out (Err e) × (new.login.phase ≡ old.login.phase)
+      × ((f : LoginError A) × (e ≡ error_of f) × DeclinesSo lacks (asking m) old.login (fault f)) × (new.login.phase ≡ old.login.phase)
       × (new ≡ left_at phase x.1 new.login (heard m old.server) old))
 
   abbrev pub Takes : Message → Shown → Shown → Result Event (ConnectionError A) → Type 0
@@ -372,12 +346,16 @@ Cancels lacks c old new (Err e) = ⊥
 
 -- ---- the code's record
 
+-- the names that it keeps
+abbrev pub names_in : {A : Type 0} → OptionNames A → List (List ℕ)
+names_in o = o.names.items
+
 -- *private*: what the messages of the server change, with all else as it is there
 abbrev pub in_state : {A : Type 0} → ConnectionState A → Shown → Shown
-in_state s c = record { phase = s.phase; login = seen s.login; out = s.out.items; incoming = c.incoming; talk = talk_of (λ q. q.items) s.dialogue; server = record { state = s.server; settings = s.settings }; options = s.options.items; names = c.names; limit = c.limit }
+in_state s c = record { phase = s.phase; login = seen s.login; out = s.out.items; incoming = c.incoming; talk = talk_of (λ q. q.items) s.dialogue; server = record { state = s.server; settings = s.settings }; options = names_in s.options; names = c.names; limit = c.limit }
 
 abbrev pub shown : {A : Type 0} → Kept A → Shown
-shown c = record { phase = c.state.phase; login = seen c.state.login; out = c.state.out.items; incoming = c.incoming.rest; talk = talk_of (λ q. q.items) c.state.dialogue; server = record { state = c.state.server; settings = c.state.settings }; options = c.state.options.items; names = c.names; limit = c.limit }
+shown c = record { phase = c.state.phase; login = seen c.state.login; out = c.state.out.items; incoming = c.incoming.rest; talk = talk_of (λ q. q.items) c.state.dialogue; server = record { state = c.state.server; settings = c.state.settings }; options = names_in c.state.options; names = c.names; limit = c.limit }
 
 -- the frame of the message that is read in place, or nothing
 abbrev pub current : {A : Type 0} → Kept A → List ℕ

@@ -4,7 +4,7 @@ use Rattle.pgp_base.specs.Held.{Held}
 use Rattle.pgp_base.specs.declared.error.BindError.{BindError}
 use Rattle.pgp_frontend.specs.ClientMessage.{ClientMessage}
 use Rattle.pgp_session.specs.Connection.{Sent, Shown, may_ask}
-use Rattle.pgp_session.specs.Login.{Added}
+use Rattle.pgp_login.specs.Exchange.{Added}
 use Rattle.pgp_session.specs.declared.connection_error.BindSendError.{BindSendError}
 use Rattle.pgp_session.specs.declared.connection_error.BindSendError.TheVariants.{OutOfMemory, OutOfPhase, Unwritten}
 

@@ -1,4 +1,3 @@
-pub mod Mechanisms
 pub mod Serving
 pub mod Proxy
 pub mod Pooler

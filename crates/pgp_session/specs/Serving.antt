@@ -29,7 +29,7 @@ use Rattle.pgp_session.specs.declared.serving_due.Due.{Due as CodeDue}
 use Rattle.pgp_session.specs.declared.serving_due.Due.TheVariants as dues
 use Rattle.pgp_session.specs.declared.serving_outcome.Outcome.{Outcome as CodeOutcome}
 use Rattle.pgp_session.specs.declared.serving_outcome.Outcome.TheVariants as outcomes
-pub use Rattle.pgp_session.specs.Mechanisms.{admission, challenge, signature}
+pub use Rattle.pgp_login.specs.Session.{admission, challenge, signature}
 
 -- a password that no mapping changes
 abbrev pub unmapped : List ℕ → List ℕ

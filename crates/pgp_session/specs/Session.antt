@@ -1,31 +1,29 @@
 -- What is known of a connection after any calls.
 -- PostgreSQL manual, "Message Flow"; "SASL Authentication"; RFC 5802, RFC 7677.
-use Rattle.std.specs.Prelude.{◌≡◌, ◌⊎◌, ◌+◌, ◌<◌, ◌≤◌, ◌^◌, ℕ, Bool, true, false, List, [], ◌∷◌, ◌++◌, length, take, map, option_to_list, Option, Some, None, Result, Ok}
+use Rattle.std.specs.Prelude.{◌≡◌, ◌+◌, ◌<◌, ◌≤◌, ◌^◌, ℕ, Bool, true, false, List, [], ◌∷◌, ◌++◌, length, take, map, option_to_list, Option, Some, None, Result, Ok}
 use Rattle.std.specs.List.{flat_map, filter, AllByRecursion}
 use Rattle.pgp_base.specs.declared.error.Error.{Error}
-use Rattle.pgp_auth.specs.Md5Text.{md5_answer}
-use Rattle.pgp_auth.specs.ScramClient.{Client, Answers, Completes, message_of}
 use Rattle.pgp_client.specs.Flow.{Belong}
 use Rattle.pgp_client.specs.InTurns.{BelongInTurns}
 use Rattle.pgp_client.specs.Kinds.{kind_of, request_of}
-use Rattle.pgp_client.specs.Taking.{is_end, taken}
-use Rattle.pgp_client.specs.Talk.{Talk}
-use Rattle.pgp_client.specs.Telling.{Turn, Asks, Hears as HearsTurn, asked_in, names as names_of, observed_in, reported_in, start}
+use Rattle.pgp_client.specs.Telling.{Turn, Asks, Hears as HearsTurn, asked_in, names as names_of, observed_in, reported_in}
 use Rattle.pgp_client.specs.declared.event.Event.{Event}
 use Rattle.pgp_client.specs.declared.request.Asked.{Asked}
 use Rattle.pgp_client.specs.declared.request.Request.{Request}
 use Rattle.pgp_frontend.specs.ClientMessage.{ClientMessage, PasswordMessage, SaslInitialResponse, SaslResponse}
 use Rattle.pgp_frontend.specs.ClientRun.{ClientRun, is_opened, kinds_of}
-use Rattle.pgp_message.specs.BackendMessage.{Message, Authentication, AuthenticationCleartextPassword, AuthenticationMd5Password}
+use Rattle.pgp_login.specs.Login.{Stands}
+use Rattle.pgp_login.specs.Machine.{State, Ways}
+use Rattle.pgp_login.specs.Session.{Admitted, IsAllowed}
+use Rattle.pgp_login.specs.Talks.{Talks}
+use Rattle.pgp_login.specs.declared.login.LoginPhase.TheVariants.{Done}
+use Rattle.pgp_message.specs.BackendMessage.{Message}
 use Rattle.pgp_message.specs.Stream.{Frames}
-use Rattle.pgp_session.specs.Login.{Login, LogsOn, Ways, asking, encrypted_by}
-use Rattle.pgp_session.specs.Mechanisms.{Offers, ReceivedAmong, initial, offer, challenge, signature, admission}
-use Rattle.pgp_session.specs.Connection.{Shown, asked_of}
+use Rattle.pgp_session.specs.Connection.{Shown}
 use Rattle.pgp_session.specs.ServerState.{state_after, unsaid}
 use Rattle.pgp_session.specs.Settings.{last_reported, nothing_said, said_after, value_of}
 use Rattle.pgp_session.specs.declared.connection.ConnectionPhase.{ConnectionPhase}
 use Rattle.pgp_session.specs.declared.connection.ConnectionPhase.TheVariants.{Opening, Encrypting, Started, Over}
-use Rattle.pgp_session.specs.declared.login.LoginPhase.TheVariants.{AwaitsOffer, Done}
 
 -- ---- a session, a message at a time
 
@@ -40,18 +38,6 @@ is_secret m = false
 abbrev pub turns_of : Option Request → ℕ → List Turn
 turns_of None n = []
 turns_of (Some r) n = Asks (record { request = r; name = n }) ∷ []
-
--- A client that admits these ways wrote and heard these messages, and was told whether the server encrypts, asking and hearing in these turns; this is where it is in the dialogue and in the log-in.
-pub data Plays (ways : Ways) : List ClientMessage → List Message → List Turn → Talk → Login → Type 0 where
-  Begins : Plays ways [] [] [] start (record { phase = AwaitsOffer; ways = ways })
-  Writes : {written : List ClientMessage} {observed : List Message} {turns : List Turn} {t : Talk} {l : Login} (m : ClientMessage) (name : ℕ)
-      → is_secret m ≡ false → Plays ways written observed turns t l
-      → Plays ways (written ++ m ∷ []) observed (turns ++ turns_of (request_of m) name) (asked_of (request_of m) name t) l
-  Encrypts : {written : List ClientMessage} {observed : List Message} {turns : List Turn} {t : Talk} {l : Login} (encrypts : Bool)
-      → Plays ways written observed turns t l → Plays ways written observed turns t (encrypted_by encrypts l)
-  Hears : {written : List ClientMessage} {reply : Option ClientMessage} {observed : List Message} {turns : List Turn} {t next : Talk} {l after : Login} (m : Message) (e : Event)
-      → taken t (kind_of m) ≡ Ok (e, next) → is_end e ≡ false → LogsOn (asking m) reply l after → Plays ways written observed turns t l
-      → Plays ways (written ++ option_to_list reply) (observed ++ m ∷ []) (turns ++ HearsTurn (kind_of m) e ∷ []) next after
 
 -- ---- what is known of a connection
 
@@ -85,12 +71,27 @@ Rises low (n ∷ ns) high = (low ≤ n) × Rises (n + 1) ns high
 abbrev pub AreNamed : List Turn → ℕ → List ClientMessage → Type 0
 AreNamed turns next written = length written < 2 ^ 64 → Rises 0 (names_of (asked_in turns)) next × (next ≤ length written)
 
--- What was written is what was sent and what is to be sent; what was heard are the first messages of what came, and the rest is kept.
+-- the messages of a log-in among these
+abbrev pub secrets_of : List ClientMessage → List ClientMessage
+secrets_of ms = filter is_secret ms
+
+-- what the messages ask
+abbrev pub requests_of : List ClientMessage → List Request
+requests_of ms = flat_map (λ m. option_to_list (request_of m)) ms
+
+abbrev pub requests_in : List Asked → List Request
+requests_in rs = map (λ (a : Asked). a.request) rs
+
+-- What was written is what was sent and what is to be sent; what was heard are the first messages of what came, and the rest is kept. By these turns the dialogue and the log-in came to
+-- where they are, and what was asked is what was written.
 pub record Known (ways : Ways) (h : History) (now : Shown) : Type 0 where
   pub run : ClientRun (flat_map kinds_of h.written) h.written (h.sent ++ now.out)
   pub opened : IsOpenedAt now.phase (is_opened h.written)
   pub read : Frames h.received (good h.observed) now.incoming
-  pub plays : Plays ways h.written h.observed h.turns now.talk now.login
+  pub state : State
+  pub talks : Talks ways (secrets_of h.written) h.observed h.turns now.talk state
+  pub stands : Stands ways now.login.encrypted state now.login
+  pub asked : requests_in (asked_in h.turns) ≡ requests_of h.written
   pub server : now.server ≡ said_after nothing_said h.observed
   pub named : AreNamed h.turns now.names h.written
 
@@ -108,53 +109,6 @@ and_observed m e reply h = record { sent = h.sent; written = h.written ++ option
 
 -- ---- what follows
 
--- what the messages ask
-abbrev pub requests_of : List ClientMessage → List Request
-requests_of ms = flat_map (λ m. option_to_list (request_of m)) ms
-
-abbrev pub requests_in : List Asked → List Request
-requests_in rs = map (λ (a : Asked). a.request) rs
-
--- the messages of a log-in among these
-abbrev pub secrets_of : List ClientMessage → List ClientMessage
-secrets_of ms = filter is_secret ms
-
--- the messages by which a server asks for a password in clear text, and for its hash with a salt
-abbrev pub asks_password : Message
-asks_password = Authentication AuthenticationCleartextPassword
-
-abbrev pub asks_hash : List ℕ → Message
-asks_hash salt = Authentication (AuthenticationMd5Password salt)
-
--- The server showed that it holds the verifier of the exchange's password: its offer, its first text, its final text and its welcome came in
--- this order, the texts complete the exchange, and these two are what the exchange said, at first and to the server's first text.
-pub record Signed (start : Client) (mine proof : List ℕ) (observed : List Message) : Type 0 where
-  pub mechanisms : List ℕ
-  pub first : List ℕ
-  pub final : List ℕ
-  pub after : Client
-  pub offers : Offers start mechanisms
-  pub received : ReceivedAmong (offer mechanisms ∷ challenge first ∷ signature final ∷ admission ∷ []) observed
-  pub completes : Completes start first final after
-  pub says : message_of start.state ≡ Some mine
-  pub proves : message_of completes.between.state ≡ Some proof
-
--- Why a client is logged in that wrote these messages of a log-in and no others: by a way that is admitted, with its one answer, if it has one, to the server that
--- asked for it, and then the server's welcome; and where an exchange of SCRAM-SHA-256 was begun, by that alone, and only where the server's signature was shown.
-pub data Admitted (ways : Ways) (observed : List Message) : List ClientMessage → Type 0 where
-  ByNone : ways.none ≡ true → ReceivedAmong (admission ∷ []) observed → Admitted ways observed []
-  ByPassword : (password : List ℕ) → ways.cleartext ≡ Some password → ReceivedAmong (asks_password ∷ admission ∷ []) observed → Admitted ways observed (PasswordMessage password ∷ [])
-  ByHash : (who : List ℕ × List ℕ) (salt : List ℕ) → ways.md5 ≡ Some who → ReceivedAmong (asks_hash salt ∷ admission ∷ []) observed → Admitted ways observed (PasswordMessage (md5_answer who.0 who.1 salt) ∷ [])
-  BySignature : (x : Client) (mine proof : List ℕ) → ways.scram ≡ Some x → Signed x mine proof observed → Admitted ways observed (initial mine ∷ SaslResponse proof ∷ [])
-
--- What a message of a log-in gives away: the password in clear text, its hash, or what the exchange says, at first or after a text of the server; each where that
--- way is admitted.
-abbrev pub IsAllowed : Ways → ClientMessage → Type 0
-IsAllowed ways (PasswordMessage text) = (ways.cleartext ≡ Some text) ⊎ ((who : List ℕ × List ℕ) × (ways.md5 ≡ Some who) × (salt : List ℕ) × (text ≡ md5_answer who.0 who.1 salt))
-IsAllowed ways (SaslInitialResponse mechanism response) = (x : Client) × (ways.scram ≡ Some x) × (text : List ℕ) × (message_of x.state ≡ Some text) × (SaslInitialResponse mechanism response ≡ initial text)
-IsAllowed ways (SaslResponse text) = (x : Client) × (ways.scram ≡ Some x) × (first : List ℕ) × (y : Client) × Answers x first y × (message_of y.state ≡ Some text)
-IsAllowed ways m = Unit {0}
-
 -- What is known says of a session: the requests that were asked are those of the messages written, no two under one name while fewer than 2^64 messages were
 -- written; each message belongs to the request that was reported, and to
 -- no other, since a server passes over no Sync that is asked after it told that a copy failed; no password is given away but by an admitted way; a client is
@@ -166,7 +120,7 @@ pub record Follows (ways : Ways) (h : History) (now : Shown) : Type 0 where
   pub belong : Belong (asked_in h.turns) (observed_in h.turns) (reported_in h.turns)
   pub in_turns : BelongInTurns h.turns (reported_in h.turns)
   pub alone : (truth : List Event) → BelongInTurns h.turns truth → truth ≡ reported_in h.turns
-  pub allowed : AllByRecursion (IsAllowed ways) h.written
+  pub allowed : AllByRecursion (IsAllowed ways) (secrets_of h.written)
   pub admitted : now.login.phase ≡ Done → Admitted ways h.observed (secrets_of h.written)
   pub server : now.server.state ≡ state_after unsaid h.observed
   pub settings : (name : List ℕ) → value_of name now.server.settings ≡ last_reported name h.observed

@@ -13,21 +13,19 @@ ghost use Rattle.pgp_session.specs.Incoming.{Reads};
 ghost use Rattle.pgp_session.specs.Connection.{Advances, Answers, Feeds, Nexts, Sends, Starts, Writes, begun, can_send, current, dropped, is_logged_in, limit_of, may_ask, nexted, open_from, shown};
 
 use crate::connection_error::ConnectionError;
-use crate::connection_parts::{encrypts, may_send, next_name, put_startup};
+use crate::connection_parts::{encrypts, is_done, may_send, next_name, put_startup};
 use crate::connection_state::ConnectionState;
 use crate::incoming::Incoming;
-use crate::login::{LoginPhase, Ways, put};
-use crate::protocol_options::option_names;
+use crate::login::Ways;
+use crate::protocol_options::{OptionNames, option_names};
 use crate::server_state::BackendKey;
 use bytes::{Buf, Bytes, BytesMut};
 use pgp_base::{Error, Memory};
 use pgp_client::{Event, Request};
 use pgp_frontend_read::ClientMessage;
+use pgp_login::put;
 use pgp_message::{Message, Messages};
 use std::alloc::Global;
-
-/// How long a message may be of a server that has proved nothing yet, as libpq has it.
-const EARLY_LIMIT: u32 = 30_000;
 
 /// How far a connection is.
 #[derive(Debug, Clone, Copy, PartialEq, Eq)]
@@ -124,11 +122,11 @@ impl<'a, A: Memory> Connection<'a, A> {
         if self.state.phase != ConnectionPhase::Opening {
             return Err(ConnectionError::OutOfPhase);
         }
-        let Ok(options) = option_names(self.state.login.alloc, parameters) else {
+        let Ok(options) = option_names(self.state.alloc, parameters) else {
             return Err(ConnectionError::OutOfMemory);
         };
         let start = self.state.out.len();
-        if let Err(e) = put_startup(self.state.login.alloc, parameters, &mut self.state.out) {
+        if let Err(e) = put_startup(self.state.alloc, parameters, &mut self.state.out) {
             return Err(ConnectionError::Unwritten(e));
         }
         let name = self.names;
@@ -137,7 +135,7 @@ impl<'a, A: Memory> Connection<'a, A> {
             return Err(ConnectionError::OutOfMemory);
         }
         self.names = next_name(name);
-        self.state.options = options;
+        self.state.options = OptionNames { names: options };
         self.state.phase = ConnectionPhase::Started;
         Ok(name)
     }
@@ -165,7 +163,7 @@ impl<'a, A: Memory> Connection<'a, A> {
         ensures { result ≡ is_logged_in (shown self.now) }
     {
         match self.state.phase {
-            ConnectionPhase::Started => self.state.login.phase == LoginPhase::Done,
+            ConnectionPhase::Started => is_done(self.state.login.phase),
             _ => false,
         }
     }
@@ -182,10 +180,7 @@ impl<'a, A: Memory> Connection<'a, A> {
     fn limit(&self) -> u32
         ensures { result ≡ limit_of (shown self.now) }
     {
-        if self.is_logged_in() {
-            return self.limit;
-        }
-        self.limit.min(EARLY_LIMIT)
+        pgp_login::limit(self.is_logged_in(), self.limit)
     }
 
     /// The bytes to send.

@@ -9,17 +9,18 @@ ghost use Rattle.pgp_frontend.specs.ClientMessage.{Startup};
 ghost use Rattle.pgp_frontend.specs.Given.{shown as shown_pair};
 ghost use Rattle.pgp_frontend.specs.Reading.{IsNamed};
 ghost use Rattle.pgp_frontend_read.specs.Views.{view as sent_view};
-ghost use Rattle.pgp_session.specs.Login.{Puts};
+ghost use Rattle.pgp_login.specs.Login.{Puts};
+ghost use Rattle.pgp_login.specs.Timely.{IsTimely};
 ghost use Rattle.pgp_message.specs.Views.{view};
-ghost use Rattle.pgp_session.specs.Connection.{IsTimely, is_bulk, is_part, letter, may_send, next_name};
+ghost use Rattle.pgp_session.specs.Connection.{done_at, is_bulk, is_part, letter, may_send, names_in, next_name};
 
-use crate::login::LoginPhase;
-use crate::protocol_options::{OptionName, is_answered};
+use crate::protocol_options::OptionNames;
 use crate::session_storage::SessionStorage;
 use bytes::BytesMut;
 use pgp_base::{Error, Memory};
 use pgp_client::Event;
 use pgp_frontend_read::ClientMessage;
+use pgp_login::LoginPhase;
 use pgp_message::{Message, Storage};
 use pgp_stream::ClientStream;
 use std::alloc::Allocator;
@@ -56,22 +57,26 @@ pub(crate) fn is_bulk<S: Storage>(message: &Message<S>, event: Event) -> bool
     }
 }
 
-/// Whether the message may come now. Before the log-in is done only what asks for a password, an error, and the answer about versions where no message came
-/// before (`first`), which lists options that were sent.
+/// Whether the log-in is done.
+pub(crate) fn is_done(phase: LoginPhase) -> bool
+    ensures { result ≡ done_at phase }
+{
+    match phase {
+        LoginPhase::Done => true,
+        _ => false,
+    }
+}
+
+/// Whether the message may come now. `first` says that no message came before.
 pub(crate) fn is_timely<A: Allocator, S: SessionStorage>(
     phase: LoginPhase,
     first: bool,
-    sent: &[OptionName<A>],
+    sent: &OptionNames<A>,
     message: &Message<S>,
 ) -> bool
-    ensures { Decides result (IsTimely phase first sent.now (view message.now)) }
+    ensures { Decides result (IsTimely (done_at phase) first (names_in sent.now) (view message.now)) }
 {
-    match message {
-        Message::ParameterStatus(_) => phase == LoginPhase::Done,
-        Message::NoticeResponse(_) | Message::NotificationResponse(_) => phase == LoginPhase::Done,
-        Message::NegotiateProtocolVersion(answer) => is_answered(first, sent, answer),
-        _ => true,
-    }
+    pgp_login::is_timely(is_done(phase), first, sent, message)
 }
 
 /// Whether it is a ReadyForQuery whose status is none of the three that there are.

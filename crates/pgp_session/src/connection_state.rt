@@ -8,14 +8,16 @@ ghost use Rattle.pgp_session.specs.Connection.{Hears, Shown, Takes, answered, be
 use crate::connection::ConnectionPhase;
 use crate::connection_error::ConnectionError;
 use crate::connection_parts::{is_bulk, is_end, is_timely, lacks_status};
-use crate::login::{Login, LoginPhase, Ways};
-use crate::protocol_options::OptionName;
+use crate::login::{Ways, error_of};
+use crate::protocol_options::OptionNames;
 use crate::server_state::ServerState;
 use crate::session_storage::SessionStorage;
 use crate::settings::{SETTINGS_MOST, Settings};
 use bytes::BytesMut;
+use pgp_auth::authentication::sasl::ScramSha256;
 use pgp_base::Memory;
 use pgp_client::{Asked, Dialogue, Event};
+use pgp_login::{Login, LoginPhase};
 use pgp_message::Message;
 use std::collections::VecDeque;
 
@@ -23,13 +25,14 @@ use std::collections::VecDeque;
 #[derive(Drop)]
 pub(crate) struct ConnectionState<'a, A: Memory> {
     pub(crate) phase: ConnectionPhase,
-    pub(crate) login: Login<'a, A>,
+    pub(crate) login: Login<'a, ScramSha256<A>>,
+    pub(crate) alloc: A,
     pub(crate) out: BytesMut<A>,
     pub(crate) dialogue: Dialogue<VecDeque<Asked, A>>,
     pub(crate) server: ServerState,
     pub(crate) settings: Settings<A>,
     /// The protocol options of the startup packet.
-    pub(crate) options: Vec<OptionName<A>, A>,
+    pub(crate) options: OptionNames<A>,
 }
 
 impl<'a, A: Memory> ConnectionState<'a, A> {
@@ -42,13 +45,15 @@ impl<'a, A: Memory> ConnectionState<'a, A> {
             login: Login {
                 phase: LoginPhase::AwaitsOffer,
                 ways,
-                alloc,
             },
+            alloc,
             out: BytesMut::new(alloc),
             dialogue: Dialogue::new(alloc),
             server: ServerState::new(),
             settings: Settings::new(alloc),
-            options: Vec::new(alloc),
+            options: OptionNames {
+                names: Vec::new(alloc),
+            },
         }
     }
 
@@ -88,7 +93,7 @@ impl<'a, A: Memory> ConnectionState<'a, A> {
         if lacks_status(message) {
             return Err(ConnectionError::BadStatus);
         }
-        match self.settings.keep(self.login.alloc, SETTINGS_MOST, message) {
+        match self.settings.keep(self.alloc, SETTINGS_MOST, message) {
             Ok(()) => {}
             Err(e) => return Err(ConnectionError::Unkept(e)),
         }
@@ -97,9 +102,9 @@ impl<'a, A: Memory> ConnectionState<'a, A> {
             self.phase = ConnectionPhase::Over;
             return Ok(event);
         }
-        match self.login.hear(message, &mut self.out) {
+        match pgp_login::hear(self.alloc, &mut self.login, message, &mut self.out) {
             Ok(()) => Ok(event),
-            Err(e) => Err(e),
+            Err(e) => Err(error_of(e)),
         }
     }
 }

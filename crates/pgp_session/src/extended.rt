@@ -102,7 +102,7 @@ impl<'a, A: Memory> Connection<'a, A> {
         }
         let start = self.state.out.len();
         match put_bind(
-            self.state.login.alloc,
+            self.state.alloc,
             portal,
             statement,
             formats,

@@ -16,14 +16,17 @@ ghost use Rattle.pgp_message.specs.Stream.{IsPartial, TakesFrame};
 ghost use Rattle.pgp_session.specs.Connection.{HasStarted, Sent, Shown, Took, Wrote, begun, dropped, fed, in_phase, open_from, told, with_incoming};
 ghost use Rattle.pgp_session.specs.Answered.{Answered};
 ghost use Rattle.pgp_session.specs.Incoming.{Reads};
-ghost use Rattle.pgp_session.specs.Login.{Ways as Admitting};
+ghost use Rattle.pgp_login.specs.Login.{Kept as LogIn};
+ghost use Rattle.pgp_login.specs.Machine.{Ways as Admitting};
+ghost use Rattle.pgp_login.specs.declared.login.LoginPhase.TheVariants.{AwaitsOffer};
+ghost use Rattle.pgp_session.specs.Login.{ways_in};
 ghost use Rattle.pgp_session.specs.Monitor.{Shown as Monitored, Went};
 ghost use Rattle.pgp_session.specs.Session.{Follows, History, Known, and_fed, and_observed, and_sent, and_wrote, nothing};
 ghost use Rattle.pgp_session.specs.declared.connection.ConnectionPhase.TheVariants.{Opening, Encrypting, Started, Over};
 
 /// Of a new connection nothing is known but its ways; and what is known of a connection is known after each call, with what the call did.
 pub fn calls_are_known()
-    ensures begun { (ways : Admitting) (limit : ℕ) → Known ways nothing (begun ways limit) }
+    ensures begun { (login : LogIn) (limit : ℕ) → login.phase ≡ AwaitsOffer → Known (ways_in login) nothing (begun login limit) }
     ensures asks_encryption { (ways : Admitting) (h : History) (old new : Shown) → Wrote Opening Encrypting SslRequest old new → Known ways h old
         → Known ways (and_wrote SslRequest 0 h) new }
     ensures answered { (ways : Admitting) (h : History) (old : Shown) (encrypts : Bool) → old.phase ≡ Encrypting → Known ways h old → Known ways h (told encrypts old) }
@@ -50,7 +53,7 @@ pub fn sessions_follow()
     ensures { (ways : Admitting) (h : History) (now : Shown) → Known ways h now → Follows ways h now }
 {
     pgp_client::laws::only_answers_are_taken();
-    pgp_client::laws::messages_belong_in_turns();
+    pgp_login::laws::sessions_follow();
 }
 
 /// Of what was sent over a connection every request ends once: those whose names are below `Connection::open_from` have ended, in the order in which they were

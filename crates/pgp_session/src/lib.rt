@@ -16,7 +16,6 @@ pub mod pooler;
 mod protocol_options;
 pub mod proxy;
 mod requests;
-mod sasl;
 mod server_state;
 pub mod serving;
 mod serving_due;

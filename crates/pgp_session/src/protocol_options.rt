@@ -1,17 +1,15 @@
-//! The protocol options of a startup packet, by name, and which of them an answer about versions may list.
+//! The protocol options of a startup packet, by name.
 
-ghost use Rattle.std.specs.Prelude.{◌≡◌, ◌∷◌, ◌++◌, [], map, true, None, IfErr, IfOk, OnOk};
-ghost use Rattle.std.specs.Bool.{Decides};
-ghost use Rattle.std.specs.List.{filter, list_all};
+ghost use Rattle.std.specs.Prelude.{◌≡◌, ◌∷◌, ◌++◌, [], map, IfErr, IfOk, OnOk};
+ghost use Rattle.std.specs.List.{filter};
 ghost use Rattle.pgp_base.specs.Cause.{WantsMemory};
 ghost use Rattle.pgp_frontend.specs.ClientMessage.{Startup};
 ghost use Rattle.pgp_frontend.specs.Given.{shown as shown_pair};
-ghost use Rattle.pgp_session.specs.Connection.{IsAnswered, is_3_0, is_among, is_option, options_of};
+ghost use Rattle.pgp_login.specs.Timely.{is_among};
+ghost use Rattle.pgp_session.specs.Connection.{is_option, names_in, options_of};
 
-use crate::session_storage::SessionStorage;
-use pgp_base::{Error, FallibleIterator, Memory};
-use pgp_frontend::ProtocolVersion;
-use pgp_message::{NegotiateProtocolVersionBody, RawOptions};
+use pgp_base::{Error, Memory};
+use pgp_login::Sent;
 use std::alloc::Allocator;
 use std::marker::Model;
 
@@ -27,6 +25,20 @@ impl<A: Allocator> Model for OptionName<A> {
     ghost Value = { List ℕ };
 
     ghost view = { λ name. name.bytes.items };
+}
+
+/// The names that a connection keeps.
+#[derive(Drop)]
+pub(crate) struct OptionNames<A: Allocator> {
+    pub(crate) names: Vec<OptionName<A>, A>,
+}
+
+impl<A: Allocator> Sent for OptionNames<A> {
+    ghost names = { names_in };
+
+    fn has(&self, name: &[u8]) -> bool {
+        is_among(&self.names, name)
+    }
 }
 
 /// The names of the protocol options among the parameters of a startup packet.
@@ -61,44 +73,6 @@ fn note<A: Memory>(alloc: A, name: &str, names: &mut Vec<OptionName<A>, A>) -> R
     match A::push(names, OptionName { bytes }) {
         Ok(()) => Ok(()),
         Err(_) => Err(Error::OutOfMemory),
-    }
-}
-
-/// Whether the answer about versions is due, and what it says could be said: `first` says that no message came before, and these options were sent.
-pub(crate) fn is_answered<A: Allocator, S: SessionStorage>(
-    first: bool,
-    sent: &[OptionName<A>],
-    answer: &NegotiateProtocolVersionBody<S>,
-) -> bool
-    ensures { Decides result (IsAnswered first sent.now answer.now) }
-{
-    pgp_message::laws::one_list_of_options();
-    if !first || !is_3_0(answer.version()) {
-        return false;
-    }
-    all_among(S::options(answer), sent)
-}
-
-fn is_3_0(version: i32) -> bool
-    ensures { result ≡ is_3_0 version }
-{
-    !(version < ProtocolVersion::V3_0.code() || ProtocolVersion::V3_0.code() < version)
-}
-
-/// Whether the names are listed to the end, and were all sent.
-fn all_among<A: Allocator>(mut names: RawOptions<'_>, sent: &[OptionName<A>]) -> bool
-    ensures { Decides result ((names.entry.end ≡ None) × (list_all (is_among sent.now) names.entry.items ≡ true)) }
-{
-    'names: loop {
-        match names.next() {
-            Ok(Some(name)) => {
-                if !is_among(sent, name) {
-                    return false;
-                }
-            }
-            Ok(None) => return true,
-            Err(_) => return false,
-        }
     }
 }
 

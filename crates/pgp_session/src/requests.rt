@@ -6,10 +6,10 @@ ghost use Rattle.pgp_session.specs.Connection.{Cancels, Sends, shown};
 
 use crate::connection::Connection;
 use crate::connection_error::ConnectionError;
-use crate::login::put;
 use bytes::BytesMut;
 use pgp_base::Memory;
 use pgp_frontend_read::ClientMessage;
+use pgp_login::put;
 
 impl<'a, A: Memory> Connection<'a, A> {
     /// Query: runs one or more statements, separated by semicolons.

@@ -1,10 +1,12 @@
 -- A client's core and a server's core, turn by turn.
-use Rattle.pgp_uses.proofs.Common.{◌≡◌, ℕ, List, [], ◌∷◌, ◌++◌, length, Some, None, Result, Ok, Err, refl, sym, ap, subst, ◌∙◌, arith, inl, inr, false, append_assoc, Contains, ◌⊎◌, ◌≢◌, encode_utf8, AllByRecursion, append-nil, Wants, WantsMemory, Held, ◌⊕◌, MarkedItems, HasNoZero, IsBytes, int32, Error, Client, Answers, message_of, Meeting, Server, Challenges, Admits, first_memory, finish_never_refused, ClientMessage, SaslInitialResponse, joined, Message, tag_of, TextSpelled, TextRefused, Frames, TakesFrame, IsInRange, IsMechanism, IsReply, names_of, AreRead, Facing, IsServersWant, Offers, initial, mechanism_by, mechanism_of, Comes, Outcome, Challenge, Denied, Signed, IsAdmitted, IsChallenged, IsNoFinal, IsNoFirst, admission, cause_of, challenge, due, final_message, first_message, scram, scram_offer, signature, spelled, Serving, ServingPhase, Lists, codes}
+use Rattle.pgp_uses.proofs.Common.{◌≡◌, ℕ, List, [], ◌∷◌, ◌++◌, length, Some, None, Result, Ok, Err, refl, sym, ap, subst, ◌∙◌, arith, inl, inr, false, append_assoc, Contains, ◌⊎◌, ◌≢◌, encode_utf8, AllByRecursion, append-nil, Wants, WantsMemory, Held, ◌⊕◌, MarkedItems, HasNoZero, IsBytes, int32, Error, Client, Answers, message_of, Meeting, Server, Challenges, Admits, first_memory, finish_never_refused, ClientMessage, SaslInitialResponse, joined, Message, tag_of, TextSpelled, TextRefused, Frames, TakesFrame, IsInRange, IsMechanism, IsReply, names_of, AreRead, Facing, IsServersWant, initial, is_bound, Begun, Comes, Outcome, Challenge, Denied, Signed, IsAdmitted, IsChallenged, IsNoFinal, IsNoFirst, admission, cause_of, challenge, due, final_message, first_message, scram, scram_offer, signature, spelled, Serving, ServingPhase, Lists, codes}
 use Rattle.std.specs.Str.{IsUtf8}
 use Rattle.pgp_auth.specs.ScramClient.{first_text as text_of}
 use Rattle.pgp_auth.specs.ScramServing as server
 use Rattle.pgp_auth.specs.Verifier.{verifier}
+use Rattle.std.specs.Prelude.{Bool}
 use Rattle.pgp_base.specs.OneList.{HasOneMarkedList}
+use Rattle.pgp_login.specs.Exchange.{mechanism_by}
 use Rattle.pgp_frontend_read.proofs.Items.{bytes_behind}
 use Rattle.pgp_frontend_read.proofs.Steps.{frame_payload}
 use Rattle.pgp_message_write.specs.Reply.{bytes_of, cause, parts}
@@ -44,8 +46,8 @@ unfolding meeting_of
 count_met x s f = refl
 
 -- the first message of an exchange that isn't bound to the channel
-pub unbound_first : (x : Client) (text : List ℕ) → message_of x.state ≡ Some text → mechanism_of x ≡ scram → initial text ≡ first_message text
-unbound_first x text said unbound = ap (λ (name : List ℕ). SaslInitialResponse name (Some text)) (sym (ap mechanism_by said) ∙ unbound)
+pub unbound_first : (b : Begun) → is_bound b.binding ≡ false → initial b ≡ first_message (text_of b)
+unbound_first b unbound = ap (λ (bound : Bool). SaslInitialResponse (mechanism_by bound) (Some (text_of b))) unbound
 
 -- ---- what the server says is read
 
@@ -205,9 +207,9 @@ the_offer back =
     let some : scram ≢ [] = λ e. cc in
     back (scram ∷ []) ((zero_free, text, some), tt)
 
-pub offers_scram : (exchange : Client) → mechanism_of exchange ≡ scram → ((names : List (List ℕ)) → AllByRecursion IsMechanism names → MarkedItems TextSpelled TextRefused (names_of names) names None)
-    → Offers exchange (names_of (scram ∷ []))
-offers_scram exchange unbound back = (scram ∷ [], the_offer back, subst (λ (name : List ℕ). Contains (scram ∷ []) name) (sym unbound) (0, omega arith, refl))
+pub offers_scram : ((names : List (List ℕ)) → AllByRecursion IsMechanism names → MarkedItems TextSpelled TextRefused (names_of names) names None)
+    → Lists scram (names_of (scram ∷ []))
+offers_scram back = (scram ∷ [], the_offer back, (0, omega arith, refl))
 
 -- and no mechanism that is bound to the channel
 pub offers_no_binding : ((names : List (List ℕ)) → AllByRecursion IsMechanism names → MarkedItems TextSpelled TextRefused (names_of names) names None) → HasOneMarkedList TextSpelled TextRefused

@@ -15,7 +15,7 @@ pub use Rattle.std.specs.Option.{option_to_list, option_len}
 pub use Rattle.std.specs.Prelude.{◌⊎◌, ◌≢◌, IfErr, decimal, slice_index_or}
 pub use Rattle.std.specs.declared.iter.Once.{Once}
 pub use Rattle.pgp_auth.proofs.EndsMeet.{first_memory, finish_never_refused, last_is, message_is, signature_never_refused, text_is, update_memory_met, answer_meets}
-pub use Rattle.pgp_auth.specs.ScramClient.{Client, Answers, message_of}
+pub use Rattle.pgp_auth.specs.ScramClient.{Begun, Client, Answers, message_of}
 pub use Rattle.pgp_auth.specs.ScramErrorView.{refusal}
 pub use Rattle.pgp_auth.specs.ScramMeeting.{Meeting}
 pub use Rattle.pgp_auth.specs.ScramServing.{Server, Challenges, Admits}
@@ -51,10 +51,10 @@ pub use Rattle.pgp_message.specs.Views.{view, parsed}
 pub use Rattle.pgp_message_write.proofs.Lists.{same_more}
 pub use Rattle.pgp_message_write.specs.Reply.{IsInRange, IsMechanism, IsReply, names_of}
 pub use Rattle.pgp_session.specs.Connection.{IsCut, Nexts, Shown, nexted, Took, TookEnd, with_incoming, Hears, IsUnfit, ComesInTime, is_logged_in, logged_in_at, begun, shown}
-pub use Rattle.pgp_session.specs.Mechanisms.{Lists, Offers, initial, mechanism_by, mechanism_of}
+pub use Rattle.pgp_login.specs.Exchange.{Added, AddsReply, Replies, begun_of, initial, is_bound, seen_client}
+pub use Rattle.pgp_message.specs.LogIn.{Lists}
 pub use Rattle.pgp_session.specs.Serving.{Comes, Outcome, Challenge, Denied, Signed, IsAdmitted, IsChallenged, IsNoFinal, IsNoFirst, admission, cause_of, challenge, due, final_message, first_message, kind_in, scram, scram_offer, signature, spelled}
 pub use Rattle.pgp_session.specs.declared.connection_error.ConnectionError.{ConnectionError}
-pub use Rattle.pgp_session.specs.declared.login.LoginPhase.{LoginPhase}
 pub use Rattle.pgp_session.specs.declared.serving.Serving.{Serving}
 pub use Rattle.pgp_session.specs.declared.serving.ServingPhase.{ServingPhase}
 pub use Rattle.pgp_stream.specs.ClientStream.{Sent, IsAdded, IsLeft, Adds, RefusesMessage}

@@ -25,14 +25,13 @@ use Rattle.pgp_message.specs.Stream.{Frames}
 use Rattle.pgp_message_write.specs.Reply.{bytes_of}
 use Rattle.pgp_session.specs.Connection.{Shown as Connected, is_logged_in}
 use Rattle.pgp_session.specs.Connection as connection
-use Rattle.pgp_session.specs.Login.{Added, Unsent}
-use Rattle.pgp_session.specs.Mechanisms.{mechanism_of}
-use Rattle.pgp_session.specs.Serving.{Challenge, Outcome, Signed, admission, cause_of, challenge, final_message, first_message, kind_in, scram, scram_offer, signature, spelled}
+use Rattle.pgp_login.specs.Exchange.{Added, Unsent, is_bound, seen_client}
+use Rattle.pgp_session.specs.Serving.{Challenge, Outcome, Signed, admission, cause_of, challenge, final_message, first_message, kind_in, scram_offer, signature, spelled}
 use Rattle.pgp_session.specs.Serving as serving
 use Rattle.pgp_session.specs.declared.connection.ConnectionPhase.TheVariants.{Started}
 use Rattle.pgp_session.specs.declared.connection_error.ConnectionError.{ConnectionError}
 use Rattle.pgp_session.specs.declared.connection_error.ConnectionError.TheVariants as errors
-use Rattle.pgp_session.specs.declared.login.LoginPhase.TheVariants.{AwaitsOffer}
+use Rattle.pgp_login.specs.declared.login.LoginPhase.TheVariants.{AwaitsOffer}
 use Rattle.pgp_session.specs.declared.serving.Method.TheVariants.{Exchange}
 use Rattle.pgp_session.specs.declared.serving.Serving.{Serving}
 use Rattle.pgp_session.specs.declared.serving.ServingEvent.{ServingEvent}
@@ -51,7 +50,7 @@ pub record Facing {A : Type 0} (exchange : Client) (serving : Serving A) : Type 
   pub binding : Binding
   pub offer : Offer
   pub exchange_is : exchange.state ≡ client.AwaitsFirst (record { password = password; binding = binding; nonce = nonce })
-  pub unbound : mechanism_of exchange ≡ scram
+  pub unbound : is_bound binding ≡ false
   pub awaits : serving.phase ≡ AwaitsFirst
   pub holds : serving.method ≡ Exchange (server.AwaitsFirst (record { verifier = verifier password salt count; is_mock = false; offer = offer; own = own }))
   pub taken : IsTaken offer binding
@@ -101,7 +100,7 @@ pub record HasStarted (name : ℕ) (exchange : Client) (c : Connected) : Type 0 
   pub phase : c.phase ≡ Started
   pub talk : c.talk ≡ asked start (record { request = Startup; name = name })
   pub awaits : c.login.phase ≡ AwaitsOffer
-  pub admits : c.login.ways.scram ≡ Some exchange
+  pub admits : c.login.scram ≡ Some (seen_client exchange)
 
 -- Each takes what the other sends, and after the last turn both are logged in.
 abbrev pub ConnectionLogsIn : {A L : Type 0} → (E : Type 0) → Type 0 → Type 0 → (Held L → ℕ → Type 0) → ℕ → Connected → Serving A → Type 0

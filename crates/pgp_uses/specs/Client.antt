@@ -1,5 +1,5 @@
 -- A client's connection that awaits the rows of a request.
-use Rattle.std.specs.Prelude.{◌≡◌, ◌⊎◌, ℕ, Bool, true, false, List, [], ◌∷◌, Some, None, Ok, codes, ◌==◌}
+use Rattle.std.specs.Prelude.{◌≡◌, ◌⊎◌, ℕ, Bool, true, false, List, [], ◌∷◌, None, Ok, codes, ◌==◌}
 use Rattle.pgp_auth.specs.ScramClient.{Client}
 use Rattle.pgp_client.specs.declared.event.Event.{Event}
 use Rattle.pgp_client.specs.declared.event.Event.TheVariants.{Part}
@@ -8,14 +8,15 @@ use Rattle.pgp_message.specs.BackendMessage.{Message, DataRow, ErrorResponse}
 use Rattle.pgp_message.specs.Parts.{CountedBytes}
 use Rattle.pgp_message.specs.Stream.{IsPartial, TakesFrame}
 use Rattle.pgp_session.specs.Connection.{Shown, Took, TookEnd, with_incoming}
-use Rattle.pgp_session.specs.Login.{Ways}
+use Rattle.pgp_login.specs.Exchange.{begun_of}
+use Rattle.pgp_login.specs.Machine.{Ways}
 use Rattle.pgp_session.specs.Session.{History, and_wrote, nothing}
 use Rattle.pgp_uses.specs.declared.client.Received.{Received}
 use Rattle.pgp_uses.specs.declared.client.Received.TheVariants as code
 
 -- SCRAM-SHA-256 by this exchange, and no other way
 abbrev pub scram_alone : Client → Ways
-scram_alone x = record { scram = Some x; md5 = None; cleartext = None; none = false; least = 0; encrypted = false }
+scram_alone x = record { scram = begun_of x.state; md5 = None; cleartext = None; none = false; least = 0 }
 
 -- the startup packet of this user was written
 abbrev pub opened : List ℕ → History

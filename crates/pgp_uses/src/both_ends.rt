@@ -13,7 +13,7 @@ use pgp_base::{Buffer, Memory};
 /// its reply, or the reply is too long for a message; and after the last step both are logged in. Of each message that `next` takes, it gives the event of the startup packet.
 pub fn connection_is_let_in<A: Memory, C: Memory, D: Buffer>()
     ensures { (name : ℕ) (exchange : Exchange) (client : Connected) (server : Server C) → HasStarted name exchange client → (facing : Facing exchange server)
-        → max client.login.ways.least 1 ≤ facing.count → ConnectionLogsIn A A.Lacks C.Lacks D.Lacks name client server }
+        → max client.login.least 1 ≤ facing.count → ConnectionLogsIn A A.Lacks C.Lacks D.Lacks name client server }
 {
     pgp_message::laws::one_list_of_mechanisms();
     pgp_message_write::laws::mechanisms_are_read();

@@ -3,7 +3,7 @@ use Rattle.pgp_session.proofs.laws.calls_are_known.Goals as goal
 
 pub returns : goal.returns
 returns c = record {
-  begun = λ ways limit. begins ways limit c.no_frame.ensures;
+  begun = λ login limit at. begins login limit at c.no_frame.ensures;
   asks_encryption = asks_encryption;
   answered = answered;
   starts = starts;

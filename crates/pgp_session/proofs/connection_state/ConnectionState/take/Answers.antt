@@ -1,7 +1,6 @@
-use Rattle.pgp_session.proofs.Common.{rules, List, ap, refl, sym, inl, inr, ◌∙◌, kind_of, taken, view, asking, seen, in_state, left_at, Setting}
+use Rattle.pgp_session.proofs.Common.{rules, List, ap, refl, sym, inl, inr, ◌∙◌, kind_of, taken, view, seen, in_state, names_in, left_at, Setting}
 use Rattle.pgp_client.specs.Talk.{shown as talk_of}
 use Rattle.pgp_session.proofs.Connections.{stopped_log_in, taken_no, taken_ok, timely_by, took_bulk, took_so, untimely_by}
-use Rattle.pgp_session.proofs.LogIns.{logs_on}
 use Rattle.pgp_session.proofs.Reported.{heard_so}
 use Rattle.pgp_session.proofs.connection_state.ConnectionState.take.Goals as goal
 
@@ -17,12 +16,12 @@ returns-in-Ok-hear g c = λ s.
     let old = in_state c.args.self.now s in
     inl (record {
       taken = taken_ok (taken old.talk (kind_of m)) c.in-Ok.event (talk_of (λ q. q.items) c.take_message.new.self) c.in-Ok.ensures;
-      due = timely_by (in_state c.args.self.now s) (view c.args.message.now) c.is_between-first.result c.is_timely.result c.deref.result.now c.is_between-first.ensures c.deref.ensures.value c.is_timely.ensures (search rules);
+      due = timely_by (in_state c.args.self.now s) (view c.args.message.now) c.is_between-first.result c.is_timely.result (names_in c.args.self.now.options) c.is_between-first.ensures refl c.is_timely.ensures (search rules);
       sound = sym c.lacks_status.ensures ∙ c.if-lacks_status.false;
       kept = c.in-Ok-keep.ensures.0;
       goes_on = sym c.is_end.ensures ∙ c.if-is_end.false;
-      logged = logs_on _ g.A.Memory.Lacks (seen c.args.self.now.login) (seen c.hear.new.self) c.args.self.now.out.items c.hear.new.out.items (asking m) c.in-Ok-hear.ensures.observed;
-      is = took_so m (seen c.hear.new.self) c.hear.new.out.items (talk_of (λ q. q.items) c.take_message.new.self) (record { state = c.note.new.self; settings = c.keep.new.self }) old
+      logged = c.in-Ok-hear.ensures.follows;
+      is = took_so m (seen c.hear.new.login) c.hear.new.out.items (talk_of (λ q. q.items) c.take_message.new.self) (record { state = c.note.new.self; settings = c.keep.new.self }) old
           (heard_so m c.note.new.self c.keep.new.self old.server c.note.ensures c.in-Ok-keep.ensures.1);
     })
 
@@ -53,8 +52,8 @@ returns-in-Err-hear g c = λ s.
     let old = in_state c.args.self.now s in
     let talk = talk_of (λ q. q.items) c.take_message.new.self in
     let is = taken_ok (taken old.talk (kind_of m)) c.in-Ok.event talk c.in-Ok.ensures in
-    stopped_log_in g.A.Memory.Lacks m old talk (seen c.hear.new.self) c.hear.new.out.items (record { state = c.note.new.self; settings = c.keep.new.self }) c.in-Ok.event c.in-Err-hear.e
-    is c.in-Ok-keep.ensures.0 (sym c.is_end.ensures ∙ c.if-is_end.false) c.in-Err-hear.ensures.observed c.in-Err-hear.ensures.kept c.in-Err-hear.ensures.phase
+    stopped_log_in g.A.Memory.Lacks m old talk (seen c.hear.new.login) c.hear.new.out.items (record { state = c.note.new.self; settings = c.keep.new.self }) c.in-Ok.event c.in-Err-hear.e c.error_of.result
+    is c.in-Ok-keep.ensures.0 (sym c.is_end.ensures ∙ c.if-is_end.false) c.error_of.ensures c.in-Err-hear.ensures.declines c.in-Err-hear.ensures.kept c.in-Err-hear.ensures.phase
     (heard_so m c.note.new.self c.keep.new.self old.server c.note.ensures c.in-Ok-keep.ensures.1)
 
 pub returns-then-not-is_timely : goal.returns-then-not-is_timely
@@ -62,11 +61,11 @@ returns-then-not-is_timely g c = λ s.
     let old = in_state c.args.self.now s in
     let talk = talk_of (λ q. q.items) c.take_message.new.self in
     let is = taken_ok (taken old.talk (kind_of (view c.args.message.now))) c.in-Ok.event talk c.in-Ok.ensures in
-    inr (inl ((c.in-Ok.event, talk), is, inl (untimely_by (in_state c.args.self.now s) (view c.args.message.now) c.is_between-first.result c.is_timely.result c.deref.result.now c.is_between-first.ensures c.deref.ensures.value c.is_timely.ensures (search rules), refl), refl))
+    inr (inl ((c.in-Ok.event, talk), is, inl (untimely_by (in_state c.args.self.now s) (view c.args.message.now) c.is_between-first.result c.is_timely.result (names_in c.args.self.now.options) c.is_between-first.ensures refl c.is_timely.ensures (search rules), refl), refl))
 
 pub returns-then-lacks_status : goal.returns-then-lacks_status
 returns-then-lacks_status g c = λ s.
     let old = in_state c.args.self.now s in
     let talk = talk_of (λ q. q.items) c.take_message.new.self in
     let is = taken_ok (taken old.talk (kind_of (view c.args.message.now))) c.in-Ok.event talk c.in-Ok.ensures in
-    inr (inl ((c.in-Ok.event, talk), is, inr (timely_by (in_state c.args.self.now s) (view c.args.message.now) c.is_between-first.result c.is_timely.result c.deref.result.now c.is_between-first.ensures c.deref.ensures.value c.is_timely.ensures (search rules), sym c.lacks_status.ensures ∙ c.if-lacks_status.true, refl), refl))
+    inr (inl ((c.in-Ok.event, talk), is, inr (timely_by (in_state c.args.self.now s) (view c.args.message.now) c.is_between-first.result c.is_timely.result (names_in c.args.self.now.options) c.is_between-first.ensures refl c.is_timely.ensures (search rules), sym c.lacks_status.ensures ∙ c.if-lacks_status.true, refl), refl))
