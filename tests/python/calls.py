@@ -256,6 +256,29 @@ class Wrong(int):
 COMMITTED = frame(b'C', b'COMMIT\0') + READY
 
 
+def check_paramstyle(same):
+    """`%s` and `%(name)s`, where the caller asks for them; a copy's chunks that call the connection raise, and wait for nothing."""
+    def asked(sql, values):
+        found, _, seen = play([PREPARED, ANSWERED, b''], lambda c: c.execute(sql, values).fetchall(), autocommit=True, paramstyle='pyformat')
+        return found if isinstance(found, Exception) else (found, seen[0][1][3:-3], seen[3][1])
+    sent = b'\0s1\0\0\1\0\1\0\1\0\0\0\4\0\0\0\5\0\2\0\1\0\1'
+    for sql, values, wanted in (("SELECT %s, '50%%'", [5], b"SELECT $1, '50%'"), ('SELECT %(a)s + %(a)s', {'a': 5, 'b': 6}, b'SELECT $1 + $1')):
+        same(sql, asked(sql, values), ([(7, 'hello')], wanted, sent))
+    for sql, values in (('SELECT %s', {'a': 5}), ('SELECT %(a)s', [5]), ('SELECT %(a)s', {'b': 5}), ('SELECT %(a)s, %s', {'a': 5}), ('SELECT %d', [5]), ('SELECT 5 %', [5])):
+        found, tags, _ = play([b''], lambda c: type(_error(lambda: c.execute(sql, values))), autocommit=True, paramstyle='pyformat')
+        same(sql, (found, tags), (client.ProgrammingError, b'X'))
+    same('no such style', type(_error(lambda: client.connect('h', paramstyle='qmark'))), client.InterfaceError)
+
+    async def inside(c):
+        async def chunks():
+            yield b'1\n'
+            await c.execute(SELECT, (5,))
+        c.timeout = None
+        return type(await _failure(c.copy_in('COPY t FROM STDIN', chunks())))
+    found, tags, _ = aplay([frame(b'G', b'\0\0\1\0\0'), error_of(b'57014', b'COPY from stdin failed') + READY, b''], inside)
+    same('asyncio, a call in chunks', (found, tags), (client.InterfaceError, b'QfX'))
+
+
 def check_rows_and_modes(same):
     """Rows by `next`, by a class and as a value; the modes of a transaction."""
     two = frame(b'2', b'') + ROW * 2 + frame(b'C', b'SELECT 2\0') + READY
@@ -282,5 +305,5 @@ def check_rows_and_modes(same):
 
 def check_what_ends_what(same):
     """All of them."""
-    for check in (check_rows_and_modes, check_mistakes, check_streams, check_asyncio_streams, check_once, check_encodings, check_blocks):
+    for check in (check_paramstyle, check_rows_and_modes, check_mistakes, check_streams, check_asyncio_streams, check_once, check_encodings, check_blocks):
         check(same)

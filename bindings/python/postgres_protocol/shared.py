@@ -56,6 +56,7 @@ class Behaviour(NamedTuple):
     prepare: int
     row_factory: Optional[RowFactory]
     registry: Optional[Registry]
+    paramstyle: str
 
 
 class Block(NamedTuple):
@@ -72,7 +73,7 @@ class Shared:
 
     def __init__(self, options: Options, place: Place, encrypts: bool, behaviour: Behaviour) -> None:
         self._options, self._core = options, options.core(place, encrypts)
-        self._session, self._is_closed = Session(self._core, behaviour.registry, behaviour.prepare), False
+        self._session, self._is_closed = Session(self._core, behaviour.registry, behaviour.prepare, behaviour.paramstyle), False
         self._session.autocommit, self._behaviour = behaviour.autocommit, behaviour
         self._portals, self._process, self._born = 0, os.getpid(), time.monotonic()
         self._blocks: List[Block] = []
@@ -204,7 +205,7 @@ class Shared:
             yield from self._roll_back()
         if reset == 'discard':
             yield from self._session.discard()
-        self._session.autocommit, self.timeout, _, self.row_factory, _ = self._behaviour
+        self._session.autocommit, self.timeout, _, self.row_factory, _, _ = self._behaviour
         self.notices.clear()
         self.notifications.clear()
 
