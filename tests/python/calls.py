@@ -120,6 +120,15 @@ def check_asyncio_streams(same):
     found, tags, _ = aplay([ONE_PIECE, (error_of(b'57014', b'canceling') + READY,), PREPARED, ANSWERED, b''], inside)
     same('asyncio, a call in a stream', (found, tags), ((client.InterfaceError, client.Timeout, True, [(7, 'hello')]), b'Q' b'cancel' b'PDSBESX'))
 
+    async def closes(c):
+        stream = c.copy_stream('COPY t TO STDOUT')
+        async for _ in stream:
+            waiting = asyncio.ensure_future(c.execute(SELECT, (5,), timeout=9))
+            await asyncio.sleep(0)
+            await c.close()
+            return type(await asyncio.wait_for(_failure(waiting), 3))
+    same('asyncio, closed beside a stream', aplay([ONE_PIECE, b''], closes)[0], client.InterfaceError)
+
     async def dropped(c):
         async for piece in c.copy_stream('COPY t TO STDOUT'):
             break

@@ -203,9 +203,13 @@ class Connection(Shared):
         if self._process != os.getpid():
             self._is_closed = True
             return
+        holds = self._source is not None and not (self._source.is_dropped or self._is_busy)
         if not self._is_closed:
             self._core.terminate()
             self._wire.write()
+        self._end()
+        if holds:
+            self._turns.give()
         await self._closed()
 
     async def _closed(self) -> None:
