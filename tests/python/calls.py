@@ -116,7 +116,7 @@ def check_asyncio_streams(same):
             waiting = asyncio.ensure_future(c.execute(SELECT, (5,)))
             await asyncio.sleep(0)
             await stream.aclose()
-        return first, other, time.monotonic() - begin < 2, (await waiting).rows
+        return first, other, time.monotonic() - begin < 4, (await waiting).rows
     found, tags, _ = aplay([ONE_PIECE, (error_of(b'57014', b'canceling') + READY,), PREPARED, ANSWERED, b''], inside)
     same('asyncio, a call in a stream', (found, tags), ((client.InterfaceError, client.Timeout, True, [(7, 'hello')]), b'Q' b'cancel' b'PDSBESX'))
 

@@ -42,7 +42,7 @@ def check_late(same):
         took = time.monotonic() - begin
         work.set()
         await other
-        return found, took < 2
+        return found, took < 4
     found, _, _ = aplay([b'', (error_of(b'57014', b'canceling') + READY,), b''], busy)
     same('asyncio, a cancel beside other work', found, (client.Timeout, True))
     check_flood(same)
@@ -76,7 +76,7 @@ def check_flood(same):
         thread.start()
         begin = time.monotonic()
         found = _error(lambda: call(listening.getsockname()[1]))
-        same('a flood of notices', (found, time.monotonic() - begin < 3), (([], 1000, 1000), True))
+        same('a flood of notices', (found, time.monotonic() - begin < 20), (([], 1000, 1000), True))
         ends.set()
         thread.join(10)
     listening.close()
@@ -161,7 +161,7 @@ def check_others(same):
         threading.Timer(0.2, c.close).start()
         begin = time.monotonic()
         error = _error(lambda: c.script('SELECT pg_sleep(5)'))
-        return type(error), c.closed, time.monotonic() - begin < 3
+        return type(error), c.closed, time.monotonic() - begin < 4.5
     found, tags, _ = play([b'', b''], closes)
     same('closed by another thread', (found, tags), ((client.Broken, True, True), b'Q'))
 
