@@ -170,6 +170,11 @@ def check_encodings(same):
         same('names of UTF8', settings.Options({'host': 'h', 'user': 'u', 'client_encoding': encoding}).parameters, {})
 
 
+def _inner(c):
+    with c.transaction():
+        _error(lambda: c.execute(SELECT, (5,)))
+
+
 def check_blocks(same):
     """`async with connection` commits, or rolls back, as the blocking one does; within a block of `transaction` neither is taken, nor a block of another task or thread."""
     committed = [PREPARED, INSERTED, frame(b'C', b'COMMIT\0') + READY, b'']
@@ -206,6 +211,15 @@ def check_blocks(same):
             return [type(await _failure(call)) for call in (c.commit(), c.rollback(), asyncio.ensure_future(c.transaction().__aenter__()))]
     found, tags, _ = aplay([QUERIED, frame(b'C', b'COMMIT\0') + READY, b''], tasks)
     same('asyncio, within a block', (found, tags), ([client.ProgrammingError] * 3, b'QQX'))
+    failed = error_of(b'42703', b'no column') + frame(b'Z', b'E')
+    released = frame(b'C', b'ROLLBACK\0') + frame(b'C', b'RELEASE\0') + OPENED
+
+    def swallows(c):
+        with c.transaction():
+            found = _error(lambda: _inner(c))
+        return type(found), c.closed, c.in_transaction
+    found, tags, seen = play([QUERIED, frame(b'C', b'SAVEPOINT\0') + OPENED, failed, released, frame(b'C', b'COMMIT\0') + READY, b''], swallows)
+    same('a savepoint that failed', (found, tags, seen[5][1]), ((client.InternalError, False, False), b'QQPDSQQX', b'ROLLBACK TO block_1; RELEASE block_1\0'))
     for fails, answers in ((True, []), (False, [TAKEN_BACK, b''])):
         async def cancelled(c):
             async def block():

@@ -119,8 +119,8 @@ class Connection(Shared):
 
     async def _give_up(self, source: Source) -> None:
         if not (source.is_over or self._is_closed):
-            source.is_over = True
             await self._run(source.end(), ends=True)
+            source.is_over = True
 
     def _dropped(self, source: Source) -> None:
         """Nobody has the stream any more: its turn is the next call's."""

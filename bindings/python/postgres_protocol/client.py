@@ -104,8 +104,8 @@ class Connection(Shared):
 
     def _give_up(self, source: Source) -> None:
         if not (source.is_over or self._is_closed):
-            source.is_over = True
             self._run(source.end(), ends=True)
+            source.is_over = True
 
     def cursor(self, name: Optional[str] = None, itersize: int = 1000) -> Cursor:
         """A cursor. With a name the server keeps the rows of a statement, which come `itersize` at a time, within a transaction."""

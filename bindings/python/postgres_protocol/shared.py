@@ -173,17 +173,17 @@ class Shared:
 
     def _end_block(self, block: Block, fails: bool) -> Flow:
         """Ends it, or takes it back; what was begun within it and isn't ended goes with it."""
-        if block in self._blocks:
-            del self._blocks[self._blocks.index(block):]
-        if block.end == 'COMMIT':
+        if block not in self._blocks:
+            return
+        has_failed, is_whole = self._core.status == 'E' and not fails, block.end == 'COMMIT'
+        del self._blocks[self._blocks.index(block) + 1:]
+        if is_whole:
             yield from self._session.finish(block.back if fails else block.end, self._wire.set_limit)
-        elif fails or self._core.status == 'E':
-            if self.in_transaction:
-                yield from self._session.plain(block.back)
-            if not fails:
-                raise errors.InternalError('the block failed before its end: it is rolled back')
-        else:
-            yield from self._session.plain(block.end)
+        elif self.in_transaction:
+            yield from self._session.plain(block.back if fails or has_failed else block.end)
+        self._blocks.pop()
+        if has_failed and not is_whole:
+            raise errors.InternalError('the block failed before its end: it is rolled back')
 
     def _no_block(self, what: str) -> None:
         if self._blocks:
