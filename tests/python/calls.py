@@ -116,9 +116,18 @@ def check_asyncio_streams(same):
             waiting = asyncio.ensure_future(c.execute(SELECT, (5,)))
             await asyncio.sleep(0)
             await stream.aclose()
-        return first, other, time.monotonic() - begin < 2, (await waiting).rows
+        return first, other, time.monotonic() - begin < 4, (await waiting).rows
     found, tags, _ = aplay([ONE_PIECE, (error_of(b'57014', b'canceling') + READY,), PREPARED, ANSWERED, b''], inside)
     same('asyncio, a call in a stream', (found, tags), ((client.InterfaceError, client.Timeout, True, [(7, 'hello')]), b'Q' b'cancel' b'PDSBESX'))
+
+    async def closes(c):
+        stream = c.copy_stream('COPY t TO STDOUT')
+        async for _ in stream:
+            waiting = asyncio.ensure_future(c.execute(SELECT, (5,), timeout=9))
+            await asyncio.sleep(0)
+            await c.close()
+            return type(await asyncio.wait_for(_failure(waiting), 3))
+    same('asyncio, closed beside a stream', aplay([ONE_PIECE, b''], closes)[0], client.InterfaceError)
 
     async def dropped(c):
         async for piece in c.copy_stream('COPY t TO STDOUT'):
@@ -161,6 +170,11 @@ def check_encodings(same):
         same('names of UTF8', settings.Options({'host': 'h', 'user': 'u', 'client_encoding': encoding}).parameters, {})
 
 
+def _inner(c):
+    with c.transaction():
+        _error(lambda: c.execute(SELECT, (5,)))
+
+
 def check_blocks(same):
     """`async with connection` commits, or rolls back, as the blocking one does; within a block of `transaction` neither is taken, nor a block of another task or thread."""
     committed = [PREPARED, INSERTED, frame(b'C', b'COMMIT\0') + READY, b'']
@@ -197,6 +211,15 @@ def check_blocks(same):
             return [type(await _failure(call)) for call in (c.commit(), c.rollback(), asyncio.ensure_future(c.transaction().__aenter__()))]
     found, tags, _ = aplay([QUERIED, frame(b'C', b'COMMIT\0') + READY, b''], tasks)
     same('asyncio, within a block', (found, tags), ([client.ProgrammingError] * 3, b'QQX'))
+    failed = error_of(b'42703', b'no column') + frame(b'Z', b'E')
+    released = frame(b'C', b'ROLLBACK\0') + frame(b'C', b'RELEASE\0') + OPENED
+
+    def swallows(c):
+        with c.transaction():
+            found = _error(lambda: _inner(c))
+        return type(found), c.closed, c.in_transaction
+    found, tags, seen = play([QUERIED, frame(b'C', b'SAVEPOINT\0') + OPENED, failed, released, frame(b'C', b'COMMIT\0') + READY, b''], swallows)
+    same('a savepoint that failed', (found, tags, seen[5][1]), ((client.InternalError, False, False), b'QQPDSQQX', b'ROLLBACK TO block_1; RELEASE block_1\0'))
     for fails, answers in ((True, []), (False, [TAKEN_BACK, b''])):
         async def cancelled(c):
             async def block():
@@ -256,6 +279,29 @@ class Wrong(int):
 COMMITTED = frame(b'C', b'COMMIT\0') + READY
 
 
+def check_paramstyle(same):
+    """`%s` and `%(name)s`, where the caller asks for them; a copy's chunks that call the connection raise, and wait for nothing."""
+    def asked(sql, values):
+        found, _, seen = play([PREPARED, ANSWERED, b''], lambda c: c.execute(sql, values).fetchall(), autocommit=True, paramstyle='pyformat')
+        return found if isinstance(found, Exception) else (found, seen[0][1][3:-3], seen[3][1])
+    sent = b'\0s1\0\0\1\0\1\0\1\0\0\0\4\0\0\0\5\0\2\0\1\0\1'
+    for sql, values, wanted in (("SELECT %s, '50%%'", [5], b"SELECT $1, '50%'"), ('SELECT %(a)s + %(a)s', {'a': 5, 'b': 6}, b'SELECT $1 + $1')):
+        same(sql, asked(sql, values), ([(7, 'hello')], wanted, sent))
+    for sql, values in (('SELECT %s', {'a': 5}), ('SELECT %(a)s', [5]), ('SELECT %(a)s', {'b': 5}), ('SELECT %(a)s, %s', {'a': 5}), ('SELECT %d', [5]), ('SELECT 5 %', [5])):
+        found, tags, _ = play([b''], lambda c: type(_error(lambda: c.execute(sql, values))), autocommit=True, paramstyle='pyformat')
+        same(sql, (found, tags), (client.ProgrammingError, b'X'))
+    same('no such style', type(_error(lambda: client.connect('h', paramstyle='qmark'))), client.InterfaceError)
+
+    async def inside(c):
+        async def chunks():
+            yield b'1\n'
+            await c.execute(SELECT, (5,))
+        c.timeout = None
+        return type(await _failure(c.copy_in('COPY t FROM STDIN', chunks())))
+    found, tags, _ = aplay([frame(b'G', b'\0\0\1\0\0'), error_of(b'57014', b'COPY from stdin failed') + READY, b''], inside)
+    same('asyncio, a call in chunks', (found, tags), (client.InterfaceError, b'QfX'))
+
+
 def check_rows_and_modes(same):
     """Rows by `next`, by a class and as a value; the modes of a transaction."""
     two = frame(b'2', b'') + ROW * 2 + frame(b'C', b'SELECT 2\0') + READY
@@ -282,5 +328,5 @@ def check_rows_and_modes(same):
 
 def check_what_ends_what(same):
     """All of them."""
-    for check in (check_rows_and_modes, check_mistakes, check_streams, check_asyncio_streams, check_once, check_encodings, check_blocks):
+    for check in (check_paramstyle, check_rows_and_modes, check_mistakes, check_streams, check_asyncio_streams, check_once, check_encodings, check_blocks):
         check(same)

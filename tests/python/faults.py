@@ -62,12 +62,21 @@ def check_copies(same):
     same('data that nobody asked for', (type(found), tags), (client.ProgrammingError, b'QX'))
     same('the first word', [copying.first_word(sql) for sql in ('copy t', ' /* a /* b */ c */-- d\n\tCopy', '-- x', '/* COPY', 'COPYX', '', ';; /* x */ ;copy t')],
          ['COPY', 'COPY', '', '', 'COPYX', '', 'COPY'])
+    one, two = b'\0\2\0\0\0\4\0\0\0\5\xff\xff\xff\xff', b'\0\2\0\0\0\4\xff\xff\xff\xff\0\0\0\1x'
+    for pieces in ([one, two, b'\xff\xff'], [one + two, b'\xff\xff'], [one[:3], one[3:] + two + b'\xff\xff'], [b'\0\1\0\0\0\4\0\0\0\5'], [one, b'\0\2\0\0\0\3abc\xff\xff\xff\xff']):
+        reader = copying.BinaryReader((DECODERS['int4'], DECODERS['text']))
+        found = _error(lambda: reader.rows([b'PGCOPY\n\xff\r\n\0' + bytes(8)]) + reader.rows(pieces))
+        same('a row a piece', found if isinstance(found, list) else type(found), [(5, None), (-1, 'x')] if b''.join(pieces) == one + two + b'\xff\xff' else client.DataError)
     types = [Registry().get(oid) for oid in (23, 25)]
     wanted = b'PGCOPY\n\xff\r\n\0' + bytes(8) + b'\0\2\0\0\0\4\0\0\0\5\xff\xff\xff\xff' + b'\0\2\0\0\0\4\xff\xff\xff\xff\0\0\0\1x' + b'\xff\xff'
     same('rows in binary', b''.join(copying.binary_rows([(5, None), (-1, 'x')], types)), wanted)
     for size in (1, 2, 7, 100):
         reader = copying.BinaryReader((DECODERS['int4'], DECODERS['text']))
         same('a date past Python', type(_error(lambda: list(copying.BinaryReader((DECODERS['date'],)).take(wanted[:19] + b'\0\1\0\0\0\4\x7f\0\0\0')))), client.DataError)
+        for pieces in (1, 2, 3):
+            other = copying.BinaryReader((DECODERS['int4'], DECODERS['text']))
+            parts = [wanted[at:at + size] for at in range(0, len(wanted), size)]
+            same('read in lists of %d pieces of %d' % (pieces, size), [row for at in range(0, len(parts), pieces) for row in other.rows(parts[at:at + pieces])], [(5, None), (-1, 'x')])
         same('read in pieces of %d' % size, [row for at in range(0, len(wanted), size) for row in reader.take(wanted[at:at + size])], [(5, None), (-1, 'x')])
 
 

@@ -42,7 +42,7 @@ def check_late(same):
         took = time.monotonic() - begin
         work.set()
         await other
-        return found, took < 2
+        return found, took < 4
     found, _, _ = aplay([b'', (error_of(b'57014', b'canceling') + READY,), b''], busy)
     same('asyncio, a cancel beside other work', found, (client.Timeout, True))
     check_flood(same)
@@ -76,10 +76,44 @@ def check_flood(same):
         thread.start()
         begin = time.monotonic()
         found = _error(lambda: call(listening.getsockname()[1]))
-        same('a flood of notices', (found, time.monotonic() - begin < 3), (([], 1000, 1000), True))
+        same('a flood of notices', (found, time.monotonic() - begin < 20), (([], 1000, 1000), True))
         ends.set()
         thread.join(10)
     listening.close()
+
+
+def check_both_ways(same):
+    """A server that sends more than a socket holds before it reads the data of a copy: neither side waits for the other."""
+    def serve(listening):
+        peer = listening.accept()[0]
+        file = peer.makefile('rb')
+        file.read(int.from_bytes(file.read(4), 'big') - 4)
+        peer.sendall(AUTHENTICATED + READY)
+        file.read(1), file.read(int.from_bytes(file.read(4), 'big') - 4)
+        peer.sendall(frame(b'G', b'\0\0\1\0\0'))
+        time.sleep(0.2)
+        peer.sendall(frame(b'N', b'SNOTICE\0C00000\0M' + b'x' * 1000 + b'\0\0') * 16000)
+        size, tag = 0, b'd'
+        while tag == b'd':
+            tag = file.read(1)
+            size += len(file.read(int.from_bytes(file.read(4), 'big') - 4))
+        peer.sendall(frame(b'C', b'COPY %d\0' % size) + READY)
+        file.read(1)
+        peer.close()
+
+    async def by_asyncio(port):
+        c = await aio.connect('127.0.0.1', port, 'alice', sslmode='disable', timeout=20)
+        found = (await c.copy_in('COPY t FROM STDIN', (b'x' * 100000 for _ in range(160)))).tag
+        await c.close()
+        return found
+    for call in (lambda port: _closed(client.connect('127.0.0.1', port, 'alice', sslmode='disable', autocommit=True, timeout=20),
+                                      lambda c: c.cursor().copy_in('COPY t FROM STDIN', (b'x' * 100000 for _ in range(160))).statusmessage), lambda port: asyncio.run(by_asyncio(port))):
+        listening = socket.create_server(('127.0.0.1', 0))
+        thread = threading.Thread(target=serve, args=(listening,), daemon=True)
+        thread.start()
+        same('both ways at once', _error(lambda: call(listening.getsockname()[1])), 'COPY 16000000')
+        thread.join(10)
+        listening.close()
 
 
 def check_small(same):
@@ -127,7 +161,7 @@ def check_others(same):
         threading.Timer(0.2, c.close).start()
         begin = time.monotonic()
         error = _error(lambda: c.script('SELECT pg_sleep(5)'))
-        return type(error), c.closed, time.monotonic() - begin < 3
+        return type(error), c.closed, time.monotonic() - begin < 4.5
     found, tags, _ = play([b'', b''], closes)
     same('closed by another thread', (found, tags), ((client.Broken, True, True), b'Q'))
 
@@ -159,5 +193,5 @@ def _closed(connection, run):
 
 def check_limits_and_others(same):
     """All of them."""
-    for check in (check_late, check_small):
+    for check in (check_late, check_both_ways, check_small):
         check(same)

@@ -66,21 +66,20 @@ class Connection(Shared):
         """Runs a call once it is its turn; its limit covers the wait for it. It is cancelled at the server where it is cancelled here or takes longer. Of a
         stream that holds the connection the calls have its turn, and so have those of its task that end it."""
         self._check_open()
-        limit, held = self.timeout if timeout is None else timeout, self._source
-        if held is None or held.is_dropped or (held is not source and self._owner is not asyncio.current_task()):
+        limit, held, me = self.timeout if timeout is None else timeout, self._source, asyncio.current_task()
+        if self._is_busy and (held is source is not None or self._owner is me):
+            raise InterfaceError('another call is under way on this connection')
+        if held is None or held.is_dropped or (held is not source and self._owner is not me):
             begin = asyncio.get_running_loop().time()
             await self._turns.take(None if limit == math.inf else limit, 'another call is under way, and has taken %s s')
             limit = None if limit is None else limit - (asyncio.get_running_loop().time() - begin)
-        elif self._is_busy:
-            raise InterfaceError('another call is under way on this connection')
+        self._owner = me
         try:
             acts = self._acts if chunks is None else {**self._acts, CHUNK: self._chunks(chunks, limit)}
             return await drive(self._call(flow, math.inf if limit is None else limit, ends, source), acts)
         finally:
             if self._source is None:
                 self._turns.give()
-            else:
-                self._owner = asyncio.current_task()
 
     def _chunks(self, chunks: Chunks, limit: Optional[float]) -> Any:
         """What gives the next piece of a copy, up to the limit."""
@@ -120,8 +119,8 @@ class Connection(Shared):
 
     async def _give_up(self, source: Source) -> None:
         if not (source.is_over or self._is_closed):
-            source.is_over = True
             await self._run(source.end(), ends=True)
+            source.is_over = True
 
     def _dropped(self, source: Source) -> None:
         """Nobody has the stream any more: its turn is the next call's."""
@@ -204,9 +203,13 @@ class Connection(Shared):
         if self._process != os.getpid():
             self._is_closed = True
             return
+        holds = self._source is not None and not (self._source.is_dropped or self._is_busy)
         if not self._is_closed:
             self._core.terminate()
             self._wire.write()
+        self._end()
+        if holds:
+            self._turns.give()
         await self._closed()
 
     async def _closed(self) -> None:
@@ -218,11 +221,12 @@ class Connection(Shared):
 async def connect(host: Optional[str] = None, port: Union[int, str, None] = None, user: Optional[str] = None, password: Optional[str] = None, dbname: Optional[str] = None, *,
                   autocommit: bool = True, ssl: Optional[tls.SSLContext] = None, sslmode: Optional[str] = None, require_auth: Union[str, Sequence[str], None] = None,
                   connect_timeout: Optional[float] = None, timeout: Optional[float] = None, prepare: int = 256, row_factory: Optional[RowFactory] = None,
-                  registry: Optional[Registry] = None, settings: Optional[Mapping[str, str]] = None, **parameters: str) -> Connection:
+                  registry: Optional[Registry] = None, settings: Optional[Mapping[str, str]] = None, paramstyle: str = 'numeric_dollar',
+                  **parameters: str) -> Connection:
     """Opens a connection, as `postgres_protocol.client.connect` does; `autocommit` is True here by default."""
     given = {'host': host, 'port': port, 'user': user, 'password': password, 'dbname': dbname, 'sslmode': sslmode, 'require_auth': require_auth,
              'connect_timeout': connect_timeout, **parameters}
-    options, behaviour = Options(given, ssl, settings), Behaviour(autocommit, timeout, prepare, row_factory, registry)
+    options, behaviour = Options(given, ssl, settings), Behaviour(autocommit, timeout, prepare, row_factory, registry, paramstyle)
     tries = attempts(options)
     attempt = next(tries)
     while True:

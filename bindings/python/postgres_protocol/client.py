@@ -104,8 +104,8 @@ class Connection(Shared):
 
     def _give_up(self, source: Source) -> None:
         if not (source.is_over or self._is_closed):
-            source.is_over = True
             self._run(source.end(), ends=True)
+            source.is_over = True
 
     def cursor(self, name: Optional[str] = None, itersize: int = 1000) -> Cursor:
         """A cursor. With a name the server keeps the rows of a statement, which come `itersize` at a time, within a transaction."""
@@ -177,12 +177,12 @@ class Connection(Shared):
 def connect(host: Optional[str] = None, port: Union[int, str, None] = None, user: Optional[str] = None, password: Optional[str] = None, dbname: Optional[str] = None, *,
             autocommit: bool = False, ssl: Optional[tls.SSLContext] = None, sslmode: Optional[str] = None, require_auth: Union[str, Sequence[str], None] = None,
             connect_timeout: Optional[float] = None, timeout: Optional[float] = None, prepare: int = 256, row_factory: Optional[RowFactory] = None,
-            registry: Optional[Registry] = None, settings: Optional[Mapping[str, str]] = None, **parameters: str) -> Connection:
+            registry: Optional[Registry] = None, settings: Optional[Mapping[str, str]] = None, paramstyle: str = 'numeric_dollar', **parameters: str) -> Connection:
     """Opens a connection. `host` may be a connection string, `host=.. user=..`, or a URL, `postgresql://..`; what isn't given is taken from the service
     file, the environment and the password file, as libpq has them. A host that begins with `/` is the folder of a Unix socket. `sslmode` is one of libpq's;
     the context `ssl` says which certificates count, and requires encryption. `require_auth` names the admitted ways of logging in. `connect_timeout` is the
-    limit of time of the log-in, `timeout` that of each call, in seconds. `prepare` is how many prepared statements are kept, 0 for a pooler. `settings` are
-    those of the session, as `work_mem`; other names are libpq's options, as `application_name`."""
+    limit of time of the log-in, `timeout` that of each call, in seconds. `prepare` is how many prepared statements are kept, 0 for a pooler. With
+    `paramstyle='pyformat'` parameters stand as `%s` or `%(name)s`. `settings` are those of the session, as `work_mem`; other names are libpq's options."""
     given = {'host': host, 'port': port, 'user': user, 'password': password, 'dbname': dbname, 'sslmode': sslmode, 'require_auth': require_auth,
              'connect_timeout': connect_timeout, **parameters}
     options = Options(given, ssl, settings)
@@ -190,6 +190,6 @@ def connect(host: Optional[str] = None, port: Union[int, str, None] = None, user
     attempt = next(tries)
     while True:
         try:
-            return Connection(options, *attempt, Behaviour(autocommit, timeout, prepare, row_factory, registry))
+            return Connection(options, *attempt, Behaviour(autocommit, timeout, prepare, row_factory, registry, paramstyle))
         except OperationalError as error:
             attempt = tries.send(error)

@@ -230,8 +230,9 @@ class Connection:
 
     def receive_data(self, data: bytes) -> None:
         """Takes bytes that came."""
-        self._more.append(data)
-        self._size += len(data)
+        if data:
+            self._more.append(data)
+            self._size += len(data)
 
     def _gather(self) -> None:
         """Joins what came, once a whole message may be there."""

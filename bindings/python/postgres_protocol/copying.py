@@ -1,6 +1,7 @@
 """Rows of a COPY: as lines of text, and in the binary format."""
-from typing import Any, Iterable, Iterator, Sequence, Tuple
+from typing import Any, Iterable, Iterator, List, Sequence, Tuple
 
+from . import _rows
 from .errors import DataError
 from .registry import Decoder, Type, apply
 
@@ -47,7 +48,19 @@ class BinaryReader:
     """Reads rows in the binary format from pieces of any size."""
 
     def __init__(self, decoders: Sequence[Decoder]) -> None:
-        self._decoders, self._data, self._is_begun = decoders, b'', False
+        self._decoders, self._data, self._is_begun = tuple(decoders), b'', False
+
+    def rows(self, pieces: Sequence[bytes]) -> List[Tuple[Any, ...]]:
+        """The rows that are whole with these pieces. Where each piece is a row, which has the form of a DataRow's body, one call of the library reads them all."""
+        if self._is_begun and not self._data:
+            frames = b''.join(b'D%b%b' % ((len(piece) + 4).to_bytes(4, 'big'), piece) for piece in pieces if piece != b'\xff\xff')
+            try:
+                found, at = _rows.rows(frames, self._decoders)
+                if at == len(frames):
+                    return found
+            except (ValueError, OverflowError):
+                pass  # (what is wrong is found below)
+        return [row for piece in pieces for row in self.take(piece)]
 
     def take(self, piece: bytes) -> Iterator[Tuple[Any, ...]]:
         """The rows that are whole with this piece."""

@@ -80,7 +80,7 @@ class Link(Limits, asyncio.Protocol):
         self.is_waiting = True
         loop, left = asyncio.get_running_loop(), self._left()
         self._waiter = loop.create_future()
-        timer = None if left is None else loop.call_later(left, self._wake, Timeout('no answer within %s s' % self._limit))
+        timer = None if left is None else loop.call_later(left, self._wake, Timeout('no answer within %g s' % (self._limit or 0)))
         try:
             await self._waiter
         finally:
@@ -106,17 +106,22 @@ class Link(Limits, asyncio.Protocol):
             if self._lost is not None:
                 raise self._lost
             await self._wait()
-        self._core.receive_data(b''.join(self._data) if len(self._data) > 1 else self._data[0])
+        self._deliver()
+
+    def _deliver(self) -> None:
+        """Gives the core what came, and reads on."""
+        self._core.receive_data(b''.join(self._data))
         self._data, self._size = [], 0
         if self._is_held and self._lost is None:
             self._is_held = False
             self._transport.resume_reading()
 
     async def flush(self) -> None:
-        """Sends what is to be sent, and waits until most of it is gone."""
+        """Sends what is to be sent, and waits until most of it is gone; what comes meanwhile is read, so that neither side waits for the other for ever."""
         self.write()
         while self._is_full and self._lost is None:
             await self._wait()
+            self._deliver()
         if self._lost is not None and not self._data:
             raise self._lost
 

@@ -1,8 +1,9 @@
 """A prepared statement, and what statements come to."""
+import re
 from array import array
-from typing import Any, Callable, Dict, List, NamedTuple, Optional, Sequence, Tuple
+from typing import Any, Callable, Dict, List, Mapping, NamedTuple, Optional, Sequence, Tuple
 
-from . import events
+from . import errors, events
 from .reading import Field
 from .registry import Decoder, Type
 
@@ -32,6 +33,35 @@ def as_row(values: Optional[Sequence[Any]]) -> Sequence[Any]:
     if isinstance(values, Sequence) and not isinstance(values, (str, bytes, bytearray, memoryview)):
         return tuple(values)
     raise TypeError('parameters: a list or a tuple is expected, not %s' % type(values).__name__)
+
+
+def as_given(sql: str, values: Optional[Sequence[Any]]) -> Tuple[str, Sequence[Any]]:
+    """A statement with `$1`, `$2`, .. in the places of its values."""
+    return sql, as_row(values)
+
+
+def placed(sql: str, values: Any) -> Tuple[str, Sequence[Any]]:
+    """A statement with `%s` or `%(name)s` in the places of its values, and `%%` for a percent sign, as one with `$1`, `$2`, .., and its values in this
+    order. Without parameters it is sent as it is."""
+    names: List[Optional[str]] = []
+    if values is None:
+        return sql, ()
+
+    def number(found: 're.Match[str]') -> str:
+        name, sign = found.groups()
+        if sign == '%':
+            return sign
+        if name is None and sign != 's':
+            raise errors.ProgrammingError('`%` stands before `s`, `(name)s` or another `%`')
+        if name is None or name not in names:
+            names.append(name)
+        return '$%d' % (len(names) if name is None else names.index(name) + 1)
+    text = re.sub(r'%(?:\((\w+)\)s|(.?))', number, sql, flags=re.DOTALL)
+    if names.count(None) == len(names) and not isinstance(values, Mapping):
+        return text, as_row(values)
+    if None in names or not isinstance(values, Mapping) or not set(names) <= set(values):
+        raise errors.ProgrammingError('parameters: `%s` go with a list, and `%(name)s` with a mapping of all the names')
+    return text, [values[name] for name in names]
 
 
 def formats_of(types: Sequence[Type]) -> bytes:

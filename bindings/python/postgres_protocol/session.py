@@ -11,7 +11,7 @@ from .connection import Connection
 from .copying import first_word
 from .reading import Field
 from .registry import Registry, Type
-from .results import Result, Statement, as_row, formats_of, gathered, results_of
+from .results import Result, Statement, as_given, formats_of, gathered, placed, results_of
 
 #: What a generator yields: READ where bytes of the server's are needed (what was written is sent first), SEND where what was written is to be sent, CHUNK
 #: for the next piece of a copy (None: there is none), CANCEL for a request to cancel, ENCRYPT for TLS, which gives the server's certificate.
@@ -32,7 +32,10 @@ class Session:
     """The statements of one connection. Prepared statements are kept by their text, the oldest of them closed where there are too many; with
     `most_statements` 0 none is kept. Unless `autocommit` is set, each call that sends a statement opens a transaction before it, if none is open."""
 
-    def __init__(self, connection: Connection, registry: Optional[Registry] = None, most_statements: int = 256) -> None:
+    def __init__(self, connection: Connection, registry: Optional[Registry] = None, most_statements: int = 256, paramstyle: str = 'numeric_dollar') -> None:
+        if paramstyle not in ('numeric_dollar', 'pyformat'):
+            raise errors.InterfaceError("paramstyle: 'numeric_dollar' or 'pyformat' is expected, not %r" % paramstyle)
+        self._placed = placed if paramstyle == 'pyformat' else as_given
         self.connection, self.registry, self._most = connection, registry or Registry(), most_statements
         self.autocommit = True
         #: The notifications and notices that came, in their order.
@@ -180,7 +183,7 @@ class Session:
     def columns(self, table: str, names: Sequence[str]) -> Flow:
         """The COPY of rows of values to a table, and the types of its columns: of those of these names, or of all that aren't generated."""
         if not names:
-            names = [row[0] for row in (yield from self.execute(_COLUMNS, (table,))).rows]
+            names = [row[0] for row in (yield from self._run(_COLUMNS, [(table,)]))[1][0].rows]
         quoted = ', '.join(escape_identifier(name.encode()).decode() for name in names)
         statement: Statement = yield from self.describe('SELECT %s FROM %s' % (quoted, table))
         return 'COPY %s %s FROM STDIN (FORMAT binary)' % (table, quoted and '(%s)' % quoted), self.known(statement)
@@ -265,18 +268,19 @@ class Session:
 
     def execute(self, sql: str, values: Optional[Sequence[Any]] = None) -> Flow:
         """Runs a statement; its rows are values of Python's."""
-        row = as_row(values)
+        sql, row = self._placed(sql, values)
         if not row and sql not in self._statements and first_word(sql) == 'COPY':
             return (yield from self.script(sql))[-1]
         return (yield from self._run(sql, [row]))[1][0]
 
     def execute_many(self, sql: str, rows: Sequence[Sequence[Any]]) -> Flow:
         """Runs a statement for each list of values, all in one piece: where one fails, none of them counts."""
-        return (yield from self._run(sql, [as_row(row) for row in rows]))[1]
+        asked = [self._placed(sql, row) for row in rows]
+        return (yield from self._run(asked[0][0] if asked else sql, [row for _, row in asked]))[1]
 
     def open_portal(self, portal: str, sql: str, values: Optional[Sequence[Any]], size: int) -> Flow:
         """The first rows of a statement, of which `fetch` gives the next ones, up to the transaction's end."""
-        row, most = as_row(values), as_integer(size, 'itersize', 1, INT32[1])
+        (sql, row), most = self._placed(sql, values), as_integer(size, 'itersize', 1, INT32[1])
         if self.autocommit and self.connection.status == 'I':
             raise errors.ProgrammingError('rows that come in parts need a transaction')
         if portal in self._open and self._open_since == self._idles:

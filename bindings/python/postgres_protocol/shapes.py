@@ -1,11 +1,11 @@
 """Values in the binary format: geometry, places of rows, labels, networks, records and multiranges."""
 from ctypes import POINTER, Structure, byref, c_bool, c_int8, c_size_t, c_uint8, c_uint16, c_uint32, c_uint64, c_void_p
 from ipaddress import ip_network
-from typing import Any, Callable, List, NamedTuple, Optional, Sequence, Tuple, Union
+from typing import Any, List, NamedTuple, Optional, Sequence, Tuple
 
-from ._library import (OK, OUT, TEXT, UINT32, UINT64, Bytes, Column, Cursor, Part, ProtocolError, Value, as_bytes, as_integer, column_of, declare, items, part_of, step, text,
-                       writer, written)
-from .values import get, put
+from ._library import (OUT, TEXT, UINT32, UINT64, Bytes, Column, Cursor, Part, Value, as_bytes, as_integer, column_of, declare, items, part_of, step, text, writer,
+                       written)
+from .values import _read, get, put
 
 
 class Point(NamedTuple):
@@ -100,12 +100,6 @@ _GET_LABELS = {name: declare('get_' + name, *TEXT, POINTER(Part)) for name in ('
 _get_record, _get_multirange = (declare('get_' + name, *TEXT, POINTER(Cursor)) for name in ('record', 'multirange'))
 _put_record, _put_multirange = declare('put_record', POINTER(_Typed), c_size_t, *OUT), declare('put_multirange', POINTER(_Item), c_size_t, *OUT)
 _point_next, _member_next, _range_next = step('point', _Point), step('member', _Member), step('multirange', Part)
-
-
-def _read(call: Callable[..., int], data: bytes, *value: Any) -> None:
-    status = call(*text(data), *(byref(v) for v in value))
-    if status != OK:
-        raise ProtocolError(status)
 
 
 def _bits(value: float) -> int:

@@ -56,6 +56,7 @@ class Behaviour(NamedTuple):
     prepare: int
     row_factory: Optional[RowFactory]
     registry: Optional[Registry]
+    paramstyle: str
 
 
 class Block(NamedTuple):
@@ -72,7 +73,7 @@ class Shared:
 
     def __init__(self, options: Options, place: Place, encrypts: bool, behaviour: Behaviour) -> None:
         self._options, self._core = options, options.core(place, encrypts)
-        self._session, self._is_closed = Session(self._core, behaviour.registry, behaviour.prepare), False
+        self._session, self._is_closed = Session(self._core, behaviour.registry, behaviour.prepare, behaviour.paramstyle), False
         self._session.autocommit, self._behaviour = behaviour.autocommit, behaviour
         self._portals, self._process, self._born = 0, os.getpid(), time.monotonic()
         self._blocks: List[Block] = []
@@ -172,17 +173,17 @@ class Shared:
 
     def _end_block(self, block: Block, fails: bool) -> Flow:
         """Ends it, or takes it back; what was begun within it and isn't ended goes with it."""
-        if block in self._blocks:
-            del self._blocks[self._blocks.index(block):]
-        if block.end == 'COMMIT':
+        if block not in self._blocks:
+            return
+        has_failed, is_whole = self._core.status == 'E' and not fails, block.end == 'COMMIT'
+        del self._blocks[self._blocks.index(block) + 1:]
+        if is_whole:
             yield from self._session.finish(block.back if fails else block.end, self._wire.set_limit)
-        elif fails or self._core.status == 'E':
-            if self.in_transaction:
-                yield from self._session.plain(block.back)
-            if not fails:
-                raise errors.InternalError('the block failed before its end: it is rolled back')
-        else:
-            yield from self._session.plain(block.end)
+        elif self.in_transaction:
+            yield from self._session.plain(block.back if fails or has_failed else block.end)
+        self._blocks.pop()
+        if has_failed and not is_whole:
+            raise errors.InternalError('the block failed before its end: it is rolled back')
 
     def _no_block(self, what: str) -> None:
         if self._blocks:
@@ -204,7 +205,7 @@ class Shared:
             yield from self._roll_back()
         if reset == 'discard':
             yield from self._session.discard()
-        self._session.autocommit, self.timeout, _, self.row_factory, _ = self._behaviour
+        self._session.autocommit, self.timeout, _, self.row_factory, _, _ = self._behaviour
         self.notices.clear()
         self.notifications.clear()
 

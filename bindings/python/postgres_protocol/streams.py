@@ -74,7 +74,7 @@ class CopiedRows(Copied):
             self._reader = BinaryReader(self._statement.decoders)
         while True:
             pieces = yield from super().more()
-            rows = [row for piece in pieces for row in self._reader.take(piece)]
+            rows = self._reader.rows(pieces)
             if rows or not pieces:
                 return shaped(Result(self._statement.fields, rows, ''), self._factory).rows
 

@@ -36,7 +36,7 @@ class Limits:
         if left > 0:
             return left
         if self._is_late:
-            raise Timeout('no answer within %s s' % self._limit)
+            raise Timeout('no answer within %g s' % (self._limit or 0))
         self._is_late = True
         return 0
 
