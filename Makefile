@@ -1,5 +1,5 @@
 # `make help` lists the commands.
-.PHONY: help run quick test install program library wheel rust verify edits check-c check-rust check-vendor live bench contracts
+.PHONY: help run quick test install program library wheel rust dist verify edits check-c check-rust check-vendor live bench contracts
 
 needs_rt = @command -v rt >/dev/null 2>&1 || { echo "make: the Rattle toolchain is missing: no command 'rt' on the PATH" >&2; exit 1; }
 
@@ -10,6 +10,7 @@ help:
 	  '  make quick                  the C library, the Python package, three programs: not proved         1' \
 	  '  make install QUICK=1 PREFIX=DIR [LIBDIR= DESTDIR=]    puts these there                            1' \
 	  '  make rust                   a Cargo package with the API of the Rust crate postgres-protocol      2 seconds' \
+	  '  make dist                   what a release has, in out/dist: sdist, wheel, crates, C library, sums    2' \
 	  '  make test                   all tests that need no proof                                          4 minutes' \
 	  '  make test TARGET=aarch64    (s390x, i686) packages, tables, programs and C under qemu, as root    10' \
 	  '  make check-rust             of these, the tests of the Cargo package                              1' \
@@ -52,6 +53,9 @@ wheel:
 
 rust:
 	@python3 -B bindings/rust/generate.py out/rust
+
+dist:
+	@scripts/dist
 
 verify:
 	$(needs_rt)
