@@ -3,10 +3,12 @@ that plays bytes, to the blocking client and to the one for asyncio."""
 import asyncio
 import concurrent.futures
 import contextlib
+import gc
 import os
 import socket
 import threading
 import time
+import weakref
 from unittest import mock
 
 from postgres_protocol import aio, client
@@ -155,6 +157,26 @@ def check_small(same):
     check_others(same)
 
 
+def check_nobody(same):
+    """A connection that nobody has any more is gone at once, without a collection of what refers to itself."""
+    def drop(connection, run):
+        run(connection)
+        return weakref.ref(connection)
+
+    async def by_asyncio(port):
+        async def run():
+            c = await aio.connect('127.0.0.1', port, 'alice', sslmode='disable')
+            await c.execute(SELECT, (5,))
+            c._wire.close()
+            return weakref.ref(c)
+        return (await run())() is None
+    gc.disable()
+    found = [with_server([PREPARED, ANSWERED], call)[0] for call in (
+        lambda port: drop(client.connect('127.0.0.1', port, 'alice', sslmode='disable', autocommit=True), lambda c: c.execute(SELECT, (5,)))() is None, lambda port: asyncio.run(by_asyncio(port)))]
+    gc.enable()
+    same('nobody has it', found, [True, True])
+
+
 def check_others(same):
     """`close` from another thread ends a call; a process that was forked writes nothing to its parent's server; a request to cancel goes to the address that answered."""
     def closes(c):
@@ -193,5 +215,5 @@ def _closed(connection, run):
 
 def check_limits_and_others(same):
     """All of them."""
-    for check in (check_late, check_both_ways, check_small):
+    for check in (check_nobody, check_late, check_both_ways, check_small):
         check(same)

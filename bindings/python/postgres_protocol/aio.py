@@ -11,7 +11,7 @@ import math
 import os
 import ssl as tls
 from types import TracebackType
-from typing import Any, AsyncIterable, AsyncIterator, Iterable, List, Mapping, Optional, Sequence, Type, Union
+from typing import Any, AsyncIterable, AsyncIterator, Callable, Dict, Iterable, List, Mapping, Optional, Sequence, Type, Union
 
 from . import events
 from .copying import binary_rows
@@ -35,9 +35,12 @@ class Connection(Shared):
 
     def __init__(self, options: Options, place: Place, encrypts: bool, behaviour: Behaviour) -> None:
         super().__init__(options, place, encrypts, behaviour)
-        self._wire, self._turns = Link(place, self._core), Turns()
+        link, core = Link(place, self._core), self._core
+        self._wire, self._turns = link, Turns()
         self._owner, self._loop = None, asyncio.get_running_loop()  # type: Any, asyncio.AbstractEventLoop
-        self._acts = {READ: self._wire.exchange, SEND: self._wire.flush, CANCEL: self.cancel, ENCRYPT: lambda: self._wire.encrypt(options.context())}
+        self._acts: Dict[str, Callable[[], Any]] = {
+            READ: link.exchange, SEND: link.flush, ENCRYPT: lambda: link.encrypt(options.context()),
+            CANCEL: lambda: cancel(link.place, core, options.context() if link.is_encrypted else None)}
 
     async def __aenter__(self) -> 'Connection':
         self._no_block('a block of the connection')
@@ -196,7 +199,7 @@ class Connection(Shared):
 
     async def cancel(self) -> None:
         """Cancels the call that runs on this connection. It is encrypted where the connection is."""
-        await cancel(self._wire.place, self._core, self._options.context() if self._wire.is_encrypted else None)
+        await self._acts[CANCEL]()
 
     async def close(self) -> None:
         """Ends the session. What isn't committed is rolled back. A process that was forked ends nothing."""

@@ -14,7 +14,7 @@ import os
 import ssl as tls
 import threading
 from types import TracebackType
-from typing import Any, Iterable, Iterator, List, Mapping, Optional, Sequence, Type, Union
+from typing import Any, Callable, Dict, Iterable, Iterator, List, Mapping, Optional, Sequence, Type, Union
 
 from . import events
 from ._library import ProtocolError
@@ -49,8 +49,12 @@ class Connection(Shared):
 
     def __init__(self, options: Options, place: Place, encrypts: bool, behaviour: Behaviour) -> None:
         super().__init__(options, place, encrypts, behaviour)
-        self._lock, self._wire = threading.Lock(), Wire(place, self._core, options.connect_timeout)
-        self._acts = {READ: self._wire.exchange, SEND: self._wire.flush, CANCEL: self.cancel, ENCRYPT: lambda: self._wire.encrypt(options.context())}
+        wire, core = Wire(place, self._core, options.connect_timeout), self._core
+        self._lock, self._wire = threading.Lock(), wire
+        # (none of these refers to the connection: one that nobody has any more closes its socket at once)
+        self._acts: Dict[str, Callable[[], Any]] = {
+            READ: wire.exchange, SEND: wire.flush, ENCRYPT: lambda: wire.encrypt(options.context()),
+            CANCEL: lambda: cancel(wire.place, core, options.context() if wire.is_encrypted else None)}
         try:
             drive(self._session.open(encrypts, options.must_encrypt), self._acts)
         except BaseException as error:
@@ -153,7 +157,7 @@ class Connection(Shared):
 
     def cancel(self) -> None:
         """Cancels the call that runs on this connection, from another thread. It is encrypted where the connection is."""
-        cancel(self._wire.place, self._core, self._options.context() if self._wire.is_encrypted else None)
+        self._acts[CANCEL]()
 
     def close(self) -> None:
         """Ends the session. What isn't committed is rolled back; a call of another thread's ends. A process that was forked closes no more than its own end."""
