@@ -15,8 +15,8 @@ use crate::connection::{NO_ROOM, PgpTaken, WRONG_PHASE};
 use crate::login::{AWAITS_REQUEST, DONE, UNDUE};
 use crate::talk::{PgpTalk, put_back, resumed};
 use pgp_client::{Dialogue, Event, Kind, Refusal, Request, Slots};
-use pgp_message::Message;
 use pgp_login::{NoneSent, PgpLogin, PgpWays, is_timely};
+use pgp_message::Message;
 
 /// The result where a ReadyForQuery has a status that is none.
 const NO_STATUS: u32 = 93;

@@ -6,9 +6,8 @@ ghost use Rattle.pgp_session.specs.Login.{error_of};
 use crate::connection_error::ConnectionError;
 use pgp_auth::authentication::sasl::ScramError;
 use pgp_base::Memory;
-use pgp_login::LoginError;
-
 pub use pgp_login::HeldWays as Ways;
+use pgp_login::LoginError;
 
 /// Why a log-in fails, as a connection says it.
 pub(crate) fn error_of<A: Memory>(e: LoginError<A>) -> ConnectionError<A>

@@ -19,7 +19,7 @@ ghost use Rattle.pgp_session.specs.Pooler.{CanBeLent, IsQuiet, Receives, Receive
 ghost use Rattle.pgp_session.specs.ServerState.{status};
 
 use pgp_base::{Error, Memory};
-use pgp_client::{pool, Asked, Dialogue, Event, Kind, Refusal, Request};
+use pgp_client::{Asked, Dialogue, Event, Kind, Refusal, Request, pool};
 use pgp_frontend_read::ClientMessage;
 use pgp_message::{Message, Storage};
 use std::alloc::Global;

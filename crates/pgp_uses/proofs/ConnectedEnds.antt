@@ -144,9 +144,17 @@ answered_client x b text answer shown r = record { state = AwaitsSignature (answ
 
 answers_by : (x : Client) (b : Begun) (text answer shown : List ℕ) (r : Replies b text answer shown) → x.state ≡ AwaitsText b → Answers x text (answered_client x b text answer shown r)
 answers_by x b text answer shown r is = record {
-  begun = b; nonce = r.nonce; salt = r.salt; count = r.count; answered = answered_by b text answer shown r; due = is; meets = r.meets; accepts = r.accepts;
+  begun = b;
+  nonce = r.nonce;
+  salt = r.salt;
+  count = r.count;
+  answered = answered_by b text answer shown r;
+  due = is;
+  meets = r.meets;
+  accepts = r.accepts;
   signs = subst (λ (s : List ℕ). Signs (verifier b.password r.salt r.count) b.binding (text_of b) text s) (shown_by b text answer shown r) r.signs;
-  key_is = refl; new_is = refl;
+  key_is = refl;
+  new_is = refl;
 }
 
 -- a text that isn't answered ends it
@@ -339,7 +347,8 @@ module _ (one : (m : Message) (rest : List ℕ) → IsReply m → TakesFrame (by
       let admits : w.scram ≡ Some meeting.begun = ap begun_in started.admits ∙ ap begun_of facing.exchange_is in
       let met : max w.least 1 ≤ meeting.count = subst (λ (n : ℕ). max w.least 1 ≤ n) (sym (count_met exchange there facing)) enough in
       let here : Is w AwaitsOffer (asked unasked (record { request = Startup; name = name })) client = record {
-        phase = started.phase; talk = started.talk;
+        phase = started.phase;
+        talk = started.talk;
         stands = record { phase = started.awaits; exchange = refl; md5 = refl; cleartext = refl; none = refl; least = refl; channel = refl };
       } in
       let first = text_of meeting.begun in (
