@@ -1,10 +1,12 @@
 -- A client's core and a server's core, turn by turn.
+use Rattle.pgp_login.specs.Exchange.{Seen, begun_of, seen_client}
+use Rattle.pgp_login.specs.Login.{begun_in}
 use Rattle.pgp_uses.proofs.Common.{◌≡◌, ℕ, List, [], ◌∷◌, ◌++◌, length, Some, None, Result, Ok, Err, refl, sym, ap, subst, ◌∙◌, arith, inl, inr, false, append_assoc, Contains, ◌⊎◌, ◌≢◌, encode_utf8, AllByRecursion, append-nil, Wants, WantsMemory, Held, ◌⊕◌, MarkedItems, HasNoZero, IsBytes, int32, Error, Client, Answers, message_of, Meeting, Server, Challenges, Admits, first_memory, finish_never_refused, ClientMessage, SaslInitialResponse, joined, Message, tag_of, TextSpelled, TextRefused, Frames, TakesFrame, IsInRange, IsMechanism, IsReply, names_of, AreRead, Facing, IsServersWant, initial, is_bound, Begun, Comes, Outcome, Challenge, Denied, Signed, IsAdmitted, IsChallenged, IsNoFinal, IsNoFirst, admission, cause_of, challenge, due, final_message, first_message, scram, scram_offer, signature, spelled, Serving, ServingPhase, Lists, codes}
 use Rattle.std.specs.Str.{IsUtf8}
 use Rattle.pgp_auth.specs.ScramClient.{first_text as text_of}
 use Rattle.pgp_auth.specs.ScramServing as server
 use Rattle.pgp_auth.specs.Verifier.{verifier}
-use Rattle.std.specs.Prelude.{Bool}
+use Rattle.std.specs.Prelude.{Bool, Option}
 use Rattle.pgp_base.specs.OneList.{HasOneMarkedList}
 use Rattle.pgp_login.specs.Exchange.{mechanism_by}
 use Rattle.pgp_frontend_read.proofs.Items.{bytes_behind}
@@ -44,6 +46,15 @@ meeting_of x s f = record {
 pub count_met : {A : Type 0} (x : Client) (s : Serving A) (f : Facing x s) → (meeting_of x s f).count ≡ f.count
 unfolding meeting_of
 count_met x s f = refl
+
+-- a connection that admits the exchange begins with what the meeting has
+pub admits_met : {A : Type 0} (x : Client) (s : Serving A) (f : Facing x s) (kept : Option Seen) → kept ≡ Some (seen_client x) → begun_in kept ≡ Some (meeting_of x s f).begun
+unfolding meeting_of
+admits_met x s f kept admits = ap begun_in admits ∙ ap begun_of f.exchange_is
+
+pub unbound_met : {A : Type 0} (x : Client) (s : Serving A) (f : Facing x s) → is_bound (meeting_of x s f).begun.binding ≡ false
+unfolding meeting_of
+unbound_met x s f = f.unbound
 
 -- the first message of an exchange that isn't bound to the channel
 pub unbound_first : (b : Begun) → is_bound b.binding ≡ false → initial b ≡ first_message (text_of b)

@@ -36,7 +36,7 @@ use Rattle.pgp_session.specs.Login.{error_of, ways_in}
 use Rattle.pgp_session.specs.Settings.{IsUnkept, most, setting_in}
 use Rattle.pgp_session.specs.declared.connection.ConnectionPhase.{ConnectionPhase}
 use Rattle.pgp_session.specs.declared.connection.ConnectionPhase.TheVariants.{Started}
-use Rattle.pgp_uses.proofs.BothEnds.{admission_spelled, count_met, meeting_of, offer_spelled, offers_no_binding, offers_scram, on_left, one_read, server_of, takes_final, takes_first, two_read, unbound_first}
+use Rattle.pgp_uses.proofs.BothEnds.{admission_spelled, admits_met, count_met, meeting_of, offer_spelled, offers_no_binding, offers_scram, on_left, one_read, server_of, takes_final, takes_first, two_read, unbound_first, unbound_met}
 
 -- ---- where a connection is
 
@@ -261,6 +261,7 @@ module _ (name : ℕ) (w : Ways) where
 
   replies_with : (start : Client) (b : Begun) (encrypted : Bool) (text : List ℕ) (reply : Option ClientMessage) (after : State) (old new : Shown) → w.scram ≡ Some b → start.state ≡ AwaitsText b
       → LogsOn w encrypted (First text) reply AwaitsFirst after → AddsReply reply old.out new.out → Is w after (under_way name) new → HasReplied name w start text old new
+  unfolding answers_by
   replies_with start b encrypted text reply after old new is state (ScramGoesOn c answer shown same many replies) adds at =
       let begun : start.state ≡ AwaitsText c = state ∙ ap AwaitsText (same_begun w.scram b c is same) in
       record {
@@ -344,7 +345,7 @@ module _ (one : (m : Message) (rest : List ℕ) → IsReply m → TakesFrame (by
       let mate = server_of facing in
       let meeting = meeting_of exchange there facing in
       let w = ways_in client.login in
-      let admits : w.scram ≡ Some meeting.begun = ap begun_in started.admits ∙ ap begun_of facing.exchange_is in
+      let admits : w.scram ≡ Some meeting.begun = admits_met exchange there facing client.login.scram started.admits in
       let met : max w.least 1 ≤ meeting.count = subst (λ (n : ℕ). max w.least 1 ≤ n) (sym (count_met exchange there facing)) enough in
       let here : Is w AwaitsOffer (asked unasked (record { request = Startup; name = name })) client = record {
         phase = started.phase;
@@ -394,5 +395,5 @@ module _ (one : (m : Message) (rest : List ℕ) → IsReply m → TakesFrame (by
               )) (takes_first memory_there lacks_there exchange mate meeting first refl there challenged before behind r2 facing.awaits facing.holds h2),
             ),
           ),
-        )) (takes_offer {E = E} lacks name w mate exchange meeting admits facing.unbound client begun r1 (offers_scram back) (offers_no_binding back only) here h1),
+        )) (takes_offer {E = E} lacks name w mate exchange meeting admits (unbound_met exchange there facing) client begun r1 (offers_scram back) (offers_no_binding back only) here h1),
       )
