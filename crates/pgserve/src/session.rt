@@ -119,9 +119,7 @@ impl<'h> Session<'h> {
         self.channels.settle(self.transaction.status, out);
         put_notifications(&self.notifications, out);
         self.notifications.clear();
-        if self.transaction.status == Status::Idle {
-            self.settings.commit(out);
-        }
+        self.settings.end_request(self.transaction.status, out);
         self.settings.report(out);
         if put_ready(self.transaction.status, out) {
             put_later(&self.later, &mut self.settings, &mut self.pauses, out);

@@ -120,7 +120,9 @@ fn is_date_style(list: &str) -> bool {
 }
 
 /// The style and the order of this list; what it lacks is as before.
-fn date_style(before: &[u8], list: &[u8], out: &mut Outbox) -> Vec<u8> {
+fn date_style(before: &[u8], list: &[u8], out: &mut Outbox) -> Vec<u8>
+    ensures { out.new.bytes ≡ out.old.bytes }
+{
     let (before, list) = (words_in(before), words_in(list));
     let style = last_named(&STYLES, list)
         .or(last_named(&STYLES, before))

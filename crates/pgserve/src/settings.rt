@@ -9,6 +9,7 @@ use crate::fault::Fault;
 use crate::outbox::Outbox;
 use crate::setting_value::shown;
 use pgp_message_write as reply;
+use pgp_session::transaction::Status;
 
 /// A setting.
 #[derive(Drop)]
@@ -223,6 +224,13 @@ impl Settings {
                 }
                 _ => {}
             }
+        }
+    }
+
+    /// Keeps what a request outside of a transaction has set.
+    pub(crate) fn end_request(&mut self, status: Status, out: &mut Outbox) {
+        if status == Status::Idle {
+            self.commit(out);
         }
     }
 
