@@ -1,5 +1,6 @@
 -- A stream that goes on by a frame, or by a piece.
 use Rattle.pgp_stream.proofs.Common.{◌≡◌, ℕ, ◌+◌, ◌<◌, ◌≤◌, Bool, true, false, List, [], ◌∷◌, ◌++◌, length, take, drop, get_or, Option, Some, Result, refl, sym, ap, subst, ◌∙◌, append_assoc, arith, IfSome, flat_map, take-length, take_more, take-append-drop, append-nil, length-drop, Error, Message, uint32, Memory, Fits, header_of, headers_read, Found, FindsAll, TakesEach, TakesSome, Reading, GoesOn, Fails, Takes, TakesAll, Moves, TakesPart, kept_or_piece}
+use Rattle.std.proofs.lemmas.Bool.{true≢false}
 use Rattle.std.proofs.lemmas.List.{length-append}
 use Rattle.std.proofs.lemmas.List.Concat.{flat_map-cons}
 use Rattle.std.proofs.lemmas.Grind.{flat_map-append}
@@ -270,23 +271,29 @@ stays_stopped piece rest old sound stopped long is stays = record {
 }
 
 -- the piece couldn't be kept
-pub fails_at_once : (piece : List ℕ) (old new : Reading) → new.failed ≡ true → new.results ≡ old.results
+pub fails_at_once : (piece : List ℕ) (old new : Reading) → old.stopped ≡ true → new.failed ≡ true → new.stopped ≡ old.stopped → new.results ≡ old.results → new.rest ≡ old.rest → new.headers ≡ old.headers
     → ((bytes more : List ℕ) (first second : List (Result Message Error)) (stops halts : Bool) (rest left : List ℕ) → BackendRun bytes first stops rest → BackendRun (bytes ++ more) second halts left → (others : List (Result Message Error)) × (second ≡ first ++ others))
     → Fails piece old new
-fails_at_once piece old new failed same grow = record {
+fails_at_once piece old new stopped failed still same rest headers grow = record {
   failed = failed;
+  stopped = still;
+  kept = λ _. (rest, headers);
+  dropped = λ goes. absurd (true≢false (sym stopped ∙ goes));
   more = [];
   grown = same ∙ sym (append-nil old.results);
   reads = λ bytes taken h all stopped rest run. subst (λ l. (others : List (Result Message Error)) × (all ≡ l ++ others)) (ap (λ l. taken ++ l) (sym same)) (grow bytes piece (taken ++ old.results) all old.stopped stopped old.rest rest h run);
 }
 
 -- memory was refused after some frames
-pub fails_behind : (piece : List ℕ) (old new : Reading) → new.failed ≡ true → TakesSome (old.rest ++ piece) old.results new.results
+pub fails_behind : (piece : List ℕ) (old new : Reading) → old.stopped ≡ false → new.failed ≡ true → new.stopped ≡ old.stopped → new.rest ≡ [] → new.headers ≡ 0 → TakesSome (old.rest ++ piece) old.results new.results
     → ((bytes more rest left : List ℕ) (first second : List (Result Message Error)) → Frames bytes first rest → Frames (rest ++ more) second left → Frames (bytes ++ more) (first ++ second) left)
     → ((bytes more : List ℕ) (first second : List (Result Message Error)) (halts : Bool) (rest left : List ℕ) → Frames bytes first rest → BackendRun (bytes ++ more) second halts left → (others : List (Result Message Error)) × (second ≡ first ++ others))
     → Fails piece old new
-fails_behind piece old new failed some join stand = record {
+fails_behind piece old new goes failed still rest headers some join stand = record {
   failed = failed;
+  stopped = still;
+  kept = λ stopped. absurd (true≢false (sym stopped ∙ goes));
+  dropped = λ _. (rest, headers);
   more = some.more;
   grown = some.grown;
   reads = λ bytes taken h all stopped rest run.

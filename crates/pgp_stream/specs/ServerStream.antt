@@ -40,9 +40,13 @@ pub record GoesOn (piece : List ℕ) (old new : Reading) : Type 0 where
   pub reads : (bytes : List ℕ) (taken : List (Result Message Error)) → BackendRun bytes (taken ++ old.results) old.stopped old.rest → BackendRun (bytes ++ piece) (taken ++ new.results) new.stopped new.rest
   pub counts : (taken : ℕ) → old.headers ≡ headers_read (taken + length old.results) (header_of old.rest) → new.headers ≡ headers_read (taken + length new.results) (header_of new.rest)
 
--- A piece came, and memory was refused: the results are the first of the stream's, as far as it was read.
+-- A piece came, and memory was refused: the results are the first of the stream's, as far as it was read. Of a stream that a length fault
+-- had stopped the rest and the count of headers are as they were; of any other both are dropped, since frames that weren't read are gone.
 pub record Fails (piece : List ℕ) (old new : Reading) : Type 0 where
   pub failed : new.failed ≡ true
+  pub stopped : new.stopped ≡ old.stopped
+  pub kept : old.stopped ≡ true → (new.rest ≡ old.rest) × (new.headers ≡ old.headers)
+  pub dropped : old.stopped ≡ false → (new.rest ≡ []) × (new.headers ≡ 0)
   pub more : List (Result Message Error)
   pub grown : new.results ≡ old.results ++ more
   pub reads : (bytes : List ℕ) (taken : List (Result Message Error)) → BackendRun bytes (taken ++ old.results) old.stopped old.rest → AreFirst (bytes ++ piece) (taken ++ new.results)

@@ -67,8 +67,9 @@ impl<A: Memory> StreamParser<A> {
     /// # Errors
     ///
     /// Returns `OutOfMemory` if the piece, a message or the list of results can't be allocated. Then the parser
-    /// has failed: its results stand, but nothing more can be read. Room for what is missing of a frame is asked for ahead,
-    /// and an error of that isn't reported. A malformed frame is no error of the call: its error stands among the results.
+    /// has failed: its results stand, but nothing more can be read, and unless a length fault had stopped it before, it drops
+    /// what it kept and counts no headers. Room for what is missing of a frame is asked for ahead, and an error of that isn't
+    /// reported. A malformed frame is no error of the call: its error stands among the results.
     pub fn feed(&mut self, piece: &[u8]) -> Result<(), Error>
         requires { self.old.failed ≡ false }
         ensures { Feeds piece.now A.Lacks self.old self.new result }
@@ -92,6 +93,8 @@ impl<A: Memory> StreamParser<A> {
             }
             Err(e) => {
                 self.failed = true;
+                self.frames = FrameParser::new();
+                self.rest.clear();
                 Err(e)
             }
         }
@@ -105,7 +108,8 @@ impl<A: Memory> StreamParser<A> {
         self.failed
     }
 
-    /// How many frames' headers have come, each counted once, or the greatest `u64` where there were more.
+    /// How many frames' headers have come, each counted once, or the greatest `u64` where there were more. None of a parser
+    /// that failed before a length fault.
     pub fn headers(&self) -> u64
         ensures { result ≡ self.now.headers }
     {
@@ -126,7 +130,7 @@ impl<A: Memory> StreamParser<A> {
         self.stopped
     }
 
-    /// The bytes that are left to read.
+    /// The bytes that are left to read. None of a parser that failed before a length fault.
     pub fn rest(&self) -> &[u8]
         ensures { result.now ≡ self.now.rest }
     {

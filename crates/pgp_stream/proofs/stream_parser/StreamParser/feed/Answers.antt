@@ -1,14 +1,10 @@
-use Rattle.pgp_stream.proofs.Common.{◌≡◌, ◌++◌, true, false, map, refl, rules, ap, subst, ◌∙◌, seen, Reading, GoesOn, Fails, TakesAll, TakesSome}
+use Rattle.pgp_stream.proofs.Common.{◌≡◌, ◌++◌, true, false, map, refl, rules, ap, subst, ◌∙◌, seen, Reading, GoesOn, TakesAll, TakesSome}
 use Rattle.pgp_stream.proofs.Pieces.{goes_on, stays_stopped, fails_at_once, fails_behind, stopped_long}
 use Rattle.pgp_stream.proofs.stream_parser.StreamParser.feed.Goals as goal
 
 pub returns-then-is_err : goal.returns-then-is_err
 returns-then-is_err g c =
-    let inside = c.self.inside in
-    let old : Reading = record { results = map seen inside.results.items; stopped = inside.stopped; rest = inside.rest.items; headers = inside.frames.headers; failed = inside.failed } in
-    let new : Reading = record { results = map seen inside.results.items; stopped = inside.stopped; rest = c.extend.new.list.items; headers = inside.frames.headers; failed = true } in
-    let fails : Fails c.args.piece.now old new = fails_at_once c.args.piece.now old new refl refl c.runs_grow.ensures in
-    ((refl, search rules), subst (λ (r : Reading). Fails c.args.piece.now r new) c.self.view_is fails)
+    ((refl, search rules), fails_at_once c.args.piece.now c.args.self.now _ (search rules) (search rules) (search rules) (search rules) (search rules) (search rules) c.runs_grow.ensures)
 
 pub returns-then-self : goal.returns-then-self
 returns-then-self g c =
@@ -33,13 +29,8 @@ returns-in-Ok g c =
 
 pub returns-in-Err : goal.returns-in-Err
 returns-in-Err g c =
-    let inside = c.self.inside in
-    let after = c.take_frames.new in
-    let old : Reading = record { results = map seen inside.results.items; stopped = inside.stopped; rest = inside.rest.items; headers = inside.frames.headers; failed = inside.failed } in
-    let new : Reading = record { results = map seen after.results.items; stopped = inside.stopped; rest = after.rest.items; headers = after.frames.headers; failed = true } in
-    let some : TakesSome (inside.rest.items ++ c.args.piece.now) (map seen inside.results.items) (map seen after.results.items) = c.in-Err.ensures.some in
-    let fails : Fails c.args.piece.now old new = fails_behind c.args.piece.now old new refl some c.frames_go_on.ensures c.frames_stand.ensures in
-    (search rules, subst (λ (r : Reading). Fails c.args.piece.now r new) c.self.view_is fails)
+    let some = subst (λ (r : Reading). TakesSome (r.rest ++ c.args.piece.now) r.results (map seen c.take_frames.new.results.items)) c.self.view_is c.in-Err.ensures.some in
+    (search rules, fails_behind c.args.piece.now c.args.self.now _ (search rules) (search rules) (search rules) (search rules) (search rules) some c.frames_go_on.ensures c.frames_stand.ensures)
 
 pub invariant_of-self-in-Ok : goal.invariant_of-self-in-Ok
 invariant_of-self-in-Ok g c =
