@@ -2,7 +2,7 @@
 -- PostgreSQL manual, "Message Flow": "Pipelining", "COPY Operations".
 use Rattle.std.specs.Prelude.{◌≡◌, ◌⊎◌, ℕ, List, [], ◌∷◌, ◌++◌, length}
 use Rattle.pgp_client.specs.Flow.{Ready, Serves, StandsAnywhere}
-use Rattle.pgp_client.specs.Telling.{Turn, Asks, Hears, asked_in, names}
+use Rattle.pgp_client.specs.Turns.{Turn, Asks, Hears, asked_in, names}
 use Rattle.pgp_client.specs.declared.request.Asked.{Asked}
 use Rattle.pgp_client.specs.declared.event.Event.{Event}
 use Rattle.pgp_client.specs.declared.event.Event.TheVariants.{Aside, Last, Part}
