@@ -1,8 +1,9 @@
 //! A listing that nobody reads any more, as where `head` has what it wants and ends.
 
-ghost use Rattle.std.specs.Prelude.{◌≡◌, ◌≤◌, length, take, IfNone, IfOk, IfSome, OnErr, OnOk};
+ghost use Rattle.std.specs.Prelude.{◌≡◌, ◌≤◌, length, take, true, false, IfNone, IfOk, IfSome, OnErr, OnOk};
 ghost use Rattle.std.specs.Io.KnownBytes.{Appends, Keeps};
 
+use pgtool_line::ports::Output;
 use std::cell::Cell;
 use std::io::{self, ErrorKind, Read, Write};
 
@@ -50,13 +51,14 @@ impl Pipe {
 /// # Errors
 ///
 /// That of the writer, which took none of the bytes.
-pub fn write_some<W: Write>(bytes: &[u8], writer: &mut W) -> io::Result<Option<usize>>
+pub fn write_some<W: Output>(bytes: &[u8], writer: &mut W) -> io::Result<Option<usize>>
     ensures written { IfOk result (λ r. IfSome r (λ n. Appends (W.contents writer.old) (W.contents writer.new) (take n bytes.now))) }
     ensures bound { IfOk result (λ r. IfSome r (λ n. n ≤ length bytes.now)) }
     ensures closed { IfOk result (λ r. IfNone r (Keeps (W.contents writer.old) (W.contents writer.new))) }
+    ensures failed { IfOk result (λ r. IfNone r W.Fails) }
     ensures kept { OnErr result (Keeps (W.contents writer.old) (W.contents writer.new)) }
 {
-    match writer.write(bytes) {
+    match writer.write_some(bytes) {
         Ok(n) => Ok(Some(n)),
         Err(e) => {
             if e.kind() == ErrorKind::BrokenPipe {
@@ -72,10 +74,12 @@ pub fn write_some<W: Write>(bytes: &[u8], writer: &mut W) -> io::Result<Option<u
 /// # Errors
 ///
 /// That of the writer.
-pub fn pass_on<W: Write>(writer: &mut W) -> io::Result<bool>
+pub fn pass_on<W: Output>(writer: &mut W) -> io::Result<bool>
     ensures kept { Keeps (W.contents writer.old) (W.contents writer.new) }
+    ensures passed { IfOk result (λ is_read. is_read ≡ true → W.Passed writer.new) }
+    ensures failed { IfOk result (λ is_read. is_read ≡ false → W.Fails) }
 {
-    match writer.flush() {
+    match writer.pass_on() {
         Ok(()) => Ok(true),
         Err(e) => {
             if e.kind() == ErrorKind::BrokenPipe {
@@ -95,7 +99,7 @@ impl<R: Read> Read for Source<'_, R> {
     }
 }
 
-impl<W: Write> Write for Sink<'_, W> {
+impl<W: Output> Write for Sink<'_, W> {
     fn write(&mut self, buf: &[u8]) -> io::Result<usize> {
         if self.pipe.is_closed.get() {
             return Ok(buf.len());
