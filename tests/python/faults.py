@@ -89,6 +89,12 @@ def check_calls(same):
     stale = error_of(b'26000', b'prepared statement "s1" does not exist') + READY
     found, tags, _ = play([PREPARED, ANSWERED, stale, frame(b'3', b'') + PREPARED, ANSWERED, b''], lambda c: [c.execute(SELECT, (5,)).fetchall() for _ in range(2)], autocommit=True)
     same('a stale statement', (found, tags), ([[(7, 'hello')]] * 2, b'PDS' b'BES' b'BES' b'CPDS' b'BES' b'X'))
+    replanned = frame(b'E', b'SERROR\0VERROR\0C0A000\0Mcached plan must not change result type\0RRevalidateCachedQuery\0\0') + READY
+    answers = [PREPARED, ANSWERED, replanned, frame(b'3', b'') + PREPARED, replanned, frame(b'C', b'DEALLOCATE ALL\0') + READY, PREPARED]
+    found, tags, _ = play([*answers, ANSWERED, b''], lambda c: [c.execute(SELECT, (5,)).fetchall() for _ in range(2)], autocommit=True)
+    same('a pooler that keeps a stale statement', (found, tags), ([[(7, 'hello')]] * 2, b'PDS' b'BES' b'BES' b'CPDS' b'BES' b'Q' b'PDS' b'BES' b'X'))
+    found, tags, _ = play([*answers, replanned, b''], lambda c: (c.execute(SELECT, (5,)).fetchall(), _error(lambda: c.execute(SELECT, (5,))).sqlstate), autocommit=True)
+    same('and keeps it all the same', (found, tags), (([(7, 'hello')], '0A000'), b'PDS' b'BES' b'BES' b'CPDS' b'BES' b'Q' b'PDS' b'BES' b'X'))
     failed = error_of(b'26000', b'gone') + frame(b'Z', b'E')
     begun = frame(b'1', b'') + frame(b'2', b'') + frame(b'C', b'BEGIN\0')
     found, tags, _ = play([PREPARED, begun + ANSWERED[:-1] + b'T', failed, frame(b'C', b'ROLLBACK\0') + READY, b''],
@@ -275,8 +281,10 @@ def check_files(same, home):
     del os.environ['PGPASSWORD']
     (home / '.pgpass').chmod(0o644)
     same('a password file that others read', of()[3], None)
+    same('ways behind a !', [settings.Options({'require_auth': text}).require_auth for text in ('!none', '!password,!md5,!gss', 'md5')],
+         [('scram-sha-256', 'md5', 'password'), ('scram-sha-256', 'none'), ('md5',)])
     for given in ({'service': 'none'}, {'sslmode': 'sure'}, {'port': '0'}, {'host': 'a,b', 'port': '1,2,3'}, {'target_session_attrs': 'primary'}, {'channel_binding': 'yes'},
-                  {'connect_timeout': 'x'}, {'host': 'postgresql://h:x/'}, {'require_auth': 'gss'}, {'least_rounds': '-1'}, {'least_rounds': 2 ** 32}):
+                  {'connect_timeout': 'x'}, {'host': 'postgresql://h:x/'}, {'require_auth': 'gss'}, {'require_auth': '!md5,password'}, {'require_auth': '!x'}, {'least_rounds': '-1'}, {'least_rounds': 2 ** 32}):
         same(str(given), type(_error(lambda: of(**given))), client.InterfaceError)
 
 

@@ -247,24 +247,30 @@ class Session:
 
     def _run(self, sql: str, rows: Sequence[Sequence[Any]], portal: str = '', size: int = 0) -> Flow:
         """The same by a statement's text; the statement, and the results. A statement that was kept and went stale is prepared anew, unless its error ended a
-        transaction of the caller's."""
+        transaction of the caller's; and once more behind a pooler that keeps one of the text for itself, after a `DEALLOCATE ALL`, at which it drops that."""
         kept, began = self._statements.get(sql), self.connection.status == 'I'
+        statement, left = kept, 0 if kept is None else 2
         if kept is not None:
             self._statements.move_to_end(sql)
-            try:
-                return kept, (yield from self._execute(kept, rows, portal, size))
-            except errors.DatabaseError as error:
-                # (of class 42 is an error too of a statement whose parameters have other types now)
-                if self._is_stale(error) or (error.sqlstate or '')[:2] == '42':
-                    self._dropped.append(self._statements.pop(sql).name)
-                if not (began and self._is_stale(error)):
-                    raise
-            if self.connection.status == 'E':
-                yield from self._until_ready(self.connection.query('ROLLBACK'))
         elif first_word(sql) == 'COPY':
             raise errors.ProgrammingError(_OTHER_CALL)
-        statement: Statement = yield from self.prepare(sql)
-        return statement, (yield from self._execute(statement, rows, portal, size))
+        while True:
+            if statement is None:
+                statement = yield from self.prepare(sql)
+            try:
+                return statement, (yield from self._execute(statement, rows, portal, size))
+            except errors.DatabaseError as error:
+                is_stale = self._is_stale(error)
+                # (of class 42 is an error too of a statement whose parameters have other types now)
+                if kept is not None and (is_stale or (statement is kept and (error.sqlstate or '')[:2] == '42')):
+                    self._dropped.append(self._statements.pop(sql).name)
+                if not (began and is_stale and left):
+                    raise
+            statement, left = None, left - 1
+            if self.connection.status == 'E':
+                yield from self._until_ready(self.connection.query('ROLLBACK'))
+            if left == 0:
+                yield from self.discard('DEALLOCATE ALL')
 
     def execute(self, sql: str, values: Optional[Sequence[Any]] = None) -> Flow:
         """Runs a statement; its rows are values of Python's."""
@@ -318,9 +324,9 @@ class Session:
         """A statement that opens no transaction but its own."""
         yield from self._until_ready(self.connection.query(sql))
 
-    def discard(self) -> Flow:
-        """`DISCARD ALL`: the server keeps nothing of the session, and no statement."""
-        yield from self.plain('DISCARD ALL')
+    def discard(self, sql: str = 'DISCARD ALL') -> Flow:
+        """The server keeps nothing of the session, and no statement."""
+        yield from self.plain(sql)
         self._statements.clear()
         self._dropped.clear()
 

@@ -6,7 +6,7 @@ import re
 import ssl as tls
 import stat
 import urllib.parse
-from typing import Any, Dict, Iterator, List, Mapping, NamedTuple, Optional, Sequence, Tuple
+from typing import Any, Dict, Iterator, List, Mapping, NamedTuple, Optional, Sequence, Tuple, Union
 
 from .connection import METHODS, Connection as Core
 from .errors import InterfaceError
@@ -29,6 +29,8 @@ _KNOWN = frozenset((*_ENVIRONMENT, *_IGNORED, *_FIXED, 'service', 'fallback_appl
 #: Settings of a session that the environment has.
 _SESSION = {'datestyle': 'PGDATESTYLE', 'timezone': 'PGTZ', 'geqo': 'PGGEQO'}
 _VERSIONS = {'TLSv1': 'TLSv1', 'TLSv1.1': 'TLSv1_1', 'TLSv1.2': 'TLSv1_2', 'TLSv1.3': 'TLSv1_3'}
+#: The ways of logging in of libpq's that this client has not.
+_UNSUPPORTED = ('gss', 'sspi', 'oauth')
 SSL_MODES = ('disable', 'allow', 'prefer', 'require', 'verify-ca', 'verify-full')
 _HINT = 'settings of the session go by options= or settings='
 _FOLDERS = ('/var/run/postgresql', '/tmp')
@@ -70,8 +72,7 @@ class Options:
         self.password: Optional[str] = kept.get('password')
         self._passfile: str = kept.get('passfile') or os.path.expanduser('~/.pgpass')
         self.connect_timeout = _seconds(kept.get('connect_timeout'))
-        methods = kept.get('require_auth') or METHODS
-        self.require_auth = tuple(methods.split(',')) if isinstance(methods, str) else tuple(methods)
+        self.require_auth = _methods(kept.get('require_auth') or METHODS)
         rounds = str(kept.get('least_rounds', 1))
         if not rounds.isdecimal() or int(rounds) >= 2 ** 32:
             raise InterfaceError('least_rounds: a number is expected, not %r' % rounds)
@@ -118,6 +119,16 @@ class Options:
                         least_rounds=self._least_rounds)
         except ValueError as error:
             raise InterfaceError(str(error)) from error
+
+
+def _methods(given: Union[str, Sequence[str]]) -> Sequence[str]:
+    """The ways of logging in that are admitted: those that are named, or behind a `!` all others."""
+    names = given.split(',') if isinstance(given, str) else list(given)
+    others = [name[1:] for name in names if name[:1] == '!']
+    for name in others:
+        if len(others) < len(names) or name not in (*METHODS, *_UNSUPPORTED):
+            raise InterfaceError('require_auth: each name behind a ! or none, and a way of logging in, is expected, not %r' % ','.join(names))
+    return tuple(way for way in METHODS if way not in others) if others else tuple(names)
 
 
 def parse(text: str) -> Dict[str, str]:
