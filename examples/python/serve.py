@@ -1,5 +1,6 @@
 #!/usr/bin/env python3
-"""Takes connections on a port of this machine, many at a time, and runs pgserve for each; with a certificate it takes TLS from a client that asks for it:
+"""Takes connections on a port of this machine, many at a time, and runs pgserve for each; with a certificate it takes TLS from a client that asks for it, or
+begins with it (sslnegotiation=direct):
 
     serve.py PORT [--tls CERTIFICATE KEY] pgserve --user app --auth trust SCRIPT
 """
@@ -14,6 +15,7 @@ import sys
 import threading
 
 SSL_REQUEST = struct.pack(">II", 8, 80877103)
+HANDSHAKE = b"\x16"  # the first byte of TLS
 
 
 def pass_on(client, process):
@@ -35,9 +37,11 @@ def pass_on(client, process):
 
 def serve(client, context, words):
     try:
-        if context and client.recv(8, socket.MSG_PEEK | socket.MSG_WAITALL) == SSL_REQUEST:
+        first = client.recv(8, socket.MSG_PEEK | socket.MSG_WAITALL) if context else b""
+        if first == SSL_REQUEST:
             client.recv(8)
             client.sendall(b"S")
+        if first == SSL_REQUEST or first[:1] == HANDSHAKE:
             client = context.wrap_socket(client, server_side=True)
         with client, subprocess.Popen(words, stdin=subprocess.PIPE, stdout=subprocess.PIPE, bufsize=0) as process:
             pass_on(client, process)
@@ -52,6 +56,7 @@ def main(words):
     if words[0] == "--tls":
         context = ssl.SSLContext(ssl.PROTOCOL_TLS_SERVER)
         context.load_cert_chain(*words[1:3])
+        context.set_alpn_protocols(["postgresql"])
         words = words[3:]
     if not shutil.which(words[0]):
         return f"serve.py: no command '{words[0]}' on the PATH"

@@ -164,6 +164,41 @@ def check_transports(same):
         same('a failed log-in', (getattr(error, 'sqlstate', error), ended), ('28P01', [b'']))
 
 
+def check_direct(same):
+    """A channel that is encrypted from its first byte: TLS comes first, for the protocol `postgresql`, and then the startup packet; a server of another protocol is
+    told nothing."""
+    folder = pathlib.Path(__file__).parent
+    for protocols, wanted in ((['postgresql'], (None, 'postgresql', b'\0\3\0\0')), (['http/1.1', 'postgresql'], (None, 'postgresql', b'\0\3\0\0')), ([], ('OperationalError', None, b''))):
+        context = ssl.SSLContext(ssl.PROTOCOL_TLS_SERVER)
+        context.load_cert_chain(folder / 'localhost.pem')
+        context.set_alpn_protocols(protocols)
+        for call in (lambda port: client.connect('127.0.0.1', port, 'alice', sslmode='require', sslnegotiation='direct').close(),
+                     lambda port: asyncio.run(_connected(port, sslmode='require', sslnegotiation='direct'))):
+            listening, seen = socket.create_server(('127.0.0.1', 0)), []
+
+            def serve():
+                peer = context.wrap_socket(listening.accept()[0], server_side=True)
+                peer.settimeout(5)
+                packet = peer.recv(1000)
+                seen.append((peer.selected_alpn_protocol(), packet[4:8]))
+                if packet:
+                    peer.sendall(frame(b'R', b'\0\0\0\0') + READY)
+                    peer.recv(1000)
+                peer.close()
+            thread = threading.Thread(target=serve, daemon=True)
+            thread.start()
+            error = _error(lambda: call(listening.getsockname()[1]))
+            thread.join(10)
+            listening.close()
+            same('direct TLS, %s' % protocols, (error and type(error).__name__, *seen[0]), wanted)
+    for mode in ('disable', 'allow', 'prefer'):
+        same('direct TLS, ' + mode, type(_error(lambda: settings.Options({'host': 'h', 'sslmode': mode, 'sslnegotiation': 'direct'}))), client.InterfaceError)
+
+
+async def _connected(port, **more):
+    await (await aio.connect('127.0.0.1', port, 'alice', **more)).close()
+
+
 def check_log_in(same):
     def asks(port):
         return _error(lambda: client.connect('127.0.0.1', port, 'alice', sslmode='disable'))
@@ -349,5 +384,5 @@ def _error(call):
 
 def check_faults(same):
     """All of them."""
-    for check in (check_copies, check_calls, check_limits, check_transports, check_log_in, check_settings, check_tries, check_interface):
+    for check in (check_copies, check_calls, check_limits, check_transports, check_direct, check_log_in, check_settings, check_tries, check_interface):
         check(same)

@@ -17,6 +17,7 @@ from . import events
 from .copying import binary_rows
 from .errors import Error, InterfaceError, OperationalError, Timeout
 from .link import Link, Turns, cancel, drive
+from .connection import Encrypts
 from .settings import Options, Place
 from .registry import Registry
 from .results import Result
@@ -33,14 +34,14 @@ class Connection(Shared):
     used or `autocommit` is False. A call that is cancelled is cancelled at the server too; the connection goes on, or is closed where no answer comes."""
     _wire: Link
 
-    def __init__(self, options: Options, place: Place, encrypts: bool, behaviour: Behaviour) -> None:
+    def __init__(self, options: Options, place: Place, encrypts: Encrypts, behaviour: Behaviour) -> None:
         super().__init__(options, place, encrypts, behaviour)
         link, core = Link(place, self._core), self._core
         self._wire, self._turns = link, Turns()
         self._owner, self._loop = None, asyncio.get_running_loop()  # type: Any, asyncio.AbstractEventLoop
         self._acts: Dict[str, Callable[[], Any]] = {
-            READ: link.exchange, SEND: link.flush, ENCRYPT: lambda: link.encrypt(options.context()),
-            CANCEL: lambda: cancel(link.place, core, options.context() if link.is_encrypted else None)}
+            READ: link.exchange, SEND: link.flush, ENCRYPT: lambda: link.encrypt(options.context(), encrypts),
+            CANCEL: lambda: cancel(link.place, core, link.is_encrypted and encrypts, options.context)}
 
     async def __aenter__(self) -> 'Connection':
         self._no_block('a block of the connection')
@@ -57,7 +58,7 @@ class Connection(Shared):
             await self._take_back(self._roll_back())
             raise
 
-    async def _open(self, encrypts: bool) -> None:
+    async def _open(self, encrypts: Encrypts) -> None:
         await self._wire.connect()
         try:
             await drive(self._session.open(encrypts, self._options.must_encrypt), self._acts)

@@ -22,6 +22,7 @@ from .cursor import Cursor
 from .dbtypes import (BINARY, DATETIME, NUMBER, ROWID, STRING, Binary, Date, DateFromTicks, Time, TimeFromTicks, Timestamp, TimestampFromTicks)
 from .errors import (Broken, DatabaseError, DataError, Error, IntegrityError, InterfaceError, InternalError, NotSupportedError, OperationalError, ProgrammingError,
                      Timeout, Warning)
+from .connection import Encrypts
 from .settings import Options, Place
 from .registry import Registry
 from .results import Result
@@ -47,14 +48,14 @@ class Connection(Shared):
     Warning, Error, DatabaseError, OperationalError, ProgrammingError = Warning, Error, DatabaseError, OperationalError, ProgrammingError
     DataError, IntegrityError, InternalError, InterfaceError, NotSupportedError = DataError, IntegrityError, InternalError, InterfaceError, NotSupportedError
 
-    def __init__(self, options: Options, place: Place, encrypts: bool, behaviour: Behaviour) -> None:
+    def __init__(self, options: Options, place: Place, encrypts: Encrypts, behaviour: Behaviour) -> None:
         super().__init__(options, place, encrypts, behaviour)
         wire, core = Wire(place, self._core, options.connect_timeout), self._core
         self._lock, self._wire = threading.Lock(), wire
         # (none of these refers to the connection: one that nobody has any more closes its socket at once)
         self._acts: Dict[str, Callable[[], Any]] = {
-            READ: wire.exchange, SEND: wire.flush, ENCRYPT: lambda: wire.encrypt(options.context()),
-            CANCEL: lambda: cancel(wire.place, core, options.context() if wire.is_encrypted else None)}
+            READ: wire.exchange, SEND: wire.flush, ENCRYPT: lambda: wire.encrypt(options.context(), encrypts),
+            CANCEL: lambda: cancel(wire.place, core, wire.is_encrypted and encrypts, options.context)}
         try:
             drive(self._session.open(encrypts, options.must_encrypt), self._acts)
         except BaseException as error:

@@ -7,7 +7,7 @@
 
 Each request returns a number, and each event says the number of the request that it answers.
 """
-from typing import Any, Callable, Dict, List, Mapping, Optional, Sequence, Set, Tuple
+from typing import Any, Callable, Dict, List, Literal, Mapping, Optional, Sequence, Set, Tuple, Union
 
 from . import _rows, events
 from ._library import MORE, NO_ROOM, OK, WRONG_PHASE, ProtocolError
@@ -42,15 +42,19 @@ def _mechanisms(message: Message) -> List[str]:
         return ['what is no text']
 
 
+#: Whether a channel is encrypted: after a request for that, or 'direct', from its first byte (PostgreSQL 17 and later).
+Encrypts = Union[bool, Literal['direct']]
+
+
 class Connection:
     """A client's end of a connection. `require_auth` names the ways of logging in that are admitted (`METHODS`), so that a server can't ask for
     the password in clear text where SCRAM is expected. `certificate` is the hash of the server's certificate (RFC 5929), with which SCRAM is
     bound to the TLS channel; with `must_bind` there is no log-in without that. An exchange of SCRAM with fewer than `least_rounds` is
     rejected (RFC 7677 wants 4096; one is enough for libpq). Of `parameters` none is a protocol option (`_pq_.`): an answer about those
-    would end the connection."""
+    would end the connection. With `encrypt='direct'` nothing is sent before `encrypted` is called."""
 
     def __init__(self, user: str, password: Optional[str] = None, database: Optional[str] = None, parameters: Optional[Mapping[str, str]] = None,
-                 require_auth: Sequence[str] = METHODS, max_message: int = 2 ** 30, encrypt: bool = False,
+                 require_auth: Sequence[str] = METHODS, max_message: int = 2 ** 30, encrypt: Encrypts = False,
                  must_bind: bool = False, least_rounds: int = 1) -> None:
         self._state = State(user, password, require_auth, must_bind, least_rounds, max_message)
         for name in parameters or {}:
@@ -66,7 +70,7 @@ class Connection:
         #: What was taken and isn't reported yet, the last of it first; and what ended it.
         self._taken: List[Tuple[Optional[int], bool, Any]] = []
         self._fault: Optional[Exception] = None
-        self._last, self._encrypting = 0, encrypt
+        self._last, self._encrypting = 0, encrypt is True
         #: The first request of which it isn't reported yet that it ended; and those that end the data of a copy, which have no answer of their own.
         self._told = 1
         self._ends: Set[int] = set()
@@ -75,9 +79,9 @@ class Connection:
         #: `I`, `T` or `E`, as the last Ready said; the settings that the server reported.
         self.status = ''
         self.settings: Dict[str, str] = {}
-        if encrypt:
+        if encrypt is True:
             self._stream.ssl_request()
-        else:
+        elif not encrypt:
             self._open()
 
     def _open(self) -> None:

@@ -4,11 +4,11 @@ import ssl as tls
 from collections import deque
 from typing import Any, Awaitable, Callable, Deque, List, Mapping, Optional
 
-from .connection import Connection as Core, LogInError
+from .connection import Connection as Core, Encrypts, LogInError
 from .errors import Broken, OperationalError, Timeout
 from .session import ENCRYPT, READ, Flow
 from .settings import Place
-from .wire import Cancelling, Limits, reached
+from .wire import Cancelling, Limits, agree, reached
 
 #: So many bytes are kept that nobody has asked for yet; then the server has to wait.
 _MOST = 262144
@@ -125,7 +125,7 @@ class Link(Limits, asyncio.Protocol):
         if self._lost is not None and not self._data:
             raise self._lost
 
-    async def encrypt(self, context: tls.SSLContext) -> Optional[bytes]:
+    async def encrypt(self, context: tls.SSLContext, encrypts: Encrypts) -> Optional[bytes]:
         """Encrypts the channel; the server's certificate."""
         if self._data:
             raise LogInError('the server sent bytes before the channel was encrypted')
@@ -134,7 +134,9 @@ class Link(Limits, asyncio.Protocol):
         except OSError as error:
             raise OperationalError('no encryption: %s' % error) from error
         self.is_encrypted = True
-        certificate: Optional[bytes] = self._transport.get_extra_info('ssl_object').getpeercert(True)
+        channel = self._transport.get_extra_info('ssl_object')
+        agree(channel.selected_alpn_protocol(), encrypts)
+        certificate: Optional[bytes] = channel.getpeercert(True)
         return certificate
 
     def close(self) -> None:
@@ -171,15 +173,15 @@ async def drive(flow: Flow, acts: Mapping[str, Callable[[], Awaitable[Any]]]) ->
             step, value = flow.throw, error
 
 
-async def cancel(place: Place, core: Core, context: Optional[tls.SSLContext], limit: float = 5) -> None:
+async def cancel(place: Place, core: Core, encrypts: Encrypts, context: Callable[[], tls.SSLContext], limit: float = 5) -> None:
     """Asks the server to cancel what runs; returns once the server has it."""
-    request = Cancelling(core, context is not None)
+    request = Cancelling(core, encrypts)
     link = Link(place, request, limit)
 
     async def run() -> None:
         await link.connect()
         try:
-            await drive(request.run(), {READ: link.exchange, ENCRYPT: lambda: link.encrypt(context or tls.create_default_context())})
+            await drive(request.run(), {READ: link.exchange, ENCRYPT: lambda: link.encrypt(context(), encrypts)})
         finally:
             link.close()
     try:

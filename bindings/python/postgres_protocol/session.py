@@ -7,7 +7,7 @@ from . import errors, events
 from ._library import EMBEDDED_NULL, INT32, ProtocolError, as_integer
 from .auth import escape_identifier
 from .binding import certificate_hash
-from .connection import Connection
+from .connection import Connection, Encrypts
 from .copying import first_word
 from .reading import Field
 from .registry import Registry, Type
@@ -87,9 +87,11 @@ class Session:
         """Whether the next statement opens a transaction: the one place that says so, at the time when the statement is sent."""
         return not self.autocommit and self.connection.status == 'I'
 
-    def open(self, encrypts: bool, must_encrypt: bool) -> Flow:
+    def open(self, encrypts: Encrypts, must_encrypt: bool) -> Flow:
         """Encrypts the channel where that is asked for, and waits until the server is ready."""
-        if encrypts:
+        if encrypts == 'direct':
+            self.connection.encrypted(certificate_hash((yield ENCRYPT)))
+        elif encrypts:
             event = yield from self._next()
             if isinstance(event, events.Encryption) and event.accepted:
                 self.connection.encrypted(certificate_hash((yield ENCRYPT)))

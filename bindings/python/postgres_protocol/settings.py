@@ -8,7 +8,7 @@ import stat
 import urllib.parse
 from typing import Any, Dict, Iterator, List, Mapping, NamedTuple, Optional, Sequence, Tuple, Union
 
-from .connection import METHODS, Connection as Core
+from .connection import METHODS, Connection as Core, Encrypts
 from .errors import InterfaceError
 
 #: The options that there are, libpq's, with the environment's names of those that it has.
@@ -23,7 +23,7 @@ _ENVIRONMENT = {
 _IGNORED = frozenset(('keepalives', 'keepalives_idle', 'keepalives_interval', 'keepalives_count', 'tcp_user_timeout', 'krbsrvname', 'gsslib', 'sslcompression',
                       'gssdelegation', 'max_protocol_version'))
 #: What would make a connection other than it can be here, with the values that are taken.
-_FIXED = {'target_session_attrs': ('any',), 'load_balance_hosts': ('disable',), 'gssencmode': ('disable', 'prefer'), 'sslnegotiation': ('postgres',), 'sslsni': ('1',),
+_FIXED = {'target_session_attrs': ('any',), 'load_balance_hosts': ('disable',), 'gssencmode': ('disable', 'prefer'), 'sslsni': ('1',),
           'min_protocol_version': ('3.0',), 'sslcertmode': ('allow', 'disable')}
 _KNOWN = frozenset((*_ENVIRONMENT, *_IGNORED, *_FIXED, 'service', 'fallback_application_name', 'replication', 'sslpassword', 'least_rounds'))
 #: Settings of a session that the environment has.
@@ -31,6 +31,8 @@ _SESSION = {'datestyle': 'PGDATESTYLE', 'timezone': 'PGTZ', 'geqo': 'PGGEQO'}
 _VERSIONS = {'TLSv1': 'TLSv1', 'TLSv1.1': 'TLSv1_1', 'TLSv1.2': 'TLSv1_2', 'TLSv1.3': 'TLSv1_3'}
 #: The ways of logging in of libpq's that this client has not.
 _UNSUPPORTED = ('gss', 'sspi', 'oauth')
+#: The protocol that a channel is for which is encrypted from its first byte (ALPN).
+PROTOCOL = 'postgresql'
 SSL_MODES = ('disable', 'allow', 'prefer', 'require', 'verify-ca', 'verify-full')
 _HINT = 'settings of the session go by options= or settings='
 _FOLDERS = ('/var/run/postgresql', '/tmp')
@@ -79,7 +81,10 @@ class Options:
         self._least_rounds = int(rounds)
         self._must_bind = _one_of('channel_binding', kept, ('prefer', 'disable', 'require')) == 'require'
         self.sslmode = _one_of('sslmode', kept, ('prefer', *SSL_MODES))
+        self._is_direct = _one_of('sslnegotiation', kept, ('postgres', 'direct')) == 'direct'
         self._tls, self._context, self._is_given = kept, ssl, ssl is not None
+        if self._is_direct and not self.must_encrypt:
+            raise InterfaceError('sslnegotiation: direct wants sslmode require, verify-ca or verify-full')
         #: Settings of the session.
         self.parameters: Dict[str, str] = {name: os.environ[variable] for name, variable in _SESSION.items() if os.environ.get(variable)}
         self.parameters.update((name, str(kept[name])) for name in ('options', 'application_name', 'replication') if kept.get(name))
@@ -90,10 +95,10 @@ class Options:
             if re.sub('[^a-z0-9]', '', str(encoding).lower()) not in ('utf8', 'unicode', 'auto'):
                 raise InterfaceError('client_encoding: none but UTF8 is supported, not %r' % encoding)
 
-    def ways(self, place: Place) -> Sequence[bool]:
-        """Whether encryption is asked for there; the second way follows where the server rejects the log-in of the first."""
+    def ways(self, place: Place) -> Sequence[Encrypts]:
+        """Whether there is encryption; the second way follows where the server rejects the log-in of the first."""
         if self._is_given or (self.must_encrypt and not place.is_local):
-            return (True,)
+            return ('direct',) if self._is_direct else (True,)
         if place.is_local or self.sslmode == 'disable':
             return (False,)
         return (False, True) if self.sslmode == 'allow' else (True, False)
@@ -109,7 +114,7 @@ class Options:
             self._context = _context(self.sslmode, self._tls)
         return self._context
 
-    def core(self, place: Place, encrypts: bool) -> Core:
+    def core(self, place: Place, encrypts: Encrypts) -> Core:
         """The connection without input or output, which logs in there."""
         password = self.password
         if password is None:
@@ -310,6 +315,7 @@ def _context(mode: str, kept: Mapping[str, Any]) -> tls.SSLContext:
         version = _one_of(name, kept, (otherwise, *_VERSIONS))
         if version:
             setattr(context, end, getattr(tls.TLSVersion, _VERSIONS[version]))
+    context.set_alpn_protocols([PROTOCOL])
     context.check_hostname = mode == 'verify-full' or is_system
     context.verify_mode = tls.CERT_REQUIRED if checks else tls.CERT_NONE
     revoked, revoked_folder, certificate = kept.get('sslcrl'), kept.get('sslcrldir'), kept.get('sslcert') or folder + 'postgresql.crt'

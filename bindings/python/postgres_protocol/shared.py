@@ -5,7 +5,7 @@ from typing import TYPE_CHECKING, Any, Callable, Generator, List, NamedTuple, Op
 
 from . import errors, events
 from ._library import ProtocolError
-from .connection import DecodeError, LogInError
+from .connection import DecodeError, Encrypts, LogInError
 from .settings import Options, Place
 from .registry import Registry
 from .results import Result
@@ -71,7 +71,7 @@ class Shared:
     a connection carries out what they yield, by its `_wire`."""
     _wire: Limits
 
-    def __init__(self, options: Options, place: Place, encrypts: bool, behaviour: Behaviour) -> None:
+    def __init__(self, options: Options, place: Place, encrypts: Encrypts, behaviour: Behaviour) -> None:
         self._options, self._core = options, options.core(place, encrypts)
         self._session, self._is_closed = Session(self._core, behaviour.registry, behaviour.prepare, behaviour.paramstyle), False
         self._session.autocommit, self._behaviour = behaviour.autocommit, behaviour
@@ -306,7 +306,7 @@ def as_chunk(piece: object) -> Optional[bytes]:
     return piece if isinstance(piece, bytes) else bytes(memoryview(piece))  # type: ignore[arg-type]
 
 
-Attempt = Tuple[Place, bool]
+Attempt = Tuple[Place, Encrypts]
 
 
 def attempts(options: Options) -> Generator[Attempt, errors.OperationalError, None]:

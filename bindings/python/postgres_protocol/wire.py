@@ -9,10 +9,10 @@ import time
 from typing import Any, Callable, Mapping, Optional
 
 from . import cancel_request, ssl_request
-from .connection import Connection as Core
+from .connection import Connection as Core, Encrypts
 from .errors import Broken, OperationalError, Timeout
 from .session import ENCRYPT, READ, SEND, Flow
-from .settings import Place
+from .settings import PROTOCOL, Place
 
 _READ, _PIECE = select.POLLIN | select.POLLHUP | select.POLLERR, 262144
 
@@ -77,7 +77,7 @@ class Wire(Limits):
             if ready or timeout is not None:
                 return ready[0][1] if ready else 0
 
-    def encrypt(self, context: tls.SSLContext) -> Optional[bytes]:
+    def encrypt(self, context: tls.SSLContext, encrypts: Encrypts) -> Optional[bytes]:
         """Encrypts the channel; the server's certificate."""
         sock = self._sock
         sock.settimeout(self._left())
@@ -87,7 +87,10 @@ class Wire(Limits):
             raise Timeout('no encryption within %s s' % self._limit) from error
         except OSError as error:
             raise OperationalError('no encryption: %s' % error) from error
-        return self._sock.getpeercert(True) if isinstance(self._sock, tls.SSLSocket) else None
+        if not isinstance(self._sock, tls.SSLSocket):
+            return None
+        agree(self._sock.selected_alpn_protocol(), encrypts)
+        return self._sock.getpeercert(True)
 
     @property
     def is_encrypted(self) -> bool:
@@ -200,10 +203,16 @@ def reached(place: Place, sock: Any) -> Place:
     return place
 
 
+def agree(protocol: Optional[str], encrypts: Encrypts) -> None:
+    """A channel that is encrypted from its first byte is for this protocol alone, as in libpq, so that no server of another one is spoken to."""
+    if encrypts == 'direct' and protocol != PROTOCOL:
+        raise OperationalError('no encryption: the server does not say that the channel is for the protocol %r' % PROTOCOL)
+
+
 class Cancelling:
     """A request to cancel what a connection runs, over a channel of its own, which is encrypted where that of the connection is."""
 
-    def __init__(self, core: Core, encrypts: bool) -> None:
+    def __init__(self, core: Core, encrypts: Encrypts) -> None:
         if not core.secret_key:
             raise OperationalError('the server gave no key to cancel with')
         self._request, self._encrypts = cancel_request(core.process_id, core.secret_key), encrypts
@@ -220,11 +229,12 @@ class Cancelling:
 
     def run(self) -> Flow:
         """Sends it, and waits until the server has it: then it closes the channel."""
-        if self._encrypts:
+        if self._encrypts is True:
             self._out = ssl_request()
             yield READ
             if self._in != b'S':
                 raise OperationalError('the server does not encrypt the request to cancel')
+        if self._encrypts:
             yield ENCRYPT
         self._out = self._request
         try:
@@ -233,11 +243,11 @@ class Cancelling:
             pass
 
 
-def cancel(place: Place, core: Core, context: Optional[tls.SSLContext], limit: float = 5) -> None:
+def cancel(place: Place, core: Core, encrypts: Encrypts, context: Callable[[], tls.SSLContext], limit: float = 5) -> None:
     """Asks the server to cancel what runs; returns once the server has it."""
-    request = Cancelling(core, context is not None)
+    request = Cancelling(core, encrypts)
     wire = Wire(place, request, limit)
     try:
-        drive(request.run(), {READ: wire.exchange, SEND: wire.flush, ENCRYPT: lambda: context and wire.encrypt(context)})
+        drive(request.run(), {READ: wire.exchange, SEND: wire.flush, ENCRYPT: lambda: wire.encrypt(context(), encrypts)})
     finally:
         wire.close()
