@@ -318,9 +318,41 @@ def check_files(same, home):
     same('a password file that others read', of()[3], None)
     same('ways behind a !', [settings.Options({'require_auth': text}).require_auth for text in ('!none', '!password,!md5,!gss', 'md5')],
          [('scram-sha-256', 'md5', 'password'), ('scram-sha-256', 'none'), ('md5',)])
-    for given in ({'service': 'none'}, {'sslmode': 'sure'}, {'port': '0'}, {'host': 'a,b', 'port': '1,2,3'}, {'target_session_attrs': 'primary'}, {'channel_binding': 'yes'},
+    for given in ({'service': 'none'}, {'sslmode': 'sure'}, {'port': '0'}, {'host': 'a,b', 'port': '1,2,3'}, {'target_session_attrs': 'master'}, {'channel_binding': 'yes'},
                   {'connect_timeout': 'x'}, {'host': 'postgresql://h:x/'}, {'require_auth': 'gss'}, {'require_auth': '!md5,password'}, {'require_auth': '!x'}, {'least_rounds': '-1'}, {'least_rounds': 2 ** 32}):
         same(str(given), type(_error(lambda: of(**given))), client.InterfaceError)
+
+
+def check_targets(same):
+    """The session that is wanted, by what the server reports: values of libpq's `target_session_attrs`."""
+    reported = [{'in_hot_standby': standby, 'default_transaction_read_only': read_only} for standby in ('off', 'on') for read_only in ('off', 'on')]
+    for target, wanted in (('any', [True] * 4), ('read-write', [True, False, False, False]), ('read-only', [False, True, True, True]), ('primary', [True, True, False, False]),
+                           ('standby', [False, False, True, True]), ('prefer-standby', [False, False, True, True])):
+        options = settings.Options({'target_session_attrs': target})
+        same(target, [options.unwanted(one) == '' for one in reported], wanted)
+    options = settings.Options({'host': 'a,b', 'sslmode': 'disable', 'target_session_attrs': 'prefer-standby'})
+    tries, lost = client.attempts(options), pg.errors.Broken('x')
+    found = [(next(tries)[0].host, options.target)]
+    for _ in range(3):
+        found.append((tries.send(lost)[0].host, options.target))
+    same('a standby first', found, [('a', 'standby'), ('b', 'standby'), ('a', 'any'), ('b', 'any')])
+    for target, wanted in (('standby', None), ('primary', 'the server is in hot standby mode')):
+        for call in (lambda port: client.connect('127.0.0.1', port, 'alice', sslmode='disable', target_session_attrs=target).close(),
+                     lambda port: asyncio.run(_connected(port, sslmode='disable', target_session_attrs=target))):
+            listening = socket.create_server(('127.0.0.1', 0))
+
+            def serve():
+                peer = listening.accept()[0]
+                peer.recv(1000)
+                peer.sendall(frame(b'R', b'\0\0\0\0') + frame(b'S', b'in_hot_standby\0on\0') + READY)
+                peer.recv(1000)
+                peer.close()
+            thread = threading.Thread(target=serve, daemon=True)
+            thread.start()
+            error = _error(lambda: call(listening.getsockname()[1]))
+            thread.join(10)
+            listening.close()
+            same('a log-in, ' + target, error and str(error), wanted)
 
 
 def check_tries(same):
@@ -384,5 +416,5 @@ def _error(call):
 
 def check_faults(same):
     """All of them."""
-    for check in (check_copies, check_calls, check_limits, check_transports, check_direct, check_log_in, check_settings, check_tries, check_interface):
+    for check in (check_copies, check_calls, check_limits, check_transports, check_direct, check_log_in, check_settings, check_targets, check_tries, check_interface):
         check(same)

@@ -61,7 +61,7 @@ class Connection(Shared):
     async def _open(self, encrypts: Encrypts) -> None:
         await self._wire.connect()
         try:
-            await drive(self._session.open(encrypts, self._options.must_encrypt), self._acts)
+            await drive(self._session.open(encrypts, self._options), self._acts)
         except BaseException as error:
             await self._closed()
             raise translated(self._last_words(error)) from error.__cause__

@@ -57,7 +57,7 @@ class Connection(Shared):
             READ: wire.exchange, SEND: wire.flush, ENCRYPT: lambda: wire.encrypt(options.context(), encrypts),
             CANCEL: lambda: cancel(wire.place, core, wire.is_encrypted and encrypts, options.context)}
         try:
-            drive(self._session.open(encrypts, options.must_encrypt), self._acts)
+            drive(self._session.open(encrypts, options), self._acts)
         except BaseException as error:
             self._end()
             raise translated(self._last_words(error)) from error.__cause__

@@ -12,6 +12,7 @@ from .copying import first_word
 from .reading import Field
 from .registry import Registry, Type
 from .results import Result, Statement, as_given, formats_of, gathered, placed, results_of
+from .settings import Options
 
 #: What a generator yields: READ where bytes of the server's are needed (what was written is sent first), SEND where what was written is to be sent, CHUNK
 #: for the next piece of a copy (None: there is none), CANCEL for a request to cancel, ENCRYPT for TLS, which gives the server's certificate.
@@ -87,7 +88,7 @@ class Session:
         """Whether the next statement opens a transaction: the one place that says so, at the time when the statement is sent."""
         return not self.autocommit and self.connection.status == 'I'
 
-    def open(self, encrypts: Encrypts, must_encrypt: bool) -> Flow:
+    def open(self, encrypts: Encrypts, options: Options) -> Flow:
         """Encrypts the channel where that is asked for, and waits until the server is ready."""
         if encrypts == 'direct':
             self.connection.encrypted(certificate_hash((yield ENCRYPT)))
@@ -95,13 +96,16 @@ class Session:
             event = yield from self._next()
             if isinstance(event, events.Encryption) and event.accepted:
                 self.connection.encrypted(certificate_hash((yield ENCRYPT)))
-            elif must_encrypt:
+            elif options.must_encrypt:
                 raise errors.OperationalError('the server does not encrypt')
             else:
                 self.connection.not_encrypted()
         while not isinstance(event := (yield from self._next()), events.LoggedIn):
             if isinstance(event, events.Failed):
                 raise errors.of_fields(event.fields, errors.OperationalError)
+        unwanted = options.unwanted(self.connection.settings)
+        if unwanted:
+            raise errors.Broken(unwanted)
         self._settled = self.connection.last_number
 
     def settle(self) -> Flow:

@@ -23,7 +23,7 @@ _ENVIRONMENT = {
 _IGNORED = frozenset(('keepalives', 'keepalives_idle', 'keepalives_interval', 'keepalives_count', 'tcp_user_timeout', 'krbsrvname', 'gsslib', 'sslcompression',
                       'gssdelegation', 'max_protocol_version'))
 #: What would make a connection other than it can be here, with the values that are taken.
-_FIXED = {'target_session_attrs': ('any',), 'load_balance_hosts': ('disable',), 'gssencmode': ('disable', 'prefer'), 'sslsni': ('1',),
+_FIXED = {'load_balance_hosts': ('disable',), 'gssencmode': ('disable', 'prefer'), 'sslsni': ('1',),
           'min_protocol_version': ('3.0',), 'sslcertmode': ('allow', 'disable')}
 _KNOWN = frozenset((*_ENVIRONMENT, *_IGNORED, *_FIXED, 'service', 'fallback_application_name', 'replication', 'sslpassword', 'least_rounds'))
 #: Settings of a session that the environment has.
@@ -33,6 +33,9 @@ _VERSIONS = {'TLSv1': 'TLSv1', 'TLSv1.1': 'TLSv1_1', 'TLSv1.2': 'TLSv1_2', 'TLSv
 _UNSUPPORTED = ('gss', 'sspi', 'oauth')
 #: The protocol that a channel is for which is encrypted from its first byte (ALPN).
 PROTOCOL = 'postgresql'
+#: What `target_session_attrs` wants of a session, and why another one isn't taken.
+_TARGETS = {'any': '', 'read-write': 'the session is read-only', 'read-only': 'the session is not read-only', 'primary': 'the server is in hot standby mode',
+            'standby': 'the server is not in hot standby mode'}
 SSL_MODES = ('disable', 'allow', 'prefer', 'require', 'verify-ca', 'verify-full')
 _HINT = 'settings of the session go by options= or settings='
 _FOLDERS = ('/var/run/postgresql', '/tmp')
@@ -81,6 +84,10 @@ class Options:
         self._least_rounds = int(rounds)
         self._must_bind = _one_of('channel_binding', kept, ('prefer', 'disable', 'require')) == 'require'
         self.sslmode = _one_of('sslmode', kept, ('prefer', *SSL_MODES))
+        target = _one_of('target_session_attrs', kept, (*_TARGETS, 'prefer-standby'))
+        #: What is wanted of a session, one after the other, and now.
+        self.targets = ('standby', 'any') if target == 'prefer-standby' else (target,)
+        self.target = self.targets[0]
         self._is_direct = _one_of('sslnegotiation', kept, ('postgres', 'direct')) == 'direct'
         self._tls, self._context, self._is_given = kept, ssl, ssl is not None
         if self._is_direct and not self.must_encrypt:
@@ -102,6 +109,13 @@ class Options:
         if place.is_local or self.sslmode == 'disable':
             return (False,)
         return (False, True) if self.sslmode == 'allow' else (True, False)
+
+    def unwanted(self, reported: Mapping[str, str]) -> str:
+        """Why a session in which the server reported these settings isn't one that is wanted now; nothing where it is."""
+        is_standby = reported.get('in_hot_standby') == 'on'
+        is_read_only = is_standby or reported.get('default_transaction_read_only') == 'on'
+        misses = {'any': False, 'read-write': is_read_only, 'read-only': not is_read_only, 'primary': is_standby, 'standby': not is_standby}
+        return _TARGETS[self.target] if misses[self.target] else ''
 
     @property
     def must_encrypt(self) -> bool:

@@ -1,4 +1,5 @@
 """What the blocking connection and the one for asyncio have in common."""
+import itertools
 import os
 import time
 from typing import TYPE_CHECKING, Any, Callable, Generator, List, NamedTuple, Optional, Sequence, Tuple
@@ -312,7 +313,7 @@ Attempt = Tuple[Place, Encrypts]
 def attempts(options: Options) -> Generator[Attempt, errors.OperationalError, None]:
     """Where to connect to, and whether to encrypt; what failed there is sent in, and raised where nothing else is left to try."""
     error: Optional[errors.OperationalError] = None
-    for place in options.places:
+    for options.target, place in itertools.product(options.targets, options.places):
         for encrypts in options.ways(place):
             error = yield place, encrypts
             if error.sqlstate != '28000':
