@@ -1,5 +1,5 @@
-"""run_programs.py FOLDER: runs the four programs of examples/c: three against bytes of this file's own, worked by hand after the manual, and the
-server against the two that log in."""
+"""run_programs.py FOLDER: runs the five programs of examples/c: three against bytes of this file's own, worked by hand after the manual, the
+server against the two that log in, and the pooler between clients and a server of tests/python/pooled.py."""
 import os
 import socket
 import subprocess
@@ -8,6 +8,7 @@ import threading
 import time
 
 sys.path.insert(0, os.path.join(os.path.dirname(os.path.abspath(__file__)), '..', 'python'))
+import pooled  # noqa: E402
 from server import frame, scram_server  # noqa: E402
 
 folder = sys.argv[1]
@@ -89,5 +90,12 @@ same('login, server', against_server('login', 'secret'), ((0, b'logged in\n'), 1
 same('login, server, another password', against_server('login', 'guessed'), ((1, b''), 1))
 same('client, server', against_server('client', 'select 1', password='secret'), ((0, b'select 1\n'), 0))
 same('client, server, another password', against_server('client', 'select 1', password='guessed'), ((1, b''), 1))
+server = pooled.Server()
+with socket.create_server(('127.0.0.1', 0)) as free:
+    port = str(free.getsockname()[1])
+running = subprocess.Popen([os.path.join(folder, 'pooler_program'), port, server.port, 'al', 'db', '3'], stderr=subprocess.PIPE)
+same('pooler, listens', running.stderr.readline(), b'pooler: listening on port %s\n' % port.encode())
+same('pooler', pooled.pooled(port, server, 3), [])
+running.kill()
 print('programs: %d failed' % failed)
 sys.exit(failed != 0)

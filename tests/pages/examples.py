@@ -11,6 +11,9 @@ import subprocess
 import sys
 import time
 
+sys.path.insert(0, os.path.join(os.path.dirname(os.path.abspath(__file__)), '..', 'python'))
+import pooled  # noqa: E402
+
 top, folder, venv = sys.argv[1:]
 prefix = os.path.join(folder, 'pgp')
 python = os.path.join(venv, 'bin/python')
@@ -172,9 +175,27 @@ def recording(text):
     has(came, 'StartupMessage       version 196608 parameters "user" "alice"', 'query "select 1 as one"', 'values 1 "1"', 'tag "SELECT 1"')
 
 
-def session_client(text):
+def session_examples(text):
+    place = os.path.join(top, 'out/rust/postgres-session')
+    client, *between = text.splitlines()
     with answering() as port:
-        same(shell(text.replace('5432', port), cwd=os.path.join(top, 'out/rust/postgres-session')), '1\n')
+        same(shell(client.replace('5432', port), cwd=place), '1\n')
+    shell('cargo build -q --examples', cwd=place)
+    for line, tried in zip(between, (lambda port, _: pooled.proxied(port), lambda port, server: pooled.pooled(port, server, 3))):
+        server, port = pooled.Server(), str(free_port())
+        words = line.replace('6432', port).replace('5432', server.port)
+        program = subprocess.Popen(['bash', '-c', 'exec ' + words], stderr=subprocess.PIPE, text=True, env=ENV, cwd=place)
+        try:
+            has(first_line(program.stderr, 'listening on port'), port)
+            same(tried(port, server), [])
+        finally:
+            program.kill()
+            program.communicate()
+
+
+def first_line(lines, word):
+    """The first line that has the word."""
+    return next((line for line in lines if word in line), '')
 
 
 def wire(text):
@@ -236,7 +257,7 @@ PAGES = {
                   ('make run', 'what tests all of this')],
     'docs/RUST.md': [('make rust', lambda text: shell(text, cwd=top)), ('use bytes', rust(BOUND % (SENT, 'true') + BOUND % (SENT, 'false'))),
                      ('[source.crates-io]', 'scripts/check_rust writes such a file'), ('[dependencies]', 'scripts/check_rust builds bindings/rust/user so'),
-                     ('[dependencies]', 'the example behind it is over it'), ('PGPASSWORD=secret cargo', session_client), ('scripts/check_rust', 'what tests all of this')],
+                     ('[dependencies]', 'the example behind it is over it'), ('PGPASSWORD=secret cargo', session_examples), ('scripts/check_rust', 'what tests all of this')],
     'docs/PGWIRE.md': [('./pgwire', wire)],
     'docs/PGSERVE.md': [('cat >script', script_by_hand), ('tools/relay.py', script_recorded), ('#!/bin/bash', script_logged),
                         *[(start, script) for start in ('setting', 'user', 'statement', 'statement', 'statement')]],
