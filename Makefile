@@ -55,7 +55,7 @@ rust:
 	@python3 -B bindings/rust/generate.py out/rust
 
 dist:
-	@scripts/dist
+	@scripts/dist $(TARGET)
 
 verify:
 	$(needs_rt)
