@@ -249,15 +249,18 @@ def script(text):
 
 
 LISTING = 'a listing: crates/pgtrace/expected and tests/programs have such'
+LINES = '.ci/callers compares it with the lines of '
 OF_RT = 'rt proves it: make check-vendor'
 PAGES = {
-    'docs/C.md': [('make -C', c_client), ('    if (pgp_stream_startup', '.ci/callers compares it with examples/c/client.c, which runs above')],
+    'docs/C.md': [('make -C', c_client), ('    if (pgp_stream_startup', LINES + 'client.c, which runs above'),
+                  *[(start, LINES + 'pooler.c, which make check-c runs') for start in ('    while ((status', '    return pgp')]],
     'docs/PYTHON.md': [('make quick', pip), ('from postgres_protocol.client', python_program('7 Ann 2026-11-26\n')), ('        while True', sockets)],
     'README.md': [('tools/relay.py', recording), ('use bytes', rust(ASKED)), ('#include', c_program), ('import', python_program(ASKED)),
                   ('make run', 'what tests all of this')],
     'docs/RUST.md': [('make rust', lambda text: shell(text, cwd=top)), ('use bytes', rust(BOUND % (SENT, 'true') + BOUND % (SENT, 'false'))),
                      ('[source.crates-io]', 'scripts/check_rust writes such a file'), ('[dependencies]', 'scripts/check_rust builds bindings/rust/user so'),
-                     ('[dependencies]', 'the example behind it is over it'), ('PGPASSWORD=secret cargo', session_examples), ('scripts/check_rust', 'what tests all of this')],
+                     ('[dependencies]', 'the example behind it is over it'), ('PGPASSWORD=secret cargo', session_examples),
+                     *[(start, LINES + 'a program that runs above') for start in ('            match (pass_on', '        while let')], ('scripts/check_rust', 'what tests all of this')],
     'docs/PGWIRE.md': [('./pgwire', wire)],
     'docs/PGSERVE.md': [('cat >script', script_by_hand), ('tools/relay.py', script_recorded), ('#!/bin/bash', script_logged),
                         *[(start, script) for start in ('setting', 'user', 'statement', 'statement', 'statement')]],
