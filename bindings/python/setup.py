@@ -2,6 +2,7 @@
 sources, which are not proved (`rust`), and a checkout makes these by bindings/rust/quick.py: cargo and a C compiler build them."""
 import atexit
 import os
+import re
 import shutil
 import subprocess
 import sys
@@ -83,7 +84,8 @@ for name in LICENCES:
         atexit.register((HERE / name).unlink)
 setup(
     version=VERSION,
-    long_description=README.read_text(encoding='utf-8'),
+    # (where a package is shown its page's links to other pages would lead nowhere)
+    long_description=re.sub(r'\[([^]]+)\]\((?!https?:)[^)]+\)', r'\1', README.read_text(encoding='utf-8')),
     long_description_content_type='text/markdown',
     cmdclass={'build': Build, 'sdist': Sdist},
     ext_modules=[Extension('postgres_protocol._rows', ['postgres_protocol/_rows.c'], include_dirs=[str(HEADERS)], py_limited_api=True,
