@@ -60,7 +60,7 @@ def check_flood(same):
         peer.sendall(AUTHENTICATED + b''.join(frame(b'S', b'name%d\0x\0' % n) for n in range(5000)) + READY)
         with contextlib.suppress(OSError):
             while not ends.wait(0.001):
-                peer.sendall(frame(b'N', b'SNOTICE\0C00000\0Mx\0\0') * 100)
+                peer.sendall(frame(b'N', b'SNOTICE\0C00000\0Mx\0\0') * 2000)
         peer.close()
 
     async def waits(port):

@@ -1,6 +1,5 @@
 """Pools, with a server that answers each Query of any number of connections: who waits comes in order, nothing is lost where a take is cancelled, and a borrower leaves nothing behind."""
 import asyncio
-import collections
 import contextlib
 import random
 import socket
@@ -59,12 +58,12 @@ class Served:
 
 
 def check_threads(same):
-    served, counts = Served(), collections.Counter()
+    served, counts = Served(), dict.fromkeys(range(5), 0)
     with Pool(3, **served.where) as pool:
-        end = time.monotonic() + 1
+        end = time.monotonic() + 30
 
         def work(number):
-            while time.monotonic() < end:
+            while sum(counts.values()) < 1000 and time.monotonic() < end:
                 with pool.connection() as c:
                     c.script('SELECT 1')
                 counts[number] += 1
@@ -72,7 +71,7 @@ def check_threads(same):
         for thread in threads:
             thread.start()
         for thread in threads:
-            thread.join(10)
+            thread.join(60)
         same('five threads in turn', (min(counts.values()) * 2 > max(counts.values()), served.most), (True, 3))
         with pool.connection(), pool.connection(), pool.connection():
             waiter = threading.Thread(target=lambda: pool.connection().__enter__(), daemon=True)
