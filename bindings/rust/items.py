@@ -1,8 +1,10 @@
 """items.py JSON: the public items of a crate, one a line, from rustdoc's JSON: what it is, its path, its type. Traits that rustc gives and
-those of blankets are left out."""
+those of blankets are left out. An older JSON than that of Rust 1.85 ends with the status 3."""
 import json, sys
 
 data = json.load(open(sys.argv[1]))
+if data['format_version'] < 37:
+    sys.exit(3)
 index, paths = data['index'], data['paths']
 lines = set()
 
