@@ -161,6 +161,7 @@ static bool pass_on_asked(struct client *c)
     struct pgp_client_message m;
     pgp_status status;
     size_t done = 0;
+    if (c->server->side.pending) return true; /* until that is written */
     while ((status = pgp_client_front(c->side.in + done, c->side.have - done, true, PGP_EXPECT_PASSWORD, &m)) == PGP_OK && note(c->server, &m)) done += m.frame;
     hand_on(&c->side, &c->server->side, done);
     return status == PGP_OK || (status == PGP_MORE && c->side.have < ROOM);
