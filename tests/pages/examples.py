@@ -18,7 +18,8 @@ top, folder, venv = sys.argv[1:]
 prefix = os.path.join(folder, 'pgp')
 python = os.path.join(venv, 'bin/python')
 ENV = {**os.environ, 'PATH': os.pathsep.join([os.path.join(prefix, 'bin'), os.path.join(venv, 'bin'), os.environ['PATH']]), 'PROTOCOL': top,
-       'CARGO_TARGET_DIR': os.path.join(top, 'out/rust/target')}
+       # as scripts/check_rust has them, so that nothing is compiled anew
+       'CARGO_TARGET_DIR': os.path.join(top, 'out/rust/target'), 'RUSTFLAGS': '-Dwarnings'}
 # Query is its tag, four bytes of length, the text and a 0 byte.
 ASKED = '%d bytes to send, SELECT 1\n' % (1 + 4 + len('SELECT 1\0'))
 # Bind is its tag, four bytes of length, two names, two lists of one format, one value of 2 bytes.
