@@ -323,6 +323,32 @@ def check_files(same, home):
         same(str(given), type(_error(lambda: of(**given))), client.InterfaceError)
 
 
+def _prepared(parameters, columns):
+    """What a server answers to Parse, Describe and Sync of a statement of these types."""
+    numbers = [oid.to_bytes(4, 'big') for oid in parameters]
+    fields = [b'x\0' + bytes(6) + oid.to_bytes(4, 'big') + bytes(8) for oid in columns]
+    return frame(b'1', b'') + frame(b't', len(numbers).to_bytes(2, 'big') + b''.join(numbers)) + frame(b'T', len(fields).to_bytes(2, 'big') + b''.join(fields)) + READY
+
+
+def _answered(*values):
+    """And to its Bind, Execute and Sync: a row."""
+    row = b''.join(len(value).to_bytes(4, 'big') + value for value in values)
+    return frame(b'2', b'') + frame(b'D', len(values).to_bytes(2, 'big') + row) + frame(b'C', b'SELECT 1\0') + READY
+
+
+def check_types(same):
+    """A type that is looked up by its name: what the catalog says of an enum, its arrays in the binary format, and a statement that was kept by the types before."""
+    number, arrays, none = (70000).to_bytes(4, 'big'), (70001).to_bytes(4, 'big'), b'\0' * 8 + b'\0\0\0\x1a'
+    one = b'\0\0\0\1\0\0\0\0' + number + b'\0\0\0\1\0\0\0\1\0\0\0\3sad'
+    answers = [_prepared([], [70001]), _answered(b'{sad}'), _prepared([25], [26]), _answered(number), _prepared([26], [26, 25, 25, 26, 1028]),
+               _answered(arrays, b'mood', b'e', bytes(4), none), frame(b'3', b'') * 3 + _prepared([], [70001]), _answered(one), b'']
+    found, _, _ = play(answers, lambda c: (c.execute('SELECT x').fetchall(), c.add_type('mood').name, c.execute('SELECT x').fetchall()), autocommit=True)
+    same('an enum', found, ([('{sad}',)], 'mood', [(['sad'],)]))
+    missing = frame(b'2', b'') + frame(b'D', b'\0\1\xff\xff\xff\xff') + frame(b'C', b'SELECT 1\0') + READY
+    found, _, _ = play([_prepared([25], [26]), missing, b''], lambda c: c.add_type('nowhere'), autocommit=True)
+    same('no type', (type(found), str(found)), (client.ProgrammingError, "there is no type 'nowhere'"))
+
+
 def check_targets(same):
     """The session that is wanted, by what the server reports: values of libpq's `target_session_attrs`."""
     reported = [{'in_hot_standby': standby, 'default_transaction_read_only': read_only} for standby in ('off', 'on') for read_only in ('off', 'on')]
@@ -416,5 +442,5 @@ def _error(call):
 
 def check_faults(same):
     """All of them."""
-    for check in (check_copies, check_calls, check_limits, check_transports, check_direct, check_log_in, check_settings, check_targets, check_tries, check_interface):
+    for check in (check_copies, check_calls, check_limits, check_transports, check_direct, check_log_in, check_settings, check_types, check_targets, check_tries, check_interface):
         check(same)

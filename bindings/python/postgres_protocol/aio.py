@@ -15,13 +15,14 @@ from typing import Any, AsyncIterable, AsyncIterator, Callable, Dict, Iterable, 
 
 from . import events
 from .copying import binary_rows
+from .connection import Encrypts
 from .errors import Error, InterfaceError, OperationalError, Timeout
 from .link import Link, Turns, cancel, drive
-from .connection import Encrypts
-from .settings import Options, Place
-from .registry import Registry
+from .lookup import columns_of, look_up
+from .registry import Registry, Type as KnownType
 from .results import Result
 from .session import CANCEL, CHUNK, ENCRYPT, READ, SEND, Flow
+from .settings import Options, Place
 from .shared import END, Behaviour, RowFactory, Shared, as_chunk, attempts, class_row, dict_row, modes_of, namedtuple_row, scalar_row, shaped, translated
 from .streams import AsyncStream, Copied, CopiedRows, Parts, Source
 
@@ -166,7 +167,7 @@ class Connection(Shared):
 
     async def copy_rows_in(self, table: str, rows: Iterable[Sequence[Any]], columns: Sequence[str] = ()) -> Result:
         """Copies rows of values to a table, as the blocking cursor's call."""
-        sql, types = await self._run(self._session.columns(table, columns))
+        sql, types = await self._run(columns_of(self._session, table, columns))
         return await self.copy_in(sql, binary_rows(rows, types))
 
     def copy_rows_out(self, query: str) -> AsyncStream:
@@ -192,6 +193,12 @@ class Connection(Shared):
         except BaseException:
             await self._take_back(self._end_block(block, True))
             raise
+
+    async def add_type(self, name: str) -> KnownType:
+        """Looks up a type of the database's own, so that its values and its arrays are Python's: an enum, a composite type, a range, a domain, or one of the
+        modules hstore, ltree and citext."""
+        found: KnownType = await self._run(look_up(self._session, name))
+        return found
 
     async def wait(self, timeout: Optional[float] = None) -> List[events.Notification]:
         """Waits for notifications, and returns those that came."""

@@ -18,15 +18,16 @@ from typing import Any, Callable, Dict, Iterable, Iterator, List, Mapping, Optio
 
 from . import events
 from ._library import ProtocolError
+from .connection import Encrypts
 from .cursor import Cursor
 from .dbtypes import (BINARY, DATETIME, NUMBER, ROWID, STRING, Binary, Date, DateFromTicks, Time, TimeFromTicks, Timestamp, TimestampFromTicks)
 from .errors import (Broken, DatabaseError, DataError, Error, IntegrityError, InterfaceError, InternalError, NotSupportedError, OperationalError, ProgrammingError,
                      Timeout, Warning)
-from .connection import Encrypts
-from .settings import Options, Place
-from .registry import Registry
+from .lookup import look_up
+from .registry import Registry, Type as KnownType
 from .results import Result
 from .session import CANCEL, CHUNK, ENCRYPT, GRACE, READ, SEND, Flow
+from .settings import Options, Place
 from .shared import END, Behaviour, RowFactory, Shared, as_chunk, attempts, class_row, dict_row, modes_of, namedtuple_row, scalar_row, translated
 from .streams import Parts, Source, Stream
 from .wire import Wire, cancel, drive
@@ -150,6 +151,12 @@ class Connection(Shared):
         except BaseException:
             self._take_back(self._end_block(block, True))
             raise
+
+    def add_type(self, name: str) -> KnownType:
+        """Looks up a type of the database's own, so that its values and its arrays are Python's: an enum, a composite type, a range, a domain, or one of the
+        modules hstore, ltree and citext."""
+        found: KnownType = self._run(look_up(self._session, name))
+        return found
 
     def wait(self, timeout: Optional[float] = None) -> List[events.Notification]:
         """Waits for notifications, and returns those that came."""

@@ -3,6 +3,7 @@ from typing import TYPE_CHECKING, Any, Iterable, List, Optional, Sequence, Tuple
 
 from .copying import binary_rows
 from .errors import InterfaceError, ProgrammingError
+from .lookup import columns_of
 from .results import Result, Statement, count_of
 from .shared import RowFactory, shaped
 from .streams import Copied, CopiedRows, Stream
@@ -108,7 +109,7 @@ class Cursor:
     def copy_rows_in(self, table: str, rows: Iterable[Sequence[Any]], columns: Sequence[str] = ()) -> 'Cursor':
         """Copies rows of values to a table (`name` or `schema.name`, as SQL has it) in the binary format: to all columns that aren't generated, or to those of these names."""
         self._begin()
-        sql, types = self.connection._run(self.connection._session.columns(table, columns))
+        sql, types = self.connection._run(columns_of(self.connection._session, table, columns))
         return self.copy_in(sql, binary_rows(rows, types))
 
     def copy_rows_out(self, query: str) -> Stream:

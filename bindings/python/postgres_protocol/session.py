@@ -5,7 +5,6 @@ from typing import Any, Callable, Dict, Generator, List, Optional, Sequence, Set
 
 from . import errors, events
 from ._library import EMBEDDED_NULL, INT32, ProtocolError, as_integer
-from .auth import escape_identifier
 from .binding import certificate_hash
 from .connection import Connection, Encrypts
 from .copying import first_word
@@ -23,9 +22,6 @@ Found = Generator[str, Any, List[events.Event]]
 _PIECE, _NOTICES = 65536, 1000
 #: So many seconds a cancelled statement has for its answer; then the connection is closed.
 GRACE = 5
-#: (A server before version 12 has no generated columns, nor `attgenerated`.)
-_COLUMNS = ("SELECT attname::text FROM pg_catalog.pg_attribute a WHERE attrelid = $1::regclass AND attnum > 0 AND NOT attisdropped "
-            "AND coalesce(to_jsonb(a)->>'attgenerated', '') = '' ORDER BY attnum")
 _OTHER_CALL = 'the statement copies: copy_in(..) and copy_out(..) are the calls for it'
 
 
@@ -186,21 +182,6 @@ class Session:
         """The parameters and columns of a statement, which isn't kept."""
         return (yield from self._prepare('', sql, True))
 
-    def columns(self, table: str, names: Sequence[str]) -> Flow:
-        """The COPY of rows of values to a table, and the types of its columns: of those of these names, or of all that aren't generated."""
-        if not names:
-            names = [row[0] for row in (yield from self._run(_COLUMNS, [(table,)]))[1][0].rows]
-        quoted = ', '.join(escape_identifier(name.encode()).decode() for name in names)
-        statement: Statement = yield from self.describe('SELECT %s FROM %s' % (quoted, table))
-        return 'COPY %s %s FROM STDIN (FORMAT binary)' % (table, quoted and '(%s)' % quoted), self.known(statement)
-
-    def known(self, statement: Statement) -> List[Type]:
-        """The types of a statement's columns, all of which have to be known in the binary format."""
-        kept = [self.registry.get(field.type_oid) for field in statement.fields]
-        if any(one.is_text for one in kept):
-            raise errors.ProgrammingError('columns of types that are not known here: %s' % [one.oid for one in kept if one.is_text])
-        return kept
-
     def _prepare(self, name: str, sql: str, syncs: bool) -> Flow:
         connection = self.connection
         connection.parse(name, sql)
@@ -329,6 +310,10 @@ class Session:
     def plain(self, sql: str) -> Flow:
         """A statement that opens no transaction but its own."""
         yield from self._until_ready(self.connection.query(sql))
+
+    def forget(self) -> None:
+        """Prepares each statement anew, as by types that are known now."""
+        self._dropped += [self._statements.popitem()[1].name for _ in range(len(self._statements))]
 
     def discard(self, sql: str = 'DISCARD ALL') -> Flow:
         """The server keeps nothing of the session, and no statement."""

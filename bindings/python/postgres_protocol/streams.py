@@ -5,6 +5,7 @@ from typing import TYPE_CHECKING, Any, AsyncIterator, Iterator, Optional, Sequen
 from . import events
 from .copying import BinaryReader
 from .errors import Error
+from .lookup import known_types
 from .results import Result, Statement
 from .session import READ, Flow, Session
 from .shared import RowFactory, shaped
@@ -70,7 +71,7 @@ class CopiedRows(Copied):
     def more(self) -> Flow:
         if self._statement is None:
             self._statement = yield from self.session.describe(self._query)
-            self.session.known(self._statement)
+            known_types(self.session, self._statement)
             self._reader = BinaryReader(self._statement.decoders)
         while True:
             pieces = yield from super().more()
