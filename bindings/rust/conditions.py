@@ -26,6 +26,7 @@ SAID = {
     'IsNamed (Startup 0 (map shown parameters.now))': NAMED,
     'IsNamed (Startup 0 (map shown_pair parameters.now))': NAMED,
     'IsNamed (Startup (minor_of version) (map shown parameters.now))': NAMED,
+    'IsNamed (packet_of versions (map shown_pair parameters.now))': NAMED,
     'IsNonce (string_bytes nonce)': ('crate::scram::nonce::is_nonce(&nonce)', 'a nonce is printable ASCII without a comma'),
     'IsWhole self.now.opened self.now.bytes.now': None,
     'AreLeft T.read self.old': None,

@@ -107,6 +107,57 @@ static void more_log_ins(void)
     same("status", h.c.status, 'T');
 }
 
+/* What a server may answer about the versions that are asked for: once, one of them, and none that changes nothing. At any time before the client is let in. */
+static void versions(void)
+{
+    static const struct { uint8_t asked, minor, count; pgp_status status; uint8_t answered; } rows[] = {
+        {PGP_VERSIONS_3_0, 0, 0, PGP_LOGIN_UNDUE, 0}, {PGP_VERSIONS_3_0, 2, 0, PGP_LOGIN_UNDUE, 0}, {PGP_VERSIONS_TO_3_2, 0, 0, PGP_OK, PGP_ANSWERED_3_0},
+        {PGP_VERSIONS_TO_3_2, 1, 0, PGP_LOGIN_UNDUE, 0}, {PGP_VERSIONS_TO_3_2, 2, 0, PGP_LOGIN_UNDUE, 0}, {PGP_VERSIONS_TO_3_2, 3, 0, PGP_LOGIN_UNDUE, 0},
+        {PGP_VERSIONS_3_2, 0, 0, PGP_LOGIN_UNDUE, 0}, {PGP_VERSIONS_3_2, 1, 0, PGP_LOGIN_UNDUE, 0}, {PGP_VERSIONS_3_2, 2, 0, PGP_LOGIN_UNDUE, 0},
+        {PGP_VERSIONS_TO_3_2, 0, 1, PGP_LOGIN_UNDUE, 0}};
+    struct held h;
+    size_t i;
+    for (i = 0; i < sizeof rows / sizeof *rows; i++) {
+        struct pgp_ways w = by(PGP_WAY_NONE);
+        uint8_t message[] = "v\0\0\0\x0c\0\3\0\0\0\0\0\0";
+        message[8] = rows[i].minor; message[12] = rows[i].count;
+        w.versions = rows[i].asked;
+        begin(&h);
+        takes(&h, &w, message, 13, rows[i].status, PGP_PART, STARTUP, NONE);
+        same("answered", h.c.version, rows[i].answered);
+    }
+    struct pgp_ways w = by(PGP_WAY_SCRAM);
+    w.versions = PGP_VERSIONS_TO_3_2;
+    begin(&h);
+    TAKES(OFFER, PGP_PART, STARTUP, B(FIRST_SENT));
+    TAKES(CONTINUE, PGP_PART, STARTUP, B(FINAL_SENT));
+    TAKES(FINAL, PGP_PART, STARTUP, NONE);
+    TAKES("v\0\0\0\x0c\0\3\0\0\0\0\0\0", PGP_PART, STARTUP, NONE);
+    TAKES(WELCOME, PGP_PART, STARTUP, NONE);
+    ENDS("K\0\0\0\x0d\0\0\0\x01" "keyed", PGP_LOGIN_UNDUE);
+}
+
+/* A key has four bytes where 3.0 is spoken, and 4 to 256 where 3.2 is. */
+static void keys(void)
+{
+    uint8_t message[9 + 256] = "K\0\0\0\0\0\0\0\x01";
+    struct held h;
+    size_t len;
+    memset(message + 9, 'k', 256);
+    for (len = 4; len <= 256; len += 63) {
+        uint8_t asked;
+        for (asked = PGP_VERSIONS_3_0; asked <= PGP_VERSIONS_3_2; asked++) {
+            struct pgp_ways w = by(PGP_WAY_NONE);
+            w.limit = 300; w.versions = asked;
+            message[3] = (uint8_t)((8 + len) >> 8); message[4] = (uint8_t)(8 + len);
+            begin(&h);
+            TAKES(WELCOME, PGP_PART, STARTUP, NONE);
+            takes(&h, &w, message, 9 + len, len == 4 || asked != PGP_VERSIONS_3_0 ? PGP_OK : PGP_LOGIN_UNDUE, PGP_PART, STARTUP, NONE);
+            if (!h.c.is_over) is("key", h.c.secret_key, h.c.key_len, message + 9, len);
+        }
+    }
+}
+
 /* What a server may not send in a log-in, and what it may. */
 static void early(void)
 {
@@ -137,9 +188,6 @@ static void early(void)
         same("once", pgp_connection_take(&h.c, &w, B(OFFER), out, sizeof out, &n, &t), PGP_E_WRONG_PHASE);
         same("nothing is asked", pgp_connection_ask(&h.c, PGP_REQUEST_STARTUP, 1), PGP_E_WRONG_PHASE);
     }
-    begin(&h);
-    TAKES("v\0\0\0\x0c\0\3\0\0\0\0\0\0", PGP_PART, STARTUP, NONE);
-    ENDS("v\0\0\0\x0c\0\3\0\0\0\0\0\0", PGP_LOGIN_UNDUE);
     begin(&h);
     TAKES("E\0\0\0\x05\0", PGP_ENDED, 0, NONE);
     same("over", h.c.is_over, true);
@@ -345,5 +393,5 @@ static void anything(void)
 
 void connections(void)
 {
-    log_ins(); more_log_ins(); early(); rooms(); requests(); limits(); settings(); anything();
+    log_ins(); more_log_ins(); early(); versions(); keys(); rooms(); requests(); limits(); settings(); anything();
 }

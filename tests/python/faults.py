@@ -256,6 +256,15 @@ def check_secrets(same):
     for name, variable, value in (('gssencmode', 'PGGSSENCMODE', 'require'), ('client_encoding', 'PGCLIENTENCODING', 'LATIN1'), ('sslmode', 'PGSSLMODE', 'sure'), ('', 'PGSSLMINPROTOCOLVERSION', 'TLSv9')):
         with mock.patch.dict(os.environ, {variable: value}):
             same(variable, type(_error(lambda: settings.Options({'host': 'h', 'user': 'u'}).context())), client.InterfaceError)
+    versions = lambda **given: (lambda core: (core.data_to_send()[7], core.version))(settings.Options({'host': '/x', 'user': 'u', **given}).core(settings.Place('/x', '/x', 5432), False))
+    for given, wanted in (({}, 0), ({'max_protocol_version': '3.2'}, 2), ({'max_protocol_version': 'latest'}, 2), ({'min_protocol_version': '3.2'}, 2), ({'min_protocol_version': 'latest'}, 2),
+                          ({'min_protocol_version': '3.0', 'max_protocol_version': '3.0'}, 0)):
+        same(str(given), versions(**given), (wanted, '3.%d' % wanted))
+        with mock.patch.dict(os.environ, {'PG' + name.upper().replace('_', ''): value for name, value in given.items()}):
+            same('PG %s' % given, versions(), (wanted, '3.%d' % wanted))
+    for given, wanted in (({'min_protocol_version': '3.1'}, 'min_protocol_version: one of'), ({'max_protocol_version': '3.3'}, 'max_protocol_version: one of'),
+                          ({'min_protocol_version': '3.2', 'max_protocol_version': '3.0'}, 'min_protocol_version is later than max_protocol_version')):
+        same(str(given), str(_error(lambda: settings.Options({'host': 'h', 'user': 'u', **given})))[:len(wanted)], wanted)
     with mock.patch.dict(os.environ, {'PGREQUIRESSL': '1', 'PGREQUIREPEER': 'postgres', 'PGSSLMINPROTOCOLVERSION': 'TLSv1.3'}):
         kept = settings.Options({'host': '/x', 'user': 'u'}, settings={'work_mem': '7MB'})
         same('honoured', (kept.must_encrypt, kept.places[0].peer, kept.context().minimum_version, kept.parameters), (True, 'postgres', ssl.TLSVersion.TLSv1_3, {'work_mem': '7MB'}))

@@ -121,6 +121,29 @@ def check_log_in_order(same, raises):
     raises('a password that no message holds', LogInError, 'the server sent AuthenticationCleartextPassword, which is rejected: EmbeddedNull', lambda: _asked(Connection('alice', 'a\0b')))
 
 
+def check_versions(same, raises):
+    """The versions that are asked for, what a server may answer about them, and the keys of each."""
+    answer = lambda minor: frame(b'v', b'\0\3\0%c\0\0\0\0' % minor)
+    key = lambda count: frame(b'K', b'\0\0\0\1' + b'k' * count)
+    to_3_2, only = {'max_version': '3.2'}, {'min_version': '3.2', 'max_version': '3.2'}
+    for given, minor, came, spoken in (({}, 0, [], '3.0'), (to_3_2, 2, [], '3.2'), (only, 2, [], '3.2'), (to_3_2, 2, [answer(0)], '3.0')):
+        connection = Connection('alice', **given)
+        same('packet %r' % given, connection.data_to_send()[4:8], b'\0\3\0%c' % minor)
+        for message in (*came, AUTHENTICATED, key(4 if spoken == '3.0' else 32), READY):
+            connection.receive_data(message)
+        same('spoken %r' % given, (connection.next_event(), connection.version, len(connection.secret_key)), (events.LoggedIn(1), spoken, 4 if spoken == '3.0' else 32))
+    told = 'the server answers about the protocol what was not asked for: versions %s to %s are'
+    for given, minors, text in (({}, (0, 1, 2, 3), told % ('3.0', '3.0')), (to_3_2, (1, 2, 3), told % ('3.0', '3.2')), (only, (0, 1, 2, 3), told % ('3.2', '3.2'))):
+        for minor in minors:
+            connection = Connection('alice', **given)
+            connection.receive_data(answer(minor) + AUTHENTICATED + READY)
+            raises('answered %r %d' % (given, minor), LogInError, text, connection.next_event)
+    connection = Connection('alice')
+    connection.receive_data(AUTHENTICATED + key(5))
+    raises('a key of five bytes', pg.ProtocolError, 'LogInUndue', connection.next_event)
+    raises('no versions', ValueError, 'min_version, max_version: ', lambda: Connection('alice', min_version='3.2'))
+
+
 def _rejected(call):
     """Whether it raises, and for good."""
     for _ in range(2):
@@ -328,5 +351,5 @@ def check_asyncio(same, raises):
 
 def check_sessions(same, raises):
     """All of them."""
-    for check in (check_log_in, check_log_in_order, check_encryption, check_requests, check_runs, check_mutations, check_client, check_asyncio):
+    for check in (check_log_in, check_log_in_order, check_versions, check_encryption, check_requests, check_runs, check_mutations, check_client, check_asyncio):
         check(same, raises)

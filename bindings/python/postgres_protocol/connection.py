@@ -13,7 +13,7 @@ from . import _rows, events
 from ._library import MORE, NO_ROOM, OK, WRONG_PHASE, ProtocolError
 from .reading import Message, error_fields, fields, formats, mechanisms, messages, types
 from .registry import DECODERS, Decoder
-from .state import METHODS, LogInError, State
+from .state import METHODS, VERSIONS, LogInError, State
 from .stream import Stream
 
 __all__ = ['Connection', 'DecodeError', 'LogInError', 'METHODS']
@@ -51,12 +51,13 @@ class Connection:
     the password in clear text where SCRAM is expected. `certificate` is the hash of the server's certificate (RFC 5929), with which SCRAM is
     bound to the TLS channel; with `must_bind` there is no log-in without that. An exchange of SCRAM with fewer than `least_rounds` is
     rejected (RFC 7677 wants 4096; one is enough for libpq). Of `parameters` none is a protocol option (`_pq_.`): an answer about those
-    would end the connection. With `encrypt='direct'` nothing is sent before `encrypted` is called."""
+    would end the connection. With `encrypt='direct'` nothing is sent before `encrypted` is called. The versions of the protocol from `min_version` to
+    `max_version` are asked for, '3.0' or '3.2': there is no log-in with another."""
 
     def __init__(self, user: str, password: Optional[str] = None, database: Optional[str] = None, parameters: Optional[Mapping[str, str]] = None,
                  require_auth: Sequence[str] = METHODS, max_message: int = 2 ** 30, encrypt: Encrypts = False,
-                 must_bind: bool = False, least_rounds: int = 1) -> None:
-        self._state = State(user, password, require_auth, must_bind, least_rounds, max_message)
+                 must_bind: bool = False, least_rounds: int = 1, min_version: str = '3.0', max_version: str = '3.0') -> None:
+        self._state = State(user, password, require_auth, must_bind, least_rounds, max_message, min_version, max_version)
         for name in parameters or {}:
             if name.startswith('_pq_.'):
                 raise ValueError('parameters: no protocol option is expected, not %r' % (name,))
@@ -85,7 +86,7 @@ class Connection:
             self._open()
 
     def _open(self) -> None:
-        self._ask('Startup', self._stream.startup, self._startup)
+        self._ask('Startup', self._stream.startup, self._startup, VERSIONS[self.version])
 
     def encrypted(self, certificate: Optional[bytes] = None) -> None:
         """The channel is encrypted now: the session is opened. `certificate` is the hash for the channel's binding, if the server's certificate
@@ -223,6 +224,11 @@ class Connection:
         return self._state.is_copying
 
     @property
+    def version(self) -> str:
+        """The version of the protocol that is spoken, '3.0' or '3.2'."""
+        return self._state.version
+
+    @property
     def process_id(self) -> int:
         """The number of the server's process, for a cancel request."""
         return self._state.key[0]
@@ -323,7 +329,7 @@ class Connection:
             return False
         if step.status != OK:
             why = self._state.why(kind, step.status)
-            self._fault = LogInError(why) if kind.startswith('Authentication') else ProtocolError(step.status, self._at)
+            self._fault = LogInError(why) if kind.startswith(('Authentication', 'Negotiate')) else ProtocolError(step.status, self._at)
             raise self._fault
         self._out += [self._stream.drain(), step.reply]
         self._at += step.frame

@@ -18,13 +18,13 @@ _ENVIRONMENT = {
     'sslrootcert': 'PGSSLROOTCERT', 'sslcert': 'PGSSLCERT', 'sslkey': 'PGSSLKEY', 'sslcrl': 'PGSSLCRL', 'sslcrldir': 'PGSSLCRLDIR', 'sslcertmode': 'PGSSLCERTMODE',
     'ssl_min_protocol_version': 'PGSSLMINPROTOCOLVERSION', 'ssl_max_protocol_version': 'PGSSLMAXPROTOCOLVERSION', 'sslnegotiation': 'PGSSLNEGOTIATION', 'sslsni': 'PGSSLSNI',
     'requirepeer': 'PGREQUIREPEER', 'require_auth': 'PGREQUIREAUTH', 'channel_binding': 'PGCHANNELBINDING', 'gssencmode': 'PGGSSENCMODE',
-    'target_session_attrs': 'PGTARGETSESSIONATTRS', 'load_balance_hosts': 'PGLOADBALANCEHOSTS', 'min_protocol_version': 'PGMINPROTOCOLVERSION'}
+    'target_session_attrs': 'PGTARGETSESSIONATTRS', 'load_balance_hosts': 'PGLOADBALANCEHOSTS', 'min_protocol_version': 'PGMINPROTOCOLVERSION',
+    'max_protocol_version': 'PGMAXPROTOCOLVERSION'}
 #: What libpq knows and has no meaning here: no safety of a connection depends on it.
 _IGNORED = frozenset(('keepalives', 'keepalives_idle', 'keepalives_interval', 'keepalives_count', 'tcp_user_timeout', 'krbsrvname', 'gsslib', 'sslcompression',
-                      'gssdelegation', 'max_protocol_version'))
+                      'gssdelegation'))
 #: What would make a connection other than it can be here, with the values that are taken.
-_FIXED = {'load_balance_hosts': ('disable',), 'gssencmode': ('disable', 'prefer'), 'sslsni': ('1',),
-          'min_protocol_version': ('3.0',), 'sslcertmode': ('allow', 'disable')}
+_FIXED = {'load_balance_hosts': ('disable',), 'gssencmode': ('disable', 'prefer'), 'sslsni': ('1',), 'sslcertmode': ('allow', 'disable')}
 _KNOWN = frozenset((*_ENVIRONMENT, *_IGNORED, *_FIXED, 'service', 'fallback_application_name', 'replication', 'sslpassword', 'least_rounds'))
 #: Settings of a session that the environment has.
 _SESSION = {'datestyle': 'PGDATESTYLE', 'timezone': 'PGTZ', 'geqo': 'PGGEQO'}
@@ -82,6 +82,7 @@ class Options:
         if not rounds.isdecimal() or int(rounds) >= 2 ** 32:
             raise InterfaceError('least_rounds: a number is expected, not %r' % rounds)
         self._least_rounds = int(rounds)
+        self._oldest, self._newest = _protocol_versions(kept)
         self._must_bind = _one_of('channel_binding', kept, ('prefer', 'disable', 'require')) == 'require'
         self.sslmode = _one_of('sslmode', kept, ('prefer', *SSL_MODES))
         target = _one_of('target_session_attrs', kept, (*_TARGETS, 'prefer-standby'))
@@ -135,7 +136,7 @@ class Options:
             password = _password_of(self._passfile, place, self.dbname, self.user)
         try:
             return Core(self.user, password, self.dbname, self.parameters, self.require_auth, encrypt=encrypts, must_bind=self._must_bind,
-                        least_rounds=self._least_rounds)
+                        least_rounds=self._least_rounds, min_version=self._oldest, max_version=self._newest)
         except ValueError as error:
             raise InterfaceError(str(error)) from error
 
@@ -215,6 +216,15 @@ def _one_of(name: str, kept: Mapping[str, Any], values: Sequence[str]) -> str:
     if value not in values:
         raise InterfaceError('%s: one of %s is expected, not %r' % (name, ', '.join(sorted(set(values))), value))
     return value
+
+
+def _protocol_versions(kept: Mapping[str, Any]) -> Tuple[str, str]:
+    """The oldest and the newest version of the protocol that is asked for: 3.0 unless more is said, as in libpq, and where the oldest is later the latest."""
+    oldest = _one_of('min_protocol_version', kept, ('3.0', '3.2', 'latest')).replace('latest', '3.2')
+    newest = _one_of('max_protocol_version', kept, (oldest, '3.0', '3.2', 'latest')).replace('latest', '3.2')
+    if oldest > newest:
+        raise InterfaceError('min_protocol_version is later than max_protocol_version')
+    return oldest, newest
 
 
 def _settings(given: Mapping[str, Any]) -> Dict[str, Any]:

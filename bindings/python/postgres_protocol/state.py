@@ -7,6 +7,7 @@ from typing import Dict, List, NamedTuple, Optional, Sequence, Tuple
 from ._library import OK, OUT, UINT32, ProtocolError, as_integer, declare, text
 from .auth import saslprep
 from .dialogue import REQUESTS, DialogueState, Requests
+from .writing import VERSION_3_0, VERSION_3_2
 
 
 class LogInError(Exception):
@@ -19,7 +20,7 @@ class _Text(Structure):
 
 class _Ways(Structure):
     _fields_ = [('user', _Text), ('password', _Text), ('certificate', _Text), ('nonce', _Text), ('least_rounds', c_uint32), ('limit', c_uint32), ('ways', c_uint8),
-                ('kind', c_uint8), ('is_encrypted', c_bool)]
+                ('kind', c_uint8), ('is_encrypted', c_bool), ('versions', c_uint8)]
 
 
 class _LogIn(Structure):
@@ -28,7 +29,7 @@ class _LogIn(Structure):
 
 class _Connection(Structure):
     _fields_ = [('dialogue', DialogueState), ('settings', c_size_t * 3), ('key_len', c_size_t), ('process_id', c_int32), ('is_over', c_bool), ('status', c_uint8),
-                ('login', _LogIn), ('secret_key', c_uint8 * 256)]
+                ('login', _LogIn), ('secret_key', c_uint8 * 256), ('version', c_uint8)]
 
 
 class _Taken(Structure):
@@ -40,6 +41,9 @@ _ask = declare('connection_ask', POINTER(_Connection), c_uint8, c_uint64)
 _is_idle = declare('connection_is_idle', POINTER(_Connection), POINTER(c_bool))
 _is_copying = declare('connection_is_copying', POINTER(_Connection), result=c_bool)
 
+#: The versions of the protocol, and which of them a client can ask for, from one to another.
+VERSIONS = {'3.0': VERSION_3_0, '3.2': VERSION_3_2}
+_ASKED_VERSIONS = {('3.0', '3.0'): 0, ('3.0', '3.2'): 1, ('3.2', '3.2'): 2}
 #: The ways of logging in, by the names of libpq's `require_auth`.
 METHODS = ('scram-sha-256', 'md5', 'password', 'none')
 _BITS = {'none': 1, 'password': 2, 'md5': 4, 'scram-sha-256': 8}
@@ -60,9 +64,13 @@ class Step(NamedTuple):
 
 class State(Requests):
     """The state of a connection, and what a log-in needs. No way is admitted that isn't among `ways` (`METHODS`), and none but 'none' without a password.
-    `least_rounds` are those that SCRAM has to have; with `must_bind` it has to be bound to the channel (`encrypted`). A message may have `limit` bytes."""
+    `least_rounds` are those that SCRAM has to have; with `must_bind` it has to be bound to the channel (`encrypted`). A message may have `limit` bytes. The
+    versions from `oldest` to `newest` are asked for."""
 
-    def __init__(self, user: str, password: Optional[str], ways: Sequence[str], must_bind: bool, least_rounds: int, limit: int) -> None:
+    def __init__(self, user: str, password: Optional[str], ways: Sequence[str], must_bind: bool, least_rounds: int, limit: int, oldest: str, newest: str) -> None:
+        if (oldest, newest) not in _ASKED_VERSIONS:
+            raise ValueError('min_version, max_version: 3.0 or 3.2 is expected, the first no later than the second, not %r and %r' % (oldest, newest))
+        self._oldest, self._newest = oldest, newest
         for way in ways:
             if way not in METHODS:
                 raise ValueError('require_auth: one of %s is expected, not %r' % (', '.join(METHODS), way))
@@ -73,7 +81,8 @@ class State(Requests):
         self._admitted, self._must_bind, self._offered = ('scram-sha-256',) if must_bind else tuple(ways), must_bind, ''
         self._password = b'' if password is None else password.encode(errors='surrogateescape')
         bits = sum(_BITS[way] for way in set(self._admitted) if password is not None or way == 'none')
-        self._ways = _Ways(least_rounds=as_integer(least_rounds, 'least_rounds', *UINT32), limit=as_integer(limit, 'max_message', *UINT32), ways=bits)
+        self._ways = _Ways(least_rounds=as_integer(least_rounds, 'least_rounds', *UINT32), limit=as_integer(limit, 'max_message', *UINT32), ways=bits,
+                           versions=_ASKED_VERSIONS[oldest, newest])
         self._given: Dict[str, bytes] = {}
         self._give(user=user.encode(), password=self._password, certificate=b'', nonce=secrets.token_urlsafe(18).encode())
 
@@ -148,6 +157,11 @@ class State(Requests):
         return chr(self._connection.status) if self._connection.status else ''
 
     @property
+    def version(self) -> str:
+        """The version that is spoken: that of the startup packet, or the one that the server answered."""
+        return (self._newest, *VERSIONS)[self._connection.version]
+
+    @property
     def key(self) -> Tuple[int, bytes]:
         """The number and the key for a cancel request."""
         return self._connection.process_id, bytes(self._connection.secret_key[:self._connection.key_len])
@@ -173,4 +187,6 @@ class State(Requests):
             return 'the server did not show that it knows the password'
         if status == _TOO_FEW_ROUNDS:
             return 'the server asks for fewer than %d rounds of SCRAM (least_rounds)' % self._ways.least_rounds
+        if status == _UNDUE and kind == 'NegotiateProtocolVersion':
+            return 'the server answers about the protocol what was not asked for: versions %s to %s are, and no option' % (self._oldest, self._newest)
         return 'the server sent %s, which %s' % (kind, 'has no place there' if status == _UNDUE else 'is rejected: %s' % ProtocolError(status))

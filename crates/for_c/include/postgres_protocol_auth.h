@@ -67,7 +67,7 @@ struct pgp_login {
  * caller's, all 0 at first but for its memory for requests, and for settings:
  *     struct pgp_slot slots[64] = {{0, 0}};
  *     uint8_t settings[4096];
- *     struct pgp_connection connection = {{slots, 64, 0, 0, 0, 0}, {settings, sizeof settings, 0}, 0, 0, false, 0, {0, {0}}, {0}};
+ *     struct pgp_connection connection = {{slots, 64, 0, 0, 0, 0}, {settings, sizeof settings, 0}, 0, 0, false, 0, {0, {0}}, {0}, 0};
  * The caller moves the bytes: what it sends is written by pgp_stream_* or the single writers, and asked; what came is taken a message at a time.
  *   pgp_connection_ask   takes note of a request, in the order in which they are sent: the startup packet first, and others once the log-in is done.
  *                        PGP_E_WRONG_PHASE where the request may not be sent: before that, after the end, and while the server awaits the data of a
@@ -86,8 +86,9 @@ struct pgp_login {
  *   PGP_CONNECTION_TOO_LONG          a message is announced that is longer than `limit`, or before the log-in is done than 30,000 bytes
  *   those of pgp_front               what came is no message. A FunctionCallResponse and a CopyBothResponse aren't read
  *   PGP_E_UNEXPECTED, _UNCERTAIN     the message has no place there, as pgp_dialogue_take has it
- *   PGP_LOGIN_UNDUE                  a setting, a notice or a notification came before the log-in is done, or an answer about versions that isn't due:
- *                                    one is, right behind the startup packet, where the server speaks 3.0 and lists no option. So send none (_pq_.)
+ *   PGP_LOGIN_UNDUE                  a setting, a notice or a notification came before the log-in is done; or an answer about versions that isn't due: one
+ *                                    is, where it names another version of those that `versions` asks for, and lists no option (so send none, _pq_.); or a
+ *                                    key that hasn't 4 bytes, or where 3.2 is spoken 4 to 256
  *   PGP_CONNECTION_NO_STATUS         a ReadyForQuery has another status than I, T and E
  *   PGP_LOGIN_UNDUE                  a request of the log-in isn't due, as AuthenticationOk in an exchange before the server has shown its signature
  *   PGP_LOGIN_NOT_ADMITTED           `ways` hasn't the way that the server asks for (GSSAPI, SSPI and Kerberos are none here); also where the server offers
@@ -100,6 +101,10 @@ struct pgp_login {
  * Each setting that the server reports (a PARAMETER_STATUS: a server of PostgreSQL 15 reports 14, of some 400 bytes) is kept in the room for settings, with
  * the value that was reported last. Where the room has no byte none is kept, and the caller reads them of their messages.
  */
+/* The versions of the protocol that a client asks for: 3.0 (packet of PGP_PROTOCOL_3_0); 3.2, or 3.0 where the server speaks no other, and 3.2 alone (packets
+   of PGP_PROTOCOL_3_2). Who asks for 3.2 alone is never logged in at 3.0. And what a server answers about them. */
+enum { PGP_VERSIONS_3_0 = 0, PGP_VERSIONS_TO_3_2 = 1, PGP_VERSIONS_3_2 = 2 };
+enum { PGP_ANSWERED_NONE = 0, PGP_ANSWERED_3_0 = 1, PGP_ANSWERED_3_2 = 2 };
 struct pgp_ways {
     struct pgp_bytes user, password;       /* of MD5; the password that is sent, or prepared by pgp_saslprep for SCRAM */
     struct pgp_bytes certificate, nonce;   /* of SCRAM, as for the calls above; the same in each call */
@@ -108,6 +113,7 @@ struct pgp_ways {
     uint8_t ways;                          /* those that are admitted, PGP_WAY_.. */
     uint8_t kind;                          /* of the channel binding */
     bool is_encrypted;                     /* the connection has TLS */
+    uint8_t versions;                      /* which versions the startup packet asks for, PGP_VERSIONS_.. */
 };
 /* The settings: a name and a value at a time, each with a 0 behind it, in `len` bytes at the front of the room; the setting that was reported last first. */
 struct pgp_settings {
@@ -123,6 +129,7 @@ struct pgp_connection {
     uint8_t status;                        /* I, T or E, as the last ReadyForQuery says; 0 before the first */
     struct pgp_login login;                /* login.phase is PGP_LOGIN_DONE once the server has let the client in */
     uint8_t secret_key[256];
+    uint8_t version;                       /* that the server answered, PGP_ANSWERED_..; where it answered none, it speaks the packet's */
 };
 struct pgp_taken {
     uint64_t name;                         /* of the request that is answered; 0 where there is none */

@@ -2,7 +2,7 @@
 use Rattle.for_c_auth.proofs.Common.{◌≡◌, ◌≢◌, ℕ, ◌+◌, Bool, List, [], Some, None, Ok, Err, Option, Result, ap, arith, inl, inr, length, length-append, refl, subst, sym, ◌-◌, ◌∙◌, DataRow, Message, kind_of, PgpWays, PgpLogin, parsed, view, Talk, CountedBytes, IsPartial, Step, TakesFrame, frame_bytes}
 use Rattle.pgp_client.specs.Codes.{refusal_at}
 use Rattle.pgp_client.specs.Limits.{is_longer}
-use Rattle.pgp_client.specs.Taking.{Takes, is_between, taken}
+use Rattle.pgp_client.specs.Taking.{Takes, taken}
 use Rattle.pgp_client.specs.declared.event.Event.{Event}
 use Rattle.pgp_client.specs.declared.event.Refusal.{Refusal}
 use Rattle.pgp_client.specs.declared.kind.Kind.{Kind}
@@ -11,7 +11,7 @@ use Rattle.pgp_message.specs.Rows.{TakesRow}
 use Rattle.pgp_message.specs.declared.message as code
 use Rattle.for_c_auth.specs.Answering.{HasAnswered, asking}
 use Rattle.pgp_login.specs.Machine.{NothingAsked}
-use Rattle.for_c_auth.specs.Connection.{FitsAt, IsMisplaced, IsTimely, Link, NoMemory, NoRoom, NoSettingRoom, NoStatus, NotRepliedTo, Rejects, Took, TookSo, Unanswered, Untimely, ended, is_done, noted, reported_as, with_login, with_talk}
+use Rattle.for_c_auth.specs.Connection.{IsFit, IsMisplaced, Link, NoMemory, NoRoom, NoSettingRoom, NoStatus, NotRepliedTo, Rejects, Took, TookSo, Unanswered, Untimely, ended, noted, reported_as, with_login, with_talk}
 use Rattle.for_c_auth.specs.declared.connection.PgpTaken.{PgpTaken}
 
 taken_no : (r : Result (Event × Talk) Refusal) (e : Refusal) (new : Talk) → Takes r (Err e) new → (r ≡ Err e) × (new.stage ≡ Over)
@@ -35,34 +35,31 @@ pub took_row : (w : PgpWays) (given : ℕ) (row : CountedBytes) (old new : Link)
 took_row w given row old new t e out said frame takes is reported =
     (e, [], subst (λ n. Took w given (DataRow row) old n e []) (sym is) (took_row_so w given row old t e takes), reported, record { length_is = refl; fits = omega arith; stands = refl })
 
--- `first` says that no answer is under way, and nothing stands before the reply
-module _ (lacks : Type 0) (full : Message → Type 0) (w : PgpWays) (given : ℕ) (m : Message) (room : ℕ) (old : Link) (first : Bool) (first_is : first ≡ is_between old.talk) (before : List ℕ) (none : before ≡ []) where
-  fit_now : FitsAt old.login first m → FitsAt old.login (is_between old.talk) m
-  fit_now f = subst (λ b. FitsAt old.login b m) first_is f
-
+-- nothing stands before the reply
+module _ (lacks : Type 0) (full : Message → Type 0) (w : PgpWays) (given : ℕ) (m : Message) (room : ℕ) (old : Link) (before : List ℕ) (none : before ≡ []) where
   answered_now : (l : PgpLogin) (reply : List ℕ) → HasAnswered w (asking m) old.login l before reply → HasAnswered w (asking m) old.login l [] reply
   answered_now l reply h = subst (λ b. HasAnswered w (asking m) old.login l b reply) none h
 
-  pub lacking : (code : ℕ) → code ≡ 1 → NotRepliedTo lacks full w old.login first m before room code → Rejects lacks full w m room old old 1
+  pub lacking : (code : ℕ) → code ≡ 1 → NotRepliedTo lacks full w old.login old.version m before room code → Rejects lacks full w m room old old 1
   lacking code one (inl h) = let is = h.0 in absurd (omega (arith, one, is))
   lacking code one (inr (inl h)) = let is = h.0 in absurd (omega (arith, one, is))
-  lacking code one (inr (inr (inl h))) = subst (λ n. Rejects lacks full w m room old old n) one (NoMemory (fit_now h.0) h.1 one refl)
-  lacking code one (inr (inr (inr (inr h)))) = NoSettingRoom (fit_now h.1) h.2 refl refl
-  lacking code one (inr (inr (inr (inl h)))) = NoRoom h.2 h.3 (fit_now h.1) (answered_now h.2 h.3 h.4) h.5 refl refl
+  lacking code one (inr (inr (inl h))) = subst (λ n. Rejects lacks full w m room old old n) one (NoMemory h.0 h.1 one refl)
+  lacking code one (inr (inr (inr (inr h)))) = NoSettingRoom h.1 h.2 refl refl
+  lacking code one (inr (inr (inr (inl h)))) = NoRoom h.2 h.3 h.1 (answered_now h.2 h.3 h.4) h.5 refl refl
 
   module _ (e : Event) (t : Talk) (k : Kind) (kind_is : k ≡ kind_of m) (takes_it : taken old.talk k ≡ Ok (e, t)) where
     takes : taken old.talk (kind_of m) ≡ Ok (e, t)
     takes = subst (λ x. taken old.talk x ≡ Ok (e, t)) kind_is takes_it
 
-    pub stops : (code : ℕ) → code ≢ 1 → NotRepliedTo lacks full w old.login first m before room code → Rejects lacks full w m room old (ended (with_talk t old)) code
-    stops code other (inl h) = Untimely e t takes (λ timely. h.1 (subst (λ b. IsTimely (is_done old.login) b m) (sym first_is) timely)) h.0 refl
-    stops code other (inr (inl h)) = NoStatus e t takes (subst (λ b. IsTimely (is_done old.login) b m) first_is h.1) h.2 h.0 refl
-    stops code other (inr (inr (inl h))) = Unanswered e t takes (fit_now h.0) h.1 other refl
+    pub stops : (code : ℕ) → code ≢ 1 → NotRepliedTo lacks full w old.login old.version m before room code → Rejects lacks full w m room old (ended (with_talk t old)) code
+    stops code other (inl h) = Untimely e t takes h.1 h.0 refl
+    stops code other (inr (inl h)) = NoStatus e t takes h.1 h.2 h.0 refl
+    stops code other (inr (inr (inl h))) = Unanswered e t takes h.0 h.1 other refl
     stops code other (inr (inr (inr (inl h)))) = absurd (other h.0)
     stops code other (inr (inr (inr (inr h)))) = absurd (other h.0)
 
-    pub took : (l : PgpLogin) (reply : List ℕ) (new : Link) → FitsAt old.login first m → HasAnswered w (asking m) old.login l before reply → new ≡ noted given m e (with_login l (with_talk t old)) → Took w given m old new e reply
-    took l reply new fit h is = subst (λ n. Took w given m old n e reply) (sym is) (record { taken = takes; fit = fit_now fit; logged = answered_now l reply h; is = refl })
+    pub took : (l : PgpLogin) (reply : List ℕ) (new : Link) → IsFit w old m → HasAnswered w (asking m) old.login l before reply → new ≡ noted given m e (with_login l (with_talk t old)) → Took w given m old new e reply
+    took l reply new fit h is = subst (λ n. Took w given m old n e reply) (sym is) (record { taken = takes; fit = fit; logged = answered_now l reply h; is = refl })
 
 -- ---- the message at the front of the bytes
 

@@ -1,13 +1,13 @@
 -- A client's connection in memory of the caller's: what each message of the server comes to, and what may be asked.
 -- PostgreSQL manual, "Message Flow".
-use Rattle.std.specs.Prelude.{◌≡◌, ◌≢◌, ◌⊎◌, ℕ, ◌+◌, ◌<◌, Bool, true, false, not, List, [], length, take, Some, Ok, Err, if◌then◌else◌, ◌==◌, ◌&&◌}
+use Rattle.std.specs.Prelude.{◌≡◌, ◌≢◌, ◌⊎◌, ℕ, ◌+◌, ◌<◌, Bool, true, false, not, List, [], length, take, Option, Some, Ok, Err, if◌then◌else◌, ◌==◌, ◌&&◌}
 use Rattle.pgp_base.specs.Error.{number_of}
 use Rattle.pgp_base.specs.declared.error.Error.{Error}
 use Rattle.pgp_client.specs.Codes.{refusal_at, stage_at}
 use Rattle.pgp_client.specs.Kinds.{kind_of}
 use Rattle.pgp_client.specs.Limits.{is_longer, lacks_status}
 use Rattle.pgp_client.specs.Slots.{held_between}
-use Rattle.pgp_client.specs.Taking.{asked, awaits_data, is_between, is_copying, is_end, is_idle, taken}
+use Rattle.pgp_client.specs.Taking.{asked, awaits_data, is_copying, is_end, is_idle, taken}
 use Rattle.pgp_client.specs.Talk.{Talk}
 use Rattle.pgp_client.specs.declared.event.Event.{Event}
 use Rattle.pgp_client.specs.declared.event.Event.TheVariants.{Aside, Ended, Last, Part}
@@ -21,7 +21,10 @@ use Rattle.pgp_message.specs.Stream.{IsPartial, Step, TakesFrame}
 use Rattle.for_c_auth.specs.Answering.{HasAnswered, NotAnsweredFor, asking, awaits_request, done}
 use Rattle.for_c_auth.specs.Delivering.{Delivered}
 use Rattle.for_c_auth.specs.Settings.{kept_in, settled}
+use Rattle.pgp_login.specs.Face.{answered_at, offered_in}
 use Rattle.pgp_login.specs.Timely as timely
+use Rattle.pgp_login.specs.Versions.{answered, newer}
+use Rattle.pgp_frontend.specs.declared.startup.ProtocolVersion.{ProtocolVersion}
 use Rattle.pgp_login.specs.declared.face.PgpWays.{PgpWays}
 use Rattle.for_c_auth.specs.declared.connection.PgpConnection.{PgpConnection}
 use Rattle.for_c_auth.specs.declared.connection.PgpTaken.{PgpTaken}
@@ -50,6 +53,8 @@ pub record Link : Type 0 where
   pub settings : List Setting
   pub status : ℕ
   pub key : KeyData
+  -- the version that the server answered, if it did
+  pub version : Option ProtocolVersion
 
 abbrev pub link_of : PgpConnection → Link
 link_of c = record {
@@ -59,6 +64,7 @@ link_of c = record {
   settings = kept_in c.settings;
   status = c.status;
   key = record { process_id = c.process_id; secret_key = take c.key_len c.secret_key };
+  version = answered_at c.version;
 }
 
 -- the log-in is done
@@ -71,19 +77,19 @@ is_done l = l.phase == done
 abbrev pub limit_of : PgpWays → PgpLogin → ℕ
 limit_of w l = timely.limit_of (is_done l) w.limit
 
--- A message that may come now, where no protocol option was sent.
-abbrev pub IsTimely : Bool → Bool → Message → Type 0
-IsTimely logged_in first m = timely.IsTimely logged_in first [] m
+-- A message that may come now, where the server answered this about versions.
+abbrev pub IsTimely : PgpWays → PgpLogin → Option ProtocolVersion → Message → Type 0
+IsTimely w l before m = timely.IsTimely (is_done l) before (offered_in w) m
 
-abbrev pub ComesInTime : Link → Message → Type 0
-ComesInTime c m = IsTimely (is_done c.login) (is_between c.talk) m
+abbrev pub ComesInTime : PgpWays → Link → Message → Type 0
+ComesInTime w c m = IsTimely w c.login c.version m
 
 -- it may come now, with a status that is one
-abbrev pub FitsAt : PgpLogin → Bool → Message → Type 0
-FitsAt l first m = IsTimely (is_done l) first m × (lacks_status m ≡ false)
+abbrev pub FitsAt : PgpWays → PgpLogin → Option ProtocolVersion → Message → Type 0
+FitsAt w l before m = IsTimely w l before m × (lacks_status m ≡ false)
 
-abbrev pub IsFit : Link → Message → Type 0
-IsFit c m = FitsAt c.login (is_between c.talk) m
+abbrev pub IsFit : PgpWays → Link → Message → Type 0
+IsFit w c m = FitsAt w c.login c.version m
 
 -- the status and the key after a message
 abbrev pub status_after : Message → ℕ → ℕ
@@ -103,7 +109,7 @@ reported_as Ended frame = record { name = 0; frame = frame; what = 4 }
 
 -- after what a message says, where so many bytes are given for settings
 abbrev pub noted : ℕ → Message → Event → Link → Link
-noted given m e c = record { is_over = is_end e; login = c.login; talk = c.talk; settings = settled given m c.settings; status = status_after m c.status; key = key_after m c.key }
+noted given m e c = record { is_over = is_end e; login = c.login; talk = c.talk; settings = settled given m c.settings; status = status_after m c.status; key = key_after m c.key; version = newer c.version (answered m) }
 
 -- the same with this dialogue; and over
 abbrev pub with_talk : Talk → Link → Link
@@ -121,7 +127,7 @@ with_login l c = record c { login = l }
 -- The message was attributed so, the log-in answered it, and what it says was noted.
 pub record Took (w : PgpWays) (given : ℕ) (m : Message) (old new : Link) (e : Event) (reply : List ℕ) : Type 0 where
   pub taken : taken old.talk (kind_of m) ≡ Ok (e, new.talk)
-  pub fit : IsFit old m
+  pub fit : IsFit w old m
   pub logged : HasAnswered w (asking m) old.login new.login [] reply
   pub is : new ≡ noted given m e (with_login new.login (with_talk new.talk old))
 
@@ -131,22 +137,22 @@ IsMisplaced m old new code = (r : Refusal) × (t : Talk) × (taken old.talk (kin
 
 -- Why a message has no reply, before the dialogue is asked: it comes too early, its status is none, or the log-in doesn't answer it; or the reply, behind what was there before,
 -- is longer than the room, or a setting lacks room (`full`).
-abbrev pub NotRepliedTo : Type 0 → (Message → Type 0) → PgpWays → PgpLogin → Bool → Message → List ℕ → ℕ → ℕ → Type 0
-NotRepliedTo lacks full w l first m before room code = ((code ≡ 89) × ¬ IsTimely (is_done l) first m) ⊎ (((code ≡ 93) × IsTimely (is_done l) first m × (lacks_status m ≡ true))
-    ⊎ ((FitsAt l first m × NotAnsweredFor lacks w l code (asking m))
-    ⊎ (((code ≡ 1) × FitsAt l first m × (next : PgpLogin) × (reply : List ℕ) × HasAnswered w (asking m) l next before reply × (room < length reply))
-    ⊎ ((code ≡ 1) × FitsAt l first m × full m))))
+abbrev pub NotRepliedTo : Type 0 → (Message → Type 0) → PgpWays → PgpLogin → Option ProtocolVersion → Message → List ℕ → ℕ → ℕ → Type 0
+NotRepliedTo lacks full w l answered m before room code = ((code ≡ 89) × ¬ IsTimely w l answered m) ⊎ (((code ≡ 93) × IsTimely w l answered m × (lacks_status m ≡ true))
+    ⊎ ((FitsAt w l answered m × NotAnsweredFor lacks w l code (asking m))
+    ⊎ (((code ≡ 1) × FitsAt w l answered m × (next : PgpLogin) × (reply : List ℕ) × HasAnswered w (asking m) l next before reply × (room < length reply))
+    ⊎ ((code ≡ 1) × FitsAt w l answered m × full m))))
 
 -- Why a message isn't taken, and what is left. Where memory or room was lacking for the reply, or room for a setting (`full`), nothing changes. All others end the connection:
 -- it isn't attributed, so that no message is any more; it comes before the log-in is done; its status is none; or the log-in doesn't answer it.
 pub data Rejects (lacks : Type 0) (full : Message → Type 0) (w : PgpWays) (m : Message) (room : ℕ) (old : Link) : Link → ℕ → Type 0 where
-  NoMemory : {new : Link} {code : ℕ} → IsFit old m → NotAnsweredFor lacks w old.login code (asking m) → code ≡ 1 → new ≡ old → Rejects lacks full w m room old new code
-  NoRoom : (l : PgpLogin) (reply : List ℕ) {new : Link} {code : ℕ} → IsFit old m → HasAnswered w (asking m) old.login l [] reply → room < length reply → code ≡ 1 → new ≡ old → Rejects lacks full w m room old new code
-  NoSettingRoom : {new : Link} {code : ℕ} → IsFit old m → full m → code ≡ 1 → new ≡ old → Rejects lacks full w m room old new code
+  NoMemory : {new : Link} {code : ℕ} → IsFit w old m → NotAnsweredFor lacks w old.login code (asking m) → code ≡ 1 → new ≡ old → Rejects lacks full w m room old new code
+  NoRoom : (l : PgpLogin) (reply : List ℕ) {new : Link} {code : ℕ} → IsFit w old m → HasAnswered w (asking m) old.login l [] reply → room < length reply → code ≡ 1 → new ≡ old → Rejects lacks full w m room old new code
+  NoSettingRoom : {new : Link} {code : ℕ} → IsFit w old m → full m → code ≡ 1 → new ≡ old → Rejects lacks full w m room old new code
   Misplaced : {new : Link} {code : ℕ} → IsMisplaced m old new code → Rejects lacks full w m room old new code
-  Untimely : (e : Event) (t : Talk) {new : Link} {code : ℕ} → taken old.talk (kind_of m) ≡ Ok (e, t) → ¬ ComesInTime old m → code ≡ 89 → new ≡ ended (with_talk t old) → Rejects lacks full w m room old new code
-  NoStatus : (e : Event) (t : Talk) {new : Link} {code : ℕ} → taken old.talk (kind_of m) ≡ Ok (e, t) → ComesInTime old m → lacks_status m ≡ true → code ≡ 93 → new ≡ ended (with_talk t old) → Rejects lacks full w m room old new code
-  Unanswered : (e : Event) (t : Talk) {new : Link} {code : ℕ} → taken old.talk (kind_of m) ≡ Ok (e, t) → IsFit old m → NotAnsweredFor lacks w old.login code (asking m) → code ≢ 1 → new ≡ ended (with_talk t old)
+  Untimely : (e : Event) (t : Talk) {new : Link} {code : ℕ} → taken old.talk (kind_of m) ≡ Ok (e, t) → ¬ ComesInTime w old m → code ≡ 89 → new ≡ ended (with_talk t old) → Rejects lacks full w m room old new code
+  NoStatus : (e : Event) (t : Talk) {new : Link} {code : ℕ} → taken old.talk (kind_of m) ≡ Ok (e, t) → ComesInTime w old m → lacks_status m ≡ true → code ≡ 93 → new ≡ ended (with_talk t old) → Rejects lacks full w m room old new code
+  Unanswered : (e : Event) (t : Talk) {new : Link} {code : ℕ} → taken old.talk (kind_of m) ≡ Ok (e, t) → IsFit w old m → NotAnsweredFor lacks w old.login code (asking m) → code ≢ 1 → new ≡ ended (with_talk t old)
       → Rejects lacks full w m room old new code
 
 -- the same of a message of so many bytes, with what is reported of it, and the reply handed over

@@ -8,6 +8,8 @@ ghost use Rattle.pgp_message.specs.Views.{view};
 ghost use Rattle.for_c_auth.specs.Answering.{HasAnswered, asking};
 ghost use Rattle.for_c_auth.specs.Connection.{IsBroken, IsMisplaced, KeepsRoom, Rejects, TookNext, TookNone, TookSo, FitsAt, NotRepliedTo, asked_of, link_of, may_ask, noted, with_key};
 ghost use Rattle.for_c_auth.specs.Settings.{IsFull, value_of};
+ghost use Rattle.pgp_login.specs.Face.{answered_at};
+ghost use Rattle.pgp_login.specs.Versions.{answered, newer};
 ghost use Rattle.pgp_login.specs.declared.face.PgpWays.{PgpWays as Ways};
 
 use crate::connection_parts::{
@@ -15,11 +17,11 @@ use crate::connection_parts::{
 };
 use crate::deliver::deliver;
 use crate::settings::{PgpSettings, PgpSpan, is_full, keep, value_at};
-use crate::talk::{PgpTalk, is_between, is_broken, put_back, resumed};
+use crate::talk::{PgpTalk, is_broken, put_back, resumed};
 use bytes::BytesMut;
 use pgp_base::Memory;
 use pgp_client::{Event, Kind, Request, Slots, Stage};
-use pgp_login::{PgpLogin, PgpWays, answer};
+use pgp_login::{PgpLogin, PgpWays, answer, answered_at, answered_code, version_after};
 use pgp_message::{BackendKeyDataBody, DataRowBody, Message, Messages};
 use std::alloc::Global;
 
@@ -52,6 +54,8 @@ pub struct PgpConnection<'a> {
     pub login: PgpLogin,
     /// The key of a cancel request, of which so many bytes are.
     pub secret_key: [u8; 256],
+    /// The version that the server answered: 1 for 3.0, 2 for 3.2; 0 where it didn't answer, and so speaks that of the startup packet.
+    pub version: u8,
 }
 
 /// What a message is to the requests: 1 a part of an answer, 2 its last message, 3 no part of any, 4 the end of the session.
@@ -181,14 +185,13 @@ fn hear<A: Memory>(
     ensures left { result ≢ 0 → (written.new ≡ written.old) × (out.new ≡ out.old) × (taken.new ≡ taken.old) }
     ensures room { KeepsRoom connection.old.dialogue connection.new.dialogue × (length connection.new.settings.room.now ≡ length connection.old.settings.room.now) }
 {
-    let first = is_between(&connection.dialogue);
     let mut login = connection.login;
     let mut reply = BytesMut::new(alloc);
     let code = replied(
         alloc,
         &mut login,
         ways,
-        first,
+        connection.version,
         message,
         out.len(),
         &connection.settings,
@@ -219,19 +222,19 @@ fn replied<A: Memory>(
     alloc: A,
     login: &mut PgpLogin,
     ways: &PgpWays<'_>,
-    first: bool,
+    answered: u8,
     message: &Message<&[u8]>,
     room: usize,
     settings: &PgpSettings<'_>,
     reply: &mut BytesMut<A>,
 ) -> u32
-    ensures fit { result ≡ 0 → FitsAt login.old first (view message.now) }
+    ensures fit { result ≡ 0 → FitsAt ways.now login.old (answered_at answered) (view message.now) }
     ensures answered { result ≡ 0 → HasAnswered ways.now (asking (view message.now)) login.old login.new reply.old.items reply.new.items }
     ensures room { result ≡ 0 → length reply.new.items ≤ room }
     ensures settings { result ≡ 0 → ¬ IsFull settings.now (view message.now) }
-    ensures why { result ≢ 0 → NotRepliedTo A.Lacks (IsFull settings.now) ways.now login.old first (view message.now) reply.old.items room result }
+    ensures why { result ≢ 0 → NotRepliedTo A.Lacks (IsFull settings.now) ways.now login.old (answered_at answered) (view message.now) reply.old.items room result }
 {
-    let code = unfit(login, first, message);
+    let code = unfit(ways, login, answered, message);
     if code != 0 {
         return code;
     }
@@ -255,6 +258,7 @@ fn note_said(message: &Message<&[u8]>, event: Event, connection: &mut PgpConnect
 {
     connection.is_over = is_end(event);
     connection.status = status_after(message, connection.status);
+    connection.version = note_version(connection.version, message);
     match message {
         Message::BackendKeyData(body) => note_key(body, connection),
         Message::ParameterStatus(body) => {
@@ -266,6 +270,13 @@ fn note_said(message: &Message<&[u8]>, event: Event, connection: &mut PgpConnect
         }
         _ => {}
     }
+}
+
+/// The number of what the server has answered about versions, with this message.
+fn note_version(before: u8, message: &Message<&[u8]>) -> u8
+    ensures { answered_at result ≡ newer (answered_at before) (answered (view message.now)) }
+{
+    answered_code(version_after(answered_at(before), message))
 }
 
 /// Takes note of a key.

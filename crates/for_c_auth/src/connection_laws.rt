@@ -1,13 +1,14 @@
 //! What holds of all sessions of a connection.
 
-ghost use Rattle.std.specs.Prelude.{◌≡◌, ◌≢◌, ℕ, List, Some, if◌then◌else◌};
+ghost use Rattle.std.specs.Prelude.{◌≡◌, ◌≢◌, ℕ, List, Some, true, if◌then◌else◌};
 ghost use Rattle.std.specs.Str.{bytes_eq};
 ghost use Rattle.pgp_client.specs.InTurns.{BelongInTurns};
 ghost use Rattle.pgp_client.specs.Telling.{Turn, reported_in};
 ghost use Rattle.pgp_client.specs.declared.event.Event.{Event as Reported};
 ghost use Rattle.pgp_message.specs.BackendMessage.{Message as Received, ParameterStatus};
 ghost use Rattle.pgp_frontend.specs.ClientMessage.{ClientMessage as Written};
-ghost use Rattle.pgp_login.specs.Face.{ways_of};
+ghost use Rattle.pgp_login.specs.Face.{offered_in, ways_of};
+ghost use Rattle.pgp_login.specs.Versions.{is_admitted, spoken};
 ghost use Rattle.pgp_login.specs.Session.{Admitted};
 ghost use Rattle.pgp_message.specs.Parts.{Setting};
 ghost use Rattle.for_c_auth.specs.Connection.{Link};
@@ -23,6 +24,12 @@ pub fn who_is_let_in_has_signed()
 {
     pgp_login::laws::sessions_follow();
 }
+
+/// The version that is spoken was asked for, whatever a server sends: so who asks for 3.2 alone is never logged in at 3.0.
+pub fn what_is_spoken_was_asked_for()
+    ensures { (w : Ways) (gave : List Written) (heard : List Received) (turns : List Turn) (now : Link) → Runs w gave heard turns now
+        → is_admitted (offered_in w).versions (spoken (offered_in w).versions now.version) ≡ true }
+{}
 
 /// Each message that was taken belongs to the request that was reported, and to no other.
 pub fn answers_belong_to_their_requests()

@@ -8,14 +8,15 @@ ghost use Rattle.pgp_client.specs.Taking.{asked, awaits_data, is_copying, is_end
 ghost use Rattle.pgp_client.specs.Talk.{shown};
 ghost use Rattle.pgp_client.specs.declared.event.Refusal.{Refusal as Refused};
 ghost use Rattle.pgp_client.specs.declared.stage.Stage.TheVariants.{Over};
+ghost use Rattle.pgp_login.specs.Face.{answered_at};
 ghost use Rattle.pgp_message.specs.Views.{view};
-ghost use Rattle.for_c_auth.specs.Connection.{KeepsRoom, IsTimely, is_done, limit_of, may_ask_at, may_follow, reported_as, status_after, talk_of};
+ghost use Rattle.for_c_auth.specs.Connection.{FitsAt, KeepsRoom, IsTimely, is_done, limit_of, may_ask_at, may_follow, reported_as, status_after, talk_of};
 
 use crate::connection::{NO_ROOM, PgpTaken, WRONG_PHASE};
 use crate::login::{AWAITS_REQUEST, DONE, UNDUE};
 use crate::talk::{PgpTalk, put_back, resumed};
 use pgp_client::{Dialogue, Event, Kind, Refusal, Request, Slots};
-use pgp_login::{NoneSent, PgpLogin, PgpWays, is_timely};
+use pgp_login::{PgpLogin, PgpWays, answered_at, is_timely};
 use pgp_message::Message;
 
 /// The result where a ReadyForQuery has a status that is none.
@@ -75,13 +76,18 @@ fn rejected(refusal: Refusal) -> u32
     }
 }
 
-/// Whether a message may come now, with a status that is one: 0, or why not. `first` says that no message came before.
-pub(crate) fn unfit(login: &PgpLogin, first: bool, message: &Message<&[u8]>) -> u32
-    ensures fit { result ≡ 0 → IsTimely (is_done login.now) first (view message.now) × (lacks_status (view message.now) ≡ false) }
-    ensures why { result ≢ 0 → ((result ≡ 89) × ¬ IsTimely (is_done login.now) first (view message.now))
-        ⊎ ((result ≡ 93) × IsTimely (is_done login.now) first (view message.now) × (lacks_status (view message.now) ≡ true)) }
+/// Whether a message may come now, with a status that is one: 0, or why not. `answered` is the number of what the server answered about versions.
+pub(crate) fn unfit(
+    ways: &PgpWays<'_>,
+    login: &PgpLogin,
+    answered: u8,
+    message: &Message<&[u8]>,
+) -> u32
+    ensures fit { result ≡ 0 → FitsAt ways.now login.now (answered_at answered) (view message.now) }
+    ensures why { result ≢ 0 → ((result ≡ 89) × ¬ IsTimely ways.now login.now (answered_at answered) (view message.now))
+        ⊎ ((result ≡ 93) × IsTimely ways.now login.now (answered_at answered) (view message.now) × (lacks_status (view message.now) ≡ true)) }
 {
-    if !is_timely(is_done(login), first, &NoneSent, message) {
+    if !is_timely(is_done(login), answered_at(answered), ways, message) {
         return UNDUE;
     }
     if lacks_status(message) {

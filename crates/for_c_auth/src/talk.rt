@@ -2,7 +2,6 @@
 
 ghost use Rattle.std.specs.Prelude.{◌≡◌, ◌≤◌, length, true, false};
 ghost use Rattle.pgp_client.specs.Slots.{capacity, slots_items};
-ghost use Rattle.pgp_client.specs.Taking.{is_between};
 ghost use Rattle.pgp_client.specs.Talk.{shown};
 ghost use Rattle.for_c_auth.specs.Connection.{IsBroken, talk_of};
 
@@ -28,16 +27,6 @@ pub(crate) fn is_broken(dialogue: &PgpTalk<'_>) -> bool
     ensures whole { result ≡ false → (dialogue.now.start ≤ dialogue.now.end) × (dialogue.now.end ≤ length dialogue.now.room.now) }
 {
     dialogue.start > dialogue.end || dialogue.end > dialogue.room.len()
-}
-
-/// Whether no answer is under way, so that the next message begins one.
-pub(crate) fn is_between(dialogue: &PgpTalk<'_>) -> bool
-    ensures { result ≡ is_between (talk_of dialogue.now) }
-{
-    match Stage::of_code(dialogue.stage) {
-        Stage::Idle => true,
-        _ => false,
-    }
 }
 
 /// The dialogue that the caller keeps, whose memory it has until it is put back.

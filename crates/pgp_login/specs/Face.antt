@@ -1,11 +1,16 @@
 -- C's words for a log-in: what a caller keeps between the calls, and the ways that it admits.
-use Rattle.std.specs.Prelude.{◌≡◌, ℕ, Bool, not, bit_and, if◌then◌else◌, ◌==◌, List, Option, Some, None, option_map}
+use Rattle.std.specs.Prelude.{◌≡◌, ℕ, Bool, not, bit_and, if◌then◌else◌, ◌==◌, List, [], Option, Some, None, option_map}
 use Rattle.pgp_auth.specs.ScramClient.{Begun}
 use Rattle.pgp_auth.specs.ScramText.{Binding}
+use Rattle.pgp_frontend.specs.declared.startup.ProtocolVersion.{ProtocolVersion}
+use Rattle.pgp_frontend.specs.declared.startup.ProtocolVersion.TheVariants.{V3_0, V3_2}
 use Rattle.pgp_login.specs.Exchange.{begun_with, binding_at}
 use Rattle.pgp_login.specs.Machine.{State, AwaitsOffer, AwaitsFirst, AwaitsFinal, AwaitsOk, Done, Failed, Ways}
+use Rattle.pgp_login.specs.Timely.{Offered}
 use Rattle.pgp_login.specs.declared.face.PgpLogin.{PgpLogin}
 use Rattle.pgp_login.specs.declared.face.PgpWays.{PgpWays}
+use Rattle.pgp_login.specs.declared.versions.Versions.{Versions}
+use Rattle.pgp_login.specs.declared.versions.Versions.TheVariants.{Only3_0, UpTo3_2, Only3_2}
 
 -- The ways, each a bit: 1 no password, 2 one in clear text, 4 its MD5, 8 SCRAM-SHA-256.
 abbrev pub admits : ℕ → ℕ → Bool
@@ -32,3 +37,14 @@ state_at n signature = if n == 0 then AwaitsOffer else if n == 1 then AwaitsFirs
 
 abbrev pub state_of : PgpLogin → State
 state_of l = state_at l.phase l.signature
+
+-- The versions that are asked for, by their number, and no protocol option.
+abbrev pub versions_at : ℕ → Versions
+versions_at n = if n == 0 then Only3_0 else if n == 1 then UpTo3_2 else Only3_2
+
+abbrev pub offered_in : PgpWays → Offered
+offered_in w = record { versions = versions_at w.versions; options = [] }
+
+-- what the server answered about versions, by its number
+abbrev pub answered_at : ℕ → Option ProtocolVersion
+answered_at n = if n == 0 then None else if n == 1 then Some V3_0 else Some V3_2

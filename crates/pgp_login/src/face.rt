@@ -3,7 +3,7 @@
 ghost use Rattle.std.specs.Prelude.{◌≡◌, ◌≢◌, List, ℕ, Bool, Some, option_map};
 ghost use Rattle.pgp_message.specs.Views.{view};
 ghost use Rattle.pgp_login.specs.Exchange.{seen_caller};
-ghost use Rattle.pgp_login.specs.Face.{admits, cleartext_in, md5_in, state_at, state_of, ways_of};
+ghost use Rattle.pgp_login.specs.Face.{admits, answered_at, cleartext_in, md5_in, offered_in, state_at, state_of, versions_at, ways_of};
 ghost use Rattle.pgp_login.specs.Fault.{Fault, number_of};
 ghost use Rattle.pgp_login.specs.Login.{HasExchange, Stands, awaited_in, kept, phase_of, user_of};
 ghost use Rattle.pgp_login.specs.Machine.{Declines, LoggedOn, State, Ways as Admitting, asking};
@@ -12,8 +12,11 @@ use crate::asked::is_asked;
 use crate::caller::Caller;
 use crate::fault::number;
 use crate::login::{Login, LoginPhase, Ways, hear};
+use crate::timely::Sent;
+use crate::versions::Versions;
 use bytes::BytesMut;
 use pgp_base::Memory;
+use pgp_frontend::ProtocolVersion;
 use pgp_message::Message;
 
 /// By which ways a client lets itself be asked, and what each needs.
@@ -33,6 +36,8 @@ pub struct PgpWays<'a> {
     /// The kind of the channel binding.
     pub kind: u8,
     pub is_encrypted: bool,
+    /// The versions that the startup packet asks for: 0 for 3.0, 1 for 3.2 or else 3.0, 2 for 3.2 alone.
+    pub versions: u8,
 }
 
 /// How far a log-in is, by its number, and the signature that the server's final text has to show. All 0 at first.
@@ -41,6 +46,55 @@ pub struct PgpWays<'a> {
 pub struct PgpLogin {
     pub phase: u8,
     pub signature: [u8; 32],
+}
+
+impl<'a> Sent for PgpWays<'a> {
+    ghost offered = { offered_in };
+
+    fn versions(&self) -> Versions {
+        versions_at(self.versions)
+    }
+
+    fn has(&self, _name: &[u8]) -> bool {
+        false
+    }
+}
+
+/// The versions of this number.
+fn versions_at(n: u8) -> Versions
+    ensures { result ≡ versions_at n }
+{
+    if n == 0 {
+        return Versions::Only3_0;
+    }
+    if n == 1 {
+        return Versions::UpTo3_2;
+    }
+    Versions::Only3_2
+}
+
+/// What the server answered about versions, by its number: 0 where it didn't.
+pub fn answered_at(n: u8) -> Option<ProtocolVersion>
+    ensures { result ≡ answered_at n }
+{
+    if n == 0 {
+        return None;
+    }
+    if n == 1 {
+        return Some(ProtocolVersion::V3_0);
+    }
+    Some(ProtocolVersion::V3_2)
+}
+
+/// The number of what it answered.
+pub fn answered_code(answered: Option<ProtocolVersion>) -> u8
+    ensures { answered_at result ≡ answered }
+{
+    match answered {
+        None => 0,
+        Some(ProtocolVersion::V3_0) => 1,
+        Some(ProtocolVersion::V3_2) => 2,
+    }
 }
 
 /// The log-in takes a message: 0 where it does, and the reply, if there is one, is appended.

@@ -1,6 +1,6 @@
 //! What holds of every log-in, whatever keeps its exchange.
 
-ghost use Rattle.std.specs.Prelude.{◌≡◌, ℕ, Bool, List, []};
+ghost use Rattle.std.specs.Prelude.{◌≡◌, ℕ, Bool, true, List, [], None, Option};
 ghost use Rattle.std.specs.List.{AllByRecursion};
 ghost use Rattle.pgp_client.specs.InTurns.{BelongInTurns};
 ghost use Rattle.pgp_client.specs.Talk.{Talk};
@@ -13,6 +13,10 @@ ghost use Rattle.pgp_login.specs.Login.{Kept, Simulates, Stands};
 ghost use Rattle.pgp_login.specs.Machine.{AwaitsOffer, Done, LoggedOn, State, Ways as Admitting, asking};
 ghost use Rattle.pgp_login.specs.Session.{Admitted, Heard, IsAllowed, Known, Played, Plays};
 ghost use Rattle.pgp_login.specs.Talks.{Talks};
+ghost use Rattle.pgp_login.specs.Timely.{IsTimely, Offered};
+ghost use Rattle.pgp_login.specs.Versions.{answered, is_admitted, newer, spoken};
+ghost use Rattle.pgp_login.specs.declared.versions.Versions.{Versions as AskedFor};
+ghost use Rattle.pgp_frontend.specs.declared.startup.ProtocolVersion.{ProtocolVersion as Spoken};
 ghost use Rattle.pgp_login.specs.declared.face.PgpLogin.{PgpLogin as KeptByC};
 ghost use Rattle.pgp_login.specs.declared.face.PgpWays.{PgpWays as WaysOfC};
 ghost use Rattle.pgp_login.specs.declared.login.LoginPhase.TheVariants.{Done as IsDone};
@@ -55,3 +59,10 @@ pub fn sessions_follow()
 {
     pgp_client::laws::messages_belong_in_turns();
 }
+
+/// The version that is spoken is one that was asked for: of a startup packet that wasn't answered, and after each message that comes in time. So who asks for 3.2 alone never speaks 3.0.
+pub fn what_is_spoken_was_asked_for()
+    ensures packet { (asked : AskedFor) → is_admitted asked (spoken asked None) ≡ true }
+    ensures answered { (done : Bool) (before : Option Spoken) (o : Offered) (m : Observed) → IsTimely done before o m → is_admitted o.versions (spoken o.versions before) ≡ true
+        → is_admitted o.versions (spoken o.versions (newer before (answered m))) ≡ true }
+{}

@@ -11,12 +11,14 @@ pub mod laws;
 mod login;
 mod storage;
 mod timely;
+mod versions;
 
 pub use caller::Caller;
 pub use exchange::{Exchange, put};
-pub use face::{PgpLogin, PgpWays, answer};
+pub use face::{PgpLogin, PgpWays, answer, answered_at, answered_code};
 pub use fault::LoginError;
 pub use held::HeldWays;
 pub use login::{Login, LoginPhase, Ways, hear};
 pub use storage::LoginStorage;
-pub use timely::{NoneSent, Sent, is_timely, limit};
+pub use timely::{Sent, is_timely, limit};
+pub use versions::{Versions, version_after};

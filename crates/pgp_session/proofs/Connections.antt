@@ -4,16 +4,20 @@ use Rattle.std.specs.Prelude.{drop, take, ◌≢◌}
 use Rattle.std.specs.Int.{w32, from_be_bytes}
 use Rattle.pgp_client.specs.declared.event.Refusal.{Refusal}
 use Rattle.pgp_message.specs.declared.message.Message.{Message}
-use Rattle.pgp_session.specs.Connection.{ComesInTime, Hears, done_at}
+use Rattle.pgp_session.specs.Connection.{Hears}
 use Rattle.pgp_login.specs.Login.{DeclinesSo, Kept as Login}
 use Rattle.pgp_login.specs.Machine.{NothingAsked}
-use Rattle.pgp_login.specs.Timely.{IsTimely}
+use Rattle.pgp_login.specs.Timely.{HasKey, IsTimely, Offered}
+use Rattle.pgp_login.specs.Versions.{spoken}
+use Rattle.pgp_frontend.specs.declared.startup.ProtocolVersion.{ProtocolVersion}
+use Rattle.pgp_frontend.specs.declared.startup.ProtocolVersion.TheVariants.{V3_0, V3_2}
+use Rattle.pgp_session.specs.ServerState.{KeyFits}
 use Rattle.pgp_login.specs.declared.fault.LoginError.{LoginError}
 use Rattle.pgp_login.specs.declared.fault.LoginError.TheVariants as login
 use Rattle.pgp_session.specs.declared.connection_error.ConnectionError.TheVariants.{Malformed, OutOfMemory as OutOfMemoryThere}
 use Rattle.pgp_client.specs.declared.stage.Stage.TheVariants.{Over as NothingMore}
 use Rattle.pgp_session.proofs.Incomings.{frame_there, rest_there}
-use Rattle.pgp_message.specs.BackendMessage.{Message as Meant}
+use Rattle.pgp_message.specs.BackendMessage.{Message as Meant, BackendKeyData}
 
 pub announced : (bytes : List ℕ) → 5 ≤ length bytes → header_of bytes ≡ Some (get_or bytes 0 0, from_be_bytes w32 (get_or bytes 1 0 ∷ get_or bytes 2 0 ∷ get_or bytes 3 0 ∷ get_or bytes 4 0 ∷ []))
 announced [] long = absurd (omega (arith, long))
@@ -55,7 +59,7 @@ step_some {A} lacks old new o m e s = subst (λ (x : Option (Message A)). Step l
 -- ---- requests that iterators gave
 
 said_by : (m : ClientMessage) (r : Request) (c : Shown) → request_of m ≡ Some r → noted r (with_out (c.out ++ bytes_of m) c) ≡ said m c
-said_by m r c e = ap (λ (o : Option Request). record { phase = c.phase; login = c.login; out = c.out ++ bytes_of m; incoming = c.incoming; talk = asked_of o c.names c.talk; server = c.server; options = c.options; names = next_name c.names; limit = c.limit }) (sym e)
+said_by m r c e = ap (λ (o : Option Request). record { phase = c.phase; login = c.login; out = c.out ++ bytes_of m; incoming = c.incoming; talk = asked_of o c.names c.talk; server = c.server; offered = c.offered; names = next_name c.names; limit = c.limit }) (sym e)
 
 left_of : (a b : Bool) → (a && b) ≡ true → a ≡ true
 left_of true b e = refl
@@ -108,19 +112,19 @@ pub taken_back : (m : ClientMessage) (old new : Shown) (written : List ℕ) (pla
 taken_back m old new written place at put is =
     is ∙ ap (λ (n : ℕ). with_out (take n written) old) at ∙ ap (λ (l : List ℕ). with_out (take (length old.out) l) old) put.bytes ∙ ap (λ (l : List ℕ). with_out l old) (take-append_seam old.out (bytes_of m))
 
+key_short : (v : ProtocolVersion) (key : List ℕ) → HasKey v key → length key ≤ 256
+key_short V3_0 key four = omega (arith, four)
+key_short V3_2 key bounds = bounds.1
+
 -- what is known of the server's session after a message
 pub took_so : (m : Meant) (l : Login) (out : List ℕ) (t : Talk) (k : Said) (old : Shown) → k ≡ heard m old.server
-    → record { phase = old.phase; login = l; out = out; incoming = old.incoming; talk = t; server = k; options = old.options; names = old.names; limit = old.limit } ≡ with_login l out (moved old.phase t m old)
-took_so m l out t k old e = ap (λ (s : Said). record { phase = old.phase; login = l; out = out; incoming = old.incoming; talk = t; server = s; options = old.options; names = old.names; limit = old.limit }) e
+    → record { phase = old.phase; login = l; out = out; incoming = old.incoming; talk = t; server = k; offered = old.offered; names = old.names; limit = old.limit } ≡ with_login l out (moved old.phase t m old)
+took_so m l out t k old e = ap (λ (s : Said). record { phase = old.phase; login = l; out = out; incoming = old.incoming; talk = t; server = s; offered = old.offered; names = old.names; limit = old.limit }) e
 
-module _ (c : Shown) (m : Meant) (first result : Bool) (sent : List (List ℕ)) (at : first ≡ is_between c.talk) (same : sent ≡ c.options) (is : Decides result (IsTimely (done_at c.login.phase) first sent m)) where
-  pub timely_by : result ≡ true → ComesInTime c m
-  timely_by test = subst (λ (b : Bool). IsTimely (done_at c.login.phase) b c.options m) at (subst (λ (l : List (List ℕ)). IsTimely (done_at c.login.phase) first l m) same (is.0 test))
-
-  pub untimely_by : result ≡ false → ¬ ComesInTime c m
-  untimely_by test timely =
-      let there = subst (λ (l : List (List ℕ)). IsTimely (done_at c.login.phase) first l m) (sym same) (subst (λ (b : Bool). IsTimely (done_at c.login.phase) b c.options m) (sym at) timely) in
-      absurd (let both : true ≡ false = sym (is.1 there) ∙ test in cc)
+-- a key whose message may come can be kept
+pub key_fits : (done : Bool) (before : Option ProtocolVersion) (o : Offered) (m : Meant) → IsTimely done before o m → KeyFits m
+key_fits done before o (BackendKeyData k) timely = key_short (spoken o.versions before) k.secret_key timely
+key_fits done before o m timely = tt
 
 part_goes_on : (e : Event) → is_part e ≡ true → is_end e ≡ false
 part_goes_on (Part n) is = refl
@@ -128,7 +132,7 @@ part_goes_on e is = cc
 
 -- a row and data of a copy come to nothing else
 pub took_bulk : (m : Meant) (e : Event) (t : Talk) (old : Shown) → is_bulk m e ≡ true → taken old.talk (kind_of m) ≡ Ok (e, t)
-    → Took m old (record { phase = old.phase; login = old.login; out = old.out; incoming = old.incoming; talk = t; server = old.server; options = old.options; names = old.names; limit = old.limit }) e
+    → Took m old (record { phase = old.phase; login = old.login; out = old.out; incoming = old.incoming; talk = t; server = old.server; offered = old.offered; names = old.names; limit = old.limit }) e
 took_bulk (DataRow row) e t old bulk is = record { taken = is; due = tt; sound = refl; kept = tt; goes_on = part_goes_on e bulk; logged = λ w encrypted s stands. record { state = s; logged = record { reply = None; logs = NothingAsked; adds = refl }; stands = stands }; is = refl }
 took_bulk (CopyData bytes) e t old bulk is = record { taken = is; due = tt; sound = refl; kept = tt; goes_on = part_goes_on e bulk; logged = λ w encrypted s stands. record { state = s; logged = record { reply = None; logs = NothingAsked; adds = refl }; stands = stands }; is = refl }
 took_bulk m e t old bulk is = cc
@@ -207,7 +211,7 @@ stops_over lacks m old new e (inr (inr (inr h))) = inr (inr (inr (h.0, h.1, h.2,
 -- the log-in stopped at a message, with nothing appended
 pub stopped_log_in : {A : Type 0} (lacks : Type 0) (m : Meant) (old : Shown) (t : Talk) (l : Login) (grown : List ℕ) (k : Said) (e : Event) (f : LoginError A) (x : ConnectionError A) → taken old.talk (kind_of m) ≡ Ok (e, t)
     → HasRoom most (setting_in m) old.server.settings → is_end e ≡ false → x ≡ error_of f → DeclinesSo lacks (asking m) old.login (fault f) → grown ≡ old.out → l.phase ≡ old.login.phase → k ≡ heard m old.server
-    → Stops {A = A} lacks old.phase m old (record { phase = old.phase; login = l; out = grown; incoming = old.incoming; talk = t; server = k; options = old.options; names = old.names; limit = old.limit }) x
+    → Stops {A = A} lacks old.phase m old (record { phase = old.phase; login = l; out = grown; incoming = old.incoming; talk = t; server = k; offered = old.offered; names = old.names; limit = old.limit }) x
 stopped_log_in lacks m old t l grown k e f x is room live error declines same phase known =
     inr (inr (inr (
       (e, t),
@@ -216,5 +220,5 @@ stopped_log_in lacks m old t l grown k e f x is room live error declines same ph
       live,
       (f, error, declines),
       phase,
-      ap₂ (λ (o : List ℕ) (s : Said). record { phase = old.phase; login = l; out = o; incoming = old.incoming; talk = t; server = s; options = old.options; names = old.names; limit = old.limit }) same known,
+      ap₂ (λ (o : List ℕ) (s : Said). record { phase = old.phase; login = l; out = o; incoming = old.incoming; talk = t; server = s; offered = old.offered; names = old.names; limit = old.limit }) same known,
     )))

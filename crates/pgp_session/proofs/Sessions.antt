@@ -12,6 +12,15 @@ use Rattle.pgp_session.proofs.Reported.{said_more, states_follow, values_follow}
 use Rattle.pgp_session.specs.declared.connection.ConnectionPhase.TheVariants.{Opening, Over as OverPhase}
 use Rattle.std.specs.Prelude.{◌||◌}
 use Rattle.pgp_login.proofs.Dialogues.{follows as talks_follow}
+use Rattle.pgp_login.proofs.Speaking.{packet_spoken, spoken_after}
+use Rattle.pgp_login.specs.Timely.{IsTimely, Offered}
+use Rattle.pgp_login.specs.Versions.{answered as version_in, is_admitted, newer as newer_version, spoken}
+use Rattle.pgp_login.specs.declared.versions.Versions.{Versions}
+use Rattle.pgp_login.specs.declared.versions.Versions.TheVariants.{Only3_2}
+use Rattle.pgp_frontend.specs.declared.startup.ProtocolVersion.{ProtocolVersion}
+use Rattle.pgp_frontend.specs.declared.startup.ProtocolVersion.TheVariants.{V3_2}
+use Rattle.pgp_session.specs.Connection.{done_at as done_in, packet_of}
+use Rattle.pgp_session.specs.Session.{SpeaksAt}
 use Rattle.pgp_session.specs.Login.{encrypted_by, ways_in}
 use Rattle.pgp_login.specs.Login.{Follows as LoggedTo, Kept as Login, Stands, phase_of}
 use Rattle.pgp_login.specs.Machine.{Asking, AwaitsOffer, ByCleartext, ByMd5, Done, LogsOn, ScramBegins, ScramGoesOn, State, Ways, asking}
@@ -127,12 +136,43 @@ talks_asked ways gave observed turns t s (Some r) name p = AsksOne (record { req
 stands_now : (ways : Ways) (encrypted : Bool) (s : State) (l : Login) → Stands ways encrypted s l → Stands ways l.encrypted s l
 stands_now ways encrypted s l h = record { phase = h.phase; exchange = h.exchange; md5 = h.md5; cleartext = h.cleartext; none = h.none; least = h.least; channel = refl }
 
+-- ---- the version that is spoken
+
+abbrev Speaks : Shown → Type 0
+Speaks c = SpeaksAt c.phase c.offered.versions c.server.state.version
+
+speaks_on : (p : ConnectionPhase) → p ≡ Started → (done : Bool) (before : Option ProtocolVersion) (o : Offered) (m : Message) → IsTimely done before o m → SpeaksAt p o.versions before → SpeaksAt p o.versions (newer_version before (version_in m))
+speaks_on Started e done before o m timely speaks = spoken_after done before o m timely speaks
+speaks_on p e done before o m timely speaks = absurd cc
+
+speaks_first : (p : ConnectionPhase) → p ≡ Opening → (asked was : Versions) (before : Option ProtocolVersion) → SpeaksAt p was before → is_admitted asked (spoken asked before) ≡ true
+speaks_first Opening e asked was before none = subst (λ b. is_admitted asked (spoken asked b) ≡ true) (sym none) (packet_spoken asked)
+speaks_first p e asked was before speaks = absurd cc
+
+speaks_not : (p : ConnectionPhase) → p ≡ Opening → (asked : Versions) (before : Option ProtocolVersion) → SpeaksAt p asked before → before ≡ None
+speaks_not Opening e asked before none = none
+speaks_not p e asked before speaks = absurd cc
+
+speaks_unless : (p : ConnectionPhase) → p ≡ Encrypting → (asked : Versions) (before : Option ProtocolVersion) → SpeaksAt p asked before → before ≡ None
+speaks_unless Encrypting e asked before none = none
+speaks_unless p e asked before speaks = absurd cc
+
+pub speaks_over : (p : ConnectionPhase) (asked : Versions) (before : Option ProtocolVersion) → SpeaksAt p asked before → is_admitted asked (spoken asked before) ≡ true
+speaks_over Opening asked before none = subst (λ b. is_admitted asked (spoken asked b) ≡ true) (sym none) (packet_spoken asked)
+speaks_over Encrypting asked before none = subst (λ b. is_admitted asked (spoken asked b) ≡ true) (sym none) (packet_spoken asked)
+speaks_over Started asked before speaks = speaks
+speaks_over OverPhase asked before speaks = speaks
+
+pub speaks_3_2 : (asked : Versions) (v : ProtocolVersion) → asked ≡ Only3_2 → is_admitted asked v ≡ true → v ≡ V3_2
+speaks_3_2 Only3_2 V3_2 e is = refl
+speaks_3_2 asked v e is = absurd cc
+
 pub wrote : (ways : Ways) (h : History) (old new : Shown) (m : ClientMessage) (name : ℕ) → MayCome m (is_opened h.written) → is_secret m ≡ false
     → IsOpenedAt new.phase (is_opened (h.written ++ m ∷ [])) → Added m old.out new.out
     → new.incoming ≡ old.incoming → new.talk ≡ asked_of (request_of m) name old.talk → new.login ≡ old.login → new.server ≡ old.server
-    → AreNamed (h.turns ++ turns_of (request_of m) name) new.names (h.written ++ m ∷ [])
+    → AreNamed (h.turns ++ turns_of (request_of m) name) new.names (h.written ++ m ∷ []) → Speaks new
     → Known ways h old → Known ways (and_wrote m name h) new
-wrote ways h old new m name may plain opened added incoming talk login server named k =
+wrote ways h old new m name may plain opened added incoming talk login server named speaks k =
     let turns = h.turns ++ turns_of (request_of m) name in
     record {
       run = run_one h.written m h.sent old.out new.out k.run may added;
@@ -149,19 +189,20 @@ wrote ways h old new m name may plain opened added incoming talk login server na
           ∙ ap (λ r. requests_in (asked_in h.turns) ++ r) (one_turn (request_of m) name) ∙ ap (λ r. r ++ option_to_list (request_of m)) k.asked ∙ sym (requests_pushed h.written m);
       server = server ∙ k.server;
       named = named;
+      speaks = speaks;
     }
 
 pub sent_some : (ways : Ways) (h : History) (old : Shown) (n : ℕ) → Known ways h old → Known ways (and_sent n old h) (dropped n old)
 sent_some ways h old n k =
     let bytes : h.sent ++ old.out ≡ (h.sent ++ take n old.out) ++ drop n old.out = ap (λ b. h.sent ++ b) (sym (take-append-drop n old.out)) ∙ sym (append_assoc h.sent (take n old.out) (drop n old.out)) in
-    record { run = subst (λ b. ClientRun (flat_map kinds_of h.written) h.written b) bytes k.run; opened = k.opened; read = k.read; state = k.state; talks = k.talks; stands = k.stands; asked = k.asked; server = k.server; named = k.named }
+    record { run = subst (λ b. ClientRun (flat_map kinds_of h.written) h.written b) bytes k.run; opened = k.opened; read = k.read; state = k.state; talks = k.talks; stands = k.stands; asked = k.asked; server = k.server; named = k.named; speaks = k.speaks }
 
 pub fed_some : (ways : Ways) (h : History) (old : Shown) (piece : List ℕ) → ((bytes : List ℕ) → Frames bytes [] bytes)
     → ((bytes more rest left : List ℕ) (first second : List (Result Message Error)) → Frames bytes first rest → Frames (rest ++ more) second left → Frames (bytes ++ more) (first ++ second) left)
     → Known ways h old → Known ways (and_fed piece h) (fed piece old)
 fed_some ways h old piece none go k =
     let frames : Frames (h.received ++ piece) (good h.observed ++ []) (old.incoming ++ piece) = go h.received piece old.incoming (old.incoming ++ piece) (good h.observed) [] k.read (none (old.incoming ++ piece)) in
-    record { run = k.run; opened = k.opened; read = subst (λ r. Frames (h.received ++ piece) r (old.incoming ++ piece)) (append-nil (good h.observed)) frames; state = k.state; talks = k.talks; stands = k.stands; asked = k.asked; server = k.server; named = k.named }
+    record { run = k.run; opened = k.opened; read = subst (λ r. Frames (h.received ++ piece) r (old.incoming ++ piece)) (append-nil (good h.observed)) frames; state = k.state; talks = k.talks; stands = k.stands; asked = k.asked; server = k.server; named = k.named; speaks = k.speaks }
 
 at_started : (p : ConnectionPhase) (b : Bool) → p ≡ Started → IsOpenedAt p b → b ≡ true
 at_started p b e opened = subst (λ (q : ConnectionPhase). IsOpenedAt q b) e opened
@@ -190,6 +231,7 @@ module _ (ways : Ways) (h : History) (old new : Shown) (rest : List ℕ) (m : Me
         asked = ap requests_in (asked_more h.turns (HearsTurn (kind_of m) e ∷ [])) ∙ ap requests_in (append-nil (asked_in h.turns)) ∙ k.asked ∙ sym (requests_replied (asking m) k.state f.state h.written reply logs);
         server = ap (λ (c : Shown). c.server) took.is ∙ ap (heard m) k.server ∙ sym (said_more nothing_said h.observed m);
         named = named_heard h.turns (kind_of m) e old.names new.names h.written reply (ap (λ (c : Shown). c.names) took.is) k.named;
+        speaks = subst Speaks (sym took.is) (speaks_on old.phase phase (done_in old.login.phase) old.server.state.version old.offered m took.due k.speaks);
       }
 
   pub observed_one : old.phase ≡ Started → TakesFrame old.incoming (Ok m) rest → Took m (with_incoming rest old) new e
@@ -231,6 +273,7 @@ module _ (ways : Ways) where
         admitted = λ is. admitted gave h.observed h.turns now.talk (done_at gave h.observed h.turns now.talk k.state (sym k.stands.phase ∙ is) k.talks);
         server = ap (λ (s : Said). s.state) k.server ∙ states_follow nothing_said h.observed;
         settings = λ name. ap (λ (s : Said). value_of name s.settings) k.server ∙ values_follow name nothing_said h.observed;
+        version = speaks_over now.phase now.offered.versions now.server.state.version k.speaks;
       }
 
 -- ---- the calls
@@ -262,7 +305,7 @@ sends ways h old new m name s k =
     wrote ways h old new m name (tagged_may h.written m opened (may_tagged (is_copying old.talk) (awaits_data old.talk) m may)) (may_open (is_copying old.talk) (awaits_data old.talk) m may)
     (subst (λ (p : ConnectionPhase). IsOpenedAt p (is_opened (h.written ++ m ∷ []))) (sym (ap (λ (c : Shown). c.phase) s.is ∙ phase)) (opened_still h.written m opened))
     s.added (ap (λ (c : Shown). c.incoming) s.is) (ap (λ (c : Shown). c.talk) s.is ∙ ap (λ n. asked_of (request_of m) n old.talk) (sym s.named)) (ap (λ (c : Shown). c.login) s.is) (ap (λ (c : Shown). c.server) s.is)
-    (named_next h.turns old.names new.names name h.written m s.named (ap (λ (c : Shown). c.names) s.is) k.named) k
+    (named_next h.turns old.names new.names name h.written m s.named (ap (λ (c : Shown). c.names) s.is) k.named) (subst Speaks (sym s.is) k.speaks) k
 
 at_opening : (p : ConnectionPhase) (b : Bool) → p ≡ Opening → IsOpenedAt p b → b ≡ false
 at_opening p b e opened = subst (λ (q : ConnectionPhase). IsOpenedAt q b) e opened
@@ -270,15 +313,16 @@ at_opening p b e opened = subst (λ (q : ConnectionPhase). IsOpenedAt q b) e ope
 opened_by : (l : List ClientMessage) (m : ClientMessage) → is_startup m ≡ true → is_opened (l ++ m ∷ []) ≡ true
 opened_by l m e = opened_more l m ∙ ap (λ (b : Bool). if b then true else is_opened l) e
 
-pub starts : (ways : Ways) (h : History) (old new : Shown) (parameters : List (List ℕ × List ℕ)) (name : ℕ) → IsNamed (Startup 0 parameters) → HasStarted (Startup 0 parameters) old new name
-    → Known ways h old → Known ways (and_wrote (Startup 0 parameters) name h) new
-starts ways h old new parameters name named s k =
-    let m = Startup 0 parameters in
+pub starts : (ways : Ways) (h : History) (old new : Shown) (asked : Versions) (parameters : List (List ℕ × List ℕ)) (name : ℕ) → IsNamed (packet_of asked parameters) → HasStarted asked (packet_of asked parameters) old new name
+    → Known ways h old → Known ways (and_wrote (packet_of asked parameters) name h) new
+starts ways h old new asked parameters name named s k =
+    let m = packet_of asked parameters in
     let closed : is_opened h.written ≡ false = at_opening old.phase (is_opened h.written) s.phase k.opened in
     wrote ways h old new m name (subst (λ (b : Bool). MayCome m b) (sym closed) (inl tt, named)) refl
     (subst (λ (p : ConnectionPhase). IsOpenedAt p (is_opened (h.written ++ m ∷ []))) (sym (ap (λ (c : Shown). c.phase) s.is)) (opened_by h.written m refl))
     s.added (ap (λ (c : Shown). c.incoming) s.is) (ap (λ (c : Shown). c.talk) s.is ∙ ap (λ n. asked_of (request_of m) n old.talk) (sym s.named)) (ap (λ (c : Shown). c.login) s.is) (ap (λ (c : Shown). c.server) s.is)
-    (named_next h.turns old.names new.names name h.written m s.named (ap (λ (c : Shown). c.names) s.is) k.named) k
+    (named_next h.turns old.names new.names name h.written m s.named (ap (λ (c : Shown). c.names) s.is) k.named)
+    (subst Speaks (sym s.is) (speaks_first old.phase s.phase asked old.offered.versions old.server.state.version k.speaks)) k
 
 pub asks_encryption : (ways : Ways) (h : History) (old new : Shown) → Wrote Opening Encrypting SslRequest old new → Known ways h old → Known ways (and_wrote SslRequest 0 h) new
 asks_encryption ways h old new s k =
@@ -286,7 +330,8 @@ asks_encryption ways h old new s k =
     wrote ways h old new SslRequest 0 (subst (λ (b : Bool). MayCome SslRequest b) (sym closed) (inr tt, tt)) refl
     (subst (λ (p : ConnectionPhase). IsOpenedAt p (is_opened (h.written ++ SslRequest ∷ []))) (sym (ap (λ (c : Shown). c.phase) s.is)) (opened_more h.written SslRequest ∙ closed))
     s.added (ap (λ (c : Shown). c.incoming) s.is) (ap (λ (c : Shown). c.talk) s.is) (ap (λ (c : Shown). c.login) s.is) (ap (λ (c : Shown). c.server) s.is)
-    (named_still h.turns old.names new.names 0 h.written SslRequest refl (ap (λ (c : Shown). c.names) s.is) k.named) k
+    (named_still h.turns old.names new.names 0 h.written SslRequest refl (ap (λ (c : Shown). c.names) s.is) k.named)
+    (subst Speaks (sym s.is) (speaks_not old.phase s.phase old.offered.versions old.server.state.version k.speaks)) k
 
 pub ends : (ways : Ways) (h : History) (old new : Shown) → Wrote Started OverPhase Terminate old new → Known ways h old → Known ways (and_wrote Terminate 0 h) new
 ends ways h old new s k =
@@ -294,7 +339,8 @@ ends ways h old new s k =
     wrote ways h old new Terminate 0 (tagged_may h.written Terminate opened (λ none. cc)) refl
     (subst (λ (p : ConnectionPhase). IsOpenedAt p (is_opened (h.written ++ Terminate ∷ []))) (sym (ap (λ (c : Shown). c.phase) s.is)) tt)
     s.added (ap (λ (c : Shown). c.incoming) s.is) (ap (λ (c : Shown). c.talk) s.is) (ap (λ (c : Shown). c.login) s.is) (ap (λ (c : Shown). c.server) s.is)
-    (named_still h.turns old.names new.names 0 h.written Terminate refl (ap (λ (c : Shown). c.names) s.is) k.named) k
+    (named_still h.turns old.names new.names 0 h.written Terminate refl (ap (λ (c : Shown). c.names) s.is) k.named)
+    (subst Speaks (sym s.is) (speaks_over old.phase old.offered.versions old.server.state.version k.speaks)) k
 
 at_encrypting : (p : ConnectionPhase) (b : Bool) → p ≡ Encrypting → IsOpenedAt p b → b ≡ false
 at_encrypting p b e opened = subst (λ (q : ConnectionPhase). IsOpenedAt q b) e opened
@@ -303,10 +349,10 @@ stands_told : (ways : Ways) (encrypts : Bool) (s : State) (l : Login) → Stands
 stands_told ways encrypts s l h = record { phase = h.phase; exchange = h.exchange; md5 = h.md5; cleartext = h.cleartext; none = h.none; least = h.least; channel = refl }
 
 pub answered : (ways : Ways) (h : History) (old : Shown) (encrypts : Bool) → old.phase ≡ Encrypting → Known ways h old → Known ways h (told encrypts old)
-answered ways h old encrypts phase k = record { run = k.run; opened = at_encrypting old.phase (is_opened h.written) phase k.opened; read = k.read; state = k.state; talks = k.talks; stands = stands_told ways encrypts k.state old.login k.stands; asked = k.asked; server = k.server; named = k.named }
+answered ways h old encrypts phase k = record { run = k.run; opened = at_encrypting old.phase (is_opened h.written) phase k.opened; read = k.read; state = k.state; talks = k.talks; stands = stands_told ways encrypts k.state old.login k.stands; asked = k.asked; server = k.server; named = k.named; speaks = speaks_unless old.phase phase old.offered.versions old.server.state.version k.speaks }
 
 pub stopped : (ways : Ways) (h : History) (old : Shown) → Known ways h old → Known ways h (in_phase OverPhase old)
-stopped ways h old k = record { run = k.run; opened = tt; read = k.read; state = k.state; talks = k.talks; stands = k.stands; asked = k.asked; server = k.server; named = k.named }
+stopped ways h old k = record { run = k.run; opened = tt; read = k.read; state = k.state; talks = k.talks; stands = k.stands; asked = k.asked; server = k.server; named = k.named; speaks = speaks_over old.phase old.offered.versions old.server.state.version k.speaks }
 
 pub begins : (login : Login) (limit : ℕ) → login.phase ≡ AwaitsOfferThere → ((bytes : List ℕ) → Frames bytes [] bytes) → Known (ways_in login) no_history (begun login limit)
 begins login limit at none = record {
@@ -319,4 +365,5 @@ begins login limit at none = record {
   asked = refl;
   server = refl;
   named = λ small. (omega arith, omega arith);
+  speaks = refl;
 }

@@ -7,7 +7,7 @@ use Rattle.pgp_base.specs.declared.error.Error.TheVariants.{OutOfMemory as NoMem
 use Rattle.pgp_client.specs.Ending.{first_open}
 use Rattle.pgp_client.specs.Kinds.{kind_of, request_of}
 use Rattle.pgp_client.specs.Limits.{is_longer, lacks_status}
-use Rattle.pgp_client.specs.Taking.{asked, awaits_data, is_between, is_copying, is_end, taken}
+use Rattle.pgp_client.specs.Taking.{asked, awaits_data, is_copying, is_end, taken}
 use Rattle.pgp_client.specs.Talk.{Talk, shown as talk_of}
 use Rattle.pgp_client.specs.Telling.{start}
 use Rattle.pgp_client.specs.declared.event.Event.{Event}
@@ -15,18 +15,23 @@ use Rattle.pgp_client.specs.declared.event.Event.TheVariants.{Part}
 use Rattle.pgp_client.specs.declared.request.Request.{Request}
 use Rattle.pgp_client.specs.declared.stage.Stage.TheVariants.{Over as NothingMore}
 use Rattle.pgp_frontend.specs.ClientMessage.{ClientMessage, Bind, CancelRequest, Close, CopyData, CopyDone, CopyFail, Describe, Execute, Flush, Parse, Query, Startup, Sync}
-use Rattle.pgp_frontend.specs.Payload.{bytes_of}
+use Rattle.pgp_frontend.specs.Payload.{bytes_of, minor_of}
+use Rattle.pgp_frontend.specs.declared.startup.ProtocolVersion.{ProtocolVersion}
 use Rattle.pgp_login.specs.Exchange.{Added, Unsent}
 use Rattle.pgp_login.specs.Fault.{fault}
 use Rattle.pgp_login.specs.Login.{DeclinesSo, Kept as Login, Simulates}
 use Rattle.pgp_login.specs.Machine.{asking}
-use Rattle.pgp_login.specs.Timely.{IsTimely}
+use Rattle.pgp_login.specs.Timely.{IsTimely, Offered}
 use Rattle.pgp_login.specs.Timely as timely
+use Rattle.pgp_login.specs.Versions.{newest, spoken}
 use Rattle.pgp_login.specs.declared.fault.LoginError.{LoginError}
 use Rattle.pgp_login.specs.declared.login.LoginPhase.{LoginPhase}
 use Rattle.pgp_login.specs.declared.login.LoginPhase.TheVariants.{Done}
+use Rattle.pgp_login.specs.declared.versions.Versions.{Versions}
+use Rattle.pgp_login.specs.declared.versions.Versions.TheVariants.{Only3_0}
 use Rattle.pgp_message.specs.BackendMessage.{Message, CopyData as DataCame, DataRow}
 use Rattle.pgp_client.specs.declared.event.Refusal.{Refusal}
+use Rattle.pgp_message.specs.Parts.{KeyData}
 use Rattle.pgp_message.specs.Stream.{BeginsWithKept, IsPartial, Step, TakesFrame}
 use Rattle.pgp_message.specs.Views.{view}
 use Rattle.pgp_message.specs.declared.message as code
@@ -39,8 +44,7 @@ use Rattle.pgp_session.specs.declared.connection.ConnectionPhase.{ConnectionPhas
 use Rattle.pgp_session.specs.declared.connection.ConnectionPhase.TheVariants.{Opening, Encrypting, Started, Over}
 use Rattle.pgp_session.specs.declared.connection_error.ConnectionError.{ConnectionError}
 use Rattle.pgp_session.specs.declared.connection_error.ConnectionError.TheVariants.{BadAnswer, BadStatus, Malformed, Misplaced, OutOfMemory, OutOfPhase, TooLong, Undue, Unkept, Unwritten}
-use Rattle.pgp_session.specs.declared.server_state.BackendKey.{BackendKey}
-use Rattle.pgp_session.specs.declared.protocol_options.OptionNames.{OptionNames}
+use Rattle.pgp_session.specs.declared.protocol_options.Offered.{Offered as KeptOffered}
 
 pub record Shown : Type 0 where
   pub phase : ConnectionPhase
@@ -52,8 +56,8 @@ pub record Shown : Type 0 where
   pub talk : Talk
   -- what the server said last of its session
   pub server : Said
-  -- the names of the startup packet's protocol options
-  pub options : List (List ℕ)
+  -- what the startup packet asks for
+  pub offered : Offered
   -- the next request's name
   pub names : ℕ
   -- how long a message may be
@@ -61,7 +65,7 @@ pub record Shown : Type 0 where
 
 -- a connection of which nothing was sent, with this log-in
 abbrev pub begun : Login → ℕ → Shown
-begun login limit = record { phase = Opening; login = login; out = []; incoming = []; talk = start; server = nothing_said; options = []; names = 0; limit = limit }
+begun login limit = record { phase = Opening; login = login; out = []; incoming = []; talk = start; server = nothing_said; offered = record { versions = Only3_0; options = [] }; names = 0; limit = limit }
 
 -- the log-in is done
 abbrev pub done_at : LoginPhase → Bool
@@ -110,7 +114,7 @@ asked_of (Some r) n t = asked t (record { request = r; name = n })
 
 -- after this message was sent
 abbrev pub said : ClientMessage → Shown → Shown
-said m c = record { phase = c.phase; login = c.login; out = c.out ++ bytes_of m; incoming = c.incoming; talk = asked_of (request_of m) c.names c.talk; server = c.server; options = c.options; names = next_name c.names; limit = c.limit }
+said m c = record { phase = c.phase; login = c.login; out = c.out ++ bytes_of m; incoming = c.incoming; talk = asked_of (request_of m) c.names c.talk; server = c.server; offered = c.offered; names = next_name c.names; limit = c.limit }
 
 -- The message was added to what is to be sent, and asked of the server under this name.
 pub record Sent (m : ClientMessage) (old new : Shown) (name : ℕ) : Type 0 where
@@ -136,10 +140,10 @@ SendsGiven lacks Whole Refuses old new (Err e) = ⊥
 
 -- *private*: the request was noted whose message was written, or the message was taken back
 abbrev pub with_out : List ℕ → Shown → Shown
-with_out out c = record { phase = c.phase; login = c.login; out = out; incoming = c.incoming; talk = c.talk; server = c.server; options = c.options; names = c.names; limit = c.limit }
+with_out out c = record { phase = c.phase; login = c.login; out = out; incoming = c.incoming; talk = c.talk; server = c.server; offered = c.offered; names = c.names; limit = c.limit }
 
 abbrev pub noted : Request → Shown → Shown
-noted r c = record { phase = c.phase; login = c.login; out = c.out; incoming = c.incoming; talk = asked c.talk (record { request = r; name = c.names }); server = c.server; options = c.options; names = next_name c.names; limit = c.limit }
+noted r c = record { phase = c.phase; login = c.login; out = c.out; incoming = c.incoming; talk = asked c.talk (record { request = r; name = c.names }); server = c.server; offered = c.offered; names = next_name c.names; limit = c.limit }
 
 abbrev pub Noted : Type 0 → ℕ → Request → Shown → Shown → Option ℕ → Type 0
 Noted lacks place r old new (Some name) = (name ≡ old.names) × (new ≡ noted r old)
@@ -152,12 +156,12 @@ Notes lacks place r old new (Err e) = ⊥
 
 -- so many bytes were sent
 abbrev pub dropped : ℕ → Shown → Shown
-dropped n c = record { phase = c.phase; login = c.login; out = drop n c.out; incoming = c.incoming; talk = c.talk; server = c.server; options = c.options; names = c.names; limit = c.limit }
+dropped n c = record { phase = c.phase; login = c.login; out = drop n c.out; incoming = c.incoming; talk = c.talk; server = c.server; offered = c.offered; names = c.names; limit = c.limit }
 
 -- ---- what comes
 
 abbrev pub fed : List ℕ → Shown → Shown
-fed piece c = record { phase = c.phase; login = c.login; out = c.out; incoming = c.incoming ++ piece; talk = c.talk; server = c.server; options = c.options; names = c.names; limit = c.limit }
+fed piece c = record { phase = c.phase; login = c.login; out = c.out; incoming = c.incoming ++ piece; talk = c.talk; server = c.server; offered = c.offered; names = c.names; limit = c.limit }
 
 abbrev pub Feeds : {A : Type 0} → Type 0 → List ℕ → Shown → Shown → Result (Unit {0}) (ConnectionError A) → Type 0
 Feeds lacks piece old new (Ok done) = (old.phase ≡ Started) × (new ≡ fed piece old)
@@ -170,26 +174,26 @@ abbrev pub limit_of : Shown → ℕ
 limit_of c = timely.limit_of (is_logged_in c) c.limit
 
 abbrev pub in_phase : ConnectionPhase → Shown → Shown
-in_phase phase c = record { phase = phase; login = c.login; out = c.out; incoming = c.incoming; talk = c.talk; server = c.server; options = c.options; names = c.names; limit = c.limit }
+in_phase phase c = record { phase = phase; login = c.login; out = c.out; incoming = c.incoming; talk = c.talk; server = c.server; offered = c.offered; names = c.names; limit = c.limit }
 
 abbrev pub with_incoming : List ℕ → Shown → Shown
-with_incoming rest c = record { phase = c.phase; login = c.login; out = c.out; incoming = rest; talk = c.talk; server = c.server; options = c.options; names = c.names; limit = c.limit }
+with_incoming rest c = record { phase = c.phase; login = c.login; out = c.out; incoming = rest; talk = c.talk; server = c.server; offered = c.offered; names = c.names; limit = c.limit }
 
 -- what a message does to the phase, to the dialogue and to what is known of the server's session
 abbrev pub moved : ConnectionPhase → Talk → Message → Shown → Shown
-moved phase t m c = record { phase = phase; login = c.login; out = c.out; incoming = c.incoming; talk = t; server = heard m c.server; options = c.options; names = c.names; limit = c.limit }
+moved phase t m c = record { phase = phase; login = c.login; out = c.out; incoming = c.incoming; talk = t; server = heard m c.server; offered = c.offered; names = c.names; limit = c.limit }
 
 -- what it does in the log-in
 abbrev pub with_login : Login → List ℕ → Shown → Shown
-with_login l out c = record { phase = c.phase; login = l; out = out; incoming = c.incoming; talk = c.talk; server = c.server; options = c.options; names = c.names; limit = c.limit }
+with_login l out c = record { phase = c.phase; login = l; out = out; incoming = c.incoming; talk = c.talk; server = c.server; offered = c.offered; names = c.names; limit = c.limit }
 
 -- after a message that wasn't taken, with all else as it was
 abbrev pub left_at : ConnectionPhase → Talk → Login → Said → Shown → Shown
-left_at phase t l s c = record { phase = phase; login = l; out = c.out; incoming = c.incoming; talk = t; server = s; options = c.options; names = c.names; limit = c.limit }
+left_at phase t l s c = record { phase = phase; login = l; out = c.out; incoming = c.incoming; talk = t; server = s; offered = c.offered; names = c.names; limit = c.limit }
 
 -- A message that may come now.
 abbrev pub ComesInTime : Shown → Message → Type 0
-ComesInTime c m = IsTimely (done_at c.login.phase) (is_between c.talk) c.options m
+ComesInTime c m = IsTimely (done_at c.login.phase) c.server.state.version c.offered m
 
 abbrev pub is_part : Event → Bool
 is_part (Part n) = true
@@ -278,7 +282,7 @@ nexted (Err e) = Err e
 
 -- a message that isn't answered by itself was written, and the phase is then this
 abbrev pub written : ConnectionPhase → ClientMessage → Shown → Shown
-written phase m c = record { phase = phase; login = c.login; out = c.out ++ bytes_of m; incoming = c.incoming; talk = c.talk; server = c.server; options = c.options; names = c.names; limit = c.limit }
+written phase m c = record { phase = phase; login = c.login; out = c.out ++ bytes_of m; incoming = c.incoming; talk = c.talk; server = c.server; offered = c.offered; names = c.names; limit = c.limit }
 
 -- It was, in this phase, which leads to that one.
 pub record Wrote (here next : ConnectionPhase) (m : ClientMessage) (old new : Shown) : Type 0 where
@@ -319,43 +323,51 @@ abbrev pub options_of : ClientMessage → List (List ℕ)
 options_of (Startup minor parameters) = filter is_option (map (λ (p : List ℕ × List ℕ). p.0) parameters)
 options_of m = []
 
-abbrev pub started : ClientMessage → Shown → Shown
-started m c = record { phase = Started; login = c.login; out = c.out ++ bytes_of m; incoming = c.incoming; talk = asked_of (request_of m) c.names c.talk; server = c.server; options = options_of m; names = next_name c.names; limit = c.limit }
+-- the startup packet that asks for these versions
+abbrev pub packet_of : Versions → List (List ℕ × List ℕ) → ClientMessage
+packet_of asked parameters = Startup (minor_of (newest asked)) parameters
+
+abbrev pub started : Versions → ClientMessage → Shown → Shown
+started asked m c = record { phase = Started; login = c.login; out = c.out ++ bytes_of m; incoming = c.incoming; talk = asked_of (request_of m) c.names c.talk; server = c.server; offered = record { versions = asked; options = options_of m }; names = next_name c.names; limit = c.limit }
 
 -- The startup packet was written, and asked of the server under this name.
-pub record HasStarted (m : ClientMessage) (old new : Shown) (name : ℕ) : Type 0 where
+pub record HasStarted (asked : Versions) (m : ClientMessage) (old new : Shown) (name : ℕ) : Type 0 where
   pub phase : old.phase ≡ Opening
   pub added : Added m old.out new.out
   pub named : name ≡ old.names
-  pub is : new ≡ started m old
+  pub is : new ≡ started asked m old
 
 -- The startup packet was written, and its answer is awaited under the next name.
-abbrev pub Starts : {A : Type 0} → Type 0 → ClientMessage → Shown → Shown → Result ℕ (ConnectionError A) → Type 0
-Starts lacks m old new (Ok name) = HasStarted m old new name
-Starts lacks m old new (Err OutOfPhase) = (old.phase ≢ Opening) × (new ≡ old)
-Starts lacks m old new (Err (Unwritten e)) = (old.phase ≡ Opening) × Unsent lacks m e × (new ≡ old)
-Starts lacks m old new (Err OutOfMemory) = (old.phase ≡ Opening) × lacks × (new ≡ old)
-Starts lacks m old new (Err e) = ⊥
+abbrev pub Starts : {A : Type 0} → Type 0 → Versions → ClientMessage → Shown → Shown → Result ℕ (ConnectionError A) → Type 0
+Starts lacks asked m old new (Ok name) = HasStarted asked m old new name
+Starts lacks asked m old new (Err OutOfPhase) = (old.phase ≢ Opening) × (new ≡ old)
+Starts lacks asked m old new (Err (Unwritten e)) = (old.phase ≡ Opening) × Unsent lacks m e × (new ≡ old)
+Starts lacks asked m old new (Err OutOfMemory) = (old.phase ≡ Opening) × lacks × (new ≡ old)
+Starts lacks asked m old new (Err e) = ⊥
+
+-- the version that is spoken
+abbrev pub version_of : Shown → ProtocolVersion
+version_of c = spoken c.offered.versions c.server.state.version
 
 -- The request to cancel was appended, if the server said a key.
 abbrev pub Cancels : {A : Type 0} → Type 0 → Shown → List ℕ → List ℕ → Result (Unit {0}) (ConnectionError A) → Type 0
-Cancels lacks c old new (Ok done) = (k : BackendKey) × (c.server.state.key ≡ Some k) × Added (CancelRequest k.process_id k.secret_key) old new
+Cancels lacks c old new (Ok done) = (k : KeyData) × (c.server.state.key ≡ Some k) × Added (CancelRequest k.process_id k.secret_key) old new
 Cancels lacks c old new (Err OutOfPhase) = (c.server.state.key ≡ None) × (new ≡ old)
-Cancels lacks c old new (Err (Unwritten e)) = (k : BackendKey) × (c.server.state.key ≡ Some k) × Unsent lacks (CancelRequest k.process_id k.secret_key) e × (new ≡ old)
+Cancels lacks c old new (Err (Unwritten e)) = (k : KeyData) × (c.server.state.key ≡ Some k) × Unsent lacks (CancelRequest k.process_id k.secret_key) e × (new ≡ old)
 Cancels lacks c old new (Err e) = ⊥
 
 -- ---- the code's record
 
--- the names that it keeps
-abbrev pub names_in : {A : Type 0} → OptionNames A → List (List ℕ)
-names_in o = o.names.items
+-- what it keeps of the startup packet
+abbrev pub offered_in : {A : Type 0} → KeptOffered A → Offered
+offered_in o = record { versions = o.versions; options = o.names.items }
 
 -- *private*: what the messages of the server change, with all else as it is there
 abbrev pub in_state : {A : Type 0} → ConnectionState A → Shown → Shown
-in_state s c = record { phase = s.phase; login = seen s.login; out = s.out.items; incoming = c.incoming; talk = talk_of (λ q. q.items) s.dialogue; server = record { state = s.server; settings = s.settings }; options = names_in s.options; names = c.names; limit = c.limit }
+in_state s c = record { phase = s.phase; login = seen s.login; out = s.out.items; incoming = c.incoming; talk = talk_of (λ q. q.items) s.dialogue; server = record { state = s.server; settings = s.settings }; offered = offered_in s.offered; names = c.names; limit = c.limit }
 
 abbrev pub shown : {A : Type 0} → Kept A → Shown
-shown c = record { phase = c.state.phase; login = seen c.state.login; out = c.state.out.items; incoming = c.incoming.rest; talk = talk_of (λ q. q.items) c.state.dialogue; server = record { state = c.state.server; settings = c.state.settings }; options = names_in c.state.options; names = c.names; limit = c.limit }
+shown c = record { phase = c.state.phase; login = seen c.state.login; out = c.state.out.items; incoming = c.incoming.rest; talk = talk_of (λ q. q.items) c.state.dialogue; server = record { state = c.state.server; settings = c.state.settings }; offered = offered_in c.state.offered; names = c.names; limit = c.limit }
 
 -- the frame of the message that is read in place, or nothing
 abbrev pub current : {A : Type 0} → Kept A → List ℕ

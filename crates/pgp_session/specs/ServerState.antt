@@ -1,7 +1,9 @@
 -- What a server says of its session.
--- PostgreSQL manual, "Message Formats": ReadyForQuery, BackendKeyData.
-use Rattle.std.specs.Prelude.{ℕ, ℤ, List, [], ◌∷◌, Option, Some, None}
+-- PostgreSQL manual, "Message Formats": ReadyForQuery, BackendKeyData, NegotiateProtocolVersion.
+use Rattle.std.specs.Prelude.{◌≤◌, ℕ, List, [], ◌∷◌, length, Option, Some, None}
+use Rattle.pgp_login.specs.Versions.{answered, newer as newer_version}
 use Rattle.pgp_message.specs.BackendMessage.{Message, BackendKeyData, ReadyForQuery}
+use Rattle.pgp_message.specs.Parts.{KeyData}
 use Rattle.pgp_session.specs.declared.server_state.BackendKey.{BackendKey}
 use Rattle.pgp_session.specs.declared.server_state.ServerState.{ServerState}
 
@@ -10,15 +12,19 @@ abbrev pub status : Message → Option ℕ
 status (ReadyForQuery s) = Some s
 status m = None
 
--- a secret of four bytes, which version 3.0 of the protocol has
-abbrev pub keyed : ℤ → List ℕ → Option BackendKey
-keyed process_id (a ∷ b ∷ c ∷ d ∷ []) = Some (record { process_id = process_id; secret_key = a ∷ b ∷ c ∷ d ∷ [] })
-keyed process_id secret = None
-
 -- the key that a message says: that of a BackendKeyData
-abbrev pub key : Message → Option BackendKey
-key (BackendKeyData k) = keyed k.process_id k.secret_key
+abbrev pub key : Message → Option KeyData
+key (BackendKeyData k) = Some k
 key m = None
+
+-- the key of a message, if it has one, is one that can be kept
+abbrev pub KeyFits : Message → Type 0
+KeyFits (BackendKeyData k) = length k.secret_key ≤ 256
+KeyFits m = Unit {0}
+
+-- a key as a caller reads it
+abbrev pub shown_key : BackendKey → KeyData
+shown_key k = record { process_id = k.process_id; secret_key = k.secret_key.now }
 
 abbrev pub newer : {A : Type 0} → Option A → Option A → Option A
 newer before None = before
@@ -26,11 +32,11 @@ newer before (Some s) = Some s
 
 -- nothing was said
 abbrev pub unsaid : ServerState
-unsaid = record { status = None; key = None }
+unsaid = record { status = None; key = None; version = None }
 
 -- after a message
 abbrev pub noted : Message → ServerState → ServerState
-noted m s = record { status = newer s.status (status m); key = newer s.key (key m) }
+noted m s = record { status = newer s.status (status m); key = newer s.key (key m); version = newer_version s.version (answered m) }
 
 -- after messages: the last status and the last key among them
 abbrev pub state_after : ServerState → List Message → ServerState

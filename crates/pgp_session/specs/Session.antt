@@ -19,7 +19,10 @@ use Rattle.pgp_login.specs.Talks.{Talks}
 use Rattle.pgp_login.specs.declared.login.LoginPhase.TheVariants.{Done}
 use Rattle.pgp_message.specs.BackendMessage.{Message}
 use Rattle.pgp_message.specs.Stream.{Frames}
-use Rattle.pgp_session.specs.Connection.{Shown}
+use Rattle.pgp_login.specs.Versions.{is_admitted, spoken}
+use Rattle.pgp_login.specs.declared.versions.Versions.{Versions}
+use Rattle.pgp_frontend.specs.declared.startup.ProtocolVersion.{ProtocolVersion}
+use Rattle.pgp_session.specs.Connection.{Shown, version_of}
 use Rattle.pgp_session.specs.ServerState.{state_after, unsaid}
 use Rattle.pgp_session.specs.Settings.{last_reported, nothing_said, said_after, value_of}
 use Rattle.pgp_session.specs.declared.connection.ConnectionPhase.{ConnectionPhase}
@@ -51,6 +54,12 @@ pub record History : Type 0 where
 
 abbrev pub nothing : History
 nothing = record { sent = []; written = []; received = []; observed = []; turns = [] }
+
+-- The server answered nothing about versions before a startup packet was written; from then on the version that is spoken was asked for.
+abbrev pub SpeaksAt : ConnectionPhase → Versions → Option ProtocolVersion → Type 0
+SpeaksAt Opening asked before = before ≡ None
+SpeaksAt Encrypting asked before = before ≡ None
+SpeaksAt phase asked before = is_admitted asked (spoken asked before) ≡ true
 
 -- whether a startup packet was written
 abbrev pub IsOpenedAt : ConnectionPhase → Bool → Type 0
@@ -94,6 +103,7 @@ pub record Known (ways : Ways) (h : History) (now : Shown) : Type 0 where
   pub asked : requests_in (asked_in h.turns) ≡ requests_of h.written
   pub server : now.server ≡ said_after nothing_said h.observed
   pub named : AreNamed h.turns now.names h.written
+  pub speaks : SpeaksAt now.phase now.offered.versions now.server.state.version
 
 abbrev pub and_sent : ℕ → Shown → History → History
 and_sent n old h = record { sent = h.sent ++ take n old.out; written = h.written; received = h.received; observed = h.observed; turns = h.turns }
@@ -112,7 +122,7 @@ and_observed m e reply h = record { sent = h.sent; written = h.written ++ option
 -- What is known says of a session: the requests that were asked are those of the messages written, no two under one name while fewer than 2^64 messages were
 -- written; each message belongs to the request that was reported, and to
 -- no other, since a server passes over no Sync that is asked after it told that a copy failed; no password is given away but by an admitted way; a client is
--- logged in by one such way alone; and the status, the key and each setting are the server's last.
+-- logged in by one such way alone; the version that is spoken was asked for; and the status, the key and each setting are the server's last.
 pub record Follows (ways : Ways) (h : History) (now : Shown) : Type 0 where
   pub asked : requests_in (asked_in h.turns) ≡ requests_of h.written
   pub named : length h.written < 2 ^ 64 → Rises 0 (names_of (asked_in h.turns)) (2 ^ 64)
@@ -123,4 +133,5 @@ pub record Follows (ways : Ways) (h : History) (now : Shown) : Type 0 where
   pub allowed : AllByRecursion (IsAllowed ways) (secrets_of h.written)
   pub admitted : now.login.phase ≡ Done → Admitted ways h.observed (secrets_of h.written)
   pub server : now.server.state ≡ state_after unsaid h.observed
+  pub version : is_admitted now.offered.versions (version_of now) ≡ true
   pub settings : (name : List ℕ) → value_of name now.server.settings ≡ last_reported name h.observed

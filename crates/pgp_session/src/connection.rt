@@ -7,23 +7,20 @@ ghost use Rattle.pgp_frontend.specs.Reading.{IsNamed};
 ghost use Rattle.pgp_frontend_read.specs.Views.{view as sent_view};
 ghost use Rattle.pgp_message.specs.Views.{view};
 ghost use Rattle.pgp_session.specs.Login.{given};
-ghost use Rattle.pgp_client.specs.Taking.{is_idle};
-ghost use Rattle.pgp_session.specs.Settings.{value_of};
 ghost use Rattle.pgp_session.specs.Incoming.{Reads};
-ghost use Rattle.pgp_session.specs.Connection.{Advances, Answers, Feeds, Nexts, Sends, Starts, Writes, begun, can_send, current, dropped, is_logged_in, limit_of, may_ask, nexted, open_from, shown};
+ghost use Rattle.pgp_session.specs.Connection.{Advances, Answers, Feeds, Nexts, Sends, Starts, Writes, begun, can_send, current, dropped, is_logged_in, limit_of, may_ask, nexted, packet_of, shown};
 
 use crate::connection_error::ConnectionError;
 use crate::connection_parts::{encrypts, is_done, may_send, next_name, put_startup};
 use crate::connection_state::ConnectionState;
 use crate::incoming::Incoming;
 use crate::login::Ways;
-use crate::protocol_options::{OptionNames, option_names};
-use crate::server_state::BackendKey;
+use crate::protocol_options::{Offered, option_names};
 use bytes::{Buf, Bytes, BytesMut};
 use pgp_base::{Error, Memory};
 use pgp_client::{Event, Request};
 use pgp_frontend_read::ClientMessage;
-use pgp_login::put;
+use pgp_login::{Versions, put};
 use pgp_message::{Message, Messages};
 use std::alloc::Global;
 
@@ -107,26 +104,47 @@ impl<'a, A: Memory> Connection<'a, A> {
         Ok(Some(encrypts))
     }
 
-    /// Sends the startup packet of version 3.0 with these names and values, among them `user`, and returns the name by which the events of the
-    /// log-in tell it. No name is empty.
+    /// Sends the startup packet of version 3.0, as `start_version` does.
+    ///
+    /// # Errors
+    ///
+    /// Those of `start_version`.
+    pub fn start(&mut self, parameters: &[(&str, &str)]) -> Result<u64, ConnectionError<A>>
+        requires { IsNamed (Startup 0 (map shown_pair parameters.now)) }
+        ensures { Starts A.Lacks Versions.Only3_0 (Startup 0 (map shown_pair parameters.now)) (shown self.old) (shown self.new) result }
+    {
+        self.start_version(Versions::Only3_0, parameters)
+    }
+
+    /// Sends the startup packet of the newest of these versions, with these names and values, among them `user`, and returns the name by which the
+    /// events of the log-in tell it. No name is empty. `version` says which version is spoken once the log-in is done: one of these.
     ///
     /// # Errors
     ///
     /// On error nothing changes. `OutOfPhase` after the startup packet, while an answer about encryption is awaited, and after the end;
     /// `Unwritten` of `EmbeddedNull` if a name or a value has a 0 byte, of `TooLarge` if the message exceeds `i32::MAX`, and of `OutOfMemory`;
     /// `OutOfMemory` if there is no memory to take note of the request, or of the names of protocol options.
-    pub fn start(&mut self, parameters: &[(&str, &str)]) -> Result<u64, ConnectionError<A>>
-        requires { IsNamed (Startup 0 (map shown_pair parameters.now)) }
-        ensures { Starts A.Lacks (Startup 0 (map shown_pair parameters.now)) (shown self.old) (shown self.new) result }
+    pub fn start_version(
+        &mut self,
+        versions: Versions,
+        parameters: &[(&str, &str)],
+    ) -> Result<u64, ConnectionError<A>>
+        requires { IsNamed (packet_of versions (map shown_pair parameters.now)) }
+        ensures { Starts A.Lacks versions (packet_of versions (map shown_pair parameters.now)) (shown self.old) (shown self.new) result }
     {
         if self.state.phase != ConnectionPhase::Opening {
             return Err(ConnectionError::OutOfPhase);
         }
-        let Ok(options) = option_names(self.state.alloc, parameters) else {
+        let Ok(names) = option_names(self.state.alloc, parameters) else {
             return Err(ConnectionError::OutOfMemory);
         };
         let start = self.state.out.len();
-        if let Err(e) = put_startup(self.state.alloc, parameters, &mut self.state.out) {
+        if let Err(e) = put_startup(
+            self.state.alloc,
+            versions.newest(),
+            parameters,
+            &mut self.state.out,
+        ) {
             return Err(ConnectionError::Unwritten(e));
         }
         let name = self.names;
@@ -135,7 +153,7 @@ impl<'a, A: Memory> Connection<'a, A> {
             return Err(ConnectionError::OutOfMemory);
         }
         self.names = next_name(name);
-        self.state.options = OptionNames { names: options };
+        self.state.offered = Offered { versions, names };
         self.state.phase = ConnectionPhase::Started;
         Ok(name)
     }
@@ -360,50 +378,5 @@ impl<'a, A: Memory> Connection<'a, A> {
                 Err(ConnectionError::Malformed(e))
             }
         }
-    }
-
-    /// Whether no request awaits an answer.
-    pub fn is_idle(&self) -> bool
-        ensures { result ≡ is_idle (shown self.now).talk }
-    {
-        self.state.dialogue.is_idle()
-    }
-
-    /// All requests whose names are below this one have ended: of each the last message was reported, or the server passes over it, as over an Execute
-    /// behind a Bind that failed, and nothing will be. The request of this name, if one was sent under it, is to end. A Flush and data of a copy end
-    /// with what was sent before them. After the end all have ended.
-    pub fn open_from(&self) -> u64
-        ensures { result ≡ open_from (shown self.now) }
-    {
-        if self.state.phase != ConnectionPhase::Started {
-            return self.names;
-        }
-        match self.state.dialogue.first_open() {
-            Some(name) => name,
-            None => self.names,
-        }
-    }
-
-    /// The status of the last ReadyForQuery: `I` (no transaction), `T` (in a transaction) or `E` (in a failed one); `None` before the first.
-    pub fn status(&self) -> Option<u8>
-        ensures { result ≡ (shown self.now).server.state.status }
-    {
-        self.state.server.status
-    }
-
-    /// The key by which another connection cancels this session's query; `None` where the server sent none.
-    pub fn backend_key(&self) -> Option<BackendKey>
-        ensures { result ≡ (shown self.now).server.state.key }
-    {
-        self.state.server.key
-    }
-
-    /// The value that the server last reported under this name, as `TimeZone` or `server_version`; `None` where it reported none. Names are
-    /// the same where their bytes are, and neither a name nor a value need be UTF-8. All take at most 65,536 bytes, each with 128 more than its
-    /// name and its value.
-    pub fn setting(&self, name: &[u8]) -> Option<&[u8]>
-        ensures { option_map (λ value. value.now) result ≡ value_of name.now (shown self.now).server.settings }
-    {
-        self.state.settings.get(name)
     }
 }

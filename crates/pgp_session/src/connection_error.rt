@@ -23,8 +23,8 @@ pub enum ConnectionError<A: Allocator = Global> {
     Malformed(Error),
     /// The message has no place among the answers that are due, or can't be attributed.
     Misplaced(Refusal),
-    /// The message isn't due in the log-in. Before its end a server asks for a password, reports an error, or answers once, right behind the startup
-    /// packet, that it speaks version 3.0: all else would be kept of one that has proved nothing.
+    /// The message isn't due in the log-in. Before its end a server asks for a password, reports an error, or answers once which of the versions that
+    /// were asked for it speaks: all else would be kept of one that has proved nothing. Or a key hasn't the length that the version's have.
     Undue,
     /// A ReadyForQuery has a status other than `I`, `T` and `E`.
     BadStatus,

@@ -7,18 +7,20 @@ ghost use Rattle.pgp_client.specs.Limits.{is_longer, is_status, lacks_status};
 ghost use Rattle.pgp_client.specs.Taking.{is_end};
 ghost use Rattle.pgp_frontend.specs.ClientMessage.{Startup};
 ghost use Rattle.pgp_frontend.specs.Given.{shown as shown_pair};
+ghost use Rattle.pgp_frontend.specs.Payload.{minor_of};
 ghost use Rattle.pgp_frontend.specs.Reading.{IsNamed};
 ghost use Rattle.pgp_frontend_read.specs.Views.{view as sent_view};
 ghost use Rattle.pgp_login.specs.Login.{Puts};
 ghost use Rattle.pgp_login.specs.Timely.{IsTimely};
 ghost use Rattle.pgp_message.specs.Views.{view};
-ghost use Rattle.pgp_session.specs.Connection.{done_at, is_bulk, is_part, letter, may_send, names_in, next_name};
+ghost use Rattle.pgp_session.specs.Connection.{done_at, is_bulk, is_part, letter, may_send, next_name, offered_in};
 
-use crate::protocol_options::OptionNames;
+use crate::protocol_options::Offered;
 use crate::session_storage::SessionStorage;
 use bytes::BytesMut;
 use pgp_base::{Error, Memory};
 use pgp_client::Event;
+use pgp_frontend::ProtocolVersion;
 use pgp_frontend_read::ClientMessage;
 use pgp_login::LoginPhase;
 use pgp_message::{Message, Storage};
@@ -67,16 +69,16 @@ pub(crate) fn is_done(phase: LoginPhase) -> bool
     }
 }
 
-/// Whether the message may come now. `first` says that no message came before.
+/// Whether the message may come now, where the server answered this about versions.
 pub(crate) fn is_timely<A: Allocator, S: SessionStorage>(
     phase: LoginPhase,
-    first: bool,
-    sent: &OptionNames<A>,
+    before: Option<ProtocolVersion>,
+    sent: &Offered<A>,
     message: &Message<S>,
 ) -> bool
-    ensures { Decides result (IsTimely (done_at phase) first (names_in sent.now) (view message.now)) }
+    ensures { Decides result (IsTimely (done_at phase) before (offered_in sent.now) (view message.now)) }
 {
-    pgp_login::is_timely(is_done(phase), first, sent, message)
+    pgp_login::is_timely(is_done(phase), before, sent, message)
 }
 
 /// Whether it is a ReadyForQuery whose status is none of the three that there are.
@@ -143,18 +145,19 @@ pub(crate) fn encrypts(piece: &[u8]) -> Option<bool>
     }
 }
 
-/// Appends the startup packet of these names and values.
+/// Appends the startup packet of this version, with these names and values.
 pub(crate) fn put_startup<A: Memory>(
     alloc: A,
+    version: ProtocolVersion,
     parameters: &[(&str, &str)],
     out: &mut BytesMut<A>,
 ) -> Result<(), Error>
-    requires { IsNamed (Startup 0 (map shown_pair parameters.now)) }
-    ensures put { Puts A.Lacks (Startup 0 (map shown_pair parameters.now)) out.old.items out.new.items result }
+    requires { IsNamed (Startup (minor_of version) (map shown_pair parameters.now)) }
+    ensures put { Puts A.Lacks (Startup (minor_of version) (map shown_pair parameters.now)) out.old.items out.new.items result }
     ensures kept { OnErr result (out.new.items ≡ out.old.items) }
 {
     let mut packet = ClientStream::new(alloc);
-    match packet.startup_message(parameters) {
+    match packet.startup_message_version(version, parameters) {
         Ok(()) => append(packet.bytes(), out),
         Err(e) => Err(e),
     }

@@ -9,7 +9,7 @@ use crate::connection::ConnectionPhase;
 use crate::connection_error::ConnectionError;
 use crate::connection_parts::{is_bulk, is_end, is_timely, lacks_status};
 use crate::login::{Ways, error_of};
-use crate::protocol_options::OptionNames;
+use crate::protocol_options::Offered;
 use crate::server_state::ServerState;
 use crate::session_storage::SessionStorage;
 use crate::settings::{SETTINGS_MOST, Settings};
@@ -17,7 +17,7 @@ use bytes::BytesMut;
 use pgp_auth::authentication::sasl::ScramSha256;
 use pgp_base::Memory;
 use pgp_client::{Asked, Dialogue, Event};
-use pgp_login::{Login, LoginPhase};
+use pgp_login::{Login, LoginPhase, Versions};
 use pgp_message::Message;
 use std::collections::VecDeque;
 
@@ -31,8 +31,8 @@ pub(crate) struct ConnectionState<'a, A: Memory> {
     pub(crate) dialogue: Dialogue<VecDeque<Asked, A>>,
     pub(crate) server: ServerState,
     pub(crate) settings: Settings<A>,
-    /// The protocol options of the startup packet.
-    pub(crate) options: OptionNames<A>,
+    /// What the startup packet asks for.
+    pub(crate) offered: Offered<A>,
 }
 
 impl<'a, A: Memory> ConnectionState<'a, A> {
@@ -51,7 +51,8 @@ impl<'a, A: Memory> ConnectionState<'a, A> {
             dialogue: Dialogue::new(alloc),
             server: ServerState::new(),
             settings: Settings::new(alloc),
-            options: OptionNames {
+            offered: Offered {
+                versions: Versions::Only3_0,
                 names: Vec::new(alloc),
             },
         }
@@ -79,7 +80,6 @@ impl<'a, A: Memory> ConnectionState<'a, A> {
     fn take<S: SessionStorage>(&mut self, message: &Message<S>) -> Result<Event, ConnectionError<A>>
         ensures { (c : Shown) → Takes A.Lacks (view message.now) (in_state self.old c) (in_state self.new c) result }
     {
-        let first = self.dialogue.is_between();
         let event = match self.dialogue.take_message(message) {
             Ok(event) => event,
             Err(e) => return Err(ConnectionError::Misplaced(e)),
@@ -87,7 +87,12 @@ impl<'a, A: Memory> ConnectionState<'a, A> {
         if is_bulk(message, event) {
             return Ok(event);
         }
-        if !is_timely(self.login.phase, first, &self.options, message) {
+        if !is_timely(
+            self.login.phase,
+            self.server.version,
+            &self.offered,
+            message,
+        ) {
             return Err(ConnectionError::Undue);
         }
         if lacks_status(message) {

@@ -9,16 +9,19 @@ ghost use Rattle.pgp_client.specs.declared.request.Asked.{Asked as Named};
 ghost use Rattle.pgp_client.specs.declared.event.Event.{Event as Reported};
 ghost use Rattle.pgp_client.specs.declared.kind.Kind.{Kind as SentKind};
 ghost use Rattle.pgp_client.specs.declared.request.Request.{Request as Asked};
-ghost use Rattle.pgp_frontend.specs.ClientMessage.{ClientMessage as Written, SslRequest, Startup, Terminate};
+ghost use Rattle.pgp_frontend.specs.ClientMessage.{ClientMessage as Written, SslRequest, Terminate};
 ghost use Rattle.pgp_frontend.specs.Reading.{IsNamed};
 ghost use Rattle.pgp_message.specs.BackendMessage.{Message as Observed};
 ghost use Rattle.pgp_message.specs.Stream.{IsPartial, TakesFrame};
-ghost use Rattle.pgp_session.specs.Connection.{HasStarted, Sent, Shown, Took, Wrote, begun, dropped, fed, in_phase, open_from, told, with_incoming};
+ghost use Rattle.pgp_session.specs.Connection.{HasStarted, Sent, Shown, Took, Wrote, begun, dropped, fed, in_phase, open_from, packet_of, told, version_of, with_incoming};
 ghost use Rattle.pgp_session.specs.Answered.{Answered};
 ghost use Rattle.pgp_session.specs.Incoming.{Reads};
 ghost use Rattle.pgp_login.specs.Login.{Kept as LogIn};
 ghost use Rattle.pgp_login.specs.Machine.{Ways as Admitting};
 ghost use Rattle.pgp_login.specs.declared.login.LoginPhase.TheVariants.{AwaitsOffer};
+ghost use Rattle.pgp_login.specs.declared.versions.Versions.{Versions as AskedFor};
+ghost use Rattle.pgp_login.specs.declared.versions.Versions.TheVariants.{Only3_2};
+ghost use Rattle.pgp_frontend.specs.declared.startup.ProtocolVersion.TheVariants.{V3_2};
 ghost use Rattle.pgp_session.specs.Login.{ways_in};
 ghost use Rattle.pgp_session.specs.Monitor.{Shown as Monitored, Went};
 ghost use Rattle.pgp_session.specs.Session.{Follows, History, Known, and_fed, and_observed, and_sent, and_wrote, nothing};
@@ -30,8 +33,8 @@ pub fn calls_are_known()
     ensures asks_encryption { (ways : Admitting) (h : History) (old new : Shown) → Wrote Opening Encrypting SslRequest old new → Known ways h old
         → Known ways (and_wrote SslRequest 0 h) new }
     ensures answered { (ways : Admitting) (h : History) (old : Shown) (encrypts : Bool) → old.phase ≡ Encrypting → Known ways h old → Known ways h (told encrypts old) }
-    ensures starts { (ways : Admitting) (h : History) (old new : Shown) (parameters : List (List ℕ × List ℕ)) (name : ℕ) → IsNamed (Startup 0 parameters)
-        → HasStarted (Startup 0 parameters) old new name → Known ways h old → Known ways (and_wrote (Startup 0 parameters) name h) new }
+    ensures starts { (ways : Admitting) (h : History) (old new : Shown) (asked : AskedFor) (parameters : List (List ℕ × List ℕ)) (name : ℕ) → IsNamed (packet_of asked parameters)
+        → HasStarted asked (packet_of asked parameters) old new name → Known ways h old → Known ways (and_wrote (packet_of asked parameters) name h) new }
     ensures sends { (ways : Admitting) (h : History) (old new : Shown) (m : Written) (name : ℕ) → Sent m old new name → Known ways h old → Known ways (and_wrote m name h) new }
     ensures sent { (ways : Admitting) (h : History) (old : Shown) (count : ℕ) → Known ways h old → Known ways (and_sent count old h) (dropped count old) }
     ensures fed { (ways : Admitting) (h : History) (old : Shown) (piece : List ℕ) → Known ways h old → Known ways (and_fed piece h) (fed piece old) }
@@ -55,6 +58,11 @@ pub fn sessions_follow()
     pgp_client::laws::only_answers_are_taken();
     pgp_login::laws::sessions_follow();
 }
+
+/// Who asks for 3.2 and for no version before it is never logged in at 3.0: whatever a server sends, the version that is spoken is 3.2.
+pub fn who_asks_for_3_2_alone_speaks_it()
+    ensures { (ways : Admitting) (h : History) (now : Shown) → now.offered.versions ≡ Only3_2 → Known ways h now → version_of now ≡ V3_2 }
+{}
 
 /// Of what was sent over a connection every request ends once: those whose names are below `Connection::open_from` have ended, in the order in which they were
 /// sent, and the others are to end.

@@ -4,6 +4,7 @@
 
 mod connection;
 mod connection_error;
+mod connection_known;
 mod connection_parts;
 mod connection_state;
 mod extended;
@@ -30,4 +31,6 @@ pub use connection::{Connection, ConnectionPhase};
 pub use connection_error::{BindSendError, ConnectionError};
 pub use login::Ways;
 pub use out_buffer::OutBuffer;
-pub use server_state::{BackendKey, ServerState};
+pub use pgp_frontend::ProtocolVersion;
+pub use pgp_login::Versions;
+pub use server_state::{BackendKey, KeptKey, ServerState};

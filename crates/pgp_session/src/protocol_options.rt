@@ -1,4 +1,4 @@
-//! The protocol options of a startup packet, by name.
+//! What a startup packet asks for: the versions of the protocol, and protocol options, by name.
 
 ghost use Rattle.std.specs.Prelude.{◌≡◌, ◌∷◌, ◌++◌, [], map, IfErr, IfOk, OnOk};
 ghost use Rattle.std.specs.List.{filter};
@@ -6,10 +6,10 @@ ghost use Rattle.pgp_base.specs.Cause.{WantsMemory};
 ghost use Rattle.pgp_frontend.specs.ClientMessage.{Startup};
 ghost use Rattle.pgp_frontend.specs.Given.{shown as shown_pair};
 ghost use Rattle.pgp_login.specs.Timely.{is_among};
-ghost use Rattle.pgp_session.specs.Connection.{is_option, names_in, options_of};
+ghost use Rattle.pgp_session.specs.Connection.{is_option, offered_in, options_of};
 
 use pgp_base::{Error, Memory};
-use pgp_login::Sent;
+use pgp_login::{Sent, Versions};
 use std::alloc::Allocator;
 use std::marker::Model;
 
@@ -27,14 +27,19 @@ impl<A: Allocator> Model for OptionName<A> {
     ghost view = { λ name. name.bytes.items };
 }
 
-/// The names that a connection keeps.
+/// What a connection keeps of its startup packet.
 #[derive(Drop)]
-pub(crate) struct OptionNames<A: Allocator> {
+pub(crate) struct Offered<A: Allocator> {
+    pub(crate) versions: Versions,
     pub(crate) names: Vec<OptionName<A>, A>,
 }
 
-impl<A: Allocator> Sent for OptionNames<A> {
-    ghost names = { names_in };
+impl<A: Allocator> Sent for Offered<A> {
+    ghost offered = { offered_in };
+
+    fn versions(&self) -> Versions {
+        self.versions
+    }
 
     fn has(&self, name: &[u8]) -> bool {
         is_among(&self.names, name)

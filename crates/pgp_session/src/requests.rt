@@ -128,12 +128,12 @@ impl<'a, A: Memory> Connection<'a, A> {
     pub fn cancel_request(&self, out: &mut BytesMut<A>) -> Result<(), ConnectionError<A>>
         ensures { Cancels A.Lacks (shown self.now) out.old.items out.new.items result }
     {
-        let Some(key) = self.state.server.key else {
+        let Some(key) = self.backend_key() else {
             return Err(ConnectionError::OutOfPhase);
         };
         let request = ClientMessage::CancelRequest {
             process_id: key.process_id,
-            secret_key: &key.secret_key,
+            secret_key: key.secret_key,
         };
         match put(&request, out) {
             Ok(()) => Ok(()),

@@ -4,10 +4,10 @@ ghost use Rattle.std.specs.Prelude.{◌≡◌};
 
 use bytes::Bytes;
 use pgp_login::LoginStorage;
-use pgp_message::{BackendKeyDataBody, ParameterStatusBody};
+use pgp_message::ParameterStatusBody;
 use std::alloc::Allocator;
 
-/// Bytes that a message keeps, where a setting and a key can be read, and what a log-in reads.
+/// Bytes that a message keeps, where a setting can be read, and what a log-in reads.
 pub(crate) trait SessionStorage: LoginStorage {
     /// The setting's name.
     fn name<'m>(body: &'m ParameterStatusBody<Self>) -> &'m [u8]
@@ -16,10 +16,6 @@ pub(crate) trait SessionStorage: LoginStorage {
     /// The setting's value.
     fn value<'m>(body: &'m ParameterStatusBody<Self>) -> &'m [u8]
         ensures { result.now ≡ body.now.value };
-
-    /// The secret that a request to cancel shows.
-    fn secret_key<'m>(body: &'m BackendKeyDataBody<Self>) -> &'m [u8]
-        ensures { result.now ≡ body.now.secret_key };
 }
 
 impl<A: Allocator> SessionStorage for Bytes<A> {
@@ -30,10 +26,6 @@ impl<A: Allocator> SessionStorage for Bytes<A> {
     fn value<'m>(body: &'m ParameterStatusBody<Bytes<A>>) -> &'m [u8] {
         body.value_bytes()
     }
-
-    fn secret_key<'m>(body: &'m BackendKeyDataBody<Bytes<A>>) -> &'m [u8] {
-        body.secret_key_bytes()
-    }
 }
 
 impl<'a> SessionStorage for &'a [u8] {
@@ -43,9 +35,5 @@ impl<'a> SessionStorage for &'a [u8] {
 
     fn value<'m>(body: &'m ParameterStatusBody<&'a [u8]>) -> &'m [u8] {
         body.value_bytes()
-    }
-
-    fn secret_key<'m>(body: &'m BackendKeyDataBody<&'a [u8]>) -> &'m [u8] {
-        body.secret_key_bytes()
     }
 }

@@ -3,7 +3,7 @@
 use crate::connection_calls::connecting;
 use crate::connection_steps::{
     Turn, ask, feed, hear, hear_in_turns, send_all, show_answer, show_cancel, show_message,
-    show_next, show_state,
+    show_next, show_state, show_version,
 };
 use crate::fault::Fault;
 use crate::row::Row;
@@ -31,6 +31,7 @@ fn look<A: Allocator + Copy>(
         "sent" => send_all(connection, out),
         "message" => show_message(connection, out),
         "state" => show_state(connection, out),
+        "version" => show_version(connection, out),
         "cancel" => show_cancel(connection, &mut BytesMut::new(alloc), turn, out),
         "answered" => show_answer(connection, words.bytes(), out),
         "setting" => out.nullable(connection.setting(words.bytes())),

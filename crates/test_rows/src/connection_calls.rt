@@ -8,7 +8,7 @@ use crate::word::Words;
 use pgp_auth::authentication::sasl::{ChannelBinding, NoPrep, ScramError, ScramSha256, is_nonce};
 use pgp_base::{BindError, Buffer, Error, IsNull};
 use pgp_frontend_read::ClientMessage;
-use pgp_session::{BindSendError, Connection, ConnectionError, Ways};
+use pgp_session::{BindSendError, Connection, ConnectionError, Versions, Ways};
 use std::alloc::Allocator;
 
 /// What the serializer of a Bind answers where it lacks memory, and where it fails by itself.
@@ -85,6 +85,11 @@ pub fn make<A: Allocator + Copy>(
         "bind" => return bind(connection, values),
         "start" => connection.start(&[("user", "u")]),
         "start_with_option" => connection.start(&[("user", "u"), ("_pq_.x", "1")]),
+        "start_to_3_2" => connection.start_version(Versions::UpTo3_2, &[("user", "u")]),
+        "start_3_2" => connection.start_version(Versions::Only3_2, &[("user", "u")]),
+        "start_3_2_with_option" => {
+            connection.start_version(Versions::Only3_2, &[("user", "u"), ("_pq_.x", "1")])
+        }
         "query" => connection.query("SELECT 1"),
         "parse" => connection.parse("", "SELECT 1", Some(23u32)),
         "describe" => connection.describe(b'S', "s"),

@@ -8,7 +8,7 @@ use bytes::BytesMut;
 use pgp_base::Error;
 use pgp_client::{Event, Refusal};
 use pgp_message::Message;
-use pgp_session::{Connection, ConnectionError};
+use pgp_session::{Connection, ConnectionError, ProtocolVersion};
 use std::alloc::Allocator;
 
 /// What comes of lacks of memory in a session: how many calls were made again, and whether one has ended it.
@@ -244,6 +244,14 @@ pub fn show_state<A: Allocator + Copy>(connection: &Connection<'_, A>, out: &mut
     }
 }
 
+/// Shows the version that is spoken.
+pub fn show_version<A: Allocator + Copy>(connection: &Connection<'_, A>, out: &mut Shown) {
+    out.word(match connection.version() {
+        ProtocolVersion::V3_0 => "3.0",
+        ProtocolVersion::V3_2 => "3.2",
+    });
+}
+
 /// Shows the key, and the request to cancel, if there is one.
 pub fn show_cancel<A: Allocator + Copy>(
     connection: &Connection<'_, A>,
@@ -253,7 +261,7 @@ pub fn show_cancel<A: Allocator + Copy>(
 ) {
     if let Some(key) = connection.backend_key() {
         out.number(key.process_id);
-        out.bytes(&key.secret_key);
+        out.bytes(key.secret_key);
     }
     let mut made = outcome_of(connection.cancel_request(request));
     if made == Err(Error::OutOfMemory) && request.is_empty() {

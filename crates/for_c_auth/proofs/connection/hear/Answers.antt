@@ -4,7 +4,7 @@ use Rattle.for_c_auth.proofs.connection.hear.Goals as goal
 
 pub returns-then-code-eq-NO_ROOM-clause-none : goal.returns-then-code-eq-NO_ROOM-clause-none
 returns-then-code-eq-NO_ROOM-clause-none g c z =
-    lacking g.A.Memory.Lacks (IsFull c.args.connection.now.settings) c.args.ways.now (length c.args.connection.now.settings.room.now) (view c.args.message.now) (length c.args.out.now) (link_of c.args.connection.now) c.is_between-first.result c.is_between-first.ensures c.new-reply.result.items c.new-reply.ensures.items c.replied-code.result c.if-code-eq-NO_ROOM.true (c.replied-code.ensures.why (omega (arith, c)))
+    lacking g.A.Memory.Lacks (IsFull c.args.connection.now.settings) c.args.ways.now (length c.args.connection.now.settings.room.now) (view c.args.message.now) (length c.args.out.now) (link_of c.args.connection.now) c.new-reply.result.items c.new-reply.ensures.items c.replied-code.result c.if-code-eq-NO_ROOM.true (c.replied-code.ensures.why (omega (arith, c)))
 
 pub returns-in-Err-clause-none : goal.returns-in-Err-clause-none
 returns-in-Err-clause-none g c z =
@@ -12,13 +12,13 @@ returns-in-Err-clause-none g c z =
 
 pub returns-then-code-ne0-clause-none : goal.returns-then-code-ne0-clause-none
 returns-then-code-ne0-clause-none g c z =
-    stops g.A.Memory.Lacks (IsFull c.args.connection.now.settings) c.args.ways.now (length c.args.connection.now.settings.room.now) (view c.args.message.now) (length c.args.out.now) (link_of c.args.connection.now) c.is_between-first.result c.is_between-first.ensures c.new-reply.result.items c.new-reply.ensures.items c.in-Ok.event (talk_of c.attributed.new.dialogue) c.of.result c.of.ensures c.in-Ok.ensures.ok c.replied-code.result c.if-code-eq-NO_ROOM.false (c.replied-code.ensures.why z)
+    stops g.A.Memory.Lacks (IsFull c.args.connection.now.settings) c.args.ways.now (length c.args.connection.now.settings.room.now) (view c.args.message.now) (length c.args.out.now) (link_of c.args.connection.now) c.new-reply.result.items c.new-reply.ensures.items c.in-Ok.event (talk_of c.attributed.new.dialogue) c.of.result c.of.ensures c.in-Ok.ensures.ok c.replied-code.result c.if-code-eq-NO_ROOM.false (c.replied-code.ensures.why z)
 
 pub returns-clause-took : goal.returns-clause-took
 returns-clause-took g c z =
     let replied : c.replied-code.result ≡ 0 = omega (arith, c) in
     let reply = c.replied-code.new.reply.items in
-    let is = took g.A.Memory.Lacks (IsFull c.args.connection.now.settings) c.args.ways.now (length c.args.connection.now.settings.room.now) (view c.args.message.now) (length c.args.out.now) (link_of c.args.connection.now) c.is_between-first.result c.is_between-first.ensures c.new-reply.result.items c.new-reply.ensures.items c.in-Ok.event (talk_of c.attributed.new.dialogue) c.of.result c.of.ensures c.in-Ok.ensures.ok
+    let is = took g.A.Memory.Lacks (IsFull c.args.connection.now.settings) c.args.ways.now (length c.args.connection.now.settings.room.now) (view c.args.message.now) (length c.args.out.now) (link_of c.args.connection.now) c.new-reply.result.items c.new-reply.ensures.items c.in-Ok.event (talk_of c.attributed.new.dialogue) c.of.result c.of.ensures c.in-Ok.ensures.ok
     c.replied-code.new.login reply (link_of c.note_said.new.connection) (c.replied-code.ensures.fit replied) (c.replied-code.ensures.answered replied) c.note_said.ensures.link in
     (c.in-Ok.event, reply, is, c.reported_as.ensures, subst (λ b. Delivered b c.args.out.now c.deliver.new.out c.deliver.new.written) c.as_slice.ensures (c.deliver.ensures.sent z))
 

@@ -6,7 +6,7 @@ use Rattle.pgp_login.proofs.timely.all_among.Given as goal
 abbrev pub invariant-names : goal.invariant-names
 invariant-names g l = record {
   end : l.names.end ≡ l.fn.names.end;
-  all : list_all (is_among (g.N.Sent.names l.sent)) l.fn.names.items ≡ list_all (is_among (g.N.Sent.names l.sent)) l.names.items;
+  all : list_all (is_among (g.N.Sent.offered l.sent).options) l.fn.names.items ≡ list_all (is_among (g.N.Sent.offered l.sent).options) l.names.items;
 }
 
 abbrev pub decreases-names : goal.decreases-names

@@ -3,6 +3,7 @@ use Rattle.pgp_login.specs.Exchange.{seen_client}
 use Rattle.pgp_login.specs.Login.{Kept as Login}
 use Rattle.pgp_login.specs.declared.login.LoginPhase.TheVariants.{AwaitsOffer}
 use Rattle.pgp_session.specs.Session.{Known, and_wrote, nothing}
+use Rattle.pgp_login.specs.declared.versions.Versions.TheVariants.{Only3_0}
 use Rattle.pgp_uses.proofs.client.connect.Goals as goal
 
 pub returns-in-Ok : goal.returns-in-Ok
@@ -15,4 +16,4 @@ returns-in-Ok g c =
     let is : old ≡ begun login 16777216 = c.new-connection.ensures in
     let known : Known ways nothing old = subst (λ (s : Shown). Known ways nothing s) (sym is) (c.calls_are_known.ensures.begun login 16777216 refl) in
     let name : c.in-Ok.field-0 ≡ 0 = c.in-Ok.ensures.named ∙ ap (λ (s : Shown). s.names) is in
-    subst (λ (n : ℕ). Known ways (and_wrote (Startup 0 parameters) n nothing) new) name (c.calls_are_known.ensures.starts ways nothing old new parameters c.in-Ok.field-0 (search rules) c.in-Ok.ensures known)
+    subst (λ (n : ℕ). Known ways (and_wrote (Startup 0 parameters) n nothing) new) name (c.calls_are_known.ensures.starts ways nothing old new Only3_0 parameters c.in-Ok.field-0 (search rules) c.in-Ok.ensures known)

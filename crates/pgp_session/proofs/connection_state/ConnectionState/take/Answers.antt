@@ -1,6 +1,7 @@
-use Rattle.pgp_session.proofs.Common.{rules, List, ap, refl, sym, inl, inr, ◌∙◌, kind_of, taken, view, seen, in_state, names_in, left_at, Setting}
+use Rattle.pgp_session.proofs.Common.{◌≡◌, false, rules, List, ap, refl, sym, inl, inr, ◌∙◌, kind_of, taken, true≢false, view, seen, in_state, left_at, Setting}
+use Rattle.pgp_session.specs.Connection.{done_at, offered_in}
 use Rattle.pgp_client.specs.Talk.{shown as talk_of}
-use Rattle.pgp_session.proofs.Connections.{stopped_log_in, taken_no, taken_ok, timely_by, took_bulk, took_so, untimely_by}
+use Rattle.pgp_session.proofs.Connections.{key_fits, stopped_log_in, taken_no, taken_ok, took_bulk, took_so}
 use Rattle.pgp_session.proofs.Reported.{heard_so}
 use Rattle.pgp_session.proofs.connection_state.ConnectionState.take.Goals as goal
 
@@ -16,7 +17,7 @@ returns-in-Ok-hear g c = λ s.
     let old = in_state c.args.self.now s in
     inl (record {
       taken = taken_ok (taken old.talk (kind_of m)) c.in-Ok.event (talk_of (λ q. q.items) c.take_message.new.self) c.in-Ok.ensures;
-      due = timely_by (in_state c.args.self.now s) (view c.args.message.now) c.is_between-first.result c.is_timely.result (names_in c.args.self.now.options) c.is_between-first.ensures refl c.is_timely.ensures (search rules);
+      due = c.is_timely.ensures.0 (search rules);
       sound = sym c.lacks_status.ensures ∙ c.if-lacks_status.false;
       kept = c.in-Ok-keep.ensures.0;
       goes_on = sym c.is_end.ensures ∙ c.if-is_end.false;
@@ -61,11 +62,15 @@ returns-then-not-is_timely g c = λ s.
     let old = in_state c.args.self.now s in
     let talk = talk_of (λ q. q.items) c.take_message.new.self in
     let is = taken_ok (taken old.talk (kind_of (view c.args.message.now))) c.in-Ok.event talk c.in-Ok.ensures in
-    inr (inl ((c.in-Ok.event, talk), is, inl (untimely_by (in_state c.args.self.now s) (view c.args.message.now) c.is_between-first.result c.is_timely.result (names_in c.args.self.now.options) c.is_between-first.ensures refl c.is_timely.ensures (search rules), refl), refl))
+    let late : c.is_timely.result ≡ false = search rules in
+    inr (inl ((c.in-Ok.event, talk), is, inl ((λ timely. true≢false (sym (c.is_timely.ensures.1 timely) ∙ late)), refl), refl))
 
 pub returns-then-lacks_status : goal.returns-then-lacks_status
 returns-then-lacks_status g c = λ s.
     let old = in_state c.args.self.now s in
     let talk = talk_of (λ q. q.items) c.take_message.new.self in
     let is = taken_ok (taken old.talk (kind_of (view c.args.message.now))) c.in-Ok.event talk c.in-Ok.ensures in
-    inr (inl ((c.in-Ok.event, talk), is, inr (timely_by (in_state c.args.self.now s) (view c.args.message.now) c.is_between-first.result c.is_timely.result (names_in c.args.self.now.options) c.is_between-first.ensures refl c.is_timely.ensures (search rules), sym c.lacks_status.ensures ∙ c.if-lacks_status.true, refl), refl))
+    inr (inl ((c.in-Ok.event, talk), is, inr (c.is_timely.ensures.0 (search rules), sym c.lacks_status.ensures ∙ c.if-lacks_status.true, refl), refl))
+
+pub note-requires : goal.note-requires
+note-requires g c = key_fits (done_at c.args.self.now.login.phase) c.args.self.now.server.version (offered_in c.args.self.now.offered) (view c.args.message.now) (c.is_timely.ensures.0 (search rules))
