@@ -129,7 +129,7 @@ impl<'h> Connection<'h> {
         match format!(in out.alloc; "{major}.{minor}") {
             Ok(version) => {
                 let (front, version) = ("unsupported frontend protocol ", version.as_bytes());
-                let behind = ": server supports 3.0 to 3.0";
+                let behind = ": server supports 3.0 to 3.2";
                 self.reject(Refusal::of("0A000", front, version, behind), out);
             }
             Err(_) => out.lack(),
@@ -151,6 +151,7 @@ impl<'h> Connection<'h> {
     /// The same for this user.
     fn begin(&mut self, user: &[u8], opening: &Opening<'_>, minor: u16, out: &mut Outbox) {
         opening.negotiate(minor, out);
+        self.session.has_long_key = minor >= 2;
         self.set(user, opening, out);
         if self.session.rejects_login(true, out) {
             return;

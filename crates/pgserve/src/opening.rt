@@ -16,17 +16,13 @@ pub(crate) struct Opening<'m> {
     unknown: Vec<&'m [u8]>,
 }
 
-/// The newest minor version that this server speaks, up to this one.
-fn spoken_minor(minor: u16) -> u16 {
-    if minor < 2 { 0 } else { 2 }
-}
-
-/// The minor version that a startup packet asks for, in the place of which the one stands from then on that is spoken; 0 of another message.
+/// The minor version that a startup packet asks for, in the place of which the one stands from then on that is spoken; 0 of another message. As PostgreSQL 18 has
+/// it, 3.1 is 3.0 under another number.
 pub(crate) fn spoken(message: &mut ClientMessage<'_>) -> u16 {
     match message {
         ClientMessage::Startup { minor, .. } => {
             let asked = *minor;
-            *minor = spoken_minor(asked);
+            *minor = if asked < 2 { 0 } else { 2 };
             asked
         }
         _ => 0,
@@ -47,7 +43,7 @@ impl<'m> Opening<'m> {
 
     /// Appends which version of the protocol is spoken, and which options aren't known, unless the client has what it asks for.
     pub(crate) fn negotiate(&self, minor: u16, out: &mut Outbox) {
-        let spoken = spoken_minor(minor);
+        let spoken = minor.min(2);
         if spoken == minor && self.unknown.is_empty() {
             return;
         }

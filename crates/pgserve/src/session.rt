@@ -38,6 +38,11 @@ pub(crate) enum Asks<'h, 'w> {
     Unknown,
 }
 
+/// The key of a session, as long as PostgreSQL 18 has it where 3.0 is spoken, and where 3.2 is.
+static SHORT_KEY: &[u8] = b"\0\0\0\x01";
+
+static LONG_KEY: &[u8] = b"\0\0\0\0\0\0\0\0\0\0\0\0\0\0\0\0\0\0\0\0\0\0\0\0\0\0\0\0\0\0\0\x01";
+
 /// A session.
 #[derive(Drop)]
 pub(crate) struct Session<'h> {
@@ -49,6 +54,8 @@ pub(crate) struct Session<'h> {
     pub(crate) channels: Channels,
     /// After an error all requests are passed over up to a Sync.
     pub(crate) is_skipping: bool,
+    /// Whether the client speaks 3.2, whose keys are longer.
+    pub(crate) has_long_key: bool,
     /// What is sent before the server is ready.
     notifications: Vec<&'h Pair>,
     /// What is sent in idle time.
@@ -77,6 +84,7 @@ impl<'h> Session<'h> {
             settings,
             channels: Channels::new(alloc),
             is_skipping: false,
+            has_long_key: false,
             notifications: Vec::new(alloc),
             later: Vec::new(alloc),
             copying: None,
@@ -105,7 +113,12 @@ impl<'h> Session<'h> {
             return;
         }
         self.settings.report(out);
-        let put = reply::backend_key_data(1, &[0, 0, 0, 1], &mut out.bytes);
+        let key = if self.has_long_key {
+            LONG_KEY
+        } else {
+            SHORT_KEY
+        };
+        let put = reply::backend_key_data(1, key, &mut out.bytes);
         out.put(put);
         self.ready(out);
     }
