@@ -140,7 +140,7 @@ def check_versions(same, raises):
             raises('answered %r %d' % (given, minor), LogInError, text, connection.next_event)
     connection = Connection('alice')
     connection.receive_data(AUTHENTICATED + key(5))
-    raises('a key of five bytes', pg.ProtocolError, 'LogInUndue', connection.next_event)
+    raises('a key of five bytes', pg.ProtocolError, 'LoginUndue', connection.next_event)
     raises('no versions', ValueError, 'min_version, max_version: ', lambda: Connection('alice', min_version='3.2'))
 
 
