@@ -37,11 +37,11 @@ pub use Rattle.pgtrace_session.specs.Marks.{IsMark, ShowsTime, day_of, mark, ori
 unfoldable pub use Rattle.pgtrace_session.specs.Marks.{clock, fraction, millis, number}
 pub use Rattle.pgtrace_session.specs.Pieces.{Follows, SumsRecording, ListsAllChunks, ListsPiece, ListsSome, Stays, Tracks, TracksTo, held_first, held_last}
 pub use Rattle.pgtrace_session.specs.Recording.{Chunk, IsShort, arrow, magic, EndsBy, IsChunk, IsNoChunk, IsPartial, Records, chunk_bytes, beginning, complaint_of}
-pub use Rattle.pgtrace_session.specs.Requests.{asked_by, heard_as, kind_by, Numbers, at_time, role_by, told_in, role_in, asking, summary_in, unnumbered, first_numbers, placed, tell, notes_nothing}
+pub use Rattle.pgtrace_session.specs.Requests.{asked_by, heard_as, kind_by, Numbers, at_time, role_by, role_in, asking, summary_in, unnumbered, first_numbers, placed, tell, notes_nothing}
 pub use Rattle.pgtrace_session.specs.Session.{CutsLines, CutsListing, HasLines, IsListing, Awaits, IsCutShort, IsReadTo, IsReady, WasListed, summarized}
 pub use Rattle.pgtrace_session.specs.Shelves.{formatted, formatted_from, is_binary}
 pub use Rattle.pgtrace_session.specs.Steps.{ListsBytes, ListsChunkTo, HeldHalf, HeldTalk, Holds, Keeps, ListsAllFrames, TakesChunk, ListsOneFrame, known_of, TakesPart, AddsDay, AddsInstant, AddsTime, is_date, chunk_of, end_of, numbers_in, half_of, kept_of, KnowsNext}
-pub use Rattle.pgtrace_session.specs.Summing.{asking_from, asking_of, asking_in, summed, Asking, summed_so}
+pub use Rattle.pgtrace_session.specs.Summing.{placed_by, places, runs, sent_in, summed_so, takes_note, with_summary}
 pub use Rattle.pgtrace_session.specs.Tables.{cell, columns, heading, row_by, row_of, times, ending_by, table, row_in}
 pub use Rattle.pgtrace_session.specs.Typed.{Heard, Said, Sent, Unsaid, Learns, said_in, ShowsTyped, Gives, Hears, IsBindLine, IsRowLine, Lists, ShowsBound, ShowsBytes, ShowsFitting, ShowsHeard, ShowsRow, ShowsSent, ShowsValue, ShowsValues, bind_front, column_first, columns_from, columns_of, executed, fits, has_binary, names_from, names_parts, parameters_in, row_front, parameter, sends, with_field}
 pub use Rattle.pgtrace_session.specs.TypedLines.{Reads, Passes, ReadsSo, ShowsRequest, Tells, lost, AddsValue, AddsValues}

@@ -1,5 +1,5 @@
 -- The lines of a side, a frame at a time.
-use Rattle.pgtrace_session.proofs.Common.{◌≡◌, ℕ, ◌+◌, ◌-◌, ◌<◌, ◌≤◌, Bool, true, false, List, [], ◌++◌, length, min, Option, refl, sym, ap, subst, ◌∙◌, arith, length-append, PasswordKind, greatest, place_behind, name_in, Side, Ends, HasLine, View, Sender, Client, Server, Noted, Asks, Told, Known, ListsFrame, ListsFrames, NoLines, OneLine, as_standby, note, noted_by, noted_in, other, replicates_in, side_in, text_of, told_by, with_kind, with_numbers, with_side, with_types, asking_from, asking_in, summed, Numbers, role_by, told_in, Learns, said_in, Reads, Types, ListsOneFrame, now_at, RowsTo, one_listed}
+use Rattle.pgtrace_session.proofs.Common.{◌≡◌, ℕ, ◌+◌, ◌-◌, ◌<◌, ◌≤◌, Bool, true, false, List, [], ◌++◌, length, min, Option, refl, sym, ap, subst, ◌∙◌, arith, length-append, PasswordKind, greatest, place_behind, name_in, Side, Ends, HasLine, View, Sender, Client, Server, Noted, Asks, Told, Known, ListsFrame, ListsFrames, NoLines, OneLine, as_standby, note, noted_by, noted_in, other, replicates_in, side_in, text_of, told_by, with_kind, with_numbers, with_side, with_types, placed_by, Numbers, Learns, said_in, Reads, Types, ListsOneFrame, now_at, RowsTo, one_listed}
 use Rattle.pgtrace_lines.specs.Sides.{Server as ServerSide, Client as ClientSide}
 use Rattle.pgtrace_lines.proofs.Shorter.{frame_has}
 
@@ -15,11 +15,11 @@ kept Client old side = record { requests = refl; numbers = refl; types = refl; m
 kept Server old side = record { requests = refl; numbers = refl; types = refl; marked = refl }
 
 -- a frame with its line, and what is known after it
-pub lists_one : (view : View) (mark : List ℕ) (who : Sender) (place : ℕ) (old mid new : Known) (told : Told) (noted : Noted) (sums : Option Numbers) (types : Option Types) (bytes behind line typed name before after : List ℕ)
+pub lists_one : (view : View) (mark : List ℕ) (who : Sender) (place : ℕ) (old mid new : Known) (told : Told) (noted : Noted) (numbers : Option Numbers) (types : Option Types) (bytes behind line typed name before after : List ℕ)
     → (has : HasLine view.style place (side_in who old) bytes behind line (side_in who mid) name) → mid ≡ with_side who old (side_in who mid)
-    → Reads view.style place has.frame name (said_in view.style place (side_in who old) has.frame line (side_in who mid) has.reported) mid.numbers sums mid.types types line typed told noted
-    → after ≡ before ++ text_of view mark (told_by mid.marked told) place mid.requests name typed → new ≡ note noted (with_types types (with_numbers sums mid)) → ListsOneFrame view mark who place old bytes behind before after new
-lists_one view mark who place old mid new told noted sums types bytes behind line typed name before after has same reads grown is =
+    → Reads view.style place has.frame (said_in view.style place (side_in who old) has.frame line (side_in who mid) has.reported) mid.numbers numbers mid.types types line typed told noted
+    → after ≡ before ++ text_of view mark (told_by mid.marked told) place mid.requests name typed → new ≡ note noted (with_types types (with_numbers numbers mid)) → ListsOneFrame view mark who place old bytes behind before after new
+lists_one view mark who place old mid new told noted numbers types bytes behind line typed name before after has same reads grown is =
     let from = side_in who old in
     let to = side_in who mid in
     let waiting : mid.requests ≡ old.requests = ap (λ (k : Known). k.requests) same ∙ (kept who old to).requests in
@@ -29,7 +29,6 @@ lists_one view mark who place old mid new told noted sums types bytes behind lin
     let by = λ (marked : Bool). told_by marked told in
     let named = name_in view.style place from has.frame line to has.reported in
     let said = said_in view.style place from has.frame line to has.reported in
-    let numbers = reads.tells.numbers in
     record {
       frame = has.frame;
       text = text_of view mark (by old.marked) place old.requests named typed;
@@ -43,14 +42,12 @@ lists_one view mark who place old mid new told noted sums types bytes behind lin
         types = types;
         typed = typed;
         reported = has.reported;
-        numbered = ap (told_in (role_by has.frame said)) (sym counted) ∙ reads.tells.numbered;
+        placed = ap (placed_by has.frame said) (sym counted) ∙ reads.tells.placed;
         learns = subst (λ t. Learns told said t types) typing reads.tells.learns;
         shows = reads.shows;
         is = refl;
-        behind = is ∙ ap (λ n. note n (with_types types (with_numbers sums mid))) reads.tells.expects
-            ∙ ap (λ n. note (noted_by said) (with_types types (with_numbers n mid))) reads.tells.sums
-            ∙ ap (λ n. note (noted_by said) (with_types types (with_numbers (summed told (asking_from said) n numbers) mid))) has.named
-            ∙ ap (λ k. note (noted_by said) (with_types types (with_numbers (summed told (asking_from said) named numbers) k))) same;
+        behind = is ∙ ap (λ n. note n (with_types types (with_numbers numbers mid))) reads.tells.expects
+            ∙ ap (λ k. note (noted_by said) (with_types types (with_numbers numbers k))) same;
       };
       grown = grown ∙ ap (λ b. before ++ text_of view mark (by b) place mid.requests name typed) marking ∙ ap (λ r. before ++ text_of view mark (by old.marked) place r name typed) waiting ∙ ap (λ n. before ++ text_of view mark (by old.marked) place old.requests n typed) has.named;
     }
@@ -94,7 +91,7 @@ pub other_ends : (view : View) (mark : List ℕ) (who : Sender) (start : ℕ) (f
 other_ends view mark who start from [] [] _ stopped rest NoLines e = e
 other_ends view mark who start from _ _ to stopped rest (OneLine {bytes = bytes} {lines = lines} {here = here} frame text before one) e =
     subst (λ k. Ends (side_in (other who) k) stopped rest) (sym one.behind)
-    (other_note who here one.after (summed one.told (asking_in view.style (place_behind (start + length bytes)) (side_in who here) frame one.line one.after one.reported) (name_in view.style (place_behind (start + length bytes)) (side_in who here) frame one.line one.after one.reported) one.numbers) one.types (noted_in view.style (place_behind (start + length bytes)) (side_in who here) frame one.line one.after one.reported) stopped rest (other_ends view mark who start from bytes lines here stopped rest before e))
+    (other_note who here one.after one.numbers one.types (noted_in view.style (place_behind (start + length bytes)) (side_in who here) frame one.line one.after one.reported) stopped rest (other_ends view mark who start from bytes lines here stopped rest before e))
 
 -- a time changes no side
 pub timed_side : (who : Sender) (micros : ℕ) (known : Known) → side_in who (now_at micros known) ≡ side_in who known

@@ -1,5 +1,5 @@
 -- A recording has one listing.
-use Rattle.pgtrace_session.proofs.Common.{◌≡◌, ◌≢◌, ℕ, ℤ, suc, ◌+◌, ◌<◌, ◌^◌, Bool, true, false, List, [], ◌∷◌, ◌++◌, length, take, drop, get_or, Option, refl, sym, ap, subst, ◌∙◌, arith, inl, inr, length-append, append_assoc, flat_map, AllByRecursion, append-nil, flat_map-cons, drop-append_seam, take-append_seam, w32, w64, from_be_bytes, uint32, uint64, oid_number, uint64_number, name_in, Ends, View, Sender, Client, Server, End, Half, ListsChunks, NoChunkListed, OneChunkListed, ListsChunk, Known, Talk, ListsFrame, ListsFrames, begins, half_in, last_lines, note, noted_by, noted_in, now_at, other, side_in, text_of, told_by, with_numbers, with_side, with_types, Marking, Told, Start, Dated, Form, Columns, ShowsTime, clock, day_of, fraction, mark, started, Numbers, role_by, role_in, told_in, asking_from, asking_in, summed, Chunk, EndsBy, IsChunk, IsNoChunk, IsPartial, IsShort, Records, arrow, chunk_bytes, magic, HasLines, IsListing, Learns, ShowsTyped, said_in, SameFirst, rows_one, ends_one, line_one, no_line}
+use Rattle.pgtrace_session.proofs.Common.{◌≡◌, ◌≢◌, ℕ, ℤ, suc, ◌+◌, ◌<◌, ◌^◌, Bool, true, false, List, [], ◌∷◌, ◌++◌, length, take, drop, get_or, Option, refl, sym, ap, subst, ◌∙◌, arith, inl, inr, length-append, append_assoc, flat_map, AllByRecursion, append-nil, flat_map-cons, drop-append_seam, take-append_seam, w32, w64, from_be_bytes, uint32, uint64, oid_number, uint64_number, name_in, Ends, View, Sender, Client, Server, End, Half, ListsChunks, NoChunkListed, OneChunkListed, ListsChunk, Known, Talk, ListsFrame, ListsFrames, begins, half_in, last_lines, note, noted_by, noted_in, now_at, other, side_in, text_of, told_by, with_numbers, with_side, with_types, Marking, Told, Start, Dated, Form, Columns, ShowsTime, clock, day_of, fraction, mark, started, Numbers, placed_by, Chunk, EndsBy, IsChunk, IsNoChunk, IsPartial, IsShort, Records, arrow, chunk_bytes, magic, HasLines, IsListing, Learns, ShowsTyped, said_in, SameFirst, rows_one, ends_one, line_one, no_line}
 use Rattle.pgp_value_text.specs.Calendar.{ShowsDay}
 use Rattle.pgtrace_session.specs.declared.ending.End.TheVariants.{Whole, Cut, NoChunk, NoRecording}
 use Rattle.pgtrace_session.proofs.OneTyped.{OneText, learns_one, shows_one}
@@ -17,16 +17,9 @@ lists_one one_text view m who place here to too f g text another x y a b e =
     let other = said_in view.style place from g b.line b.after b.reported in
     let said : first ≡ other = said_one view.style place from f g a.line b.line a.after b.after one.0.frames a.reported b.reported in
     let noted : noted_in view.style place from f a.line a.after a.reported ≡ notes = ap noted_by said in
-    let roles : role_in view.style place from f a.line a.after a.reported ≡ role_in view.style place from g b.line b.after b.reported = ap (role_by f) said ∙ ap (λ l. role_by l other) one.0.frames in
-    let same : (a.told, a.numbers) ≡ (b.told, b.numbers) = sym a.numbered ∙ ap (λ r. told_in r here.numbers) roles ∙ b.numbered in
+    let same : (a.told, a.numbers) ≡ (b.told, b.numbers) = sym a.placed ∙ ap (λ s. placed_by f s here.numbers) said ∙ ap (λ l. placed_by l other here.numbers) one.0.frames ∙ b.placed in
     let told : a.told ≡ b.told = ap (λ (x : Told × Option Numbers). x.0) same in
     let numbers : a.numbers ≡ b.numbers = ap (λ (x : Told × Option Numbers). x.1) same in
-    let asks : asking_in view.style place from f a.line a.after a.reported ≡ asking_in view.style place from g b.line b.after b.reported = ap asking_from said in
-    let first_name = name_in view.style place from f a.line a.after a.reported in
-    let sum = summed b.told (asking_in view.style place from g b.line b.after b.reported) named b.numbers in
-    let sums : summed a.told (asking_in view.style place from f a.line a.after a.reported) first_name a.numbers ≡ sum =
-    ap (λ t. summed t (asking_in view.style place from f a.line a.after a.reported) first_name a.numbers) told ∙ ap (λ x. summed b.told x first_name a.numbers) asks
-    ∙ ap (λ n. summed b.told (asking_in view.style place from g b.line b.after b.reported) n a.numbers) one.1 ∙ ap (λ n. summed b.told (asking_in view.style place from g b.line b.after b.reported) named n) numbers in
     let types : a.types ≡ b.types = learns_one b.told other here.types a.types b.types (subst (λ t. Learns t other here.types a.types) told (subst (λ s. Learns a.told s here.types a.types) said a.learns)) b.learns in
     let shows = subst (λ t. ShowsTyped view.style place (length f) t other a.types a.line a.typed) told (subst (λ s. ShowsTyped view.style place (length f) a.told s a.types a.line a.typed) said a.shows) in
     let shown = subst (λ t. ShowsTyped view.style place (length f) b.told other t a.line a.typed) types shows in
@@ -38,10 +31,10 @@ lists_one one_text view m who place here to too f g text another x y a b e =
       texts = a.is ∙ ap (λ t. text_of view m (by t) place here.requests (name_in view.style place from f a.line a.after a.reported) a.typed) told
           ∙ ap (λ n. text_of view m (by b.told) place here.requests n a.typed) one.1 ∙ ap (λ l. text_of view m (by b.told) place here.requests named l) typed ∙ sym b.is;
       rests = one.0.rests;
-      states = a.behind ∙ ap (λ n. note n (with_types a.types (with_numbers (summed a.told (asking_in view.style place from f a.line a.after a.reported) first_name a.numbers) (with_side who here a.after)))) noted
-          ∙ ap (λ n. note notes (with_types a.types (with_numbers n (with_side who here a.after)))) sums
-          ∙ ap (λ t. note notes (with_types t (with_numbers sum (with_side who here a.after)))) types
-          ∙ ap (λ s. note notes (with_types b.types (with_numbers sum (with_side who here s)))) one.0.states ∙ sym b.behind;
+      states = a.behind ∙ ap (λ n. note n (with_types a.types (with_numbers a.numbers (with_side who here a.after)))) noted
+          ∙ ap (λ n. note notes (with_types a.types (with_numbers n (with_side who here a.after)))) numbers
+          ∙ ap (λ t. note notes (with_types t (with_numbers b.numbers (with_side who here a.after)))) types
+          ∙ ap (λ s. note notes (with_types b.types (with_numbers b.numbers (with_side who here s)))) one.0.states ∙ sym b.behind;
     }
 
 -- and where none stands first, none is listed

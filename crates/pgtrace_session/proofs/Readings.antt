@@ -1,5 +1,5 @@
 -- What a frame is read as, and what holds of that.
-use Rattle.pgtrace_session.proofs.Common.{◌≡◌, ◌≢◌, ℕ, ◌==◌, Bool, true, false, not, get_or, List, [], length, Option, Some, None, Result, Ok, Err, refl, sym, ap, subst, ◌∙◌, arith, IfOk, append-nil, Error, Message, IsEnding, Step, TakesFrame, frame_bytes, front_is_one, length-frame, no_ending, ClientMessage, step_of, ClientError, step_one, Style, IsFrameOf, Client, Server, Noted, Told, noted_by, Numbers, role_by, asking_from, summed, Heard, Learns, Said, Sent, ShowsTyped, Unsaid, Passes, Reads, ReadsSo, Tells, lost, Types, Authentication, Nothing, asks, one_read, notes_nothing, false≢true}
+use Rattle.pgtrace_session.proofs.Common.{◌≡◌, ◌≢◌, ℕ, ◌==◌, Bool, true, false, not, get_or, List, [], length, Option, Some, None, Result, Ok, Err, refl, sym, ap, subst, ◌∙◌, arith, IfOk, append-nil, Error, Message, IsEnding, Step, TakesFrame, frame_bytes, front_is_one, length-frame, no_ending, ClientMessage, step_of, ClientError, step_one, Style, IsFrameOf, Client, Server, Noted, Told, noted_by, Numbers, role_by, places, sent_in, Heard, Learns, Said, Sent, ShowsTyped, Unsaid, Passes, Reads, ReadsSo, Tells, lost, Types, Authentication, Nothing, asks, one_read, notes_nothing, false≢true}
 use Rattle.pgp_message.specs.BackendMessage.{tag_of}
 use Rattle.pgp_base.specs.declared.error.Error.TheVariants as errors
 use Rattle.pgp_frontend.specs.ClientMessage.{PasswordKind}
@@ -123,20 +123,18 @@ shows_none style place len (told.Number n) (Sent (Ok m)) types line none = absur
 shows_none style place len (told.Answer n s t) (Heard (Ok m)) types line none = absurd none
 shows_none style place len told said types line none = refl
 
-pub passed_tells : (frame name : List ℕ) (said : Said) (from to : Option Numbers) (old new : Option Types) (told : Told) (noted : Noted) → IsUnread said → asking_from said ≡ None → noted ≡ noted_by said
-    → Passes (role_by frame said) name from to old new told → Tells frame name said from to old new told noted
-passed_tells frame name said from to old new told noted none asks expects p = record {
-  numbers = p.numbers;
-  numbered = p.numbered;
-  sums = p.sums ∙ ap (λ a. summed told a name p.numbers) (sym asks);
+pub passed_tells : (frame : List ℕ) (said : Said) (from to : Option Numbers) (old new : Option Types) (told : Told) (noted : Noted) → IsUnread said → sent_in said ≡ None → noted ≡ noted_by said
+    → Passes (role_by frame said) from to old new told → Tells frame said from to old new told noted
+passed_tells frame said from to old new told noted none asks expects p = record {
+  placed = ap (λ m. places (role_by frame said) m from) asks ∙ p.placed;
   learns = learns_lost told said old new none p.learns;
   expects = expects;
 }
 
-pub passed_reads : (style : Style) (place : ℕ) (frame name : List ℕ) (said : Said) (from to : Option Numbers) (old new : Option Types) (line : List ℕ) (told : Told) (noted : Noted) → IsUnread said → asking_from said ≡ None → noted ≡ noted_by said
-    → Passes (role_by frame said) name from to old new told → Reads style place frame name said from to old new line line told noted
-passed_reads style place frame name said from to old new line told noted none asks expects p = record {
-  tells = passed_tells frame name said from to old new told noted none asks expects p;
+pub passed_reads : (style : Style) (place : ℕ) (frame : List ℕ) (said : Said) (from to : Option Numbers) (old new : Option Types) (line : List ℕ) (told : Told) (noted : Noted) → IsUnread said → sent_in said ≡ None → noted ≡ noted_by said
+    → Passes (role_by frame said) from to old new told → Reads style place frame said from to old new line line told noted
+passed_reads style place frame said from to old new line told noted none asks expects p = record {
+  tells = passed_tells frame said from to old new told noted none asks expects p;
   shows = shows_none style place (length frame) told said new line none;
 }
 
@@ -150,15 +148,15 @@ silent : (frame : List ℕ) (r : Result Message Error) → IsFrameOf frame r →
 silent frame (Ok m) is other = asks_none m (λ e. other (ap (λ l. get_or l 0 0) is.whole ∙ sym is.body.tagged ∙ e))
 silent frame (Err e) is other = refl
 
-pub unnoted_reads : (style : Style) (place : ℕ) (opened : Bool) (kind : PasswordKind) (frame name : List ℕ) (numbers : Option Numbers) (types : Option Types) (line : List ℕ) → notes_nothing numbers frame ≡ true → (length frame ≡ 1 → ⊥)
-    → (said : Said) → ReadsSo Server opened kind frame said → Reads style place frame name said numbers numbers types types line line told.Uncounted Nothing
-unnoted_reads style place opened kind frame name (Some n) types line plain some said is = absurd (false≢true plain)
-unnoted_reads style place opened kind frame name None types line plain some (Heard r) is = record {
-  tells = record { numbers = None; numbered = refl; sums = refl; learns = refl; expects = sym (silent frame r is (λ e. false≢true (ap (λ n. not (n == 82)) (sym e) ∙ plain))) };
+pub unnoted_reads : (style : Style) (place : ℕ) (opened : Bool) (kind : PasswordKind) (frame : List ℕ) (numbers : Option Numbers) (types : Option Types) (line : List ℕ) → notes_nothing numbers frame ≡ true → (length frame ≡ 1 → ⊥)
+    → (said : Said) → ReadsSo Server opened kind frame said → Reads style place frame said numbers numbers types types line line told.Uncounted Nothing
+unnoted_reads style place opened kind frame (Some n) types line plain some said is = absurd (false≢true plain)
+unnoted_reads style place opened kind frame None types line plain some (Heard r) is = record {
+  tells = record { placed = refl; learns = refl; expects = sym (silent frame r is (λ e. false≢true (ap (λ n. not (n == 82)) (sym e) ∙ plain))) };
   shows = refl;
 }
-unnoted_reads style place opened kind frame name None types line plain some Unsaid is = absurd (some is)
-unnoted_reads style place opened kind frame name None types line plain some (Sent r) is = absurd is
+unnoted_reads style place opened kind frame None types line plain some Unsaid is = absurd (some is)
+unnoted_reads style place opened kind frame None types line plain some (Sent r) is = absurd is
 
 -- ---- what a call returns
 

@@ -1,10 +1,10 @@
 -- Frames that differ in their secrets alone have the same text.
-use Rattle.pgtrace_session.proofs.Common.{◌≡◌, ℕ, Bool, true, false, List, [], ◌∷◌, ◌++◌, length, get_or, Result, sym, ap, subst, ◌∙◌, inl, inr, arith, append-nil, Error, Body, Message, Frame, IsFrame, frame_bytes, front_is_one, one_body, length-frame, PasswordKind, Style, ReadsAs, IsServerLine, LineOf, name_in, server_name, AlikeFrames, AlikeResults, quiet, quietly, Side, answered, is_reported, replicates_behind, server_at, Beginning, Messages, Replicating, Encrypted, View, Sender, Known, ListsFrame, note, noted_in, side_in, text_of, told_by, with_numbers, with_side, with_types, asking, role_in, told_in, asking_in, summed, ShowsTyped, said_in}
+use Rattle.pgtrace_session.proofs.Common.{◌≡◌, ℕ, Bool, true, false, List, [], ◌∷◌, ◌++◌, length, get_or, Result, sym, ap, subst, ◌∙◌, inl, inr, arith, append-nil, Error, Body, Message, Frame, IsFrame, frame_bytes, front_is_one, one_body, length-frame, PasswordKind, Style, ReadsAs, IsServerLine, LineOf, name_in, server_name, AlikeFrames, AlikeResults, quiet, quietly, Side, answered, is_reported, replicates_behind, server_at, Beginning, Messages, Replicating, Encrypted, View, Sender, Known, ListsFrame, note, noted_in, side_in, text_of, told_by, with_numbers, with_side, with_types, asking, role_by, role_in, places, sent_in, ShowsTyped, said_in}
 use Rattle.pgtrace_lines.specs.Sides.{Server, Client}
 use Rattle.pgtrace_lines.proofs.ClientStreams as sent
 use Rattle.pgtrace_lines.proofs.Streams.{line_hidden}
 use Rattle.pgtrace_session.specs.Secrets.{AlikeIn, AlikeReceived, AlikeSent}
-use Rattle.pgtrace_session.proofs.Alike.{asks_alike, client_roles, notes_alike, server_roles}
+use Rattle.pgtrace_session.proofs.Alike.{client_roles, notes_alike, places_alike, server_roles}
 use Rattle.pgtrace_session.proofs.TypedAlike.{AlikeSaid, learns_alike, shows_alike}
 
 -- ---- the line of the other frame
@@ -109,11 +109,9 @@ frames_hidden view mark who place here to frame other text alike l =
       types = l.types;
       typed = l.typed;
       reported = h.same;
-      numbered = ap (λ r. told_in r here.numbers) (sym h.role) ∙ l.numbered;
+      placed = ap (λ r. places r (sent_in there) here.numbers) (sym h.role) ∙ sym (places_alike (role_by frame said) said there h.said here.numbers) ∙ l.placed;
       learns = learns_alike l.told said there h.said here.types l.types l.learns;
       shows = subst (λ n. ShowsTyped style place n l.told there l.types l.line l.typed) (long_alike from frame other alike) (shows_alike style place (length frame) l.told said there h.said l.types l.line l.typed l.shows);
       is = l.is ∙ ap (λ n. text_of (quietly view) mark (told_by here.marked l.told) place here.requests n l.typed) h.named;
-      behind = l.behind ∙ ap (λ n. note n (with_types l.types (with_numbers (summed l.told (asking_in style place from frame l.line l.after l.reported) (name_in style place from frame l.line l.after l.reported) l.numbers) (with_side who here l.after)))) noted
-          ∙ ap (λ a. note (noted_in style place from other l.line l.after h.same) (with_types l.types (with_numbers (summed l.told a (name_in style place from frame l.line l.after l.reported) l.numbers) (with_side who here l.after)))) (asks_alike said there h.said)
-          ∙ ap (λ n. note (noted_in style place from other l.line l.after h.same) (with_types l.types (with_numbers (summed l.told (asking_in style place from other l.line l.after h.same) n l.numbers) (with_side who here l.after)))) h.named;
+      behind = l.behind ∙ ap (λ n. note n (with_types l.types (with_numbers l.numbers (with_side who here l.after)))) noted;
     }

@@ -1,5 +1,5 @@
 -- Where a summary is asked for, the table is all that is written.
-use Rattle.pgtrace_session.proofs.Common.{◌≡◌, ℕ, ◌+◌, Bool, true, false, List, [], ◌∷◌, ◌++◌, length, Option, Some, None, Result, Ok, Err, refl, sym, ap, ◌∙◌, inl, inr, nat_lt, ◌==◌, ◌||◌, ◌&&◌, is_some, not, if◌then◌else◌, bytes_eq, codes, Error, Message, Authentication, AuthenticationOk, ClientMessage, SaslResponse, ClientError, Style, State, client_name, LineOf, client_frame_name, name_in, place_behind, server_name, Side, is_reported, View, color_of, has_word, is_listed, painted, shown, Beginning, Messages, Replicating, Encrypted, Sender, End, Marking, Role, Told, Known, ListsChunks, ListsFrame, ListsFrames, NoChunkListed, NoLines, OneChunkListed, OneLine, Talk, answer_to, begins, called, counts, either, half_in, last_lines, last_of, left, noted_in, now_at, relined, side_in, told_by, waited, with_numbers, with_side, with_types, mark, marked, word, Chunk, Numbers, at_time, first_numbers, role_in, summary_in, told_in, unnumbered, IsListing, summarized, Asking, asking_in, summed, summed_so, ending_by, table, false≢true}
+use Rattle.pgtrace_session.proofs.Common.{◌≡◌, ℕ, ◌+◌, Bool, true, false, List, [], ◌∷◌, ◌++◌, length, Option, Some, None, Result, Ok, Err, refl, sym, ap, ◌∙◌, inl, inr, nat_lt, ◌==◌, ◌||◌, ◌&&◌, is_some, not, if◌then◌else◌, bytes_eq, codes, Error, Message, Authentication, AuthenticationOk, ClientMessage, SaslResponse, ClientError, Style, State, client_name, LineOf, client_frame_name, name_in, place_behind, server_name, Side, is_reported, View, color_of, has_word, is_listed, painted, shown, Beginning, Messages, Replicating, Encrypted, Sender, End, Marking, Role, Told, Known, ListsChunks, ListsFrame, ListsFrames, NoChunkListed, NoLines, OneChunkListed, OneLine, Talk, answer_to, begins, called, counts, either, half_in, last_lines, last_of, left, noted_in, now_at, relined, side_in, told_by, waited, with_numbers, with_side, with_types, mark, marked, word, Chunk, Numbers, at_time, first_numbers, role_in, summary_in, tell, unnumbered, IsListing, summarized, places, said_in, sent_in, summed_so, ending_by, table, false≢true}
 use Rattle.pgtrace_lines.specs.Names.{name_of}
 use Rattle.pgtrace_lines.specs.Sides.{Server, Client}
 use Rattle.pgtrace_session.specs.declared.chunk.Sender.TheVariants as sides
@@ -96,27 +96,23 @@ time_kept : (micros : ℕ) (n : Option Numbers) → is_summed (at_time micros n)
 time_kept micros None = refl
 time_kept micros (Some n) = refl
 
-told_kept : (r : Role) (n : Option Numbers) → is_summed (told_in r n).1 ≡ is_summed n
-told_kept r None = refl
-told_kept role.Fault (Some n) = refl
-told_kept r (Some n) = refl
+told_kept : (r : Role) (n : Numbers) → (tell r n).1.summary ≡ n.summary
+told_kept role.Fault n = refl
+told_kept r n = refl
 
-so_kept : (told : Told) (asking : Option Asking) (name : List ℕ) (o : Option State) → is_some (summed_so told asking name o) ≡ is_some o
-so_kept told asking name None = refl
-so_kept told asking name (Some s) = refl
+so_kept : (told : Told) (r : Role) (m : Option ClientMessage) (o : Option State) → is_some (summed_so told r m o) ≡ is_some o
+so_kept told r m None = refl
+so_kept told r m (Some s) = refl
 
-sum_kept : (told : Told) (asking : Option Asking) (name : List ℕ) (n : Option Numbers) → is_summed (summed told asking name n) ≡ is_summed n
-sum_kept told asking name None = refl
-sum_kept told asking name (Some n) = so_kept told asking name n.summary
+place_kept : (r : Role) (m : Option ClientMessage) (n : Option Numbers) → is_summed (places r m n).1 ≡ is_summed n
+place_kept r m None = refl
+place_kept r m (Some n) = so_kept (tell r n).0 r m (tell r n).1.summary ∙ ap is_some (told_kept r n)
 
 frame_kept : (view : View) (m : List ℕ) (who : Sender) (place : ℕ) (here to : Known) (frame text : List ℕ) → ListsFrame view m who place here frame text to → is_summed to.numbers ≡ is_summed here.numbers
 frame_kept view m who place here to frame text l =
     let from = side_in who here in
-    let asking = asking_in view.style place from frame l.line l.after l.reported in
-    let name = name_in view.style place from frame l.line l.after l.reported in
-    let sum = summed l.told asking name l.numbers in
-    ap (λ (k : Known). is_summed k.numbers) l.behind ∙ ap is_summed (note_kept (noted_in view.style place from frame l.line l.after l.reported) (with_types l.types (with_numbers sum (with_side who here l.after))))
-    ∙ sum_kept l.told asking name l.numbers ∙ ap (λ (x : Told × Option Numbers). is_summed x.1) (sym l.numbered) ∙ told_kept (role_in view.style place from frame l.line l.after l.reported) here.numbers
+    ap (λ (k : Known). is_summed k.numbers) l.behind ∙ ap is_summed (note_kept (noted_in view.style place from frame l.line l.after l.reported) (with_types l.types (with_numbers l.numbers (with_side who here l.after))))
+    ∙ ap (λ (x : Told × Option Numbers). is_summed x.1) (sym l.placed) ∙ place_kept (role_in view.style place from frame l.line l.after l.reported) (sent_in (said_in view.style place from frame l.line l.after l.reported)) here.numbers
 
 frames_kept : (view : View) (m : List ℕ) (who : Sender) (place : ℕ) (from : Known) (bytes lines : List ℕ) (to : Known) → ListsFrames view m who place from bytes lines to → is_summed to.numbers ≡ is_summed from.numbers
 frames_kept view m who place from [] [] _ NoLines = refl

@@ -1,5 +1,5 @@
 -- What is asked and heard in turn in a listing.
-use Rattle.pgtrace_session.proofs.Common.{◌≡◌, ◌≢◌, ℕ, Bool, true, false, List, [], ◌∷◌, ◌++◌, ◌+◌, length, Option, Some, None, Result, Ok, Err, refl, sym, ap, subst, ◌∙◌, append_assoc, append-nil, place_behind, View, Sender, Marking, Noted, Role, Told, Known, ListsChunks, ListsFrames, NoChunkListed, NoLines, OneChunkListed, OneLine, begins, counts, half_in, note, noted_in, now_at, side_in, with_numbers, with_side, with_types, mark, Chunk, Numbers, at_time, first_numbers, placed, role_in, tell, told_in, Asking, asking_in, summed, name_in, State, false≢true}
+use Rattle.pgtrace_session.proofs.Common.{◌≡◌, ◌≢◌, ℕ, Bool, true, false, List, [], ◌∷◌, ◌++◌, ◌+◌, length, Option, Some, None, Result, Ok, Err, refl, sym, ap, subst, ◌∙◌, append_assoc, append-nil, place_behind, View, Sender, Marking, Noted, Role, Told, Known, ListsChunks, ListsFrames, NoChunkListed, NoLines, OneChunkListed, OneLine, begins, counts, half_in, note, noted_in, now_at, side_in, with_numbers, with_side, with_types, mark, Chunk, Numbers, at_time, first_numbers, placed, role_in, tell, ClientMessage, said_in, sent_in, places, State, false≢true}
 use Rattle.pgp_client.proofs.Exact.{turns_are_sent}
 use Rattle.pgp_client.proofs.Timely.{sent_in_turns, true_in_turns}
 use Rattle.pgp_client.specs.Taking.{asked, taken, taken_as, observed, observed_at, moved, event_of, is_aside, is_end, ready}
@@ -43,11 +43,6 @@ pub none_came : (numbered summed folds : Bool) → Come (first_numbers numbered 
 none_came true summed folds = refl
 none_came false summed folds = tt
 
--- a summary leaves the dialogue as it is
-pub sum_came : (told : Told) (asking : Option Asking) (name : List ℕ) (n : Option Numbers) (turns : List Turn) → Come n turns → Come (summed told asking name n) turns
-sum_came told asking name None turns c = tt
-sum_came told asking name (Some n) turns c = c
-
 pub time_came : (micros : ℕ) (n : Option Numbers) (turns : List Turn) → Come n turns → Come (at_time micros n) turns
 time_came micros None turns c = tt
 time_came micros (Some n) turns c = c
@@ -66,9 +61,10 @@ told_more sent now summary o turns role.Fault c = tt
 told_more sent now summary None turns role.Other c = tt
 told_more sent now summary (Some d) turns role.Other c = subst (λ l. FollowsTo start l d) (sym (append-nil turns)) c
 
-pub frame_came : (r : Role) (here : Option Numbers) (told : Told) (numbers : Option Numbers) (turns : List Turn) → told_in r here ≡ (told, numbers) → Come here turns → Come numbers (turns ++ turns_at r here)
-frame_came r None told numbers turns e c = subst (λ n. Come n (turns ++ [])) (ap (λ (x : Told × Option Numbers). x.1) e) tt
-frame_came r (Some n) told numbers turns e c = subst (λ m. Come m (turns ++ turn_of r n)) (ap (λ (x : Told × Option Numbers). x.1) e) (told_more n.sent n.now n.summary n.dialogue turns r c)
+-- a summary leaves the dialogue as it is
+pub frame_came : (r : Role) (m : Option ClientMessage) (here : Option Numbers) (told : Told) (numbers : Option Numbers) (turns : List Turn) → places r m here ≡ (told, numbers) → Come here turns → Come numbers (turns ++ turns_at r here)
+frame_came r m None told numbers turns e c = subst (λ n. Come n (turns ++ [])) (ap (λ (x : Told × Option Numbers). x.1) e) tt
+frame_came r m (Some n) told numbers turns e c = subst (λ o. Come o (turns ++ turn_of r n)) (ap (λ (x : Told × Option Numbers). x.1) e) (told_more n.sent n.now n.summary n.dialogue turns r c)
 
 -- ---- the end
 
@@ -143,13 +139,11 @@ frames_come view m who place from _ _ to (OneLine {bytes = bytes} {lines = lines
     let r = role_in view.style at (side_in who here) frame one.line one.after one.reported in
     let noting = noted_in view.style at (side_in who here) frame one.line one.after one.reported in
     let front = turns_of view m who place from bytes lines here before in
-    let came = frame_came r here.numbers one.told one.numbers (turns ++ front) one.numbered (frames_come view m who place from bytes lines here before turns c) in
-    let asking = asking_in view.style at (side_in who here) frame one.line one.after one.reported in
-    let name = name_in view.style at (side_in who here) frame one.line one.after one.reported in
-    let sum = summed one.told asking name one.numbers in
-    let same : to.numbers ≡ sum = ap (λ (k : Known). k.numbers) one.behind ∙ note_kept noting (with_types one.types (with_numbers sum (with_side who here one.after))) in
+    let said = said_in view.style at (side_in who here) frame one.line one.after one.reported in
+    let came = frame_came r (sent_in said) here.numbers one.told one.numbers (turns ++ front) one.placed (frames_come view m who place from bytes lines here before turns c) in
+    let same : to.numbers ≡ one.numbers = ap (λ (k : Known). k.numbers) one.behind ∙ note_kept noting (with_types one.types (with_numbers one.numbers (with_side who here one.after))) in
     subst (Come to.numbers) (append_assoc turns front (turns_at r here.numbers))
-    (subst (λ n. Come n ((turns ++ front) ++ turns_at r here.numbers)) (sym same) (sum_came one.told asking name one.numbers ((turns ++ front) ++ turns_at r here.numbers) came))
+    (subst (λ n. Come n ((turns ++ front) ++ turns_at r here.numbers)) (sym same) came)
 
 chunks_come : (view : View) (marking : Marking) (chunks : List Chunk) (lines : List ℕ) (to : Listed) (l : ListsChunks view (begins marking) chunks lines to) → Come to.known.numbers (turns_in view (begins marking) chunks lines to l)
 chunks_come view marking [] [] _ NoChunkListed = none_came (counts marking) marking.summed marking.folded

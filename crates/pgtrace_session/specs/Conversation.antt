@@ -10,8 +10,8 @@ use Rattle.pgtrace_session.specs.declared.expectation.Encryption.TheVariants.{Tl
 use Rattle.pgtrace_session.specs.declared.expectation.Noted.TheVariants.{Asks, Requests, Answers, Nothing}
 use Rattle.pgtrace_session.specs.Recording.{Chunk}
 use Rattle.pgtrace_session.specs.Marks.{ShowsTime, last_mark, mark, marked, started, word}
-use Rattle.pgtrace_session.specs.Requests.{Numbers, at_time, first_numbers, role_in, summary_in, told_in, unnumbered}
-use Rattle.pgtrace_session.specs.Summing.{asking_in, summed}
+use Rattle.pgtrace_session.specs.Requests.{Numbers, at_time, first_numbers, summary_in, unnumbered}
+use Rattle.pgtrace_session.specs.Summing.{placed_by}
 use Rattle.pgtrace_session.specs.Tables.{ending_by}
 use Rattle.pgtrace_session.specs.Typed.{Heard, Learns, Said, Sent, ShowsTyped, Unsaid, first_types, said_in}
 use Rattle.pgtrace_session.specs.Types.{Types}
@@ -164,12 +164,11 @@ pub record ListsFrame (view : View) (mark : List ℕ) (sender : Sender) (place :
   pub types : Option Types
   pub typed : List ℕ
   pub reported : LineOf view.style place (side_in sender here) frame line after
-  pub numbered : told_in (role_in view.style place (side_in sender here) frame line after reported) here.numbers ≡ (told, numbers)
+  pub placed : placed_by frame (said_in view.style place (side_in sender here) frame line after reported) here.numbers ≡ (told, numbers)
   pub learns : Learns told (said_in view.style place (side_in sender here) frame line after reported) here.types types
   pub shows : ShowsTyped view.style place (length frame) told (said_in view.style place (side_in sender here) frame line after reported) types line typed
   pub is : text ≡ text_of view mark (told_by here.marked told) place here.requests (name_in view.style place (side_in sender here) frame line after reported) typed
-  pub behind : to ≡ note (noted_in view.style place (side_in sender here) frame line after reported)
-      (with_types types (with_numbers (summed told (asking_in view.style place (side_in sender here) frame line after reported) (name_in view.style place (side_in sender here) frame line after reported) numbers) (with_side sender here after)))
+  pub behind : to ≡ note (noted_in view.style place (side_in sender here) frame line after reported) (with_types types (with_numbers numbers (with_side sender here after)))
 
 -- These bytes, after so many others, are complete frames of this side, and each has its line, in order.
 abbrev pub ListsFrames : View → (mark : List ℕ) → Sender → (start : ℕ) → Known → (bytes lines : List ℕ) → Known → Type 0

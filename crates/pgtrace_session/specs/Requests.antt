@@ -117,11 +117,6 @@ tell (role.Message kind) n = (told_of n.sent n.now (place kind n.dialogue).0, wi
 tell role.Fault n = (told.Lost, with_dialogue None n)
 tell role.Other n = (told.Nothing, n)
 
--- the same, where requests are numbered or not
-abbrev pub told_in : Role → Option Numbers → Told × Option Numbers
-told_in r None = (told.Uncounted, None)
-told_in r (Some n) = ((tell r n).0, Some (tell r n).1)
-
 -- Whether nothing is noted of a server's frame: requests aren't counted, and no message of its tag asks for one of tag `p`.
 abbrev pub notes_nothing : Option Numbers → (frame : List ℕ) → Bool
 notes_nothing None frame = not (get_or frame 0 0 == 82)  -- R

@@ -14,13 +14,11 @@ use Rattle.pgtrace_session.specs.declared.connection.Half as code_half
 use Rattle.pgtrace_session.specs.declared.connection.Talk as code_talk
 use Rattle.pgtrace_session.specs.declared.state.Known as code_known
 use Rattle.pgtrace_session.specs.declared.numbers.Numbers as code_numbers
-use Rattle.pgtrace_session.specs.declared.summing.Asking as code_summing
 use Rattle.std.specs.Borrow.{Bor}
 use Rattle.std.specs.declared.collections.VecDeque.{VecDeque}
 use Rattle.pgtrace_session.specs.Conversation.{Half, ListsChunk, Known, Talk, ListsFrame, ListsFrames, is_replicating, side_in, with_side}
 use Rattle.pgtrace_session.specs.Marks.{ShowsTime, day_of}
 use Rattle.pgtrace_session.specs.Requests.{Numbers}
-use Rattle.pgtrace_session.specs.Summing.{Asking}
 use Rattle.pgtrace_session.specs.TypesKept.{types_in}
 use Rattle.pgtrace_session.specs.Recording.{Chunk, IsChunk, IsNoChunk, IsPartial, IsShort, arrow, chunk_bytes, magic}
 
@@ -89,9 +87,6 @@ numbers_of numbers = record { dialogue = talk_in numbers.dialogue; sent = number
 abbrev pub numbers_in : {A : Type 0} → Option (code_numbers.Numbers A) → Option Numbers
 numbers_in None = None
 numbers_in (Some numbers) = Some (numbers_of numbers)
-
-abbrev pub asking_view : code_summing.Asking → Asking
-asking_view a = record { work = a.work; first = a.first.now; second = a.second.now }
 
 abbrev pub known_of : {A : Type 0} → code_known.Known A → Known
 known_of known = record { client = side.Client known.opened known.kinds.items (is_replicating known.phase); server = side.Server known.phase; requests = known.requests.items; numbers = numbers_in known.numbers; marked = known.marked; types = types_in known.types }

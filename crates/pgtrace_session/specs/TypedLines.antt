@@ -7,8 +7,8 @@ use Rattle.pgp_frontend_read.specs.Step as client
 use Rattle.pgtrace_lines.specs.Steps.{IsFrameOf}
 use Rattle.pgtrace_session.specs.declared.placement.Told.TheVariants as told
 use Rattle.pgtrace_session.specs.Conversation.{noted_by}
-use Rattle.pgtrace_session.specs.Requests.{Numbers, role_by, told_in}
-use Rattle.pgtrace_session.specs.Summing.{asking_from, summed}
+use Rattle.pgtrace_session.specs.Requests.{Numbers}
+use Rattle.pgtrace_session.specs.Summing.{placed_by, places}
 use Rattle.pgtrace_session.specs.Typed.{Heard, Learns, Said, Sent, ShowsBytes, ShowsSent, ShowsTyped, ShowsValue, ShowsValues, Unsaid}
 use Rattle.pgtrace_session.specs.Types.{Types}
 
@@ -38,18 +38,16 @@ ReadsSo Client opened kind frame (Sent r) = (now : Bool) × client.Step kind (re
 ReadsSo Client opened kind frame (Heard r) = ⊥
 ReadsSo Client opened kind frame Unsaid = ⊥
 
--- what is taken note of a frame that has this name and is read so: what its mark says of requests, what is then known of them and of types, and what the frame
+-- what is taken note of a frame that is read so: what its mark says of requests, what is then known of them and of types, and what the frame
 -- says of messages to come
-pub record Tells (frame name : List ℕ) (said : Said) (from to : Option Numbers) (old new : Option Types) (told : Told) (noted : Noted) : Type 0 where
-  pub numbers : Option Numbers
-  pub numbered : told_in (role_by frame said) from ≡ (told, numbers)
-  pub sums : to ≡ summed told (asking_from said) name numbers
+pub record Tells (frame : List ℕ) (said : Said) (from to : Option Numbers) (old new : Option Types) (told : Told) (noted : Noted) : Type 0 where
+  pub placed : placed_by frame said from ≡ (told, to)
   pub learns : Learns told said old new
   pub expects : noted ≡ noted_by said
 
 -- and its line with that
-pub record Reads (style : Style) (place : ℕ) (frame name : List ℕ) (said : Said) (from to : Option Numbers) (old new : Option Types) (line typed : List ℕ) (told : Told) (noted : Noted) : Type 0 where
-  pub tells : Tells frame name said from to old new told noted
+pub record Reads (style : Style) (place : ℕ) (frame : List ℕ) (said : Said) (from to : Option Numbers) (old new : Option Types) (line typed : List ℕ) (told : Told) (noted : Noted) : Type 0 where
+  pub tells : Tells frame said from to old new told noted
   pub shows : ShowsTyped style place (length frame) told said new line typed
 
 -- what is known of types where this is told of what isn't read
@@ -58,10 +56,8 @@ lost told.Lost old = None
 lost told old = old
 
 -- of what isn't read nothing is known but what it is to the requests
-pub record Passes (role : Role) (name : List ℕ) (from to : Option Numbers) (old new : Option Types) (told : Told) : Type 0 where
-  pub numbers : Option Numbers
-  pub numbered : told_in role from ≡ (told, numbers)
-  pub sums : to ≡ summed told None name numbers
+pub record Passes (role : Role) (from to : Option Numbers) (old new : Option Types) (told : Told) : Type 0 where
+  pub placed : places role None from ≡ (told, to)
   pub learns : new ≡ lost told old
 
 -- the line of a request that is read so

@@ -15,10 +15,10 @@ use crate::chunk::Sender;
 use crate::columns::formatted;
 use crate::expectation::{Noted, requested_by};
 use crate::fields::{binaries_of, given_types};
-use crate::numbers::{Numbers, tell};
+use crate::numbers::Numbers;
 use crate::placement::Told;
 use crate::role::{asking, sent_fault};
-use crate::summing::{asking_of, sum_frame};
+use crate::summing::place;
 use crate::typed::pass;
 use crate::types::{Types, ask_text, parameters_of, parse, sync};
 use bytes::BytesMut;
@@ -37,18 +37,17 @@ pub fn read_sent<A: MapMemory>(
     place: u64,
     opened: bool,
     kind: PasswordKind,
-    name: &str,
     frame: &[u8],
     numbers: &mut Option<Numbers<A>>,
     types: &mut Option<Types<A>>,
     text: &mut BytesMut<A>,
     line: &mut String<A>,
 ) -> Result<(Told, Noted), AllocError>
-    ensures read { IfOk result (λ x. (said : Said) → ReadsSo Sender.Client opened (kind_view kind) frame.now said → Reads style place frame.now name.now said
+    ensures read { IfOk result (λ x. (said : Said) → ReadsSo Sender.Client opened (kind_view kind) frame.now said → Reads style place frame.now said
         (numbers_in numbers.old) (numbers_in numbers.new) (types_in types.old) (types_in types.new) (string_bytes line.old) (string_bytes line.new) x.0 x.1) }
     ensures lacks { OnErr result A.Lacks }
 {
-    let (told, noted) = ask_frame(opened, kind, name, frame, numbers, types)?;
+    let (told, noted) = ask_frame(opened, kind, frame, numbers, types)?;
     show_sent(style, place, opened, kind, told, frame, types, text, line)?;
     Ok((told, noted))
 }
@@ -57,21 +56,20 @@ pub fn read_sent<A: MapMemory>(
 fn ask_frame<A: MapMemory>(
     opened: bool,
     kind: PasswordKind,
-    name: &str,
     frame: &[u8],
     numbers: &mut Option<Numbers<A>>,
     types: &mut Option<Types<A>>,
 ) -> Result<(Told, Noted), AllocError>
-    ensures tells { IfOk result (λ x. (said : Said) → ReadsSo Sender.Client opened (kind_view kind) frame.now said → Tells frame.now name.now said
+    ensures tells { IfOk result (λ x. (said : Said) → ReadsSo Sender.Client opened (kind_view kind) frame.now said → Tells frame.now said
         (numbers_in numbers.old) (numbers_in numbers.new) (types_in types.old) (types_in types.new) x.0 x.1) }
     ensures lacks { OnErr result A.Lacks }
 {
     let mut messages = ClientMessages::resume(frame, opened);
     match messages.next(kind) {
-        Ok(Some(message)) => ask_message(name, frame, message, numbers, types),
+        Ok(Some(message)) => ask_message(frame, message, numbers, types),
         Ok(None) => Ok((Told::Uncounted, Noted::Nothing)),
         Err(_) => {
-            let told = pass(sent_fault(frame), name, numbers, types)?;
+            let told = pass(sent_fault(frame), numbers, types)?;
             Ok((told, Noted::Nothing))
         }
     }
@@ -79,19 +77,17 @@ fn ask_frame<A: MapMemory>(
 
 /// Takes note of a message.
 fn ask_message<A: MapMemory>(
-    name: &str,
     frame: &[u8],
     message: ClientMessage<'_>,
     numbers: &mut Option<Numbers<A>>,
     types: &mut Option<Types<A>>,
 ) -> Result<(Told, Noted), AllocError>
-    ensures tells { IfOk result (λ x. Tells frame.now name.now (Sent (Ok (view message.entry)))
+    ensures tells { IfOk result (λ x. Tells frame.now (Sent (Ok (view message.entry)))
         (numbers_in numbers.old) (numbers_in numbers.new) (types_in types.old) (types_in types.new) x.0 x.1) }
     ensures lacks { OnErr result A.Lacks }
 {
     let noted = requested_by(&message);
-    let told = tell(asking(Request::of(&message)), numbers)?;
-    sum_frame(asking_of(&message), name, told, numbers)?;
+    let told = place(asking(Request::of(&message)), Some(&message), numbers)?;
     learn(told, message, types)?;
     Ok((told, noted))
 }

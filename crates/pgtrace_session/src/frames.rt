@@ -116,7 +116,6 @@ fn list_next<'b, A: MapMemory>(
                 sender,
                 opened,
                 kind,
-                name,
                 frame,
                 &mut known.numbers,
                 &mut known.types,

@@ -2,7 +2,7 @@
 
 ghost use Rattle.std.specs.Prelude.{◌≡◌, ◌-◌, get_or, option_map, IfOk, OnErr, OnOk};
 ghost use Rattle.pgp_client.specs.Telling.{start};
-ghost use Rattle.pgtrace_session.specs.Requests.{asks, at_time, first_numbers, first_summary, no_numbers, place, tell, summary_in, told_in, told_of, unnumbered};
+ghost use Rattle.pgtrace_session.specs.Requests.{asks, at_time, first_numbers, first_summary, no_numbers, place, tell, summary_in, told_of, unnumbered};
 ghost use Rattle.pgtrace_session.specs.Steps.{numbers_in, numbers_of, talk_in};
 
 use crate::placement::Told;
@@ -96,19 +96,8 @@ pub fn summary_of<A: MapMemory>(numbers: &Option<Numbers<A>>) -> Option<&Summary
     }
 }
 
-/// Takes note of a frame that is this. Returns what its mark says of requests, where they are numbered.
-pub fn tell<A: MapMemory>(role: Role, numbers: &mut Option<Numbers<A>>) -> Result<Told, AllocError>
-    ensures told { IfOk result (λ told. told_in role (numbers_in numbers.old) ≡ (told, numbers_in numbers.new)) }
-    ensures lacks { OnErr result A.Lacks }
-{
-    match numbers {
-        Some(numbers) => tell_one(role, numbers),
-        None => Ok(Told::Uncounted),
-    }
-}
-
-/// Takes note of a frame. Returns what its mark says of requests.
-fn tell_one<A: MapMemory>(role: Role, numbers: &mut Numbers<A>) -> Result<Told, AllocError>
+/// Takes note of a frame that is this. Returns what its mark says of requests.
+pub fn tell<A: MapMemory>(role: Role, numbers: &mut Numbers<A>) -> Result<Told, AllocError>
     ensures told { IfOk result (λ told. tell role (numbers_of numbers.old) ≡ (told, numbers_of numbers.new)) }
     ensures lacks { OnErr result A.Lacks }
 {

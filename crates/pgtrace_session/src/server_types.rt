@@ -14,11 +14,11 @@ ghost use Rattle.pgtrace_session.specs.TypesKept.{types_in, types_of};
 use crate::chunk::Sender;
 use crate::expectation::{Noted, asked_by};
 use crate::fields::{columns_of, described_types};
-use crate::numbers::{Numbers, tell as tell_numbers};
+use crate::numbers::Numbers;
 use crate::placement::Told;
 use crate::role::{Role, byte_at, heard_fault};
 use crate::row::type_row;
-use crate::summing::sum_frame;
+use crate::summing::place as place_frame;
 use crate::typed::pass;
 use crate::types::{Types, bind, close, describe, end, finish, reach_answer, rows_of, tell};
 use bytes::BytesMut;
@@ -34,19 +34,18 @@ use std::alloc::AllocError;
 pub fn read_heard<A: MapMemory>(
     style: Style,
     place: u64,
-    name: &str,
     frame: &[u8],
     numbers: &mut Option<Numbers<A>>,
     types: &mut Option<Types<A>>,
     text: &mut BytesMut<A>,
     line: &mut String<A>,
 ) -> Result<(Told, Noted), AllocError>
-    ensures read { IfOk result (λ x. (opened : Bool) (kind : PasswordKind) (said : Said) → ReadsSo Sender.Server opened kind frame.now said → Reads style place frame.now name.now said
+    ensures read { IfOk result (λ x. (opened : Bool) (kind : PasswordKind) (said : Said) → ReadsSo Sender.Server opened kind frame.now said → Reads style place frame.now said
         (numbers_in numbers.old) (numbers_in numbers.new) (types_in types.old) (types_in types.new) (string_bytes line.old) (string_bytes line.new) x.0 x.1) }
     ensures lacks { OnErr result A.Lacks }
 {
     if frame.len() == 1 {
-        let told = pass(Role::Other, name, numbers, types)?;
+        let told = pass(Role::Other, numbers, types)?;
         return Ok((told, Noted::Answers));
     }
     // perf: with `--raw` alone no frame is read twice but for the requests of a log-in
@@ -56,15 +55,13 @@ pub fn read_heard<A: MapMemory>(
     let mut messages = Messages::new(frame);
     match messages.next() {
         Ok(Some(message)) => {
-            let heard = read_message(
-                style, place, name, frame, &message, numbers, types, text, line,
-            );
+            let heard = read_message(style, place, frame, &message, numbers, types, text, line);
             drop(message);
             heard
         }
         Ok(None) => Ok((Told::Uncounted, Noted::Nothing)),
         Err(_) => {
-            let told = pass(heard_fault(frame), name, numbers, types)?;
+            let told = pass(heard_fault(frame), numbers, types)?;
             Ok((told, Noted::Nothing))
         }
     }
@@ -84,7 +81,6 @@ fn notes_nothing<A: MapMemory>(numbers: &Option<Numbers<A>>, frame: &[u8]) -> bo
 fn read_message<A: MapMemory>(
     style: Style,
     place: u64,
-    name: &str,
     frame: &[u8],
     message: &Message<&[u8]>,
     numbers: &mut Option<Numbers<A>>,
@@ -92,12 +88,11 @@ fn read_message<A: MapMemory>(
     text: &mut BytesMut<A>,
     line: &mut String<A>,
 ) -> Result<(Told, Noted), AllocError>
-    ensures read { IfOk result (λ x. Reads style place frame.now name.now (Heard (Ok (view message.now)))
+    ensures read { IfOk result (λ x. Reads style place frame.now (Heard (Ok (view message.now)))
         (numbers_in numbers.old) (numbers_in numbers.new) (types_in types.old) (types_in types.new) (string_bytes line.old) (string_bytes line.new) x.0 x.1) }
     ensures lacks { OnErr result A.Lacks }
 {
-    let told = tell_numbers(Role::Message(Kind::of(message)), numbers)?;
-    sum_frame(None, name, told, numbers)?;
+    let told = place_frame(Role::Message(Kind::of(message)), None, numbers)?;
     type_message(style, place, frame.len(), told, message, types, text, line)?;
     Ok((told, asked_by(message)))
 }

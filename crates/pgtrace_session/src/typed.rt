@@ -10,11 +10,11 @@ ghost use Rattle.pgtrace_session.specs.TypesKept.{types_in};
 use crate::chunk::Sender;
 use crate::client_types::read_sent;
 use crate::expectation::Noted;
-use crate::numbers::{Numbers, tell};
+use crate::numbers::Numbers;
 use crate::placement::Told;
 use crate::role::Role;
 use crate::server_types::read_heard;
-use crate::summing::sum_frame;
+use crate::summing::place;
 use crate::types::{Types, no_types};
 use bytes::BytesMut;
 use pgp_base::Memory;
@@ -34,7 +34,7 @@ pub fn first_types<A: MapMemory>(alloc: A, raw: bool, named: bool) -> Option<Typ
     }
 }
 
-/// Takes note of a frame of this side, which has this name, and writes its line anew where it has values whose types are known. Returns what its mark says of
+/// Takes note of a frame of this side, and writes its line anew where it has values whose types are known. Returns what its mark says of
 /// requests, and what it says of messages to come.
 pub fn read_frame<A: MapMemory>(
     style: Style,
@@ -42,37 +42,34 @@ pub fn read_frame<A: MapMemory>(
     sender: Sender,
     opened: bool,
     kind: PasswordKind,
-    name: &str,
     frame: &[u8],
     numbers: &mut Option<Numbers<A>>,
     types: &mut Option<Types<A>>,
     text: &mut BytesMut<A>,
     line: &mut String<A>,
 ) -> Result<(Told, Noted), AllocError>
-    ensures read { IfOk result (λ x. (said : Said) → ReadsSo sender opened (kind_view kind) frame.now said → Reads style place frame.now name.now said
+    ensures read { IfOk result (λ x. (said : Said) → ReadsSo sender opened (kind_view kind) frame.now said → Reads style place frame.now said
         (numbers_in numbers.old) (numbers_in numbers.new) (types_in types.old) (types_in types.new) (string_bytes line.old) (string_bytes line.new) x.0 x.1) }
     ensures lacks { OnErr result A.Lacks }
 {
     match sender {
         Sender::Client => read_sent(
-            style, place, opened, kind, name, frame, numbers, types, text, line,
+            style, place, opened, kind, frame, numbers, types, text, line,
         ),
-        Sender::Server => read_heard(style, place, name, frame, numbers, types, text, line),
+        Sender::Server => read_heard(style, place, frame, numbers, types, text, line),
     }
 }
 
 /// Takes note of a frame that isn't read, and that is this to the requests.
 pub fn pass<A: MapMemory>(
     role: Role,
-    name: &str,
     numbers: &mut Option<Numbers<A>>,
     types: &mut Option<Types<A>>,
 ) -> Result<Told, AllocError>
-    ensures passes { IfOk result (λ told. Passes role name.now (numbers_in numbers.old) (numbers_in numbers.new) (types_in types.old) (types_in types.new) told) }
+    ensures passes { IfOk result (λ told. Passes role (numbers_in numbers.old) (numbers_in numbers.new) (types_in types.old) (types_in types.new) told) }
     ensures lacks { OnErr result A.Lacks }
 {
-    let told = tell(role, numbers)?;
-    sum_frame(None, name, told, numbers)?;
+    let told = place(role, None, numbers)?;
     lose(told, types);
     Ok(told)
 }

@@ -11,7 +11,7 @@ returns-in-Ok-Some-clause-tells g c =
     let new = c.next.new.self in
     let step : Step kind c.resume-messages.result (Ok (Some m)) new = search rules in
     let stands = subst (λ u. Step kind u (Ok (Some m)) new) c.resume-messages.ensures step in
-    if_ok c.ask_message.result (λ x tells. sent_all (λ said. Tells frame c.args.name.now said (numbers_in c.args.numbers.now) (numbers_in c.ask_message.new.numbers) (types_in c.args.types.now) (types_in c.ask_message.new.types) x.0 x.1) c.args.opened kind frame new m stands tells)
+    if_ok c.ask_message.result (λ x tells. sent_all (λ said. Tells frame said (numbers_in c.args.numbers.now) (numbers_in c.ask_message.new.numbers) (types_in c.args.types.now) (types_in c.ask_message.new.types) x.0 x.1) c.args.opened kind frame new m stands tells)
     c.ask_message.ensures.tells
 
 pub returns-in-Ok-None-clause-tells : goal.returns-in-Ok-None-clause-tells
@@ -19,4 +19,4 @@ returns-in-Ok-None-clause-tells g c said =
     let kind = kind_view c.args.kind in
     let new = c.next.new.self in
     let step : Step kind c.resume-messages.result (Ok None) new = search rules in
-    silent_all (λ said. Tells c.args.frame.now c.args.name.now said (numbers_in c.args.numbers.now) (numbers_in c.args.numbers.now) (types_in c.args.types.now) (types_in c.args.types.now) Uncounted Nothing) c.args.opened kind c.args.frame.now new (subst (λ u. Step kind u (Ok None) new) c.resume-messages.ensures step) said
+    silent_all (λ said. Tells c.args.frame.now said (numbers_in c.args.numbers.now) (numbers_in c.args.numbers.now) (types_in c.args.types.now) (types_in c.args.types.now) Uncounted Nothing) c.args.opened kind c.args.frame.now new (subst (λ u. Step kind u (Ok None) new) c.resume-messages.ensures step) said

@@ -29,8 +29,8 @@ returns-in_ok-note-in-Line-clause-each g c =
     let knows : KnowsNext style c.args.sender c.args.place old c.args.bytes.now c.in_ok-next.behind.now line mid (Line c.in-Line.name) = search rules in
     let has = knows.listed in
     let whole = c.front_of-frame.ensures ∙ front_taken has.frame c.in_ok-next.behind.now c.args.bytes.now has.whole in
-    let all = subst (λ (f : List ℕ). (said : Said) → ReadsSo c.args.sender c.args.known.now.opened kind f said → Reads style c.args.place f name said mid.numbers sums mid.types types line typed told noted) whole c.in_ok-told-in-Line.ensures.read in
-    let reads = line_read (λ said. Reads style c.args.place has.frame name said mid.numbers sums mid.types types line typed told noted) style c.args.place c.args.known.now kind has.frame line (side_in c.args.sender mid)
+    let all = subst (λ (f : List ℕ). (said : Said) → ReadsSo c.args.sender c.args.known.now.opened kind f said → Reads style c.args.place f said mid.numbers sums mid.types types line typed told noted) whole c.in_ok-told-in-Line.ensures.read in
+    let reads = line_read (λ said. Reads style c.args.place has.frame said mid.numbers sums mid.types types line typed told noted) style c.args.place c.args.known.now kind has.frame line (side_in c.args.sender mid)
     (c.expected-kind.ensures ∙ ap expected c.as_slice.ensures.value) c.args.sender has.reported all in
     let grown : after ≡ before ++ text_of view mark (told_by mid.marked told) c.args.place c.as_slice-in-Line.result.now name typed =
     c.in_ok-list_line-in-Line.ensures.text ∙ ap (λ t. before ++ text_of view mark t c.args.place c.as_slice-in-Line.result.now name typed) c.told_by-told.ensures in

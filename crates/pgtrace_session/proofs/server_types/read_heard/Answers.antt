@@ -10,7 +10,7 @@ returns-in-Ok-Some-clause-read g c =
     let new = c.next.new.self in
     let step : TakesFrame c.new-messages.result (Ok m) new = search rules in
     let takes : TakesFrame frame (Ok m) new = subst (λ (l : List ℕ). TakesFrame l (Ok m) new) c.new-messages.ensures step in
-    if_ok c.read_message-heard.result (λ x reads opened kind. heard_all (λ said. Reads c.args.style c.args.place frame c.args.name.now said (numbers_in c.args.numbers.now) (numbers_in c.read_message-heard.new.numbers) (types_in c.args.types.now) (types_in c.read_message-heard.new.types)
+    if_ok c.read_message-heard.result (λ x reads opened kind. heard_all (λ said. Reads c.args.style c.args.place frame said (numbers_in c.args.numbers.now) (numbers_in c.read_message-heard.new.numbers) (types_in c.args.types.now) (types_in c.read_message-heard.new.types)
     (string_bytes c.args.line.now) (string_bytes c.read_message-heard.new.line) x.0 x.1) opened kind frame new m takes reads) c.read_message-heard.ensures.read
 
 pub returns-in-Ok-None-clause-read : goal.returns-in-Ok-None-clause-read
@@ -19,15 +19,15 @@ returns-in-Ok-None-clause-read g c opened kind said =
     let new = c.next.new.self in
     let step : Step ⊥ c.new-messages.result (Ok None) new = search rules in
     let some : length frame ≡ 1 → ⊥ = λ h. search rules in
-    none_all (λ said. Reads c.args.style c.args.place frame c.args.name.now said (numbers_in c.args.numbers.now) (numbers_in c.args.numbers.now) (types_in c.args.types.now) (types_in c.args.types.now) (string_bytes c.args.line.now) (string_bytes c.args.line.now) Uncounted Nothing) opened kind frame new (subst (λ (l : List ℕ). Step ⊥ l (Ok None) new) c.new-messages.ensures step) some said
+    none_all (λ said. Reads c.args.style c.args.place frame said (numbers_in c.args.numbers.now) (numbers_in c.args.numbers.now) (types_in c.args.types.now) (types_in c.args.types.now) (string_bytes c.args.line.now) (string_bytes c.args.line.now) Uncounted Nothing) opened kind frame new (subst (λ (l : List ℕ). Step ⊥ l (Ok None) new) c.new-messages.ensures step) some said
 
 pub returns-then-frame-eq1-clause-read : goal.returns-then-frame-eq1-clause-read
 returns-then-frame-eq1-clause-read g c opened kind said =
     let frame = c.args.frame.now in
     let line = string_bytes c.args.line.now in
     let one : length frame ≡ 1 = search rules in
-    answer_all (λ said. Reads c.args.style c.args.place frame c.args.name.now said (numbers_in c.args.numbers.now) (numbers_in c.pass.new.numbers) (types_in c.args.types.now) (types_in c.pass.new.types) line line c.in_ok-told.told Answers) opened kind frame one
-    (passed_reads c.args.style c.args.place frame c.args.name.now Unsaid (numbers_in c.args.numbers.now) (numbers_in c.pass.new.numbers) (types_in c.args.types.now) (types_in c.pass.new.types) line c.in_ok-told.told Answers tt refl refl c.in_ok-told.ensures.passes) said
+    answer_all (λ said. Reads c.args.style c.args.place frame said (numbers_in c.args.numbers.now) (numbers_in c.pass.new.numbers) (types_in c.args.types.now) (types_in c.pass.new.types) line line c.in_ok-told.told Answers) opened kind frame one
+    (passed_reads c.args.style c.args.place frame Unsaid (numbers_in c.args.numbers.now) (numbers_in c.pass.new.numbers) (types_in c.args.types.now) (types_in c.pass.new.types) line c.in_ok-told.told Answers tt refl refl c.in_ok-told.ensures.passes) said
 
 pub returns-in_ok-told-in-Err-clause-read : goal.returns-in_ok-told-in-Err-clause-read
 returns-in_ok-told-in-Err-clause-read g c opened kind said =
@@ -42,10 +42,10 @@ returns-in_ok-told-in-Err-clause-read g c opened kind said =
     let told = c.in_ok-told-in-Err.told in
     let step : Step ⊥ c.new-messages.result (Err e) new = c.in-Err.ensures.step in
     let some : length frame ≡ 1 → ⊥ = λ h. search rules in
-    let passes : Passes (heard_as (kind_of_tag (get_or frame 0 0))) c.args.name.now numbers after types left told = subst (λ r. Passes r c.args.name.now numbers after types left told) c.heard_fault.ensures c.in_ok-told-in-Err.ensures.passes in
-    fault_all (λ said. Reads c.args.style c.args.place frame c.args.name.now said numbers after types left line line told Nothing) opened kind frame new e (subst (λ (l : List ℕ). Step ⊥ l (Err e) new) c.new-messages.ensures step) some
-    (λ d. passed_reads c.args.style c.args.place frame c.args.name.now (Heard (Err d)) numbers after types left line told Nothing tt refl refl passes) said
+    let passes : Passes (heard_as (kind_of_tag (get_or frame 0 0))) numbers after types left told = subst (λ r. Passes r numbers after types left told) c.heard_fault.ensures c.in_ok-told-in-Err.ensures.passes in
+    fault_all (λ said. Reads c.args.style c.args.place frame said numbers after types left line line told Nothing) opened kind frame new e (subst (λ (l : List ℕ). Step ⊥ l (Err e) new) c.new-messages.ensures step) some
+    (λ d. passed_reads c.args.style c.args.place frame (Heard (Err d)) numbers after types left line told Nothing tt refl refl passes) said
 
 pub returns-then-notes_nothing-clause-read : goal.returns-then-notes_nothing-clause-read
 returns-then-notes_nothing-clause-read g c opened kind said =
-    unnoted_reads c.args.style c.args.place opened kind c.args.frame.now c.args.name.now (numbers_in c.args.numbers.now) (types_in c.args.types.now) (string_bytes c.args.line.now) (sym c.notes_nothing.ensures ∙ c.if-notes_nothing.true) (λ h. search rules) said
+    unnoted_reads c.args.style c.args.place opened kind c.args.frame.now (numbers_in c.args.numbers.now) (types_in c.args.types.now) (string_bytes c.args.line.now) (sym c.notes_nothing.ensures ∙ c.if-notes_nothing.true) (λ h. search rules) said
