@@ -64,7 +64,7 @@ def blocks(page):
 
 
 def run(*words, **more):
-    return subprocess.run(words, check=True, stdout=subprocess.PIPE, text=True, timeout=600, **{'env': ENV, 'cwd': folder, **more}).stdout
+    return subprocess.run(words, check=True, stdout=subprocess.PIPE, text=True, timeout=1800, **{'env': ENV, 'cwd': folder, **more}).stdout
 
 
 def shell(text, **more):
