@@ -1,2 +1,3 @@
+pub mod LogIn
 pub mod Ready
 pub mod Sent

@@ -1,9 +1,14 @@
 //! What is the same for each client: the users, the nonce, the certificate and the script.
 
+ghost use Rattle.std.specs.Prelude.{◌≡◌, ◌≢◌, IfNone, IfOk, IfSome};
+ghost use Rattle.std.specs.List.{All};
+ghost use Rattle.pgp_auth.specs.ScramServerView.{verifier_of};
+ghost use Rattle.pgserve.specs.LogIn.{HasExchange, IsAccount, OpensForUser, StandsFor, StandsForMd5, seen};
+
 use crate::fault::Fault;
 use crate::outbox::Outbox;
 use crate::script::Script;
-use crate::user::{Auth, verifier_of};
+use crate::user::{Auth, User, verifier_of};
 use crate::words::Words;
 use pgp_auth::authentication::sasl::{
     ChannelOffer, SCRAM_SHA_256, ScramServer, StoredVerifier, is_nonce,
@@ -42,7 +47,9 @@ struct Account<'h> {
 
 impl Account<'_> {
     /// The verifier of the user of this name, or one that stands for the verifier of a user who isn't there.
-    fn stored(self, alloc: Global, user: &[u8]) -> Result<StoredVerifier, Fault> {
+    fn stored(self, alloc: Global, user: &[u8]) -> Result<StoredVerifier, Fault>
+        ensures { IfOk result (λ held. StandsFor (seen self.entry) (verifier_of held) held.is_mock) }
+    {
         if self.is_known {
             return verifier_of(alloc, self.verifier);
         }
@@ -50,7 +57,9 @@ impl Account<'_> {
     }
 
     /// What a server stores for MD5; nothing of a user who isn't there.
-    fn md5(self, alloc: Global) -> Result<Vec<u8>, AllocError> {
+    fn md5(self, alloc: Global) -> Result<Vec<u8>, AllocError>
+        ensures { IfOk result (λ held. StandsForMd5 (seen self.entry) held.items) }
+    {
         if self.is_known {
             return Vec::from_slice(alloc, self.verifier.as_bytes());
         }
@@ -124,21 +133,32 @@ impl<'h> Host<'h> {
         self.account.auth == auth
     }
 
+    /// The script's user of this name.
+    fn named(&self, user: &[u8]) -> Option<&'h User>
+        ensures some { IfSome result (λ known. known.now.name.items ≡ user.now) }
+        ensures none { IfNone result (All (λ known. known.name.items ≢ user.now) self.now.script.now.users.items) }
+    {
+        self.script
+            .users
+            .iter()
+            .find(|known| known.name.as_slice() == user)
+    }
+
     /// What a user of this name has to show.
-    fn account(&self, user: &[u8]) -> Account<'h> {
-        for known in &self.script.users {
-            if known.name.as_slice() == user {
-                return Account {
-                    auth: known.auth,
-                    verifier: known.verifier.as_str(),
-                    is_known: true,
-                };
-            }
-        }
-        Account {
-            auth: self.account.auth,
-            verifier: self.account.verifier,
-            is_known: user == self.user.as_bytes(),
+    fn account(&self, user: &[u8]) -> Account<'h>
+        ensures { IsAccount self.now.script.now.users.items self.now.user.now (seen self.now.account) user.now (seen result) }
+    {
+        match self.named(user) {
+            Some(known) => Account {
+                auth: known.auth,
+                verifier: known.verifier.as_str(),
+                is_known: true,
+            },
+            None => Account {
+                auth: self.account.auth,
+                verifier: self.account.verifier,
+                is_known: user == self.user.as_bytes(),
+            },
         }
     }
 
@@ -174,7 +194,9 @@ impl<'h> Host<'h> {
     }
 
     /// An exchange of a server that offers a binding, which the client chose, or didn't.
-    fn exchange(&self, alloc: Global, user: &[u8], is_bound: bool) -> Result<ScramServer, Fault> {
+    fn exchange(&self, alloc: Global, user: &[u8], is_bound: bool) -> Result<ScramServer, Fault>
+        ensures { IfOk result (λ exchange. OpensForUser self.now.script.now.users.items self.now.user.now (seen self.now.account) user.now exchange) }
+    {
         if !is_bound {
             return self.with_offer(alloc, user, ChannelOffer::Declined);
         }
@@ -190,7 +212,9 @@ impl<'h> Host<'h> {
         alloc: Global,
         user: &[u8],
         is_bound: bool,
-    ) -> Result<Option<Method>, Fault> {
+    ) -> Result<Option<Method>, Fault>
+        ensures { IfOk result (λ method. IfSome method (HasExchange self.now.script.now.users.items self.now.user.now (seen self.now.account) user.now)) }
+    {
         if !self.is_bound(user) {
             return Ok(None);
         }
@@ -222,7 +246,9 @@ impl<'h> Host<'h> {
         alloc: Global,
         user: &[u8],
         offer: ChannelOffer,
-    ) -> Result<ScramServer, Fault> {
+    ) -> Result<ScramServer, Fault>
+        ensures { IfOk result (λ exchange. OpensForUser self.now.script.now.users.items self.now.user.now (seen self.now.account) user.now exchange) }
+    {
         let verifier = self.account(user).stored(alloc, user)?;
         let nonce = String::from_str(alloc, self.nonce)?;
         if !is_nonce(&nonce) {

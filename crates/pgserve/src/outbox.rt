@@ -1,6 +1,6 @@
 //! What is answered to a message.
 
-ghost use Rattle.std.specs.Prelude.{◌≡◌, ◌≢◌, None};
+ghost use Rattle.std.specs.Prelude.{◌≡◌, ◌≢◌, None, OnErr};
 
 use crate::fault::Fault;
 use bytes::BytesMut;
@@ -51,7 +51,9 @@ impl Outbox {
     }
 
     /// Takes note of what became of a message that was to be appended.
-    pub(crate) fn put(&mut self, message: Result<(), Error>) {
+    pub(crate) fn put(&mut self, message: Result<(), Error>)
+        ensures { OnErr message (self.new.fault ≢ None) }
+    {
         if let Err(why) = message {
             self.fail(Fault::from(why));
         }

@@ -1,5 +1,9 @@
 //! Users, and what they have to show.
 
+ghost use Rattle.std.specs.Prelude.{◌≡◌, false, IfOk};
+ghost use Rattle.pgp_auth.specs.ScramServerView.{verifier_of as held_verifier};
+ghost use Rattle.pgp_auth.specs.ScramStored.{Stores};
+
 use crate::fault::Fault;
 use pgp_auth::authentication::sasl::{StoredVerifier, VerifierError};
 use std::alloc::Global;
@@ -65,7 +69,10 @@ fn is_md5(text: &str) -> bool {
 }
 
 /// The verifier of this text.
-pub(crate) fn verifier_of(alloc: Global, text: &str) -> Result<StoredVerifier, Fault> {
+pub(crate) fn verifier_of(alloc: Global, text: &str) -> Result<StoredVerifier, Fault>
+    ensures stored { IfOk result (λ held. Stores text.now (held_verifier held)) }
+    ensures real { IfOk result (λ held. held.is_mock ≡ false) }
+{
     match StoredVerifier::parse(alloc, text.as_bytes()) {
         Ok(verifier) => Ok(verifier),
         Err(VerifierError::OutOfMemory) => Err(Fault::Memory),
