@@ -38,7 +38,7 @@ pub use Rattle.pgp_message.specs.Parts.{Setting}
 pub use Rattle.pgp_message.specs.Remembered.{header_of}
 pub use Rattle.pgp_message.specs.Stream.{BeginsWithHeader, IsPartial, BeginsWithKept, IsLengthFault, Step, TakesFrame, Frame, frame_bytes, Frames}
 pub use Rattle.pgp_message.specs.Views.{parsed, view}
-pub use Rattle.pgp_session.specs.Connection.{Advances, Comes, IsNone, IsUnfit, Nexts, Notes, SendsGiven, Sent, Shown, Stops, Took, asked_of, is_bulk, in_phase, is_logged_in, is_part, limit_of, may_ask, may_send, moved, next_name, noted, said, with_incoming, with_login, with_out, HasStarted, Wrote, begun, logged_in_at, OutOfTurn, IsLonger, IsCut, shown, in_state, left_at, dropped, fed, told, is_option, names_in}
+pub use Rattle.pgp_session.specs.Connection.{Advances, Comes, IsNone, IsUnfit, Nexts, Notes, SendsGiven, Sent, Shown, Stops, Took, asked_of, is_bulk, in_phase, is_logged_in, is_part, limit_of, may_ask, may_send, moved, next_name, noted, said, with_incoming, with_login, with_out, HasStarted, Wrote, begun, logged_in_at, OutOfTurn, IsLonger, IsCut, shown, in_state, left_at, dropped, fed, told, is_option}
 pub use Rattle.pgp_session.specs.Incoming.{Reads, HasFrame, Waiting}
 pub use Rattle.pgp_login.specs.Exchange.{Added, AddsReply}
 pub use Rattle.pgp_login.specs.Fault.{fault}

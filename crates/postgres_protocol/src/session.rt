@@ -2,6 +2,6 @@
 
 pub use pgp_frontend_read::{ClientFrame, ClientParser, Limits, ParserError, read_session};
 pub use pgp_session::{
-    BindSendError, Connection, ConnectionError, ConnectionPhase, OutBuffer, Ways,
+    BindSendError, Connection, ConnectionError, ConnectionPhase, OutBuffer, Versions, Ways,
 };
 pub use pgp_stream::{ClientStream, Parsed, StreamParser, parse_stream};
