@@ -106,7 +106,8 @@ class Options:
     def ways(self, place: Place) -> Sequence[Encrypts]:
         """Whether there is encryption; the second way follows where the server rejects the log-in of the first."""
         if self._is_given or (self.must_encrypt and not place.is_local):
-            return ('direct',) if self._is_direct else (True,)
+            way: Encrypts = 'direct' if self._is_direct else True
+            return (way,)
         if place.is_local or self.sslmode == 'disable':
             return (False,)
         return (False, True) if self.sslmode == 'allow' else (True, False)

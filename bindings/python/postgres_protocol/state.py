@@ -159,7 +159,8 @@ class State(Requests):
     @property
     def version(self) -> str:
         """The version that is spoken: that of the startup packet, or the one that the server answered."""
-        return (self._newest, *VERSIONS)[self._connection.version]
+        spoken: str = (self._newest, *VERSIONS)[self._connection.version]
+        return spoken
 
     @property
     def key(self) -> Tuple[int, bytes]:
