@@ -23,7 +23,7 @@ module _ (w : PgpWays) where
   pub talks_done : {gave : List ClientMessage} {heard : List Message} {turns : List Turn} {now : Link} → Runs w gave heard turns now → now.login.phase ≡ 4 → Talks (ways_of w) gave heard turns now.talk Done
   talks_done {gave} {heard} {turns} {now} run is = subst (λ (s : State). Talks (ways_of w) gave heard turns now.talk s) (ap (λ n. state_at n now.login.signature) is) (talks run)
 
-  IsSpoken : Option ProtocolVersion → Type 0
+  abbrev pub IsSpoken : Option ProtocolVersion → Type 0
   IsSpoken before = is_admitted (offered_in w).versions (spoken (offered_in w).versions before) ≡ true
 
   pub speaks : {gave : List ClientMessage} {heard : List Message} {turns : List Turn} {now : Link} → Runs w gave heard turns now → IsSpoken now.version
