@@ -189,5 +189,5 @@ class State(Requests):
         if status == _TOO_FEW_ROUNDS:
             return 'the server asks for fewer than %d rounds of SCRAM (least_rounds)' % self._ways.least_rounds
         if status == _UNDUE and kind == 'NegotiateProtocolVersion':
-            return 'the server answers about the protocol what was not asked for: versions %s to %s are, and no option' % (self._oldest, self._newest)
+            return 'the server names a version of the protocol, or an option, that was not asked for (versions %s to %s were)' % (self._oldest, self._newest)
         return 'the server sent %s, which %s' % (kind, 'has no place there' if status == _UNDUE else 'is rejected: %s' % ProtocolError(status))
