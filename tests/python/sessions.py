@@ -132,7 +132,7 @@ def check_versions(same, raises):
         for message in (*came, AUTHENTICATED, key(4 if spoken == '3.0' else 32), READY):
             connection.receive_data(message)
         same('spoken %r' % given, (connection.next_event(), connection.version, len(connection.secret_key)), (events.LoggedIn(1), spoken, 4 if spoken == '3.0' else 32))
-    told = 'the server answers about the protocol what was not asked for: versions %s to %s are'
+    told = 'the server names a version of the protocol, or an option, that was not asked for (versions %s to %s were)'
     for given, minors, text in (({}, (0, 1, 2, 3), told % ('3.0', '3.0')), (to_3_2, (1, 2, 3), told % ('3.0', '3.2')), (only, (0, 1, 2, 3), told % ('3.2', '3.2'))):
         for minor in minors:
             connection = Connection('alice', **given)
