@@ -15,7 +15,8 @@ pub use Rattle.std.proofs.lemmas.Simd.{bitmask_splat, zip2_splat, zip2_splat_lef
 pub use Rattle.std.proofs.lemmas.Str.{IsUtf8-append, IsUtf8-drop, IsUtf8-from_ascii, IsCharBoundary-from_take, encode_ascii, IsUtf8-encode}
 pub use Rattle.std.specs.Simd.Lanes.{zip2, mask_l, chunk, top}
 pub use lib.Count.{count_trailing_zeros}
-pub use Rattle.pgp_base.specs.Calls.{value_of, length_of, null_of, Keeps, KeepsValue, Adds, Puts, Runs, ValueRefused, once, Appends, BodyRefused, NullableRefused, Wrote}
+pub use Rattle.pgp_base.specs.Calls.{value_of, length_of, null_of, Keeps, KeepsValue, Adds, Puts, Runs, ValueRefused, once, Appends, Wrote}
+pub use Rattle.pgp_base.specs.ClosureWriters.{BodyRefused, NullableRefused}
 pub use Rattle.pgp_base.specs.Cause.{Cause, either, first, text_cause, length_cause, count_cause, Writes, Wants, WantsMemory, nullable_cause}
 pub use Rattle.pgp_base.specs.CountedRest.{Rest, IsDue, IsTaken, walk_of, hint_at, rest_hint, Over}
 pub use Rattle.pgp_base.specs.Grammar.{StandsAt, IsReader}

@@ -3,7 +3,8 @@ use Rattle.std.specs.Prelude.{◌≡◌, ◌⊎◌, ℕ, ◌+◌, ◌≤◌, Lis
 use Rattle.std.specs.List.{list_any}
 use Rattle.pgp_base.specs.Held.{Held, ◌⊕◌, IsFrontOf, Leaves}
 use Rattle.pgp_base.specs.declared.error.Error.{Error}
-use Rattle.pgp_base.specs.declared.error.Error.TheVariants.{OutOfMemory, EmbeddedNull, TooLarge}
+use Rattle.pgp_base.specs.declared.error.Error.TheVariants.{EmbeddedNull, TooLarge}
+pub use Rattle.pgp_base.specs.Memory.{WantsMemory}
 
 -- the error of what has no spelling; none where it has one
 abbrev pub Cause : Type 0
@@ -48,10 +49,6 @@ pub record Wants {Kept : Type 0} (lacks : Held Kept → ℕ → Type 0) (old : H
   pub front : IsFrontOf old here
   pub within : length here.bytes + more ≤ length old.bytes + needed
   pub refused : lacks here more
-
--- the error for lack of memory, which comes only where an allocation failed: `lacks` says which
-abbrev pub WantsMemory : Type 0 → Error → Type 0
-WantsMemory lacks e = (e ≡ OutOfMemory) × lacks
 
 -- A writer of what is spelled so and has this cause: it appends the spelling, and there is no cause;
 -- or it leaves the bytes, and is refused for want of the memory that the spelling needs, or for the cause.

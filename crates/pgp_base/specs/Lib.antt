@@ -1,4 +1,6 @@
 pub mod Calls
+pub mod ClosureWriters
+pub mod Memory
 pub mod Cause
 pub mod Held
 pub mod Lent

@@ -3,7 +3,8 @@
 ghost use Rattle.std.specs.Prelude.{◌+◌, ◌-◌, ◌<◌, Ok, OnOk, OnErr, IfErr};
 ghost use Rattle.std.specs.Iterator.{IsFiniteIterable};
 ghost use Rattle.pgp_base.specs.Held.{Leaves, IsFrontOf};
-ghost use Rattle.pgp_base.specs.Calls.{KeepsFronts, Appends, WritesCounted, CountedRefused};
+ghost use Rattle.pgp_base.specs.Calls.{KeepsFronts, Appends};
+ghost use Rattle.pgp_base.specs.ClosureWriters.{WritesCounted, CountedRefused};
 
 use crate::buffer::Buffer;
 use crate::error::{BindError, Error};

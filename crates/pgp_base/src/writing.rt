@@ -7,7 +7,8 @@ ghost use Rattle.std.specs.Prelude.{◌≡◌, ℕ, ◌+◌, ◌-◌, ◌<◌, �
 ghost use Rattle.pgp_base.specs.Wire.{uint16, uint32, text, nullable};
 ghost use Rattle.pgp_base.specs.Cause.{text_cause, length_cause, nullable_cause, Wants, WantsMemory, Writes};
 ghost use Rattle.pgp_base.specs.Held.{◌⊕◌, overwritten, Leaves, IsFrontOf};
-ghost use Rattle.pgp_base.specs.Calls.{Adds, KeepsFront, KeepsFronts, OwesValue, OwesValues, Appends, Puts, Gives, ValueRefused, value_of, length_of, null_of, WritesBody, BodyRefused, WritesValue, NullableRefused};
+ghost use Rattle.pgp_base.specs.Calls.{Adds, KeepsFront, KeepsFronts, OwesValue, OwesValues, Appends, Puts, Gives, ValueRefused, value_of, length_of, null_of};
+ghost use Rattle.pgp_base.specs.ClosureWriters.{WritesBody, BodyRefused, WritesValue, NullableRefused};
 
 use crate::big_endian::{u16_bytes, u32_bytes};
 use crate::buffer::Buffer;

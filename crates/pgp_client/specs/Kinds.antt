@@ -1,7 +1,7 @@
 -- What the messages of both sides are in a dialogue.
 use Rattle.std.specs.Prelude.{◌≡◌, ℕ, List, [], ◌∷◌, Option, Some, None, if◌then◌else◌, ◌==◌}
 use Rattle.pgp_frontend.specs.ClientMessage.{ClientMessage, Bind, Close, CopyDone, CopyFail, Describe, Execute, FunctionCall, Parse, Query, Sync, Startup}
-use Rattle.pgp_message.specs.BackendMessage as backend
+use Rattle.pgp_message.specs.ServerMessage as backend
 use Rattle.pgp_client.specs.declared.kind.Kind.{Kind}
 use Rattle.pgp_client.specs.declared.request.Request.{Request}
 use Rattle.pgp_client.specs.declared.request.Request.TheVariants as requests

@@ -1,6 +1,6 @@
 -- The limits of a server's messages: how long one is by its header, and which statuses there are.
 use Rattle.std.specs.Prelude.{ℕ, nat_lt, Bool, false, not, List, Option, Some, None, ◌==◌, ◌||◌}
-use Rattle.pgp_message.specs.BackendMessage.{Message, ReadyForQuery}
+use Rattle.pgp_message.specs.ServerMessage.{Message, ReadyForQuery}
 use Rattle.pgp_message.specs.Remembered.{header_of}
 
 abbrev pub longer : ℕ → Option (ℕ × ℕ) → Bool

@@ -1,50 +1,18 @@
--- What the messages of a server say, how each is spelled, and what a tag and a payload mean.
+-- How each message of a server is spelled, and what a tag and a payload mean.
 -- PostgreSQL manual, "Message Formats"; keys that haven't 4 bytes, and the answer about versions: this project's profile of protocol 3.2.
 use Rattle.std.specs.Prelude.{FitsSigned, ◌≡◌, ◌≢◌, ℕ, ℤ, pos, negsuc, ◌<◌, ◌≤◌, ◌^◌, List, [], ◌∷◌, ◌++◌, length, Result, Ok, Err}
 use Rattle.std.specs.Int.{w32}
 use Rattle.pgp_base.specs.declared.error.Error.{Error}
 use Rattle.pgp_base.specs.declared.error.Error.TheVariants as errors
 use Rattle.pgp_base.specs.Wire.{int32, uint16, text, HasNoZero}
-use Rattle.pgp_message.specs.Parts.{Notification, KeyData, Setting, CountedBytes, Negotiation, CopyFormats}
-
--- A request for authentication, or word that there is none to come.
-pub data Request : Type 0 where
-  AuthenticationOk : Request
-  AuthenticationKerberosV5 : Request
-  AuthenticationCleartextPassword : Request
-  AuthenticationMd5Password : (salt : List ℕ) → Request
-  AuthenticationScmCredential : Request
-  AuthenticationGss : Request
-  AuthenticationGssContinue : (bytes : List ℕ) → Request
-  AuthenticationSspi : Request
-  AuthenticationSasl : (bytes : List ℕ) → Request
-  AuthenticationSaslContinue : (bytes : List ℕ) → Request
-  AuthenticationSaslFinal : (bytes : List ℕ) → Request
-
--- A message.
-pub data Message : Type 0 where
-  ParseComplete : Message
-  BindComplete : Message
-  CloseComplete : Message
-  NotificationResponse : Notification → Message
-  CommandComplete : (tag : List ℕ) → Message
-  DataRow : CountedBytes → Message
-  ErrorResponse : (bytes : List ℕ) → Message
-  CopyInResponse : CopyFormats → Message
-  CopyOutResponse : CopyFormats → Message
-  EmptyQueryResponse : Message
-  BackendKeyData : KeyData → Message
-  NegotiateProtocolVersion : Negotiation → Message
-  NoticeResponse : (bytes : List ℕ) → Message
-  Authentication : Request → Message
-  ParameterStatus : Setting → Message
-  RowDescription : CountedBytes → Message
-  ReadyForQuery : (status : ℕ) → Message
-  CopyDone : Message
-  CopyData : (bytes : List ℕ) → Message
-  NoData : Message
-  PortalSuspended : Message
-  ParameterDescription : CountedBytes → Message
+use Rattle.pgp_message.specs.Parts.{CountedBytes, CopyFormats}
+pub use Rattle.pgp_message.specs.ServerMessage.{Request, AuthenticationOk, AuthenticationKerberosV5, AuthenticationCleartextPassword}
+pub use Rattle.pgp_message.specs.ServerMessage.{AuthenticationMd5Password, AuthenticationScmCredential, AuthenticationGss, AuthenticationGssContinue}
+pub use Rattle.pgp_message.specs.ServerMessage.{AuthenticationSspi, AuthenticationSasl, AuthenticationSaslContinue, AuthenticationSaslFinal, Authentication}
+pub use Rattle.pgp_message.specs.ServerMessage.{Message, ParseComplete, BindComplete, CloseComplete, NotificationResponse, CommandComplete, DataRow}
+pub use Rattle.pgp_message.specs.ServerMessage.{ErrorResponse, CopyInResponse, CopyOutResponse, EmptyQueryResponse, BackendKeyData, NegotiateProtocolVersion}
+pub use Rattle.pgp_message.specs.ServerMessage.{NoticeResponse, ParameterStatus, RowDescription, ReadyForQuery, CopyDone, CopyData, NoData, PortalSuspended}
+pub use Rattle.pgp_message.specs.ServerMessage.{ParameterDescription}
 
 -- the code of a request
 abbrev pub code_of : Request → ℕ

@@ -1,4 +1,5 @@
 pub mod Parts
+pub mod ServerMessage
 pub mod BackendMessage
 pub mod LogIn
 pub mod Stream

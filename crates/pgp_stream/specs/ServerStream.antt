@@ -1,7 +1,7 @@
 -- What was read of a server's stream that comes in pieces.
 use Rattle.std.specs.Prelude.{◌≡◌, ℕ, ◌+◌, Bool, true, false, List, [], ◌++◌, length, Result, Ok, Err}
 use Rattle.pgp_base.specs.declared.error.Error.{Error}
-use Rattle.pgp_base.specs.Cause.{WantsMemory}
+use Rattle.pgp_base.specs.Memory.{WantsMemory}
 use Rattle.pgp_message.specs.BackendMessage.{Message}
 use Rattle.pgp_message.specs.Remembered.{header_of, headers_read}
 use Rattle.pgp_message.specs.Stream.{BackendRun}

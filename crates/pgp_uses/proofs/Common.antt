@@ -23,7 +23,8 @@ pub use Rattle.pgp_base.proofs.Causes.{either_first, either_none, fits_of, lengt
 pub use Rattle.pgp_base.proofs.Needs.{sized_wants, flat_more, nullable_least, memory_lacks}
 pub use Rattle.pgp_base.proofs.PartLemmas.{int32_number}
 pub use Rattle.pgp_base.proofs.Parts.{more_bytes, front_left, wants_more, length-uint32, more_twice, wants_then, cut_back, front_then, if_err_at}
-pub use Rattle.pgp_base.specs.Calls.{value_of, KeepsValue, Puts, Gives, Runs, SoFar, Appends, BodyRefused, WritesBody, Yielded}
+pub use Rattle.pgp_base.specs.Calls.{value_of, KeepsValue, Puts, Gives, Runs, SoFar, Appends, Yielded}
+pub use Rattle.pgp_base.specs.ClosureWriters.{BodyRefused, WritesBody}
 pub use Rattle.pgp_base.specs.Cause.{Wants, WantsMemory, length_cause, first, nullable_cause}
 pub use Rattle.pgp_base.specs.Held.{Held, ◌⊕◌}
 unfoldable pub use Rattle.pgp_base.specs.Held.{lengthened}
