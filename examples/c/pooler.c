@@ -185,9 +185,8 @@ static bool pass_on_answered(struct server *s)
 /* Whether another client may have the connection: nothing is on its way, no answer is awaited, and no transaction is open. */
 static bool is_idle(const struct server *s)
 {
-    bool idle = false;
     const struct side *c = &s->client->side;
-    return pgp_dialogue_is_idle(&s->connection.dialogue, &idle) == PGP_OK && idle && s->status == 'I' && !s->is_unfinished
+    return pgp_connection_is_idle(&s->connection) && s->status == 'I' && !s->is_unfinished
         && s->side.have + s->side.pending + c->have + c->pending == 0;
 }
 

@@ -251,16 +251,15 @@ static void requests(void)
 {
     struct pgp_ways w = by(PGP_WAY_NONE);
     struct held h;
-    bool idle = true;
     uint8_t r;
     ready(&h);
     for (r = 0; r < 12; r++)
         same("asked", pgp_connection_ask(&h.c, r, r), r == PGP_REQUEST_STARTUP || r == PGP_REQUEST_FUNCTION_CALL || r >= PGP_REQUEST_COPY_DONE ? PGP_E_WRONG_PHASE : h.c.dialogue.end - h.c.dialogue.start < SLOTS || r < 4 ? PGP_OK : PGP_NO_ROOM);
     same("no request", pgp_connection_ask(&h.c, 12, 1), PGP_E_KIND);
     ready(&h);
-    same("idle", pgp_connection_is_idle(&h.c, &idle), PGP_OK); same("idle", idle, true);
+    same("idle", pgp_connection_is_idle(&h.c), true);
     same("query", pgp_connection_ask(&h.c, PGP_REQUEST_QUERY, 8), PGP_OK);
-    same("idle", pgp_connection_is_idle(&h.c, &idle), PGP_OK); same("idle", idle, false);
+    same("idle", pgp_connection_is_idle(&h.c), false);
     TAKES("T\0\0\0\x06\0\0", PGP_PART, 8, NONE);
     TAKES("D\0\0\0\x06\0\0", PGP_PART, 8, NONE);
     TAKES("C\0\0\0\x0dSELECT 1\0", PGP_PART, 8, NONE);
@@ -300,7 +299,6 @@ static void limits(void)
     struct held h;
     uint8_t out[8];
     size_t n;
-    bool idle = true;
     w.limit = UINT32_MAX;
     begin(&h);
     same("30,000", pgp_connection_take(&h.c, &w, B("E\0\0\x75\x30"), out, sizeof out, &n, &t), PGP_MORE);
@@ -310,7 +308,7 @@ static void limits(void)
     h.c.dialogue.start = 1; h.c.dialogue.end = 0;
     same("no places", pgp_connection_take(&h.c, &w, B(READY), out, sizeof out, &n, &t), PGP_NO_ROOM);
     same("no places", pgp_connection_ask(&h.c, PGP_REQUEST_SYNC, 1), PGP_NO_ROOM);
-    same("no places", pgp_connection_is_idle(&h.c, &idle), PGP_NO_ROOM); same("as it was", idle, true);
+    same("no places", pgp_connection_is_idle(&h.c), false);
     h.c.dialogue.end = SLOTS + 1;
     same("no places", pgp_connection_take(&h.c, &w, B(READY), out, sizeof out, &n, &t), PGP_NO_ROOM); same("not over", h.c.is_over, false);
 }
@@ -322,7 +320,7 @@ static void has(const struct held *h, const char *name, const char *value)
 {
     struct pgp_part part = {99, 98};
     pgp_status status = pgp_connection_setting(&h->c, name, strlen(name), &part);
-    same("a setting", status, value ? PGP_OK : PGP_DONE);
+    same("a setting", status, value ? PGP_OK : PGP_CONNECTION_NO_SETTING);
     if (value) is(name, h->c.settings.room + part.at, part.len, value, strlen(value));
     else { same("as it was", part.at, 99); same("as it was", part.len, 98); }
 }
@@ -340,7 +338,7 @@ static void settings(void)
     has(&h, "TimeZone", NULL);
     h.c.settings.room = room; h.c.settings.room_len = 12;
     was = h;
-    same("no room", pgp_connection_take(&h.c, &w, B(ZONE("UTC", "\x11")), out, sizeof out, &n, &t), PGP_NO_ROOM);
+    same("no room", pgp_connection_take(&h.c, &w, B(ZONE("UTC", "\x11")), out, sizeof out, &n, &t), PGP_CONNECTION_NO_SETTING_ROOM);
     same("nothing", n, 0); same("as it was", memcmp(&h, &was, sizeof was), 0); same("no name", t.name, 99);
     h.c.settings.room_len = 13;
     TAKES(ZONE("UTC", "\x11"), PGP_ASIDE, 0, NONE);
@@ -353,7 +351,7 @@ static void settings(void)
     TAKES("S\0\0\0\x0a" "is\0on\0", PGP_ASIDE, 0, NONE);
     is("settings", room, h.c.settings.len, B("is\0on\0" "a\0b\0" "TimeZone\0WET\0"));
     was = h;
-    same("no room", pgp_connection_take(&h.c, &w, B("S\0\0\0\x09" "a\0bc\0"), out, sizeof out, &n, &t), PGP_NO_ROOM); same("as it was", memcmp(&h, &was, sizeof was), 0);
+    same("no room", pgp_connection_take(&h.c, &w, B("S\0\0\0\x09" "a\0bc\0"), out, sizeof out, &n, &t), PGP_CONNECTION_NO_SETTING_ROOM); same("as it was", memcmp(&h, &was, sizeof was), 0);
     TAKES("S\0\0\0\x07" "a\0\0", PGP_ASIDE, 0, NONE);
     is("settings", room, h.c.settings.len, B("a\0\0" "is\0on\0" "TimeZone\0WET\0"));
     has(&h, "a", ""); has(&h, "is", "on"); has(&h, "on", NULL); has(&h, "TimeZone", "WET");
@@ -386,7 +384,7 @@ static void anything(void)
         h.c.login.phase = bytes[35] % 6; h.c.key_len = bytes[34]; over = bytes[33] % 8 == 0; h.c.is_over = over != 0; w.is_encrypted = (bytes[32] & 1) != 0;
         status = pgp_connection_take(&h.c, &w, bytes, len, i & 1 ? out : NULL, i & 1 ? sizeof out : 0, &n, &t);
         bad += status == PGP_OK ? t.frame > len || t.frame < 5 || n > sizeof out || over : n != 0 || (over && (status != PGP_E_WRONG_PHASE || !h.c.is_over));
-        bad += h.c.key_len > 256 || (status != PGP_OK && status != PGP_MORE && status != PGP_NO_ROOM && !h.c.is_over);
+        bad += h.c.key_len > 256 || (status != PGP_OK && status != PGP_MORE && status != PGP_NO_ROOM && status != PGP_CONNECTION_NO_SETTING_ROOM && !h.c.is_over);
     }
     same("anything", (unsigned long)bad, 0);
 }

@@ -33,6 +33,7 @@ STATUSES: Dict[int, str] = {
     76: 'ScramVerification', 80: 'BadNonce', 81: 'BadBinding', 82: 'NotAVerifier', 83: 'WrongPassword', 84: 'ScramUnsupportedBinding',
     85: 'ScramInvalidFirst', 86: 'ScramOtherExchange', 87: 'ScramInvalidEncoding', 88: 'ScramInvalidProof',
     89: 'LoginUndue', 90: 'LoginNotAdmitted', 91: 'LoginOtherMechanism', 92: 'LoginTooFewRounds', 93: 'ConnectionNoStatus', 94: 'ConnectionTooLong',
+    95: 'ConnectionNoMemory', 96: 'ConnectionNoSettingRoom', 97: 'ConnectionNoSetting',
 }
 OK, NO_ROOM, EMBEDDED_NULL, INVALID_LENGTH, WRONG_PHASE, MORE, DONE = 0, 1, 2, 4, 32, 100, 101
 

@@ -38,7 +38,7 @@ class _Taken(Structure):
 
 _take = declare('connection_take', POINTER(_Connection), POINTER(_Ways), c_void_p, c_size_t, *OUT, POINTER(_Taken))
 _ask = declare('connection_ask', POINTER(_Connection), c_uint8, c_uint64)
-_is_idle = declare('connection_is_idle', POINTER(_Connection), POINTER(c_bool))
+_is_idle = declare('connection_is_idle', POINTER(_Connection), result=c_bool)
 _is_copying = declare('connection_is_copying', POINTER(_Connection), result=c_bool)
 
 #: The versions of the protocol, and which of them a client can ask for, from one to another.
@@ -135,7 +135,7 @@ class State(Requests):
     @property
     def is_idle(self) -> bool:
         """Whether no request awaits an answer."""
-        return self._flag(_is_idle, self._connection)
+        return bool(_is_idle(byref(self._connection)))
 
     @property
     def is_copying(self) -> bool:

@@ -103,6 +103,9 @@ typedef enum pgp_status {
     PGP_LOGIN_TOO_FEW_ROUNDS = 92,      /* the server asks for fewer rounds than are admitted */
     PGP_CONNECTION_NO_STATUS = 93,      /* pgp_connection_take: a ReadyForQuery has another status than I, T and E */
     PGP_CONNECTION_TOO_LONG = 94,       /* pgp_connection_take: a message is announced that is too long */
+    PGP_CONNECTION_NO_MEMORY = 95,      /* pgp_connection_take: malloc failed; nothing changed */
+    PGP_CONNECTION_NO_SETTING_ROOM = 96, /* pgp_connection_take: the room for settings is too small; nothing changed */
+    PGP_CONNECTION_NO_SETTING = 97,     /* pgp_connection_setting: none is kept under the name */
     PGP_MORE = 100,                     /* bytes are missing: read more, and call again                  */
     PGP_DONE = 101,                     /* the iterator is at its end; pgp_row: another message is next  */
     PGP_FULL = 102                      /* pgp_*_all, pgp_row: more items follow than the array holds    */
@@ -758,7 +761,7 @@ static inline const char *pgp_status_name(int status)
         "PGP_SCRAM_SERVER", "PGP_SCRAM_VERIFICATION", "?", "?", "?", "PGP_BAD_NONCE", "PGP_BAD_BINDING", "PGP_NOT_A_VERIFIER",
         "PGP_WRONG_PASSWORD", "PGP_SCRAM_UNSUPPORTED_BINDING", "PGP_SCRAM_INVALID_FIRST", "PGP_SCRAM_OTHER_EXCHANGE",
         "PGP_SCRAM_INVALID_ENCODING", "PGP_SCRAM_INVALID_PROOF", "PGP_LOGIN_UNDUE", "PGP_LOGIN_NOT_ADMITTED", "PGP_LOGIN_OTHER_MECHANISM", "PGP_LOGIN_TOO_FEW_ROUNDS",
-        "PGP_CONNECTION_NO_STATUS", "PGP_CONNECTION_TOO_LONG"
+        "PGP_CONNECTION_NO_STATUS", "PGP_CONNECTION_TOO_LONG", "PGP_CONNECTION_NO_MEMORY", "PGP_CONNECTION_NO_SETTING_ROOM", "PGP_CONNECTION_NO_SETTING"
     };
     if (status >= 0 && status < (int)(sizeof names / sizeof *names)) return names[status];
     if (status >= 32 && status < 32 + (int)(sizeof more / sizeof *more)) return more[status - 32];

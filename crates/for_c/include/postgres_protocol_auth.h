@@ -67,21 +67,23 @@ struct pgp_login {
  * caller's, all 0 at first but for its memory for requests, and for settings:
  *     struct pgp_slot slots[64] = {{0, 0}};
  *     uint8_t settings[4096];
- *     struct pgp_connection connection = {{slots, 64, 0, 0, 0, 0}, {settings, sizeof settings, 0}, 0, 0, false, 0, {0, {0}}, {0}, 0};
+ *     struct pgp_connection connection = {.dialogue = {.room = slots, .room_len = 64}, .settings = {.room = settings, .room_len = sizeof settings}};
  * The caller moves the bytes: what it sends is written by pgp_stream_* or the single writers, and asked; what came is taken a message at a time.
- *   pgp_connection_ask   takes note of a request, in the order in which they are sent: the startup packet first, and others once the log-in is done.
+ *   pgp_connection_ask   takes note of a request, in the order in which they are sent: the startup packet first, and others once the log-in is done. The
+ *                        caller names it by a number; names begin at 1, since pgp_taken has 0 where no request is answered.
  *                        PGP_E_WRONG_PHASE where the request may not be sent: before that, after the end, and while the server awaits the data of a
  *                        copy all but their end and Sync; a function call never. PGP_NO_ROOM where the array is full (move it to a longer one, and ask
  *                        again), PGP_E_KIND for no request. Then nothing changes
  *   pgp_connection_take  takes the message at the front of the bytes: `taken` says to which request it belongs, and how many bytes it has; what it
  *                        says, pgp_front reads of the same bytes. In the log-in the reply stands in `out`, a whole message, if *written isn't 0
- *   pgp_connection_setting     the value of a setting that the server reported last under a name, where it stands in connection->settings.room; PGP_DONE
- *                              where none is kept. Names are compared byte by byte
- *   pgp_connection_is_idle     whether no request awaits an answer
+ *   pgp_connection_setting     the value of a setting that the server reported last under a name, where it stands in connection->settings.room;
+ *                              PGP_CONNECTION_NO_SETTING where none is kept. Names are compared byte by byte
+ *   pgp_connection_is_idle     whether no request awaits an answer; false where the places of the requests are none of their room
  *   pgp_connection_is_copying  whether data of a copy to the server may be sent
- * On any status but PGP_OK *written is 0, and `out` and *taken are as they were. PGP_MORE: read more, and call again. PGP_NO_ROOM: malloc failed, or
- * `out` is too small: call again with the same bytes and more room (PGP_CONNECTION_ROOM is enough); or the room for settings has none for the message's:
- * move them to a larger one, and call again. All others end the connection:
+ * On any status but PGP_OK *written is 0, and `out` and *taken are as they were. Four leave the
+ * connection as it was, so that the same bytes can be given again: PGP_MORE, with more of them; PGP_NO_ROOM, with more room in `out` (PGP_CONNECTION_ROOM is
+ * enough); PGP_CONNECTION_NO_SETTING_ROOM, with the settings moved to a larger room; PGP_CONNECTION_NO_MEMORY, once malloc has some. (PGP_NO_ROOM too where the
+ * places of the requests are none of their room, which only the caller can have brought about.) All others end the connection:
  *   PGP_E_WRONG_PHASE                it was over
  *   PGP_CONNECTION_TOO_LONG          a message is announced that is longer than `limit`, or before the log-in is done than 30,000 bytes
  *   those of pgp_front               what came is no message. A FunctionCallResponse and a CopyBothResponse aren't read
@@ -141,7 +143,7 @@ pgp_status pgp_connection_ask(struct pgp_connection *connection, uint8_t request
 pgp_status pgp_connection_take(struct pgp_connection *connection, const struct pgp_ways *ways, const void *bytes, size_t len,
                                uint8_t *out, size_t room, size_t *written, struct pgp_taken *taken);
 pgp_status pgp_connection_setting(const struct pgp_connection *connection, const void *name, size_t len, struct pgp_part *value);
-pgp_status pgp_connection_is_idle(const struct pgp_connection *connection, bool *idle);
+bool pgp_connection_is_idle(const struct pgp_connection *connection);
 bool pgp_connection_is_copying(const struct pgp_connection *connection);
 
 /*

@@ -1,5 +1,5 @@
 -- What a message comes to in a connection.
-use Rattle.for_c_auth.proofs.Common.{◌≡◌, ◌≢◌, ℕ, ◌+◌, Bool, List, [], Some, None, Ok, Err, Option, Result, ap, arith, inl, inr, length, length-append, refl, subst, sym, ◌-◌, ◌∙◌, DataRow, Message, kind_of, PgpWays, PgpLogin, parsed, view, Talk, CountedBytes, IsPartial, Step, TakesFrame, frame_bytes}
+use Rattle.for_c_auth.proofs.Common.{◌≡◌, ◌≢◌, ◌⊎◌, ◌<◌, ℕ, ◌+◌, Bool, List, [], Some, None, Ok, Err, Option, Result, ap, arith, inl, inr, length, length-append, refl, subst, sym, ◌-◌, ◌∙◌, DataRow, Message, kind_of, PgpWays, PgpLogin, parsed, view, Talk, CountedBytes, IsPartial, Step, TakesFrame, frame_bytes}
 use Rattle.pgp_client.specs.Codes.{refusal_at}
 use Rattle.pgp_client.specs.Limits.{is_longer}
 use Rattle.pgp_client.specs.Taking.{Takes, taken}
@@ -9,7 +9,7 @@ use Rattle.pgp_client.specs.declared.kind.Kind.{Kind}
 use Rattle.pgp_client.specs.declared.stage.Stage.TheVariants.{Over}
 use Rattle.pgp_message.specs.Rows.{TakesRow}
 use Rattle.pgp_message.specs.declared.message as code
-use Rattle.for_c_auth.specs.Answering.{HasAnswered, asking}
+use Rattle.for_c_auth.specs.Answering.{HasAnswered, NotAnsweredFor, asking}
 use Rattle.pgp_login.specs.Machine.{NothingAsked}
 use Rattle.for_c_auth.specs.Connection.{IsFit, IsMisplaced, Link, NoMemory, NoRoom, NoSettingRoom, NoStatus, NotRepliedTo, Rejects, Took, TookSo, Unanswered, Untimely, ended, noted, reported_as, with_login, with_talk}
 use Rattle.for_c_auth.specs.declared.connection.PgpTaken.{PgpTaken}
@@ -40,23 +40,27 @@ module _ (lacks : Type 0) (full : Message → Type 0) (w : PgpWays) (given : ℕ
   answered_now : (l : PgpLogin) (reply : List ℕ) → HasAnswered w (asking m) old.login l before reply → HasAnswered w (asking m) old.login l [] reply
   answered_now l reply h = subst (λ b. HasAnswered w (asking m) old.login l b reply) none h
 
-  pub lacking : (code : ℕ) → code ≡ 1 → NotRepliedTo lacks full w old.login old.version m before room code → Rejects lacks full w m room old old 1
-  lacking code one (inl h) = let is = h.0 in absurd (omega (arith, one, is))
-  lacking code one (inr (inl h)) = let is = h.0 in absurd (omega (arith, one, is))
-  lacking code one (inr (inr (inl h))) = subst (λ n. Rejects lacks full w m room old old n) one (NoMemory h.0 h.1 one refl)
-  lacking code one (inr (inr (inr (inr h)))) = NoSettingRoom h.1 h.2 refl refl
-  lacking code one (inr (inr (inr (inl h)))) = NoRoom h.2 h.3 h.1 (answered_now h.2 h.3 h.4) h.5 refl refl
+  -- what isn't answered for want of memory
+  unanswered : (code : ℕ) → code ≡ 1 → NotRepliedTo lacks w old.login old.version m code → IsFit w old m × NotAnsweredFor lacks w old.login 1 (asking m)
+  unanswered code one (inl h) = let is = h.0 in absurd (omega (arith, one, is))
+  unanswered code one (inr (inl h)) = let is = h.0 in absurd (omega (arith, one, is))
+  unanswered code one (inr (inr h)) = (h.0, subst (λ n. NotAnsweredFor lacks w old.login n (asking m)) one h.1)
+
+  module _ (l : PgpLogin) (reply : List ℕ) (code : ℕ) (why : code ≢ 0 → NotRepliedTo lacks w old.login old.version m code)
+      (fit : code ≡ 0 → IsFit w old m) (answers : code ≡ 0 → HasAnswered w (asking m) old.login l before reply) where
+    pub lacking : (needed n : ℕ) → needed ≡ length reply → ((code ≡ 1) × (n ≡ 95)) ⊎ ((code ≡ 0) × (((n ≡ 1) × (room < needed)) ⊎ ((n ≡ 96) × full m))) → Rejects lacks full w m room old old n
+    lacking needed n is (inl h) = let one = h.0 in let u = unanswered code one (why (omega (arith, one))) in NoMemory u.0 u.1 h.1 refl
+    lacking needed n is (inr (none, inl h)) = NoRoom l reply (fit none) (answered_now l reply (answers none)) (subst (λ x. room < x) is h.1) h.0 refl
+    lacking needed n is (inr (none, inr h)) = NoSettingRoom (fit none) h.1 h.0 refl
 
   module _ (e : Event) (t : Talk) (k : Kind) (kind_is : k ≡ kind_of m) (takes_it : taken old.talk k ≡ Ok (e, t)) where
     takes : taken old.talk (kind_of m) ≡ Ok (e, t)
     takes = subst (λ x. taken old.talk x ≡ Ok (e, t)) kind_is takes_it
 
-    pub stops : (code : ℕ) → code ≢ 1 → NotRepliedTo lacks full w old.login old.version m before room code → Rejects lacks full w m room old (ended (with_talk t old)) code
+    pub stops : (code : ℕ) → code ≢ 1 → NotRepliedTo lacks w old.login old.version m code → Rejects lacks full w m room old (ended (with_talk t old)) code
     stops code other (inl h) = Untimely e t takes h.1 h.0 refl
     stops code other (inr (inl h)) = NoStatus e t takes h.1 h.2 h.0 refl
-    stops code other (inr (inr (inl h))) = Unanswered e t takes h.0 h.1 other refl
-    stops code other (inr (inr (inr (inl h)))) = absurd (other h.0)
-    stops code other (inr (inr (inr (inr h)))) = absurd (other h.0)
+    stops code other (inr (inr h)) = Unanswered e t takes h.0 h.1 other refl
 
     pub took : (l : PgpLogin) (reply : List ℕ) (new : Link) → IsFit w old m → HasAnswered w (asking m) old.login l before reply → new ≡ noted given m e (with_login l (with_talk t old)) → Took w given m old new e reply
     took l reply new fit h is = subst (λ n. Took w given m old n e reply) (sym is) (record { taken = takes; fit = fit; logged = answered_now l reply h; is = refl })

@@ -135,20 +135,17 @@ pub record Took (w : PgpWays) (given : ℕ) (m : Message) (old new : Link) (e : 
 abbrev pub IsMisplaced : Message → Link → Link → ℕ → Type 0
 IsMisplaced m old new code = (r : Refusal) × (t : Talk) × (taken old.talk (kind_of m) ≡ Err r) × (t.stage ≡ Over) × (refusal_at code ≡ Some r) × (new ≡ ended (with_talk t old))
 
--- Why a message has no reply, before the dialogue is asked: it comes too early, its status is none, or the log-in doesn't answer it; or the reply, behind what was there before,
--- is longer than the room, or a setting lacks room (`full`).
-abbrev pub NotRepliedTo : Type 0 → (Message → Type 0) → PgpWays → PgpLogin → Option ProtocolVersion → Message → List ℕ → ℕ → ℕ → Type 0
-NotRepliedTo lacks full w l answered m before room code = ((code ≡ 89) × ¬ IsTimely w l answered m) ⊎ (((code ≡ 93) × IsTimely w l answered m × (lacks_status m ≡ true))
-    ⊎ ((FitsAt w l answered m × NotAnsweredFor lacks w l code (asking m))
-    ⊎ (((code ≡ 1) × FitsAt w l answered m × (next : PgpLogin) × (reply : List ℕ) × HasAnswered w (asking m) l next before reply × (room < length reply))
-    ⊎ ((code ≡ 1) × FitsAt w l answered m × full m))))
+-- Why a message has no reply, before the dialogue is asked: it comes too early, its status is none, or the log-in doesn't answer it.
+abbrev pub NotRepliedTo : Type 0 → PgpWays → PgpLogin → Option ProtocolVersion → Message → ℕ → Type 0
+NotRepliedTo lacks w l answered m code = ((code ≡ 89) × ¬ IsTimely w l answered m) ⊎ (((code ≡ 93) × IsTimely w l answered m × (lacks_status m ≡ true))
+    ⊎ (FitsAt w l answered m × NotAnsweredFor lacks w l code (asking m)))
 
--- Why a message isn't taken, and what is left. Where memory or room was lacking for the reply, or room for a setting (`full`), nothing changes. All others end the connection:
--- it isn't attributed, so that no message is any more; it comes before the log-in is done; its status is none; or the log-in doesn't answer it.
+-- Why a message isn't taken, and what is left. Where memory (95), room for the reply (1) or room for a setting (`full`, 96) was lacking, nothing changes. All others end the
+-- connection: it isn't attributed, so that no message is any more; it comes before the log-in is done; its status is none; or the log-in doesn't answer it.
 pub data Rejects (lacks : Type 0) (full : Message → Type 0) (w : PgpWays) (m : Message) (room : ℕ) (old : Link) : Link → ℕ → Type 0 where
-  NoMemory : {new : Link} {code : ℕ} → IsFit w old m → NotAnsweredFor lacks w old.login code (asking m) → code ≡ 1 → new ≡ old → Rejects lacks full w m room old new code
+  NoMemory : {new : Link} {code : ℕ} → IsFit w old m → NotAnsweredFor lacks w old.login 1 (asking m) → code ≡ 95 → new ≡ old → Rejects lacks full w m room old new code
   NoRoom : (l : PgpLogin) (reply : List ℕ) {new : Link} {code : ℕ} → IsFit w old m → HasAnswered w (asking m) old.login l [] reply → room < length reply → code ≡ 1 → new ≡ old → Rejects lacks full w m room old new code
-  NoSettingRoom : {new : Link} {code : ℕ} → IsFit w old m → full m → code ≡ 1 → new ≡ old → Rejects lacks full w m room old new code
+  NoSettingRoom : {new : Link} {code : ℕ} → IsFit w old m → full m → code ≡ 96 → new ≡ old → Rejects lacks full w m room old new code
   Misplaced : {new : Link} {code : ℕ} → IsMisplaced m old new code → Rejects lacks full w m room old new code
   Untimely : (e : Event) (t : Talk) {new : Link} {code : ℕ} → taken old.talk (kind_of m) ≡ Ok (e, t) → ¬ ComesInTime w old m → code ≡ 89 → new ≡ ended (with_talk t old) → Rejects lacks full w m room old new code
   NoStatus : (e : Event) (t : Talk) {new : Link} {code : ℕ} → taken old.talk (kind_of m) ≡ Ok (e, t) → ComesInTime w old m → lacks_status m ≡ true → code ≡ 93 → new ≡ ended (with_talk t old) → Rejects lacks full w m room old new code

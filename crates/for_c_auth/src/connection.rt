@@ -28,6 +28,12 @@ use std::alloc::Global;
 /// The result where there is no room, or the dialogue's places are none of its room.
 pub(crate) const NO_ROOM: u32 = 1;
 
+/// The result where memory was refused.
+const NO_MEMORY: u32 = 95;
+
+/// The result where the room for settings has none for the message's.
+const NO_SETTING_ROOM: u32 = 96;
+
 /// The result where the connection is over, or the request may not be asked now.
 pub(crate) const WRONG_PHASE: u32 = 32;
 
@@ -187,18 +193,11 @@ fn hear<A: Memory>(
 {
     let mut login = connection.login;
     let mut reply = BytesMut::new(alloc);
-    let code = replied(
-        alloc,
-        &mut login,
-        ways,
-        connection.version,
-        message,
-        out.len(),
-        &connection.settings,
-        &mut reply,
-    );
-    if code == NO_ROOM {
-        return NO_ROOM;
+    let answered = connection.version;
+    let code = replied(alloc, &mut login, ways, answered, message, &mut reply);
+    let short = shortage(code, reply.len(), out.len(), &connection.settings, message);
+    if short != 0 {
+        return short;
     }
     let event = match attributed(&mut connection.dialogue, Kind::of(message)) {
         Ok(event) => event,
@@ -217,35 +216,43 @@ fn hear<A: Memory>(
     deliver(reply.as_slice(), out, written)
 }
 
-/// The log-in takes a message that may come now, its reply is appended, for which there is so much room, and a setting that it reports has room: 0 where it does.
+/// The log-in takes a message that may come now, and its reply is appended: 0 where it does.
 fn replied<A: Memory>(
     alloc: A,
     login: &mut PgpLogin,
     ways: &PgpWays<'_>,
     answered: u8,
     message: &Message<&[u8]>,
-    room: usize,
-    settings: &PgpSettings<'_>,
     reply: &mut BytesMut<A>,
 ) -> u32
     ensures fit { result ≡ 0 → FitsAt ways.now login.old (answered_at answered) (view message.now) }
     ensures answered { result ≡ 0 → HasAnswered ways.now (asking (view message.now)) login.old login.new reply.old.items reply.new.items }
-    ensures room { result ≡ 0 → length reply.new.items ≤ room }
-    ensures settings { result ≡ 0 → ¬ IsFull settings.now (view message.now) }
-    ensures why { result ≢ 0 → NotRepliedTo A.Lacks (IsFull settings.now) ways.now login.old (answered_at answered) (view message.now) reply.old.items room result }
+    ensures why { result ≢ 0 → NotRepliedTo A.Lacks ways.now login.old (answered_at answered) (view message.now) result }
 {
     let code = unfit(ways, login, answered, message);
     if code != 0 {
         return code;
     }
-    let code = answer(alloc, login, ways, message, reply);
-    if code != 0 {
-        return code;
+    answer(alloc, login, ways, message, reply)
+}
+
+/// What a message of this answer lacks, for whose reply there is so much room: memory, room for the reply, or for the setting that it reports; 0 for none.
+fn shortage(
+    code: u32,
+    needed: usize,
+    room: usize,
+    settings: &PgpSettings<'_>,
+    message: &Message<&[u8]>,
+) -> u32
+    ensures none { result ≡ 0 → (code ≢ 1) × (code ≡ 0 → (needed ≤ room) × (¬ IsFull settings.now (view message.now))) }
+    ensures why { result ≢ 0 → ((code ≡ 1) × (result ≡ 95)) ⊎ ((code ≡ 0) × (((result ≡ 1) × (room < needed)) ⊎ ((result ≡ 96) × IsFull settings.now (view message.now)))) }
+{
+    match code {
+        NO_ROOM => NO_MEMORY,
+        0 if room < needed => NO_ROOM,
+        0 if is_full(settings, message) => NO_SETTING_ROOM,
+        _ => 0,
     }
-    if room < reply.len() || is_full(settings, message) {
-        return NO_ROOM;
-    }
-    0
 }
 
 /// Takes note of what a message says of the session.
@@ -335,24 +342,21 @@ pub extern "C" fn pgp_connection_setting(
 ) -> u32
     ensures value { result ≡ 0 → value_of name.now (link_of connection.now).settings ≡ Some (take value.new.len (drop value.new.at connection.now.settings.room.now)) }
     ensures inside { result ≡ 0 → value.new.at + value.new.len ≤ length connection.now.settings.room.now }
-    ensures none { result ≢ 0 → (result ≡ 101) × (value_of name.now (link_of connection.now).settings ≡ None) × (value.new ≡ value.old) }
+    ensures none { result ≢ 0 → (result ≡ 97) × (value_of name.now (link_of connection.now).settings ≡ None) × (value.new ≡ value.old) }
 {
     value_at(&connection.settings, name, value)
 }
 
 /// Whether no request awaits an answer.
 #[unsafe(no_mangle)]
-pub extern "C" fn pgp_connection_is_idle(connection: &PgpConnection<'_>, idle: &mut bool) -> u32
-    ensures idle { result ≡ 0 → idle.new ≡ is_idle (link_of connection.now).talk }
-    ensures broken { result ≢ 0 → (result ≡ 1) × IsBroken connection.now.dialogue × (idle.new ≡ idle.old) }
+pub extern "C" fn pgp_connection_is_idle(connection: &PgpConnection<'_>) -> bool
+    ensures idle { result ≡ true → (¬ IsBroken connection.now.dialogue) × (is_idle (link_of connection.now).talk ≡ true) }
+    ensures busy { result ≡ false → IsBroken connection.now.dialogue ⊎ (is_idle (link_of connection.now).talk ≡ false) }
 {
     let dialogue = &connection.dialogue;
-    if is_broken(dialogue) {
-        return NO_ROOM;
-    }
-    *idle = Stage::of_code(dialogue.stage) == Stage::Idle
-        && Slots::await_none(&*dialogue.room, dialogue.start, dialogue.end);
-    0
+    !is_broken(dialogue)
+        && Stage::of_code(dialogue.stage) == Stage::Idle
+        && Slots::await_none(&*dialogue.room, dialogue.start, dialogue.end)
 }
 
 /// Whether a copy to the server is under way, so that its data may be sent.

@@ -12,7 +12,7 @@ use pgp_base::reading::string_at;
 use pgp_message::Message;
 
 /// The result where a name has no setting.
-const NONE: u32 = 101;
+const NONE: u32 = 97;
 
 /// The settings, in so many bytes at the front of the room. Where it has none, none is kept.
 #[repr(C)]
@@ -40,7 +40,7 @@ struct Place {
 pub(crate) fn value_at(settings: &PgpSettings<'_>, name: &[u8], value: &mut PgpSpan) -> u32
     ensures value { result ≡ 0 → value_of name.now (kept_in settings.now) ≡ Some (take value.new.len (drop value.new.at settings.now.room.now)) }
     ensures inside { result ≡ 0 → value.new.at + value.new.len ≤ length settings.now.room.now }
-    ensures none { result ≢ 0 → (result ≡ 101) × (value_of name.now (kept_in settings.now) ≡ None) × (value.new ≡ value.old) }
+    ensures none { result ≢ 0 → (result ≡ 97) × (value_of name.now (kept_in settings.now) ≡ None) × (value.new ≡ value.old) }
 {
     let place = find(kept(settings), name);
     if place.start == place.end {

@@ -1,10 +1,11 @@
-use Rattle.for_c_auth.proofs.Common.{◌≡◌, arith, ap, length, subst, Misplaced, link_of, talk_of, IsFull, view, Delivered}
+use Rattle.for_c_auth.proofs.Common.{◌≡◌, arith, ap, rules, length, subst, Misplaced, link_of, talk_of, IsFull, view, Delivered}
 use Rattle.for_c_auth.proofs.Connections.{lacking, misplaced_so, stops, took}
 use Rattle.for_c_auth.proofs.connection.hear.Goals as goal
 
-pub returns-then-code-eq-NO_ROOM-clause-none : goal.returns-then-code-eq-NO_ROOM-clause-none
-returns-then-code-eq-NO_ROOM-clause-none g c z =
-    lacking g.A.Memory.Lacks (IsFull c.args.connection.now.settings) c.args.ways.now (length c.args.connection.now.settings.room.now) (view c.args.message.now) (length c.args.out.now) (link_of c.args.connection.now) c.new-reply.result.items c.new-reply.ensures.items c.replied-code.result c.if-code-eq-NO_ROOM.true (c.replied-code.ensures.why (omega (arith, c)))
+pub returns-then-short-ne0-clause-none : goal.returns-then-short-ne0-clause-none
+returns-then-short-ne0-clause-none g c z =
+    lacking g.A.Memory.Lacks (IsFull c.args.connection.now.settings) c.args.ways.now (length c.args.connection.now.settings.room.now) (view c.args.message.now) (length c.args.out.now) (link_of c.args.connection.now) c.new-reply.result.items c.new-reply.ensures.items
+    c.replied-code.new.login c.replied-code.new.reply.items c.replied-code.result c.replied-code.ensures.why c.replied-code.ensures.fit c.replied-code.ensures.answered c.len.result c.shortage-short.result (search rules) (c.shortage-short.ensures.why z)
 
 pub returns-in-Err-clause-none : goal.returns-in-Err-clause-none
 returns-in-Err-clause-none g c z =
@@ -12,7 +13,7 @@ returns-in-Err-clause-none g c z =
 
 pub returns-then-code-ne0-clause-none : goal.returns-then-code-ne0-clause-none
 returns-then-code-ne0-clause-none g c z =
-    stops g.A.Memory.Lacks (IsFull c.args.connection.now.settings) c.args.ways.now (length c.args.connection.now.settings.room.now) (view c.args.message.now) (length c.args.out.now) (link_of c.args.connection.now) c.new-reply.result.items c.new-reply.ensures.items c.in-Ok.event (talk_of c.attributed.new.dialogue) c.of.result c.of.ensures c.in-Ok.ensures.ok c.replied-code.result c.if-code-eq-NO_ROOM.false (c.replied-code.ensures.why z)
+    stops g.A.Memory.Lacks (IsFull c.args.connection.now.settings) c.args.ways.now (length c.args.connection.now.settings.room.now) (view c.args.message.now) (length c.args.out.now) (link_of c.args.connection.now) c.new-reply.result.items c.new-reply.ensures.items c.in-Ok.event (talk_of c.attributed.new.dialogue) c.of.result c.of.ensures c.in-Ok.ensures.ok c.replied-code.result (c.shortage-short.ensures.none c.if-short-ne0.false).0 (c.replied-code.ensures.why z)
 
 pub returns-clause-took : goal.returns-clause-took
 returns-clause-took g c z =
@@ -24,14 +25,16 @@ returns-clause-took g c z =
 
 pub returns-clause-none : goal.returns-clause-none
 returns-clause-none g c z =
-    let room = c.replied-code.ensures.room (omega (arith, c)) in
+    let room = ((c.shortage-short.ensures.none c.if-short-ne0.false).1 (omega (arith, c))).0 in
     let longer = (c.deliver.ensures.why z).1 in
     let same = ap length c.as_slice.ensures in
-    absurd (omega (arith, room, longer, same))
+    let len = c.len.ensures.value in
+    absurd (omega (arith, room, longer, same, len))
 
 pub returns-clause-left : goal.returns-clause-left
 returns-clause-left g c z =
-    let room = c.replied-code.ensures.room (omega (arith, c)) in
+    let room = ((c.shortage-short.ensures.none c.if-short-ne0.false).1 (omega (arith, c))).0 in
     let longer = (c.deliver.ensures.why z).1 in
     let same = ap length c.as_slice.ensures in
-    absurd (omega (arith, room, longer, same))
+    let len = c.len.ensures.value in
+    absurd (omega (arith, room, longer, same, len))
