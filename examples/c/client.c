@@ -27,12 +27,25 @@ static int send_all(const uint8_t *bytes, size_t len)
     return 1;
 }
 
-/* What the stream holds is sent, and the request of it is noted. */
-static int ask(struct pgp_connection *connection, uint8_t request, uint64_t name)
+/* What was written is sent. */
+static int send_written(pgp_status status)
 {
     size_t len = s.len;
     s.len = 0;
-    return pgp_connection_ask(connection, request, name) == PGP_OK && send_all(out, len);
+    return status == PGP_OK && send_all(out, len);
+}
+
+/* What the server says of an error: its severity, SQLSTATE and message. */
+static int show_error(const struct pgp_message *m)
+{
+    struct pgp_cursor c = pgp_walk(m);
+    struct pgp_error_field field;
+    fprintf(stderr, "client:");
+    while (pgp_error_field_next(in, m->frame, &c, &field) == PGP_OK)
+        if (field.code == 'S' || field.code == 'C' || field.code == 'M')
+            fprintf(stderr, " %.*s", (int)field.value.len, (const char *)in + field.value.at);
+    fprintf(stderr, "\n");
+    return 1;
 }
 
 static pgp_status print_row(const struct pgp_message *m)
@@ -56,7 +69,7 @@ int main(int argc, char **argv)
     struct sockaddr_in to = {.sin_family = AF_INET, .sin_addr.s_addr = htonl(INADDR_LOOPBACK)};
     struct pgp_slot slots[2] = {{0, 0}};
     struct pgp_connection connection = {.dialogue = {.room = slots, .room_len = 2}};
-    struct pgp_ways ways = {.ways = PGP_WAY_NONE | PGP_WAY_SCRAM, .least_rounds = 4096, .limit = sizeof in};
+    struct pgp_ways ways = {.ways = PGP_WAY_NONE | PGP_WAY_SCRAM, .least_rounds = 4096, .limit = sizeof in - 1 /* and its tag */};
     struct pgp_message m;
     struct pgp_taken taken;
     struct pgp_pair user = {.name = {PGP_TEXT("user")}};
@@ -75,8 +88,7 @@ int main(int argc, char **argv)
     to.sin_port = htons((uint16_t)atoi(argv[1]));
     fd = socket(AF_INET, SOCK_STREAM, 0);
     if (fd < 0 || connect(fd, (struct sockaddr *)&to, sizeof to) != 0) return fail("no connection");
-    if (pgp_stream_startup(&s, PGP_PROTOCOL_3_0, &user, 1) != PGP_OK) return fail("no startup");
-    if (!ask(&connection, PGP_REQUEST_STARTUP, LOG_IN)) return fail("no startup");
+    if (!send_written(pgp_connection_startup(&connection, &s, LOG_IN, PGP_PROTOCOL_3_0, &user, 1))) return fail("no startup");
     for (;;) { /* each turn takes the first message of the bytes that were read */
         pgp_status status = pgp_connection_take(&connection, &ways, in, have, reply, sizeof reply, &n, &taken);
         if (status == PGP_MORE) {
@@ -87,16 +99,14 @@ int main(int argc, char **argv)
         }
         if (status == PGP_OK) status = pgp_front(in, taken.frame, &m); /* what it says */
         if (status != PGP_OK) return fail(pgp_status_name(status));
-        if (m.kind == PGP_ERROR_RESPONSE) return fail("refused");
+        if (m.kind == PGP_ERROR_RESPONSE) return show_error(&m);
         if (!send_all(reply, n)) return fail("the connection was closed"); /* what the log-in answers */
         if (taken.name == LOG_IN && taken.what == PGP_LAST) {
-            status = pgp_stream_query(&s, argv[3], strlen(argv[3]));
-            if (status == PGP_OK && !ask(&connection, PGP_REQUEST_QUERY, ROWS)) return fail("no query");
+            if (!send_written(pgp_connection_query(&connection, &s, ROWS, argv[3], strlen(argv[3])))) return fail("no query");
         } else if (taken.name == ROWS && m.kind == PGP_DATA_ROW) {
             status = print_row(&m);
         } else if (taken.name == ROWS && taken.what == PGP_LAST) {
-            status = pgp_stream_terminate(&s);
-            return status == PGP_OK && send_all(out, s.len) ? 0 : fail("no end");
+            return send_written(pgp_connection_terminate(&connection, &s)) ? 0 : fail("no end");
         }
         if (status != PGP_OK) return fail(pgp_status_name(status));
         have -= taken.frame; /* the message's end is where the next one begins */

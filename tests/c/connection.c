@@ -389,7 +389,58 @@ static void anything(void)
     same("anything", (unsigned long)bad, 0);
 }
 
+/* Writes a request and notes it in one call: the bytes by hand after the manual. */
+#define WRITES(call, bytes, code, named) do { \
+    s.len = 0; same("one call", call, PGP_OK); is("bytes", room, s.len, B(bytes)); \
+    same("request", h.slots[h.c.dialogue.end - 1].request, code); same("name", h.slots[h.c.dialogue.end - 1].name, named); \
+} while (0)
+#define LEAVES(call, status) do { \
+    memcpy(&was, &h.c, sizeof was); before = s; same("refused", call, status); same("len", s.len, before.len); same("open", s.is_open, before.is_open); \
+    same("connection", memcmp(&h.c, &was, sizeof was), 0); \
+} while (0)
+
+static void in_one_call(void)
+{
+    struct held h;
+    struct pgp_connection was;
+    struct pgp_pair user;
+    const uint32_t types[] = {23};
+    uint8_t room[64];
+    struct pgp_stream s = {room, sizeof room, 0, false}, before;
+    memset(&h, 0, sizeof h); memset(&user, 0, sizeof user);
+    h.c.dialogue.room = h.slots; h.c.dialogue.room_len = SLOTS;
+    user.name = pgp_text("user"); user.value = pgp_text("al");
+    LEAVES(pgp_connection_query(&h.c, &s, 5, "x", 1), PGP_E_WRONG_PHASE);
+    WRITES(pgp_connection_startup(&h.c, &s, 5, PGP_PROTOCOL_3_0, &user, 1), "\0\0\0\x11\0\3\0\0user\0al\0\0", PGP_REQUEST_STARTUP, 5);
+    same("open", s.is_open, true);
+    LEAVES(pgp_connection_startup(&h.c, &s, 6, PGP_PROTOCOL_3_0, &user, 1), PGP_E_WRONG_PHASE);
+    LEAVES(pgp_connection_sync(&h.c, &s, 6), PGP_E_WRONG_PHASE);
+    ready(&h);
+    WRITES(pgp_connection_query(&h.c, &s, 6, "x", 1), "Q\0\0\0\6x\0", PGP_REQUEST_QUERY, 6);
+    WRITES(pgp_connection_parse(&h.c, &s, 7, "s", 1, "x", 1, types, 1), "P\0\0\0\x0es\0x\0\0\1\0\0\0\x17", PGP_REQUEST_PARSE, 7);
+    WRITES(pgp_connection_bind(&h.c, &s, 8, "p", 1, "s", 1, NULL, 0, NULL, 0, NULL, 0), "B\0\0\0\x0ep\0s\0\0\0\0\0\0\0", PGP_REQUEST_BIND, 8);
+    LEAVES(pgp_connection_sync(&h.c, &s, 9), PGP_NO_ROOM);
+    ready(&h);
+    WRITES(pgp_connection_describe(&h.c, &s, 6, 'S', "s", 1), "D\0\0\0\7Ss\0", PGP_REQUEST_DESCRIBE_STATEMENT, 6);
+    WRITES(pgp_connection_describe(&h.c, &s, 7, 'P', "p", 1), "D\0\0\0\7Pp\0", PGP_REQUEST_DESCRIBE_PORTAL, 7);
+    WRITES(pgp_connection_execute(&h.c, &s, 8, "p", 1, 2), "E\0\0\0\x0ap\0\0\0\0\2", PGP_REQUEST_EXECUTE, 8);
+    ready(&h);
+    LEAVES(pgp_connection_close(&h.c, &s, 6, 'S', "a\0b", 3), PGP_E_EMBEDDED_NULL);
+    WRITES(pgp_connection_close(&h.c, &s, 6, 'S', "s", 1), "C\0\0\0\7Ss\0", PGP_REQUEST_CLOSE, 6);
+    WRITES(pgp_connection_sync(&h.c, &s, 7), "S\0\0\0\4", PGP_REQUEST_SYNC, 7);
+    LEAVES(pgp_connection_copy_data(&h.c, &s, "a", 1), PGP_E_WRONG_PHASE);
+    LEAVES(pgp_connection_copy_done(&h.c, &s, 8), PGP_E_WRONG_PHASE);
+    ready(&h);
+    WRITES(pgp_connection_query(&h.c, &s, 6, "x", 1), "Q\0\0\0\6x\0", PGP_REQUEST_QUERY, 6);
+    { struct pgp_ways w = by(PGP_WAY_NONE); TAKES("G\0\0\0\x07\0\0\0", PGP_PART, 6, NONE); }
+    s.len = 0; same("data", pgp_connection_copy_data(&h.c, &s, "a", 1), PGP_OK); is("data", room, s.len, B("d\0\0\0\5a"));
+    LEAVES(pgp_connection_query(&h.c, &s, 7, "x", 1), PGP_E_WRONG_PHASE);
+    WRITES(pgp_connection_copy_fail(&h.c, &s, 7, "no", 2), "f\0\0\0\7no\0", PGP_REQUEST_COPY_FAIL, 7);
+    s.len = 0; same("the end", pgp_connection_terminate(&h.c, &s), PGP_OK); is("the end", room, s.len, B("X\0\0\0\4")); same("over", h.c.is_over, true);
+    LEAVES(pgp_connection_sync(&h.c, &s, 8), PGP_E_WRONG_PHASE);
+}
+
 void connections(void)
 {
-    log_ins(); more_log_ins(); early(); versions(); keys(); rooms(); requests(); limits(); settings(); anything();
+    log_ins(); more_log_ins(); early(); versions(); keys(); rooms(); requests(); limits(); settings(); in_one_call(); anything();
 }

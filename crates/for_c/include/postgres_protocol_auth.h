@@ -68,7 +68,7 @@ struct pgp_login {
  *     struct pgp_slot slots[64] = {{0, 0}};
  *     uint8_t settings[4096];
  *     struct pgp_connection connection = {.dialogue = {.room = slots, .room_len = 64}, .settings = {.room = settings, .room_len = sizeof settings}};
- * The caller moves the bytes: what it sends is written by pgp_stream_* or the single writers, and asked; what came is taken a message at a time.
+ * The caller moves the bytes: what it sends is written and noted by pgp_connection_query and the like, below; what came is taken a message at a time.
  *   pgp_connection_ask   takes note of a request, in the order in which they are sent: the startup packet first, and others once the log-in is done. The
  *                        caller names it by a number; names begin at 1, since pgp_taken has 0 where no request is answered.
  *                        PGP_E_WRONG_PHASE where the request may not be sent: before that, after the end, and while the server awaits the data of a
@@ -145,6 +145,91 @@ pgp_status pgp_connection_take(struct pgp_connection *connection, const struct p
 pgp_status pgp_connection_setting(const struct pgp_connection *connection, const void *name, size_t len, struct pgp_part *value);
 bool pgp_connection_is_idle(const struct pgp_connection *connection);
 bool pgp_connection_is_copying(const struct pgp_connection *connection);
+/*
+ * A request in one call: each of these writes it behind what the stream has, as pgp_stream_* does, and takes note of it under a name, as
+ * pgp_connection_ask does. On any status but PGP_OK, of either, nothing is written and nothing noted. Data of a copy are written where they may be sent
+ * (PGP_E_WRONG_PHASE elsewhere), and Terminate ends the connection. A Flush is noted by nobody: pgp_stream_flush.
+ */
+static inline pgp_status pgp_connection_note(struct pgp_connection *connection, struct pgp_stream *stream, struct pgp_stream before, pgp_status status,
+                                             uint8_t request, uint64_t name)
+{
+    if (status == PGP_OK) status = pgp_connection_ask(connection, request, name);
+    if (status != PGP_OK) *stream = before;
+    return status;
+}
+static inline pgp_status pgp_connection_startup(struct pgp_connection *connection, struct pgp_stream *stream, uint64_t name, int32_t version,
+                                                const struct pgp_pair *parameters, size_t count)
+{
+    struct pgp_stream before = *stream;
+    return pgp_connection_note(connection, stream, before, pgp_stream_startup(stream, version, parameters, count), PGP_REQUEST_STARTUP, name);
+}
+static inline pgp_status pgp_connection_query(struct pgp_connection *connection, struct pgp_stream *stream, uint64_t name, const void *text, size_t len)
+{
+    struct pgp_stream before = *stream;
+    return pgp_connection_note(connection, stream, before, pgp_stream_query(stream, text, len), PGP_REQUEST_QUERY, name);
+}
+static inline pgp_status pgp_connection_parse(struct pgp_connection *connection, struct pgp_stream *stream, uint64_t name, const void *statement,
+                                              size_t statement_len, const void *query, size_t query_len, const uint32_t *types, size_t type_count)
+{
+    struct pgp_stream before = *stream;
+    return pgp_connection_note(connection, stream, before, pgp_stream_parse(stream, statement, statement_len, query, query_len, types, type_count),
+                               PGP_REQUEST_PARSE, name);
+}
+static inline pgp_status pgp_connection_bind(struct pgp_connection *connection, struct pgp_stream *stream, uint64_t name, const void *portal, size_t portal_len,
+                                             const void *statement, size_t statement_len, const int16_t *formats, size_t format_count,
+                                             const struct pgp_value *values, size_t value_count, const int16_t *result_formats, size_t result_format_count)
+{
+    struct pgp_stream before = *stream;
+    return pgp_connection_note(connection, stream, before,
+                               pgp_stream_bind(stream, portal, portal_len, statement, statement_len, formats, format_count, values, value_count, result_formats,
+                                               result_format_count),
+                               PGP_REQUEST_BIND, name);
+}
+/* `variant`: 'S' for a statement, 'P' for a portal */
+static inline pgp_status pgp_connection_describe(struct pgp_connection *connection, struct pgp_stream *stream, uint64_t name, uint8_t variant, const void *of,
+                                                 size_t len)
+{
+    struct pgp_stream before = *stream;
+    uint8_t request = variant == 'P' ? PGP_REQUEST_DESCRIBE_PORTAL : PGP_REQUEST_DESCRIBE_STATEMENT;
+    return pgp_connection_note(connection, stream, before, pgp_stream_describe(stream, variant, of, len), request, name);
+}
+static inline pgp_status pgp_connection_execute(struct pgp_connection *connection, struct pgp_stream *stream, uint64_t name, const void *portal, size_t len,
+                                                int32_t max_rows)
+{
+    struct pgp_stream before = *stream;
+    return pgp_connection_note(connection, stream, before, pgp_stream_execute(stream, portal, len, max_rows), PGP_REQUEST_EXECUTE, name);
+}
+static inline pgp_status pgp_connection_close(struct pgp_connection *connection, struct pgp_stream *stream, uint64_t name, uint8_t variant, const void *of,
+                                              size_t len)
+{
+    struct pgp_stream before = *stream;
+    return pgp_connection_note(connection, stream, before, pgp_stream_close(stream, variant, of, len), PGP_REQUEST_CLOSE, name);
+}
+static inline pgp_status pgp_connection_sync(struct pgp_connection *connection, struct pgp_stream *stream, uint64_t name)
+{
+    struct pgp_stream before = *stream;
+    return pgp_connection_note(connection, stream, before, pgp_stream_sync(stream), PGP_REQUEST_SYNC, name);
+}
+static inline pgp_status pgp_connection_copy_data(const struct pgp_connection *connection, struct pgp_stream *stream, const void *bytes, size_t len)
+{
+    return pgp_connection_is_copying(connection) ? pgp_stream_copy_data(stream, bytes, len) : PGP_E_WRONG_PHASE;
+}
+static inline pgp_status pgp_connection_copy_done(struct pgp_connection *connection, struct pgp_stream *stream, uint64_t name)
+{
+    struct pgp_stream before = *stream;
+    return pgp_connection_note(connection, stream, before, pgp_stream_copy_done(stream), PGP_REQUEST_COPY_DONE, name);
+}
+static inline pgp_status pgp_connection_copy_fail(struct pgp_connection *connection, struct pgp_stream *stream, uint64_t name, const void *reason, size_t len)
+{
+    struct pgp_stream before = *stream;
+    return pgp_connection_note(connection, stream, before, pgp_stream_copy_fail(stream, reason, len), PGP_REQUEST_COPY_FAIL, name);
+}
+static inline pgp_status pgp_connection_terminate(struct pgp_connection *connection, struct pgp_stream *stream)
+{
+    pgp_status status = pgp_stream_terminate(stream);
+    connection->is_over |= status == PGP_OK;
+    return status;
+}
 
 /*
  * The server's side, in two calls that keep nothing between them. The caller keeps the stored verifier (`SCRAM-SHA-256$4096:..`), its own part
