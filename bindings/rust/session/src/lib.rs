@@ -49,6 +49,7 @@ pub mod message;
 mod proved;
 pub mod scram;
 pub mod values;
+mod versions;
 
 pub(crate) use postgres_protocol::kit;
 
@@ -58,4 +59,5 @@ pub use message::in_place::Message;
 pub use postgres_protocol::kit::{AllocError, AllocFailed, Global};
 pub use postgres_protocol::proved::pgp_base::{BindError, Buffer, Error, FallibleIterator, IsNull, Window};
 pub use proved::pgp_session::*;
+pub use versions::VersionsError;
 pub use proved::pgp_stream::{parse_stream, ClientStream, Parsed, StreamParser};

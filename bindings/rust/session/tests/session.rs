@@ -8,7 +8,7 @@ use postgres_session::message::in_place::{Message, Messages};
 use postgres_protocol::message::frontend;
 use postgres_session::message::reply;
 use postgres_session::serving::Serving;
-use postgres_session::{ClientStream, Connection, StreamParser, Ways};
+use postgres_session::{ClientStream, Connection, StreamParser, Versions, VersionsError, Ways};
 use std::collections::VecDeque;
 use std::panic::{catch_unwind, UnwindSafe};
 use postgres_session::{values, Error, Global};
@@ -32,6 +32,25 @@ fn a_clients_messages_read_back() {
     assert!(matches!(messages.next(kind), Ok(Some(ClientMessage::Startup { .. }))));
     assert!(matches!(messages.next(kind), Ok(Some(ClientMessage::Query(b"SELECT 1")))));
     assert!(matches!(messages.next(kind), Ok(None)));
+}
+
+// As libpq of PostgreSQL 18 has `min_protocol_version` and `max_protocol_version`.
+#[test]
+fn versions_by_their_names() {
+    let named = Versions::named;
+    assert_eq!(named(None, None), Ok(Versions::Only3_0));
+    assert_eq!(named(Some("3.0"), Some("latest")), Ok(Versions::UpTo3_2));
+    assert_eq!(named(None, Some("3.2")), Ok(Versions::UpTo3_2));
+    assert_eq!(named(Some("3.2"), None), Ok(Versions::Only3_2));
+    assert_eq!(named(Some("latest"), Some("3.2")), Ok(Versions::Only3_2));
+    assert_eq!(named(Some("3.2"), Some("3.0")), Err(VersionsError::Reversed));
+    for none in ["3.1", "3", "", "Latest"] {
+        assert_eq!(named(None, Some(none)), Err(VersionsError::Unknown(none.to_owned())));
+    }
+    let ways = Ways { scram: None, md5: None, cleartext: None, none: true, least_rounds: 1, encrypted: false };
+    let mut connection = Connection::new(Global, ways, 1 << 20);
+    connection.start_version(Versions::UpTo3_2, &[("user", "al")]).unwrap();
+    assert_eq!(connection.to_send(), b"\0\0\0\x11\0\x03\0\x02user\0al\0\0");
 }
 
 #[test]
