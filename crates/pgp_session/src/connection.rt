@@ -37,7 +37,20 @@ pub enum ConnectionPhase {
     Over,
 }
 
-/// A client's connection.
+/// A client's connection, which moves no bytes itself: `feed` takes what came, `to_send` has what is to go out, and `sent` says how much of it went.
+///
+/// - **Log in**: `request_encryption` and `encryption_answered` come first, where the connection is to be encrypted; `start` or `start_version` writes
+///   the startup packet. Then each message that is taken adds what answers it, by the `Ways` that were given and by no other, until `is_logged_in`.
+/// - **Ask**: `query`, `parse`, `bind`, `describe`, `execute`, `close`, `sync` and `send` write a request, and return its name: a number, from 0 on. Any
+///   number of requests may be on their way at once. A series of extended queries ends by a Sync.
+/// - **Take**: `next` hands out the next message, and `advance` leaves it to be read in place by `message`, which asks for no memory; the `Event` says to
+///   which request it belongs. Both return `None` until more bytes came.
+/// - **What has ended**: all requests below `open_from` have, also those that the server passes over behind one that failed, up to the Sync: of these no
+///   message comes. Who keeps something for each request, in a pipeline say, gives it up at `Event::Last`, or once `open_from` has passed its name.
+/// - **Copies**: after a CopyInResponse `copy_data` is sent, and `copy_done` or `copy_fail`, and no Sync before these: where such a copy fails, nobody can
+///   know whether the server has read that Sync as a part of it, and the connection ends with `Uncertain`.
+/// - **The end**: `terminate`, `Event::Ended`, or an error other than `OutOfPhase` and `OutOfMemory`. A server that goes down reports an error of severity
+///   `FATAL` in the place of an answer: it is the answer's, and no other comes. `message` has what ended the connection, after `advance`.
 #[derive(Drop)]
 pub struct Connection<'a, A: Memory = Global> {
     pub(crate) state: ConnectionState<'a, A>,
