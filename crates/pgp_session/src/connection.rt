@@ -1,6 +1,6 @@
 //! A client's connection, without input or output: what is sent, what came, the log-in, and to which request each message of the server belongs.
 
-ghost use Rattle.std.specs.Prelude.{◌≡◌, ◌≤◌, length, map, option_map, None};
+ghost use Rattle.std.specs.Prelude.{◌≡◌, ◌≢◌, ◌≤◌, [], length, map, option_map, None, OnOk};
 ghost use Rattle.pgp_frontend.specs.ClientMessage.{SslRequest, Startup, Terminate};
 ghost use Rattle.pgp_frontend.specs.Given.{shown as shown_pair};
 ghost use Rattle.pgp_frontend.specs.Reading.{IsNamed};
@@ -80,7 +80,8 @@ impl<'a, A: Memory> Connection<'a, A> {
     /// On error nothing changes. `OutOfPhase` after the startup packet, while such an answer is awaited, and after the end; `Unwritten` of
     /// `OutOfMemory`.
     pub fn request_encryption(&mut self) -> Result<(), ConnectionError<A>>
-        ensures { Writes A.Lacks ConnectionPhase.Opening ConnectionPhase.Encrypting SslRequest (shown self.old) (shown self.new) result }
+        ensures writes { Writes A.Lacks ConnectionPhase.Opening ConnectionPhase.Encrypting SslRequest (shown self.old) (shown self.new) result }
+        ensures current { current self.new ≡ current self.old }
     {
         if self.state.phase != ConnectionPhase::Opening {
             return Err(ConnectionError::OutOfPhase);
@@ -100,7 +101,8 @@ impl<'a, A: Memory> Connection<'a, A> {
     /// `OutOfPhase` where no such answer is awaited: nothing changes. `BadAnswer` unless the bytes are `S` or `N` alone, which ends the
     /// connection: bytes that came with the `S` were sent before the handshake, by whom nobody can know.
     pub fn encryption_answered(&mut self, piece: &[u8]) -> Result<Option<bool>, ConnectionError<A>>
-        ensures { Answers piece.now (shown self.old) (shown self.new) result }
+        ensures answers { Answers piece.now (shown self.old) (shown self.new) result }
+        ensures current { current self.new ≡ current self.old }
     {
         if self.state.phase != ConnectionPhase::Encrypting {
             return Err(ConnectionError::OutOfPhase);
@@ -124,7 +126,8 @@ impl<'a, A: Memory> Connection<'a, A> {
     /// Those of `start_version`.
     pub fn start(&mut self, parameters: &[(&str, &str)]) -> Result<u64, ConnectionError<A>>
         requires { IsNamed (Startup 0 (map shown_pair parameters.now)) }
-        ensures { Starts A.Lacks Versions.Only3_0 (Startup 0 (map shown_pair parameters.now)) (shown self.old) (shown self.new) result }
+        ensures starts { Starts A.Lacks Versions.Only3_0 (Startup 0 (map shown_pair parameters.now)) (shown self.old) (shown self.new) result }
+        ensures current { current self.new ≡ current self.old }
     {
         self.start_version(Versions::Only3_0, parameters)
     }
@@ -143,7 +146,8 @@ impl<'a, A: Memory> Connection<'a, A> {
         parameters: &[(&str, &str)],
     ) -> Result<u64, ConnectionError<A>>
         requires { IsNamed (packet_of versions (map shown_pair parameters.now)) }
-        ensures { Starts A.Lacks versions (packet_of versions (map shown_pair parameters.now)) (shown self.old) (shown self.new) result }
+        ensures starts { Starts A.Lacks versions (packet_of versions (map shown_pair parameters.now)) (shown self.old) (shown self.new) result }
+        ensures current { current self.new ≡ current self.old }
     {
         if self.state.phase != ConnectionPhase::Opening {
             return Err(ConnectionError::OutOfPhase);
@@ -177,7 +181,8 @@ impl<'a, A: Memory> Connection<'a, A> {
     ///
     /// On error nothing changes. `OutOfPhase` before the startup packet and after the end; `Unwritten` of `OutOfMemory`.
     pub fn terminate(&mut self) -> Result<(), ConnectionError<A>>
-        ensures { Writes A.Lacks ConnectionPhase.Started ConnectionPhase.Over Terminate (shown self.old) (shown self.new) result }
+        ensures writes { Writes A.Lacks ConnectionPhase.Started ConnectionPhase.Over Terminate (shown self.old) (shown self.new) result }
+        ensures current { current self.new ≡ current self.old }
     {
         if self.state.phase != ConnectionPhase::Started {
             return Err(ConnectionError::OutOfPhase);
@@ -242,7 +247,8 @@ impl<'a, A: Memory> Connection<'a, A> {
     /// - `Unwritten` of `EmbeddedNull`, `TooLarge` or `OutOfMemory`.
     /// - `OutOfMemory` if there is no memory to take note of the request.
     pub fn send(&mut self, message: &ClientMessage<'_>) -> Result<u64, ConnectionError<A>>
-        ensures { Sends A.Lacks (sent_view message.now) (shown self.old) (shown self.new) result }
+        ensures sends { Sends A.Lacks (sent_view message.now) (shown self.old) (shown self.new) result }
+        ensures current { current self.new ≡ current self.old }
     {
         if !self.can_send(message) {
             return Err(ConnectionError::OutOfPhase);
@@ -280,7 +286,9 @@ impl<'a, A: Memory> Connection<'a, A> {
     ///
     /// On error nothing changes. `OutOfPhase` where no message is awaited; `OutOfMemory` if there is no memory for the bytes.
     pub fn feed(&mut self, piece: &[u8]) -> Result<(), ConnectionError<A>>
-        ensures { Feeds A.Lacks piece.now (shown self.old) (shown self.new) result }
+        ensures feeds { Feeds A.Lacks piece.now (shown self.old) (shown self.new) result }
+        ensures passes { OnOk result (current self.new ≡ []) }
+        ensures current { (shown self.old).phase ≢ ConnectionPhase.Started → current self.new ≡ current self.old }
     {
         if self.state.phase != ConnectionPhase::Started {
             return Err(ConnectionError::OutOfPhase);
@@ -338,8 +346,8 @@ impl<'a, A: Memory> Connection<'a, A> {
         }
     }
 
-    /// The message that the last call of `advance` took, in place; `None` where it took none, and after `next`. It is to be read before another
-    /// call changes the connection: `feed` passes it, and no other contract speaks of it.
+    /// The message that the last call of `advance` took, in place; `None` where it took none, and after `next`. Bytes that `feed` takes pass it. What is
+    /// sent leaves it where it is.
     #[inline(always)]
     pub fn message(&self) -> Option<Message<&[u8]>>
         ensures { Reads (current self.now) (option_map view result) }

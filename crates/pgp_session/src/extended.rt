@@ -5,7 +5,7 @@ ghost use Rattle.std.specs.Iterator.{IsFiniteIterable};
 ghost use Rattle.pgp_base.specs.Calls.{OwesValues, Yielded};
 ghost use Rattle.pgp_base.specs.Held.{items_held};
 ghost use Rattle.pgp_frontend.specs.Given.{BindRefused, BindWhole, ParseSoFar, ParseWhole, Refused, Serves};
-ghost use Rattle.pgp_session.specs.Connection.{Noted, Notes, SendsGiven, shown};
+ghost use Rattle.pgp_session.specs.Connection.{Noted, Notes, SendsGiven, current, shown};
 ghost use Rattle.pgp_session.specs.ConnectionBind.{FromBytes, SendsBind};
 
 use crate::connection::Connection;
@@ -32,12 +32,13 @@ impl<'a, A: Memory> Connection<'a, A> {
     where
         I::IntoIter: Drop,
         requires types_end { IsFiniteIterable I.into_iter_gives I.IntoIter.can_next I.IntoIter.remaining param_types }
-        ensures { SendsGiven A.Lacks
+        ensures sends { SendsGiven A.Lacks
             (ParseWhole name.now query.now (Yielded I.into_iter_gives I.IntoIter.next_gives param_types))
             (Refused (ParseWhole name.now query.now (Yielded I.into_iter_gives I.IntoIter.next_gives param_types))
             (ParseSoFar name.now query.now (Yielded I.into_iter_gives I.IntoIter.next_gives param_types))
             (λ h n. A.Lacks × (0 < n)) (items_held (shown self.old).out))
             (shown self.old) (shown self.new) result }
+        ensures current { current self.new ≡ current self.old }
     {
         if !self.may_ask() {
             return Err(ConnectionError::OutOfPhase);
@@ -83,7 +84,7 @@ impl<'a, A: Memory> Connection<'a, A> {
         requires result_formats_end { IsFiniteIterable K.into_iter_gives K.IntoIter.can_next K.IntoIter.remaining result_formats }
         requires callable { F.IsAlwaysCallable serializer }
         requires owes { OwesValues B.Buffer.held F.pre F.step }
-        ensures { (last : F) × SendsBind
+        ensures sends { (last : F) × SendsBind
             (FromBytes (shown self.old).out (BindWhole portal.now statement.now
             (Yielded I.into_iter_gives I.IntoIter.next_gives formats)
             (Yielded J.into_iter_gives J.IntoIter.next_gives values)
@@ -96,6 +97,7 @@ impl<'a, A: Memory> Connection<'a, A> {
             (Yielded K.into_iter_gives K.IntoIter.next_gives result_formats)
             here B.Buffer.Lacks))
             A.Lacks (shown self.old) (shown self.new) result }
+        ensures current { current self.new ≡ current self.old }
     {
         if !self.may_ask() {
             return Err(BindSendError::OutOfPhase);
@@ -121,7 +123,8 @@ impl<'a, A: Memory> Connection<'a, A> {
 
     /// The answer of `noted`, as Parse has it.
     fn asked(&mut self, start: usize, request: Request) -> Result<u64, ConnectionError<A>>
-        ensures { Notes A.Lacks start request (shown self.old) (shown self.new) result }
+        ensures notes { Notes A.Lacks start request (shown self.old) (shown self.new) result }
+        ensures current { current self.new ≡ current self.old }
     {
         match self.noted(start, request) {
             Some(name) => Ok(name),
@@ -131,7 +134,8 @@ impl<'a, A: Memory> Connection<'a, A> {
 
     /// Takes note of the request whose message was written from `start` on; where there is no memory for it, the message is taken back.
     fn noted(&mut self, start: usize, request: Request) -> Option<u64>
-        ensures { Noted A.Lacks start request (shown self.old) (shown self.new) result }
+        ensures noted { Noted A.Lacks start request (shown self.old) (shown self.new) result }
+        ensures current { current self.new ≡ current self.old }
     {
         let name = self.names;
         if self.state.dialogue.ask(request, name).is_err() {

@@ -2,7 +2,7 @@
 
 ghost use Rattle.std.specs.Prelude.{◌≡◌};
 ghost use Rattle.pgp_frontend.specs.ClientMessage.{Close, CopyData as DataMessage, CopyDone, CopyFail, Describe, Execute, Flush, Query, Sync};
-ghost use Rattle.pgp_session.specs.Connection.{Cancels, Sends, shown};
+ghost use Rattle.pgp_session.specs.Connection.{Cancels, Sends, current, shown};
 
 use crate::connection::Connection;
 use crate::connection_error::ConnectionError;
@@ -18,7 +18,8 @@ impl<'a, A: Memory> Connection<'a, A> {
     ///
     /// Those of `send`.
     pub fn query(&mut self, query: &str) -> Result<u64, ConnectionError<A>>
-        ensures { Sends A.Lacks (Query query.now) (shown self.old) (shown self.new) result }
+        ensures sends { Sends A.Lacks (Query query.now) (shown self.old) (shown self.new) result }
+        ensures current { current self.new ≡ current self.old }
     {
         self.send(&ClientMessage::Query(query.as_bytes()))
     }
@@ -29,7 +30,8 @@ impl<'a, A: Memory> Connection<'a, A> {
     ///
     /// Those of `send`.
     pub fn describe(&mut self, variant: u8, name: &str) -> Result<u64, ConnectionError<A>>
-        ensures { Sends A.Lacks (Describe variant name.now) (shown self.old) (shown self.new) result }
+        ensures sends { Sends A.Lacks (Describe variant name.now) (shown self.old) (shown self.new) result }
+        ensures current { current self.new ≡ current self.old }
     {
         self.send(&ClientMessage::Describe {
             variant,
@@ -43,7 +45,8 @@ impl<'a, A: Memory> Connection<'a, A> {
     ///
     /// Those of `send`.
     pub fn execute(&mut self, portal: &str, max_rows: i32) -> Result<u64, ConnectionError<A>>
-        ensures { Sends A.Lacks (Execute portal.now max_rows) (shown self.old) (shown self.new) result }
+        ensures sends { Sends A.Lacks (Execute portal.now max_rows) (shown self.old) (shown self.new) result }
+        ensures current { current self.new ≡ current self.old }
     {
         self.send(&ClientMessage::Execute {
             portal: portal.as_bytes(),
@@ -57,7 +60,8 @@ impl<'a, A: Memory> Connection<'a, A> {
     ///
     /// Those of `send`.
     pub fn close(&mut self, variant: u8, name: &str) -> Result<u64, ConnectionError<A>>
-        ensures { Sends A.Lacks (Close variant name.now) (shown self.old) (shown self.new) result }
+        ensures sends { Sends A.Lacks (Close variant name.now) (shown self.old) (shown self.new) result }
+        ensures current { current self.new ≡ current self.old }
     {
         self.send(&ClientMessage::Close {
             variant,
@@ -71,7 +75,8 @@ impl<'a, A: Memory> Connection<'a, A> {
     ///
     /// Those of `send`.
     pub fn sync(&mut self) -> Result<u64, ConnectionError<A>>
-        ensures { Sends A.Lacks Sync (shown self.old) (shown self.new) result }
+        ensures sends { Sends A.Lacks Sync (shown self.old) (shown self.new) result }
+        ensures current { current self.new ≡ current self.old }
     {
         self.send(&ClientMessage::Sync)
     }
@@ -82,7 +87,8 @@ impl<'a, A: Memory> Connection<'a, A> {
     ///
     /// Those of `send`.
     pub fn flush(&mut self) -> Result<u64, ConnectionError<A>>
-        ensures { Sends A.Lacks Flush (shown self.old) (shown self.new) result }
+        ensures sends { Sends A.Lacks Flush (shown self.old) (shown self.new) result }
+        ensures current { current self.new ≡ current self.old }
     {
         self.send(&ClientMessage::Flush)
     }
@@ -93,7 +99,8 @@ impl<'a, A: Memory> Connection<'a, A> {
     ///
     /// Those of `send`.
     pub fn copy_data(&mut self, bytes: &[u8]) -> Result<u64, ConnectionError<A>>
-        ensures { Sends A.Lacks (DataMessage bytes.now) (shown self.old) (shown self.new) result }
+        ensures sends { Sends A.Lacks (DataMessage bytes.now) (shown self.old) (shown self.new) result }
+        ensures current { current self.new ≡ current self.old }
     {
         self.send(&ClientMessage::CopyData(bytes))
     }
@@ -104,7 +111,8 @@ impl<'a, A: Memory> Connection<'a, A> {
     ///
     /// Those of `send`.
     pub fn copy_done(&mut self) -> Result<u64, ConnectionError<A>>
-        ensures { Sends A.Lacks CopyDone (shown self.old) (shown self.new) result }
+        ensures sends { Sends A.Lacks CopyDone (shown self.old) (shown self.new) result }
+        ensures current { current self.new ≡ current self.old }
     {
         self.send(&ClientMessage::CopyDone)
     }
@@ -115,7 +123,8 @@ impl<'a, A: Memory> Connection<'a, A> {
     ///
     /// Those of `send`.
     pub fn copy_fail(&mut self, reason: &str) -> Result<u64, ConnectionError<A>>
-        ensures { Sends A.Lacks (CopyFail reason.now) (shown self.old) (shown self.new) result }
+        ensures sends { Sends A.Lacks (CopyFail reason.now) (shown self.old) (shown self.new) result }
+        ensures current { current self.new ≡ current self.old }
     {
         self.send(&ClientMessage::CopyFail(reason.as_bytes()))
     }

@@ -15,5 +15,5 @@ returns-in-Ok g c =
     let new = shown c.start.new.self in
     let is : old ≡ begun login 16777216 = c.new-connection.ensures in
     let known : Known ways nothing old = subst (λ (s : Shown). Known ways nothing s) (sym is) (c.calls_are_known.ensures.begun login 16777216 refl) in
-    let name : c.in-Ok.field-0 ≡ 0 = c.in-Ok.ensures.named ∙ ap (λ (s : Shown). s.names) is in
-    subst (λ (n : ℕ). Known ways (and_wrote (Startup 0 parameters) n nothing) new) name (c.calls_are_known.ensures.starts ways nothing old new Only3_0 parameters c.in-Ok.field-0 (search rules) c.in-Ok.ensures known)
+    let name : c.in-Ok.field-0 ≡ 0 = c.in-Ok.ensures.starts.named ∙ ap (λ (s : Shown). s.names) is in
+    subst (λ (n : ℕ). Known ways (and_wrote (Startup 0 parameters) n nothing) new) name (c.calls_are_known.ensures.starts ways nothing old new Only3_0 parameters c.in-Ok.field-0 (search rules) c.in-Ok.ensures.starts known)
