@@ -1,14 +1,13 @@
 -- By which way a client is let in, and what it gave away for that.
-use Rattle.pgp_login.proofs.Common.{◌≡◌, ℕ, Bool, List, [], ◌∷◌, ◌++◌, Option, Some, None, refl, sym, ap, subst, ◌∙◌, inl, inr, option_to_list, Begun, ClientMessage, PasswordMessage, SaslInitialResponse, SaslResponse, Replies, initial, md5_answer}
+use Rattle.pgp_login.proofs.Common.{◌≡◌, ℕ, Bool, List, [], ◌∷◌, ◌++◌, Option, Some, None, refl, sym, ap, subst, ◌∙◌, inl, inr, option_to_list, Begun, ClientMessage, PasswordMessage, SaslResponse, Replies, initial, md5_answer}
 use Rattle.std.proofs.lemmas.List.{append-nil}
 use Rattle.std.specs.List.{AllByRecursion}
 use Rattle.pgp_auth.specs.ScramRefusal.{Verifies}
 use Rattle.pgp_frontend.proofs.ClientRuns.{each_push}
 use Rattle.pgp_message.specs.BackendMessage.{Message, Authentication, AuthenticationOk, AuthenticationCleartextPassword, AuthenticationMd5Password, AuthenticationSasl, AuthenticationSaslContinue, AuthenticationSaslFinal}
 use Rattle.pgp_login.specs.Exchange.{mechanism}
-use Rattle.pgp_login.specs.Machine.{Asking, Cleartext, Md5, Sasl, First, Final, Welcome, Lists, LogsOn, NothingAsked, ByCleartext, ByMd5, ScramBegins, ScramGoesOn, ScramEnds, LoggedOn, Welcomed, Trusted, State, AwaitsOffer, AwaitsFirst, AwaitsFinal, AwaitsOk, Done, Failed, Ways, asking}
-use Rattle.pgp_login.specs.Login.{Kept, Simulates, Stands as StandsFor, phase_of}
-use Rattle.pgp_login.specs.declared.login.LoginPhase.{LoginPhase}
+use Rattle.pgp_login.specs.Machine.{Asking, Cleartext, Md5, Sasl, First, Final, Welcome, Lists, LogsOn, NothingAsked, ByCleartext, ByMd5, ScramBegins, ScramGoesOn, ScramEnds, LoggedOn, Welcomed, Trusted, State, AwaitsOffer, AwaitsFirst, AwaitsFinal, AwaitsOk, Done, Failed, Ways, asking, phase_of}
+use Rattle.pgp_login.specs.Login.{Kept, Simulates}
 use Rattle.pgp_login.specs.declared.login.LoginPhase.TheVariants.{Done as IsDone}
 use Rattle.pgp_login.specs.Session.{Heard, Known, Played, Admitted, ByNone, ByPassword, ByHash, BySignature, IsAllowed, Plays, Begins, Hears, ReceivedAmong, NoneWanted, OneReceived, OtherReceived, admission, asks_hash, asks_password, challenge, offer, signature}
 

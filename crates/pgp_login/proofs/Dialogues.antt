@@ -1,5 +1,5 @@
 -- What a whole session comes by.
-use Rattle.pgp_login.proofs.Common.{◌≡◌, List, [], ◌∷◌, ◌++◌, refl, sym, subst, ClientMessage}
+use Rattle.pgp_login.proofs.Common.{List, [], ◌∷◌, ◌++◌, refl, sym, subst, ClientMessage}
 use Rattle.std.proofs.Common.{append_assoc}
 use Rattle.std.proofs.lemmas.List.{append-nil}
 use Rattle.pgp_client.specs.Kinds.{kind_of}

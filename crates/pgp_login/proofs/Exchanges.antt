@@ -1,5 +1,5 @@
 -- What a call of an exchange comes to.
-use Rattle.pgp_login.proofs.Common.{◌≡◌, ℕ, List, Option, Some, None, refl, sym, ap, subst, ◌∙◌, inl, inr, ◌⊎◌, Result, Ok, Err, option_map, IfErr, Begun, Client, ExchangeState, awaited_of, message_of, first_text, Refusal, WrongState, ClientMessage, SaslResponse, Error, Added, Begins, NotReplied, NotVerified, Replies, Seen, Unbegun, Unmade, Unsent, UnsentAs, begun_of, initial, seen_client, Fault, Scram, Unwritten, fault, LoginError}
+use Rattle.pgp_login.proofs.Common.{◌≡◌, ℕ, List, Option, Some, None, refl, sym, ap, subst, ◌∙◌, inl, inr, Result, Ok, Err, option_map, IfErr, Begun, Client, ExchangeState, awaited_of, message_of, first_text, Refusal, WrongState, SaslResponse, Error, Begins, NotReplied, NotVerified, Replies, Seen, Unbegun, Unmade, Unsent, begun_of, seen_client, Fault, Scram, Unwritten, fault, LoginError}
 use Rattle.pgp_auth.specs.ScramClient.{AwaitsFirst, AwaitsFinal, Over, Answers as Answered, UpdateRefuses, FinishRefuses, signature_of}
 use Rattle.pgp_login.specs.Exchange.{binding_at, NoBinding, NoMemory, NoNonce, NoneAwaited, NotBegun, NotSent, Refuses, Shows, WasBegun}
 

@@ -1,5 +1,5 @@
 -- What a log-in took, as a step of the machine.
-use Rattle.pgp_login.proofs.Common.{◌≡◌, ℕ, Bool, true, false, List, Option, Some, None, Result, Ok, Err, refl, sym, ap, subst, ◌∙◌, inl, inr, ◌⊎◌, ◌<◌, length, Error, Begun, ClientMessage, PasswordMessage, SaslResponse, md5_answer, Added, AddsReply, Answers, Begins, Seen, Unsent, Replies, initial, LoginError}
+use Rattle.pgp_login.proofs.Common.{◌≡◌, ℕ, Bool, true, false, List, Option, Some, None, Result, Ok, Err, refl, sym, ap, subst, ◌∙◌, inl, inr, ◌⊎◌, ◌<◌, length, Error, Begun, ClientMessage, PasswordMessage, SaslResponse, md5_answer, AddsReply, Begins, Seen, Unsent, initial, LoginError}
 use Rattle.std.specs.Prelude.{IfErr, OnOk, option_map}
 use Rattle.pgp_base.specs.Cause.{Wants}
 use Rattle.pgp_base.specs.Held.{Held, items_held}
@@ -7,16 +7,16 @@ use Rattle.pgp_base.specs.declared.error.Error.TheVariants.{OutOfMemory}
 use Rattle.pgp_base.proofs.Parts.{lengthened_by}
 use Rattle.pgp_frontend.specs.Payload.{WritesMessage, bytes_of, cause}
 use Rattle.pgp_auth.specs.ScramClient.{NotShown}
-use Rattle.pgp_auth.specs.ScramRefusal.{AsksFewer, Refusal, Verifies}
+use Rattle.pgp_auth.specs.ScramRefusal.{AsksFewer, Verifies}
 use Rattle.pgp_login.proofs.Exchanges.{not_replied_so, unbegun_so}
-use Rattle.pgp_login.specs.Exchange.{NoneAwaited, NotVerified, Shows, Unbegun, UnsentAs, bound_of, is_bound, mechanism, mechanism_by}
-use Rattle.pgp_login.specs.Fault.{Fault, Scram, Unwritten, fault}
+use Rattle.pgp_login.specs.Exchange.{NoneAwaited, NotVerified, Shows, Unbegun, UnsentAs, bound_of, is_bound, mechanism_by}
+use Rattle.pgp_login.specs.Fault.{Fault, fault}
 use Rattle.pgp_login.specs.declared.fault.LoginError.TheVariants as code
-use Rattle.pgp_login.specs.Machine.{Asking, Nothing, Cleartext, Md5, Sasl, First, Final, Welcome, Other, Lists, IsStripped, LoggedOn, LogsOn, NothingAsked, ByCleartext, ByMd5, ScramBegins, ScramGoesOn, ScramEnds, Welcomed, Trusted, State, Ways, Declines, NotDue, NoCleartext, CleartextUnsent, NoMd5, Md5Unsent, NoScram, LacksMechanism, MayBeStripped, NotBegun, FewRounds, NoExchange, NotAnswered, NotSigned, NotTrusted, IsOther, admitted}
+use Rattle.pgp_login.specs.Machine.{Asking, Nothing, Cleartext, Md5, Sasl, First, Final, Welcome, Other, Lists, IsStripped, LogsOn, NothingAsked, ByCleartext, ByMd5, ScramBegins, ScramGoesOn, ScramEnds, Welcomed, Trusted, State, Ways, Declines, NotDue, NoCleartext, CleartextUnsent, NoMd5, Md5Unsent, NoScram, LacksMechanism, MayBeStripped, NotBegun, FewRounds, NoExchange, NotAnswered, NotSigned, NotTrusted, IsOther, admitted, is_due, phase_of}
 use Rattle.pgp_login.specs.Machine as machine
-use Rattle.pgp_login.specs.Login.{AnswersFirst, AsksCleartext, AsksMd5, AsksSasl, AsksSaslOf, CountsFirst, DeclinesSo, Follows, HasExchange, Hears, HearsDue, IsUnbound, Kept, Puts, RepliesBy, Simulates, Stands, VerifiesFinal, WelcomesAt, begun_in, awaited_in, goes_on, in_phase, is_due, phase_of}
+use Rattle.pgp_login.specs.Login.{AnswersFirst, AsksCleartext, AsksMd5, AsksSasl, AsksSaslOf, CountsFirst, DeclinesSo, Follows, HasExchange, Hears, HearsDue, Kept, Puts, RepliesBy, Simulates, Stands, VerifiesFinal, WelcomesAt, begun_in, awaited_in, goes_on, in_phase}
 use Rattle.pgp_login.specs.declared.login.LoginPhase.{LoginPhase}
-use Rattle.pgp_login.specs.declared.login.LoginPhase.TheVariants.{AwaitsOffer, AwaitsFirst, AwaitsFinal, AwaitsOk, Done, Failed}
+use Rattle.pgp_login.specs.declared.login.LoginPhase.TheVariants.{AwaitsOffer, AwaitsFirst, AwaitsFinal, AwaitsOk, Done}
 
 -- ---- writing
 
@@ -205,7 +205,7 @@ module _ (A : Type 0) (lacks : Type 0) (w : Ways) (encrypted : Bool) (l after : 
   no_welcome false e is st h = so machine.AwaitsOffer Welcome e code.NotAdmitted (err_is e code.NotAdmitted h) (NotTrusted (sym st.none ∙ is))
   no_welcome true e is st h = let no = h.0 in absurd cc
 
-  undue : (s : State) (asked : Asking) (e : LoginError A) → machine.is_due s asked ≡ false → failed e ≡ failed code.Undue → Declines lacks w encrypted s asked (fault e)
+  undue : (s : State) (asked : Asking) (e : LoginError A) → is_due (phase_of s) asked ≡ false → failed e ≡ failed code.Undue → Declines lacks w encrypted s asked (fault e)
   undue s asked e is h = so s asked e code.Undue (err_is e code.Undue h) (NotDue is)
 
   declines_at : (s : State) (asked : Asking) (e : LoginError A) → Stands w encrypted s l → HearsDue {A = A} lacks (is_due (phase_of s) asked) asked l after out grown (Err e) → Declines lacks w encrypted s asked (fault e)

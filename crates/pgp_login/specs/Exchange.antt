@@ -1,6 +1,6 @@
 -- An exchange of SCRAM-SHA-256, however it is kept, and what each of its calls comes to.
 -- RFC 5802; RFC 7677; PostgreSQL manual, "SASL Authentication".
-use Rattle.std.specs.Prelude.{◌≡◌, ◌⊎◌, ℕ, Bool, true, false, if◌then◌else◌, ◌==◌, List, [], ◌∷◌, codes, Option, Some, None, Result, Ok, Err, option_map}
+use Rattle.std.specs.Prelude.{◌≡◌, ◌⊎◌, ℕ, Bool, true, false, if◌then◌else◌, ◌==◌, List, codes, Option, Some, None, Result, Ok, Err, option_map}
 use Rattle.std.specs.Str.{IsUtf8}
 use Rattle.pgp_base.specs.Cause.{WantsMemory}
 use Rattle.pgp_base.specs.declared.error.Error.{Error}

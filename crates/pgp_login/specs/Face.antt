@@ -1,5 +1,5 @@
 -- C's words for a log-in: what a caller keeps between the calls, and the ways that it admits.
-use Rattle.std.specs.Prelude.{◌≡◌, ℕ, Bool, not, bit_and, if◌then◌else◌, ◌==◌, List, [], Option, Some, None, option_map}
+use Rattle.std.specs.Prelude.{ℕ, Bool, not, bit_and, if◌then◌else◌, ◌==◌, List, [], Option, Some, None, option_map}
 use Rattle.pgp_auth.specs.ScramClient.{Begun}
 use Rattle.pgp_auth.specs.ScramText.{Binding}
 use Rattle.pgp_frontend.specs.declared.startup.ProtocolVersion.{ProtocolVersion}

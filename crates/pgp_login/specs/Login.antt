@@ -8,7 +8,7 @@ use Rattle.pgp_auth.specs.ScramRefusal.{AsksFewer}
 use Rattle.pgp_frontend.specs.ClientMessage.{ClientMessage, PasswordMessage}
 use Rattle.pgp_login.specs.Exchange.{Added, Answers, Begins, Seen, Unsent, Verified, bound_of, mechanism_by}
 use Rattle.pgp_login.specs.Fault.{Fault}
-use Rattle.pgp_login.specs.Machine.{Asking, Declines, Nothing, Cleartext, Md5, Sasl, First, Final, Welcome, Other, Lists, LoggedOn, State, Ways}
+use Rattle.pgp_login.specs.Machine.{Asking, Declines, Nothing, Cleartext, Md5, Sasl, First, Final, Welcome, Other, Lists, LoggedOn, State, Ways, is_due, phase_of}
 use Rattle.pgp_login.specs.Machine as machine
 use Rattle.pgp_login.specs.declared.asked.Asked.{Asked}
 use Rattle.pgp_login.specs.declared.asked.Asked.TheVariants as code
@@ -16,7 +16,7 @@ use Rattle.pgp_login.specs.declared.fault.LoginError.{LoginError}
 use Rattle.pgp_login.specs.declared.fault.LoginError.TheVariants.{NotAdmitted, NotOffered, TooFewRounds, Undue, Unwritten}
 use Rattle.pgp_login.specs.declared.login.Login.{Login}
 use Rattle.pgp_login.specs.declared.login.LoginPhase.{LoginPhase}
-use Rattle.pgp_login.specs.declared.login.LoginPhase.TheVariants.{AwaitsOffer, AwaitsFirst, AwaitsFinal, AwaitsOk, Done, Failed}
+use Rattle.pgp_login.specs.declared.login.LoginPhase.TheVariants.{AwaitsOffer, AwaitsFirst, AwaitsFinal, AwaitsOk, Done}
 
 -- ---- the code's record
 
@@ -66,14 +66,6 @@ abbrev pub awaited_in : Option Seen → Option (List ℕ)
 awaited_in None = None
 awaited_in (Some x) = x.awaited
 
-abbrev pub phase_of : State → LoginPhase
-phase_of machine.AwaitsOffer = AwaitsOffer
-phase_of machine.AwaitsFirst = AwaitsFirst
-phase_of (machine.AwaitsFinal signature) = AwaitsFinal
-phase_of machine.AwaitsOk = AwaitsOk
-phase_of machine.Done = Done
-phase_of machine.Failed = Failed
-
 -- what the exchange is, in this state
 abbrev pub HasExchange : State → Option Begun → Option Seen → Type 0
 HasExchange machine.AwaitsOffer b x = begun_in x ≡ b
@@ -110,23 +102,6 @@ DeclinesSo lacks asked old f = (w : Ways) (encrypted : Bool) (s : State) → Sta
 abbrev pub is_asked : Asking → Bool
 is_asked Nothing = false
 is_asked asked = true
-
-abbrev pub is_first : LoginPhase → Bool
-is_first AwaitsOffer = true
-is_first phase = false
-
--- Whether it is due. A way is asked for once, each text of an exchange has its turn, and the welcome comes at once or after the last answer.
-abbrev pub is_due : LoginPhase → Asking → Bool
-is_due phase Nothing = true
-is_due phase Cleartext = is_first phase
-is_due phase (Md5 salt) = is_first phase
-is_due phase (Sasl mechanisms) = is_first phase
-is_due phase Other = is_first phase
-is_due AwaitsFirst (First text) = true
-is_due AwaitsFinal (Final text) = true
-is_due AwaitsOffer Welcome = true
-is_due AwaitsOk Welcome = true
-is_due phase asked = false
 
 abbrev pub in_phase : LoginPhase → Kept → Kept
 in_phase phase l = record { phase = phase; scram = l.scram; md5 = l.md5; cleartext = l.cleartext; none = l.none; least = l.least; encrypted = l.encrypted }

@@ -8,6 +8,8 @@ use Rattle.pgp_frontend.specs.ClientMessage.{ClientMessage, PasswordMessage, Sas
 pub use Rattle.pgp_message.specs.LogIn.{Asking, Nothing, Cleartext, Md5, Sasl, First, Final, Welcome, Other, Lists, asking}
 use Rattle.pgp_login.specs.Exchange.{AddsReply, NotReplied, Replies, Seen, Unbegun, UnsentAs, initial, is_bound, mechanism}
 use Rattle.pgp_login.specs.Fault.{Fault, NotAdmitted, NotOffered, Scram, TooFewRounds, Undue}
+use Rattle.pgp_login.specs.declared.login.LoginPhase.{LoginPhase}
+use Rattle.pgp_login.specs.declared.login.LoginPhase.TheVariants as phases
 
 -- The ways that are admitted: SCRAM-SHA-256 by an exchange that begins with this, of at least so many rounds, MD5 by this user and password, this password in clear text, and none.
 pub record Ways : Type 0 where
@@ -55,22 +57,31 @@ pub record LoggedOn (w : Ways) (encrypted : Bool) (asked : Asking) (old new : St
 
 -- ---- why it doesn't
 
-abbrev pub is_first : State → Bool
-is_first AwaitsOffer = true
-is_first s = false
+-- how far a log-in is, without the signature
+abbrev pub phase_of : State → LoginPhase
+phase_of AwaitsOffer = phases.AwaitsOffer
+phase_of AwaitsFirst = phases.AwaitsFirst
+phase_of (AwaitsFinal signature) = phases.AwaitsFinal
+phase_of AwaitsOk = phases.AwaitsOk
+phase_of Done = phases.Done
+phase_of Failed = phases.Failed
+
+abbrev pub is_first : LoginPhase → Bool
+is_first phases.AwaitsOffer = true
+is_first phase = false
 
 -- Whether it is due. A way is asked for once, each text of an exchange has its turn, and the welcome comes at once or after the last answer.
-abbrev pub is_due : State → Asking → Bool
-is_due s Nothing = true
-is_due s Cleartext = is_first s
-is_due s (Md5 salt) = is_first s
-is_due s (Sasl mechanisms) = is_first s
-is_due s Other = is_first s
-is_due AwaitsFirst (First text) = true
-is_due (AwaitsFinal signature) (Final text) = true
-is_due AwaitsOffer Welcome = true
-is_due AwaitsOk Welcome = true
-is_due s asked = false
+abbrev pub is_due : LoginPhase → Asking → Bool
+is_due phase Nothing = true
+is_due phase Cleartext = is_first phase
+is_due phase (Md5 salt) = is_first phase
+is_due phase (Sasl mechanisms) = is_first phase
+is_due phase Other = is_first phase
+is_due phases.AwaitsFirst (First text) = true
+is_due phases.AwaitsFinal (Final text) = true
+is_due phases.AwaitsOffer Welcome = true
+is_due phases.AwaitsOk Welcome = true
+is_due phase asked = false
 
 -- the exchange that is admitted, before it begins
 abbrev pub admitted : Ways → Seen
@@ -78,7 +89,7 @@ admitted w = record { begun = w.scram; awaited = None }
 
 -- The first cause, from the left. `lacks` says that memory was refused.
 pub data Declines (lacks : Type 0) (w : Ways) (encrypted : Bool) : State → Asking → Fault → Type 0 where
-  NotDue : {s : State} {asked : Asking} → is_due s asked ≡ false → Declines lacks w encrypted s asked Undue
+  NotDue : {s : State} {asked : Asking} → is_due (phase_of s) asked ≡ false → Declines lacks w encrypted s asked Undue
   NoCleartext : w.cleartext ≡ None → Declines lacks w encrypted AwaitsOffer Cleartext NotAdmitted
   CleartextUnsent : {f : Fault} (password : List ℕ) → w.cleartext ≡ Some password → UnsentAs lacks (PasswordMessage password) f → Declines lacks w encrypted AwaitsOffer Cleartext f
   NoMd5 : {salt : List ℕ} → w.md5 ≡ None → Declines lacks w encrypted AwaitsOffer (Md5 salt) NotAdmitted

@@ -1,7 +1,7 @@
 -- The versions of the protocol that a client asks for, and the one that is spoken.
 -- PostgreSQL manual, "Message Flow": "Start-up"; "Message Formats": NegotiateProtocolVersion.
-use Rattle.std.specs.Prelude.{◌||◌, ℕ, ℤ, pos, Bool, true, false, not, Option, Some, None, if◌then◌else◌}
-use Rattle.std.specs.Int.Signed.{lt_z}
+use Rattle.std.specs.Prelude.{ℤ, pos, Bool, true, false, Option, Some, None, if◌then◌else◌}
+use Rattle.std.specs.Ordering.{int_eq}
 use Rattle.pgp_frontend.specs.declared.startup.ProtocolVersion.{ProtocolVersion}
 use Rattle.pgp_frontend.specs.declared.startup.ProtocolVersion.TheVariants.{V3_0, V3_2}
 use Rattle.pgp_message.specs.BackendMessage.{Message, NegotiateProtocolVersion}
@@ -22,12 +22,9 @@ is_admitted UpTo3_2 version = true
 is_admitted Only3_2 V3_0 = false
 is_admitted Only3_2 V3_2 = true
 
-abbrev pub is_number : ℤ → ℤ → Bool
-is_number version number = not (lt_z number version || lt_z version number)
-
 -- the version of this number: 3.1 and versions to come are none
 abbrev pub version_of : ℤ → Option ProtocolVersion
-version_of number = if is_number (pos 196608) number then Some V3_0 else if is_number (pos 196610) number then Some V3_2 else None
+version_of number = if int_eq number (pos 196608) then Some V3_0 else if int_eq number (pos 196610) then Some V3_2 else None
 
 -- the version that a message answers
 abbrev pub answered : Message → Option ProtocolVersion

@@ -2,8 +2,8 @@
 
 ghost use Rattle.std.specs.Prelude.{◌≡◌, true, false};
 ghost use Rattle.pgp_message.specs.Views.{view};
-ghost use Rattle.pgp_login.specs.Login.{IsUnbound, is_asked, is_due, reported};
-ghost use Rattle.pgp_login.specs.Machine.{Lists, asking};
+ghost use Rattle.pgp_login.specs.Login.{IsUnbound, is_asked, reported};
+ghost use Rattle.pgp_login.specs.Machine.{Lists, asking, is_due};
 
 use crate::login::LoginPhase;
 use crate::storage::LoginStorage;

@@ -5,8 +5,8 @@ ghost use Rattle.pgp_message.specs.Views.{view};
 ghost use Rattle.pgp_login.specs.Exchange.{seen_caller};
 ghost use Rattle.pgp_login.specs.Face.{admits, answered_at, cleartext_in, md5_in, offered_in, state_at, state_of, versions_at, ways_of};
 ghost use Rattle.pgp_login.specs.Fault.{Fault, number_of};
-ghost use Rattle.pgp_login.specs.Login.{HasExchange, Stands, awaited_in, kept, phase_of, user_of};
-ghost use Rattle.pgp_login.specs.Machine.{Declines, LoggedOn, State, Ways as Admitting, asking};
+ghost use Rattle.pgp_login.specs.Login.{HasExchange, Stands, awaited_in, kept, user_of};
+ghost use Rattle.pgp_login.specs.Machine.{Declines, LoggedOn, State, Ways as Admitting, asking, phase_of};
 
 use crate::asked::is_asked;
 use crate::caller::Caller;

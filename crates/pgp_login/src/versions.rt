@@ -2,7 +2,7 @@
 
 ghost use Rattle.std.specs.Prelude.{◌≡◌};
 ghost use Rattle.pgp_message.specs.Views.{view};
-ghost use Rattle.pgp_login.specs.Versions.{answered, is_admitted, is_number, newer, newest, spoken, version_of};
+ghost use Rattle.pgp_login.specs.Versions.{answered, is_admitted, newer, newest, spoken, version_of};
 
 use crate::storage::LoginStorage;
 use pgp_frontend::ProtocolVersion;
@@ -88,17 +88,11 @@ pub(crate) fn version_in<S: LoginStorage>(
 fn version_of(number: i32) -> Option<ProtocolVersion>
     ensures { result ≡ version_of number }
 {
-    if is_number(196_608, number) {
+    if number == 196_608 {
         return Some(ProtocolVersion::V3_0);
     }
-    if is_number(196_610, number) {
+    if number == 196_610 {
         return Some(ProtocolVersion::V3_2);
     }
     None
-}
-
-fn is_number(version: i32, number: i32) -> bool
-    ensures { result ≡ is_number version number }
-{
-    !(number < version || version < number)
 }

@@ -22,8 +22,8 @@ use Rattle.pgp_frontend.specs.declared.startup.ProtocolVersion.TheVariants.{V3_2
 use Rattle.pgp_session.specs.Connection.{done_at as done_in, packet_of}
 use Rattle.pgp_session.specs.Session.{SpeaksAt}
 use Rattle.pgp_session.specs.Login.{encrypted_by, ways_in}
-use Rattle.pgp_login.specs.Login.{Follows as LoggedTo, Kept as Login, Stands, phase_of}
-use Rattle.pgp_login.specs.Machine.{Asking, AwaitsOffer, ByCleartext, ByMd5, Done, LogsOn, ScramBegins, ScramGoesOn, State, Ways, asking}
+use Rattle.pgp_login.specs.Login.{Follows as LoggedTo, Kept as Login, Stands}
+use Rattle.pgp_login.specs.Machine.{Asking, AwaitsOffer, ByCleartext, ByMd5, Done, LogsOn, ScramBegins, ScramGoesOn, State, Ways, asking, phase_of}
 use Rattle.pgp_login.specs.Session.{Admitted, IsAllowed}
 use Rattle.pgp_login.specs.Talks.{AsksOne, HearsOne, Opens, Talks}
 use Rattle.pgp_login.specs.declared.login.LoginPhase.{LoginPhase}

@@ -1,4 +1,4 @@
-use Rattle.pgp_login.proofs.Common.{Option, Some, Begun, ap, option_map, binding_at}
+use Rattle.pgp_login.proofs.Common.{Option, ap, option_map}
 use Rattle.pgp_auth.specs.ScramText.{Binding}
 use Rattle.pgp_login.specs.Exchange.{begun_with, seen_caller}
 use Rattle.pgp_login.proofs.Exchanges.{no_binding, unmade}

@@ -1,12 +1,9 @@
-use Rattle.pgp_login.proofs.Common.{◌≡◌, ◌⊎◌, ℕ, List, [], Option, None, Some, ap, inl, inr, sym, subst, rules, true, false, Error, ◌∙◌}
-use Rattle.std.specs.Prelude.{◌≢◌}
+use Rattle.pgp_login.proofs.Common.{◌≡◌, ℕ, List, Option, None, Some, sym, subst, rules, true, false, Error, ◌∙◌}
 use Rattle.std.specs.List.{list_all}
 use Rattle.pgp_base.specs.Items.{CountedItems}
-use Rattle.pgp_frontend.specs.declared.startup.ProtocolVersion.{ProtocolVersion}
 use Rattle.pgp_message.specs.Items.{StringSpelled, StringRefused}
 use Rattle.pgp_login.specs.Timely.{is_among}
-use Rattle.pgp_login.specs.Versions.{newest, version_of}
-use Rattle.pgp_login.specs.declared.versions.Versions.{Versions}
+use Rattle.pgp_login.specs.Versions.{version_of}
 use Rattle.pgp_login.proofs.Speaking.{changes_by, no_change}
 use Rattle.pgp_login.proofs.timely.is_answered.Goals as goal
 
