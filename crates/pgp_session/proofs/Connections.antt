@@ -4,7 +4,7 @@ use Rattle.std.specs.Prelude.{drop, take, ◌≢◌}
 use Rattle.std.specs.Int.{w32, from_be_bytes}
 use Rattle.pgp_client.specs.declared.event.Refusal.{Refusal}
 use Rattle.pgp_message.specs.declared.message.Message.{Message}
-use Rattle.pgp_session.specs.Connection.{Hears}
+use Rattle.pgp_session.specs.Connection.{Hears, IsNext}
 use Rattle.pgp_login.specs.Login.{DeclinesSo, Kept as Login}
 use Rattle.pgp_login.specs.Machine.{NothingAsked}
 use Rattle.pgp_login.specs.Timely.{HasKey, IsTimely, Offered}
@@ -16,7 +16,7 @@ use Rattle.pgp_login.specs.declared.fault.LoginError.{LoginError}
 use Rattle.pgp_login.specs.declared.fault.LoginError.TheVariants as login
 use Rattle.pgp_session.specs.declared.connection_error.ConnectionError.TheVariants.{Malformed, OutOfMemory as OutOfMemoryThere}
 use Rattle.pgp_client.specs.declared.stage.Stage.TheVariants.{Over as NothingMore}
-use Rattle.pgp_session.proofs.Incomings.{frame_there, rest_there}
+use Rattle.pgp_session.proofs.Incomings.{frame_there, no_message, rest_there}
 use Rattle.pgp_message.specs.BackendMessage.{Message as Meant, BackendKeyData}
 
 pub announced : (bytes : List ℕ) → 5 ≤ length bytes → header_of bytes ≡ Some (get_or bytes 0 0, from_be_bytes w32 (get_or bytes 1 0 ∷ get_or bytes 2 0 ∷ get_or bytes 3 0 ∷ get_or bytes 4 0 ∷ []))
@@ -192,14 +192,26 @@ module _ {A : Type 0} (lacks : Type 0) (old new : Shown) (all rest frame behind 
       (m, whole, Comes m behind phase short (behind_it old all rest behind left same n b (Ok m) t) h)
 
   -- the connection stopped at it
-  pub stopped_at : (m : Meant) (e : ConnectionError A) → old.phase ≡ Started → is_longer (limit_of old) old.incoming ≡ false → TakesFrame all (Ok m) rest → frame ≡ []
+  pub stopped_at : (m : Meant) (e : ConnectionError A) → old.phase ≡ Started → is_longer (limit_of old) old.incoming ≡ false → TakesFrame all (Ok m) rest → frame ≡ take (length all - left) all
       → Hears {A = A} lacks m (with_incoming behind old) new (Err e) → Advances {A = A} lacks old new frame (Err e)
-  stopped_at m e phase short t f h = (f, stops_else A lacks Over m (with_incoming behind old) new e h, Comes m behind phase short (behind_it old all rest behind left same n b (Ok m) t) h)
+  stopped_at m e phase short t f h =
+      let whole : Reads frame (Some m) = subst (λ l. Reads l (Some m)) (sym (f ∙ ap (λ k. take (length all - k) all) n)) (frame_there all rest m t) in
+      let there = behind_it old all rest behind left same n b (Ok m) t in
+      (inl (m, (phase, short, (behind, there)), whole), stops_else A lacks Over m (with_incoming behind old) new e h, Comes m behind phase short there h)
 
   -- what came is no message
   pub malformed_at : (e : Error) → old.phase ≡ Started → is_longer (limit_of old) old.incoming ≡ false → Step ⊥ all (Err e) rest → frame ≡ [] → new ≡ in_phase Over (with_incoming behind old)
       → Advances {A = A} lacks old new frame (Err (Malformed e))
-  malformed_at e phase short s f is = let t = not_taken old all rest behind left same n b lacks e s in (f, (λ p. cc), IsNone e behind phase short t.0 t.1 is)
+  malformed_at e phase short s f is =
+      let t = not_taken old all rest behind left same n b lacks e s in
+      let none = λ (m : Meant) (i : IsNext old m). no_message all rest i.2.0 e m s (subst (λ l. TakesFrame l (Ok m) i.2.0) (sym same) i.2.1) in
+      (inr (f, none), (λ p. cc), IsNone e behind phase short t.0 t.1 is)
+
+-- no message is taken
+pub not_advanced : {A : Type 0} (lacks : Type 0) (old new : Shown) (rest frame : List ℕ) (e : ConnectionError A) → rest ≡ old.incoming → frame ≡ [] → e ≢ OutOfMemoryThere
+    → ((m : Meant) → IsNext (with_incoming rest old) m → ⊥) → Nexts lacks (with_incoming rest old) new (Err e) → Advances lacks old new frame (Err e)
+not_advanced lacks old new rest frame e same f other none h =
+    (inr (f, λ (m : Meant) (i : IsNext old m). none m (subst (λ l. IsNext (with_incoming l old) m) (sym same) i)), other, so_far lacks old new rest (Err e) same h)
 
 -- the same with the end of the connection
 pub stops_over : {A : Type 0} (lacks : Type 0) (m : Meant) (old new : Shown) (e : ConnectionError A) → Stops {A = A} lacks old.phase m old new e → Stops {A = A} lacks Over m old (in_phase Over new) e

@@ -32,10 +32,10 @@ rest_there all rest r t = front_left all (frame_bytes t.first) rest t.whole
 
 -- ---- a frame that is read again
 
--- one message, and nothing behind it
-one : (frame rest : List ℕ) (r : Result Message Error) (m : Message) → TakesFrame frame (Ok m) [] → TakesFrame frame r rest → (Ok m ≡ r) × ([] ≡ rest)
-one frame rest r m f t =
-    let same = front_is_one f.first t.first [] rest f.fits t.fits (sym f.whole ∙ t.whole) in
+-- one message, and what stands behind it
+one : (frame behind rest : List ℕ) (r : Result Message Error) (m : Message) → TakesFrame frame (Ok m) behind → TakesFrame frame r rest → (Ok m ≡ r) × (behind ≡ rest)
+one frame behind rest r m f t =
+    let same = front_is_one f.first t.first behind rest f.fits t.fits (sym f.whole ∙ t.whole) in
     let read = sym (one_body f.first.tag f.first.payload (Ok m) f.fits.payload f.body) ∙ ap (λ (g : Frame). body_of g.tag g.payload) same.0 ∙ one_body t.first.tag t.first.payload r t.fits.payload t.body in
     (read, same.1)
 
@@ -47,11 +47,11 @@ unfolding said_by
 one_message frame None None p q = refl
 one_message frame None (Some m) p q = absurd (none [] (Ok m) (subst (λ l. TakesFrame l (Ok m) []) p q))
 one_message frame (Some m) None p q = absurd (none [] (Ok m) (subst (λ l. TakesFrame l (Ok m) []) q p))
-one_message frame (Some m) (Some n) p q = ap said_by (one frame [] (Ok n) m p q).0
+one_message frame (Some m) (Some n) p q = ap said_by (one frame [] [] (Ok n) m p q).0
 
 taken_again : (frame rest : List ℕ) (m : Message) → HasFrame frame → TakesFrame frame (Ok m) rest → Reads frame (Some m)
 taken_again frame rest m (None, empty) t = absurd (none rest (Ok m) (subst (λ l. TakesFrame l (Ok m) rest) empty t))
-taken_again frame rest m (Some k, f) t = subst (λ l. TakesFrame frame (Ok m) l) (sym (one frame rest (Ok m) k f t).1) t
+taken_again frame rest m (Some k, f) t = subst (λ l. TakesFrame frame (Ok m) l) (sym (one frame [] rest (Ok m) k f t).1) t
 
 -- where no message is read there are no bytes
 nothing : (frame : List ℕ) → HasFrame frame → ((m : Message) → TakesFrame frame (Ok m) [] → ⊥) → Reads frame None
@@ -63,9 +63,15 @@ read_again frame rest None has s = nothing frame has (λ m f. no_ending f.first 
 read_again frame rest (Some m) has s = taken_again frame rest (view m) has s
 
 other : (frame rest : List ℕ) (e : Error) → TakesFrame frame (Err e) rest → HasFrame frame → Reads frame None
-other frame rest e t has = nothing frame has (λ m f. is_no_error m e (one frame rest (Err e) m f t).0)
+other frame rest e t has = nothing frame has (λ m f. is_no_error m e (one frame [] rest (Err e) m f t).0)
 
 pub not_read : (frame rest : List ℕ) (e : Error) → HasFrame frame → Step ⊥ frame (Err e) rest → Reads frame None
 not_read frame rest errors.InvalidLength has s = nothing frame has (λ m f. no_ending f.first [] true f.fits (subst IsLengthFault f.whole s.0))
 not_read frame rest errors.OutOfMemory has s = absurd s.1
 not_read frame rest e has s = other frame rest e s has
+
+-- where the first frame isn't read, no message stands there
+pub no_message : (all rest behind : List ℕ) (e : Error) (m : Message) → Step ⊥ all (Err e) rest → TakesFrame all (Ok m) behind → ⊥
+no_message all rest behind errors.InvalidLength m s f = no_ending f.first behind true f.fits (subst IsLengthFault f.whole s.0)
+no_message all rest behind errors.OutOfMemory m s f = absurd s.1
+no_message all rest behind e m s f = is_no_error m e (one all behind rest (Err e) m f s).0

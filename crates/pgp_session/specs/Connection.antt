@@ -266,11 +266,17 @@ abbrev pub answered : {A : Type 0} → Message → Result Event (ConnectionError
 answered m (Ok e) = Ok (Some (e, m))
 answered m (Err e) = Err e
 
--- The same of a call that leaves the message to be read in place: this is its frame then, and at any other answer there is none. It never lacks memory for a message.
+-- A message is taken: one was awaited, and a whole one within the limit had come.
+abbrev pub IsNext : Shown → Message → Type 0
+IsNext c m = (c.phase ≡ Started) × (is_longer (limit_of c) c.incoming ≡ false) × ((rest : List ℕ) × TakesFrame c.incoming (Ok m) rest)
+
+-- The same of a call that leaves the message to be read in place, whatever it comes to: this is its frame then, and where none is taken there is none. It never lacks memory
+-- for a message.
 abbrev pub Advances : {A : Type 0} → Type 0 → Shown → Shown → List ℕ → Result (Option Event) (ConnectionError A) → Type 0
 Advances {A} lacks old new frame (Ok (Some e)) = (m : Message) × Reads frame (Some m) × Nexts {A = A} lacks old new (Ok (Some (e, m)))
 Advances {A} lacks old new frame (Ok None) = Reads frame None × Nexts {A = A} lacks old new (Ok None)
-Advances {A} lacks old new frame (Err e) = Reads frame None × (e ≢ OutOfMemory) × Nexts {A = A} lacks old new (Err e)
+Advances {A} lacks old new frame (Err e) = (((m : Message) × IsNext old m × Reads frame (Some m)) ⊎ (Reads frame None × ((m : Message) → IsNext old m → ⊥)))
+    × (e ≢ OutOfMemory) × Nexts {A = A} lacks old new (Err e)
 
 -- the call's answer, with the message as what it says
 abbrev pub nexted : {A : Type 0} {E : Type 0} → Result (Option (Event × code.Message.Message A)) E → Result (Option (Event × Message)) E

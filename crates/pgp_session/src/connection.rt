@@ -300,7 +300,7 @@ impl<'a, A: Memory> Connection<'a, A> {
     }
 
     /// Takes the server's next message, and says to which request it belongs; `None` where no message is complete. `message` has the message
-    /// then, in place: no memory is asked for it. In the log-in the reply is added to what is to be sent.
+    /// then, in place, also one that ends the connection: no memory is asked for it. In the log-in the reply is added to what is to be sent.
     ///
     /// # Errors
     ///
@@ -326,15 +326,10 @@ impl<'a, A: Memory> Connection<'a, A> {
                 let heard = self.state.hear(&message);
                 drop(message);
                 let left = messages.rest().len();
+                self.incoming.take(left);
                 match heard {
-                    Ok(event) => {
-                        self.incoming.take(left);
-                        Ok(Some(event))
-                    }
-                    Err(e) => {
-                        self.incoming.leave(left);
-                        Err(e)
-                    }
+                    Ok(event) => Ok(Some(event)),
+                    Err(e) => Err(e),
                 }
             }
             Err(e) => {
@@ -346,8 +341,8 @@ impl<'a, A: Memory> Connection<'a, A> {
         }
     }
 
-    /// The message that the last call of `advance` took, in place; `None` where it took none, and after `next`. Bytes that `feed` takes pass it. What is
-    /// sent leaves it where it is.
+    /// The message that the last call of `advance` took, in place, also where it ended the connection; `None` where it took none, and after `next`.
+    /// Bytes that `feed` takes pass it. What is sent leaves it where it is.
     #[inline(always)]
     pub fn message(&self) -> Option<Message<&[u8]>>
         ensures { Reads (current self.now) (option_map view result) }

@@ -140,20 +140,25 @@ fn is_there<A: Allocator + Copy>(connection: &Connection<'_, A>) -> bool {
     }
 }
 
-/// Shows the next message, which is there in place alone.
+/// Shows the next message, which is there in place alone; one that ends the connection is left to a step that looks.
 pub fn show_next<A: Allocator + Copy>(
     connection: &mut Connection<'_, A>,
     in_place: bool,
     turn: &mut Turn,
     out: &mut Shown,
 ) {
-    let taken = take_again(connection, in_place, turn, out);
-    match taken {
-        Taken::Event(event) => show(Ok(event), out),
-        Taken::Nothing => out.word("none"),
-        Taken::Fault | Taken::Lack => {}
-    }
-    if is_there(connection) != (in_place && matches!(taken, Taken::Event(_))) {
+    let is_wanted = match take_again(connection, in_place, turn, out) {
+        Taken::Event(event) => {
+            show(Ok(event), out);
+            in_place
+        }
+        Taken::Nothing => {
+            out.word("none");
+            false
+        }
+        Taken::Fault | Taken::Lack => return,
+    };
+    if is_there(connection) != is_wanted {
         out.word("misplaced");
     }
 }
