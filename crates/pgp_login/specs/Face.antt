@@ -9,6 +9,8 @@ use Rattle.pgp_login.specs.Machine.{State, AwaitsOffer, AwaitsFirst, AwaitsFinal
 use Rattle.pgp_login.specs.Timely.{Offered}
 use Rattle.pgp_login.specs.declared.face.PgpLogin.{PgpLogin}
 use Rattle.pgp_login.specs.declared.face.PgpWays.{PgpWays}
+use Rattle.pgp_login.specs.declared.login.LoginPhase.{LoginPhase}
+use Rattle.pgp_login.specs.declared.login.LoginPhase.TheVariants as phases
 use Rattle.pgp_login.specs.declared.versions.Versions.{Versions}
 use Rattle.pgp_login.specs.declared.versions.Versions.TheVariants.{Only3_0, UpTo3_2, Only3_2}
 
@@ -35,6 +37,15 @@ ways_of w = record { scram = scram_in w; md5 = md5_in w; cleartext = cleartext_i
 abbrev pub state_at : ℕ → List ℕ → State
 state_at n signature = if n == 0 then AwaitsOffer else if n == 1 then AwaitsFirst else if n == 2 then AwaitsFinal signature else if n == 3 then AwaitsOk else if n == 4 then Done else Failed
 
+-- the number of a phase: the one that C keeps
+abbrev pub phase_code : LoginPhase → ℕ
+phase_code phases.AwaitsOffer = 0
+phase_code phases.AwaitsFirst = 1
+phase_code phases.AwaitsFinal = 2
+phase_code phases.AwaitsOk = 3
+phase_code phases.Done = 4
+phase_code phases.Failed = 5
+
 abbrev pub state_of : PgpLogin → State
 state_of l = state_at l.phase l.signature
 
@@ -48,3 +59,9 @@ offered_in w = record { versions = versions_at w.versions; options = [] }
 -- what the server answered about versions, by its number
 abbrev pub answered_at : ℕ → Option ProtocolVersion
 answered_at n = if n == 0 then None else if n == 1 then Some V3_0 else Some V3_2
+
+-- the number under which C keeps it
+abbrev pub answer_code : Option ProtocolVersion → ℕ
+answer_code None = 0
+answer_code (Some V3_0) = 1
+answer_code (Some V3_2) = 2

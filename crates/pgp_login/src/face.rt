@@ -3,7 +3,7 @@
 ghost use Rattle.std.specs.Prelude.{◌≡◌, ◌≢◌, List, ℕ, Bool, Some, option_map};
 ghost use Rattle.pgp_message.specs.Views.{view};
 ghost use Rattle.pgp_login.specs.Exchange.{seen_caller};
-ghost use Rattle.pgp_login.specs.Face.{admits, answered_at, cleartext_in, md5_in, offered_in, state_at, state_of, versions_at, ways_of};
+ghost use Rattle.pgp_login.specs.Face.{admits, answer_code, answered_at, cleartext_in, md5_in, offered_in, phase_code, state_at, state_of, versions_at, ways_of};
 ghost use Rattle.pgp_login.specs.Fault.{Fault, number_of};
 ghost use Rattle.pgp_login.specs.Login.{HasExchange, Stands, awaited_in, kept, user_of};
 ghost use Rattle.pgp_login.specs.Machine.{Declines, LoggedOn, State, Ways as Admitting, asking, phase_of};
@@ -88,7 +88,8 @@ pub fn answered_at(n: u8) -> Option<ProtocolVersion>
 
 /// The number of what it answered.
 pub fn answered_code(answered: Option<ProtocolVersion>) -> u8
-    ensures { answered_at result ≡ answered }
+    ensures read { answered_at result ≡ answered }
+    ensures number { result ≡ answer_code answered }
 {
     match answered {
         None => 0,
@@ -143,7 +144,8 @@ fn resumed<'a>(login: &PgpLogin, ways: &PgpWays<'a>) -> Login<'a, Caller<'a>>
 
 /// What the caller keeps of it.
 fn put_back(login: &Login<'_, Caller<'_>>, before: [u8; 32]) -> PgpLogin
-    ensures { (w : Admitting) (encrypted : Bool) (s : State) → Stands w encrypted s (kept seen_caller login.now) → state_of result ≡ s }
+    ensures stands { (w : Admitting) (encrypted : Bool) (s : State) → Stands w encrypted s (kept seen_caller login.now) → state_of result ≡ s }
+    ensures number { result.phase ≡ phase_code login.now.phase }
 {
     PgpLogin {
         phase: phase_code(login.phase),
@@ -182,7 +184,8 @@ fn phase_at(n: u8) -> LoginPhase
 
 /// The number of a phase.
 fn phase_code(phase: LoginPhase) -> u8
-    ensures { (signature : List ℕ) → phase_of (state_at result signature) ≡ phase }
+    ensures read { (signature : List ℕ) → phase_of (state_at result signature) ≡ phase }
+    ensures number { result ≡ phase_code phase }
 {
     match phase {
         LoginPhase::AwaitsOffer => 0,

@@ -10,7 +10,7 @@ returns-in-Ok-clause-answered g c z =
     let w = ways_of c.args.ways.now in
     let encrypted = c.args.ways.now.is_encrypted in
     let followed = c.in-Ok.ensures.follows w encrypted (state_of c.args.login.now) c.resumed-resumed.ensures in
-    subst (λ (s : State). LoggedOn w encrypted (asking (view c.args.message.now)) (state_of c.args.login.now) s c.args.out.now.items c.hear.new.out.items) (sym (c.put_back.ensures w encrypted followed.state followed.stands)) followed.logged
+    subst (λ (s : State). LoggedOn w encrypted (asking (view c.args.message.now)) (state_of c.args.login.now) s c.args.out.now.items c.hear.new.out.items) (sym (c.put_back.ensures.stands w encrypted followed.state followed.stands)) followed.logged
 
 pub returns-then-not-is_asked-clause-answered : goal.returns-then-not-is_asked-clause-answered
 returns-then-not-is_asked-clause-answered g c z =
