@@ -48,7 +48,7 @@ pub use Rattle.pgp_session.specs.Login.{error_of, given, seen}
 pub use Rattle.pgp_session.specs.Proxy.{Call, ProxiesAll, PassesOn, NoneReceived, NoneRead, OneRead, Went, Stayed, Proxies, all_forwarded, statement_of}
 pub use Rattle.pgp_login.specs.Session.{ReceivedAmong, NoneWanted, OneReceived, OtherReceived}
 pub use Rattle.pgp_session.specs.ServerState.{newer, status, state_after}
-pub use Rattle.pgp_session.specs.Serving.{admission, signature, Due, Outcome, StepsAll, IsAsked, Proves, HasShown, IsUnderWay, IsChallenged, IsAdmitted, ReceivedIn, due, starts, at_opening, at_password, at_first, at_final, at_open, phase_after, password_message, first_message, final_message, NamesLast, NoneStands, OneStands, OtherStands, IsNewer}
+pub use Rattle.pgp_session.specs.Serving.{admission, signature, Due, Outcome, StepsAll, IsAsked, Proves, HasShown, IsUnderWay, IsChallenged, IsAdmitted, ReceivedIn, due, at_opening, at_password, at_first, at_final, at_open, phase_after, password_message, first_message, final_message, NamesLast, NoneStands, OneStands, OtherStands, IsNewer}
 pub use Rattle.pgp_session.specs.Session.{is_secret, secrets_of, Follows, History, IsOpenedAt, Known, and_fed, and_observed, and_sent, and_wrote, good, requests_in, requests_of, turns_of, AreNamed, Rises}
 pub use Rattle.pgp_session.specs.Settings.{AreInOrder, HasRoom, Said, heard, cost, cost_at, is_before, most, put_in, setting_in, StandsAt, last_after, replaced, reported, said_after, settled, value_of, nothing_said, size, without}
 pub use Rattle.pgp_session.specs.declared.connection.ConnectionPhase.{ConnectionPhase}

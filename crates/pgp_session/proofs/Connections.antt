@@ -1,5 +1,5 @@
 -- What the calls of a connection come to.
-use Rattle.pgp_session.proofs.Common.{◌≡◌, ℕ, ◌-◌, ◌≤◌, List, [], ◌∷◌, ◌++◌, length, get_or, Option, Some, None, Result, Ok, Err, refl, sym, ap, ap₂, subst, ◌∙◌, arith, inl, inr, Bool, true, false, not, OnOk, IfErr, ◌&&◌, WantsMemory, Error, Talk, Takes, taken, Event, Part, ClientMessage, bytes_of, cause, IsInRange, header_of, BeginsWithKept, IsLengthFault, IsPartial, Step, TakesFrame, parsed, view, InvalidLength, OutOfMemory, kind_of, request_of, awaits_data, is_copying, Request, Advances, Comes, IsNone, IsUnfit, Nexts, Notes, SendsGiven, Sent, Shown, Stops, Took, asked_of, is_bulk, is_end, in_phase, is_logged_in, is_part, is_longer, limit_of, may_ask, may_send, moved, next_name, noted, said, with_incoming, with_login, with_out, ConnectionError, ConnectionPhase, Started, Reads, Added, Puts, asking, error_of, fault, HasRoom, Said, heard, most, setting_in, CopyData, DataRow, is_between, Decides, Over, take-append_seam, and_parts}
+use Rattle.pgp_session.proofs.Common.{◌≡◌, ℕ, ◌-◌, ◌≤◌, List, [], ◌∷◌, ◌++◌, length, get_or, Option, Some, None, Result, Ok, Err, refl, sym, ap, ap₂, subst, ◌∙◌, arith, inl, inr, Bool, true, false, not, OnOk, IfErr, ◌&&◌, WantsMemory, Error, Talk, Takes, taken, Event, Part, ClientMessage, bytes_of, cause, IsInRange, header_of, BeginsWithKept, IsLengthFault, IsPartial, Step, TakesFrame, parsed, view, InvalidLength, OutOfMemory, kind_of, request_of, awaits_data, is_copying, Request, Advances, Comes, IsNone, IsUnfit, Nexts, Notes, SendsGiven, Sent, Shown, Stops, Took, asked_of, is_bulk, is_end, in_phase, is_logged_in, is_part, is_longer, limit_of, may_ask, may_send, moved, next_name, noted, said, with_incoming, with_login, with_out, ConnectionError, ConnectionPhase, Started, Reads, Added, Puts, asking, error_of, fault, HasRoom, Said, heard, most, setting_in, CopyData, DataRow, Over, take-append_seam, and_parts}
 use Rattle.std.specs.Prelude.{drop, take, ◌≢◌}
 use Rattle.std.specs.Int.{w32, from_be_bytes}
 use Rattle.pgp_client.specs.declared.event.Refusal.{Refusal}

@@ -8,6 +8,7 @@ pub mod Placed
 pub mod Reported
 pub mod Served
 pub mod StartupNames
+pub mod OptionNames
 pub mod Sessions
 pub mod Incomings
 pub mod Binds

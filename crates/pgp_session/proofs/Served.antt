@@ -1,5 +1,5 @@
 -- What is known of a session of a server stays known with each step.
-use Rattle.pgp_session.proofs.Common.{◌≡◌, ℕ, Bool, true, false, List, Some, Result, Ok, Err, [], ◌∷◌, ◌++◌, refl, sym, subst, inl, inr, append_assoc, ◌==◌, if◌then◌else◌, append-nil, Held, Error, ClientMessage, PasswordMessage, SaslInitialResponse, SaslResponse, Terminate, Startup, CancelRequest, SslRequest, GssEncRequest, Due, Outcome, StepsAll, IsAsked, Proves, HasShown, IsUnderWay, IsChallenged, IsAdmitted, ReceivedIn, due, starts, at_opening, at_password, at_first, at_final, at_open, phase_after, password_message, first_message, final_message}
+use Rattle.pgp_session.proofs.Common.{◌≡◌, ℕ, List, Some, Result, Ok, Err, [], ◌∷◌, ◌++◌, refl, sym, subst, inl, inr, append_assoc, append-nil, Held, Error, ClientMessage, PasswordMessage, SaslInitialResponse, SaslResponse, Terminate, Startup, CancelRequest, SslRequest, GssEncRequest, Due, Outcome, StepsAll, IsAsked, Proves, HasShown, IsUnderWay, IsChallenged, IsAdmitted, ReceivedIn, due, at_opening, at_password, at_first, at_final, at_open, phase_after, password_message, first_message, final_message}
 use Rattle.pgp_session.specs.Serving as spec
 use Rattle.pgp_session.specs.Serving.{Comes, Steps, Knows, NoneWanted, OneReceived, OtherReceived}
 use Rattle.pgp_session.specs.declared.serving.Denial.TheVariants.{WrongPassword, Violation}
@@ -18,21 +18,12 @@ IsDue m p (spec.Final text) = (m ≡ final_message text) × (p ≡ AwaitsFinal)
 IsDue m p spec.Asks = p ≡ Open
 IsDue m p d = Unit {0}
 
-starts_due : (m : ClientMessage) (minor : ℕ) → IsDue m Opening (starts minor)
-unfolding IsDue
-starts_due m minor = by (minor == 0) (minor == 2)
-  where
-    by : (a b : Bool) → IsDue m Opening (if a then spec.Starts else (if b then spec.Starts else spec.Misplaced))
-    by true b = tt
-    by false true = tt
-    by false false = tt
-
 opening_due : (m : ClientMessage) → IsDue m Opening (at_opening m)
 unfolding IsDue
 opening_due SslRequest = tt
 opening_due (CancelRequest process_id secret_key) = tt
 opening_due GssEncRequest = tt
-opening_due (Startup minor parameters) = starts_due (Startup minor parameters) minor
+opening_due (Startup minor parameters) = tt
 opening_due m = tt
 
 password_due : (m : ClientMessage) → IsDue m AwaitsPassword (at_password m)

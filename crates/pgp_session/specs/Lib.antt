@@ -1,4 +1,5 @@
 pub mod Serving
+pub mod ServingVersions
 pub mod Proxy
 pub mod Pooler
 pub mod Loans

@@ -1,7 +1,7 @@
 -- A server's core: what a client's message comes to in each phase, what is answered, and who is let in.
 -- PostgreSQL manual, "Message Flow": "Start-up", "Canceling Requests in Progress", "Termination", "SSL Session Encryption", "GSSAPI Session
 -- Encryption"; "SASL Authentication"; "Error and Notice Message Fields"; appendix "PostgreSQL Error Codes".
-use Rattle.std.specs.Prelude.{◌≡◌, ◌≢◌, ◌⊎◌, ℕ, false, List, [], ◌∷◌, ◌++◌, Option, Some, None, Result, Ok, Err, length, codes, ◌==◌, if◌then◌else◌}
+use Rattle.std.specs.Prelude.{◌≡◌, ◌≢◌, ◌⊎◌, ℕ, false, List, [], ◌∷◌, ◌++◌, Option, Some, None, Result, Ok, Err, length, codes}
 use Rattle.pgp_base.specs.Cause.{Cause, Wants, WantsMemory, Writes}
 use Rattle.pgp_base.specs.Held.{Held, ◌⊕◌, Leaves}
 use Rattle.pgp_base.specs.declared.error.Error.{Error}
@@ -70,15 +70,11 @@ pub data Due : Type 0 where
   Ends : Due
   Misplaced : Due
 
--- the startup packet of one of the minor versions that are spoken
-abbrev pub starts : ℕ → Due
-starts minor = if minor == 0 then Starts else (if minor == 2 then Starts else Misplaced)
-
 abbrev pub at_opening : ClientMessage → Due
 at_opening SslRequest = Encrypts
 at_opening GssEncRequest = Encrypts
 at_opening (CancelRequest process_id secret_key) = Cancels
-at_opening (Startup minor parameters) = starts minor
+at_opening (Startup minor parameters) = Starts
 at_opening m = Misplaced
 
 abbrev pub at_password : ClientMessage → Due

@@ -22,6 +22,7 @@ pub mod serving;
 mod serving_due;
 mod serving_outcome;
 mod serving_reply;
+mod serving_versions;
 mod session_storage;
 mod settings;
 mod startup_names;

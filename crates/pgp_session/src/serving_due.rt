@@ -2,7 +2,7 @@
 
 ghost use Rattle.std.specs.Prelude.{◌≡◌};
 ghost use Rattle.pgp_frontend_read.specs.Views.{view};
-ghost use Rattle.pgp_session.specs.Serving.{at_final, at_first, at_open, at_opening, at_password, due, seen, starts};
+ghost use Rattle.pgp_session.specs.Serving.{at_final, at_first, at_open, at_opening, at_password, due, seen};
 
 use crate::serving::ServingPhase;
 use pgp_frontend_read::ClientMessage;
@@ -44,22 +44,9 @@ fn at_opening<'m>(message: &ClientMessage<'m>) -> Due<'m>
     match message {
         ClientMessage::SslRequest | ClientMessage::GssEncRequest => Due::Encrypts,
         ClientMessage::CancelRequest { .. } => Due::Cancels,
-        ClientMessage::Startup { minor, .. } => starts(*minor),
+        ClientMessage::Startup { .. } => Due::Starts,
         _ => Due::Misplaced,
     }
-}
-
-/// What a startup packet is: its version is 3.0, or 3.2 of this project's profile.
-fn starts<'m>(minor: u16) -> Due<'m>
-    ensures { seen result ≡ starts minor }
-{
-    if minor == 0 {
-        return Due::Starts;
-    }
-    if minor == 2 {
-        return Due::Starts;
-    }
-    Due::Misplaced
 }
 
 fn at_password<'m>(message: &ClientMessage<'m>) -> Due<'m>

@@ -6,6 +6,7 @@ use crate::row::Row;
 use crate::shown::Shown;
 use crate::word::{Item, Words};
 use pgp_base::{Buffer, Error};
+use pgp_frontend_read::{ClientMessage, ClientMessages, PasswordKind};
 use pgp_message::Messages;
 use pgp_message_write::{
     Column, ErrorField, authentication_cleartext_password, authentication_gss,
@@ -18,6 +19,7 @@ use pgp_message_write::{
     parameter_description, parameter_status, parse_complete, portal_suspended, ready_for_query,
     row_description,
 };
+use pgp_session::serving::{answer_versions, startup_options};
 
 /// A field: a letter and a text.
 impl<'w> Item<'w> for ErrorField<'w> {
@@ -64,6 +66,24 @@ fn write_negotiation<B: Buffer>(words: &mut Words<'_>, buf: &mut B) -> Result<()
     negotiate_protocol_version(version, &words.list(), buf)
 }
 
+/// The answer about versions to a startup packet, these bytes.
+fn write_versions<B: Buffer>(words: &mut Words<'_>, buf: &mut B) -> Result<(), Error> {
+    let mut packets = ClientMessages::new(words.bytes());
+    match packets.next(PasswordKind::Password) {
+        Ok(Some(ClientMessage::Startup { minor, parameters })) => {
+            let options = match startup_options(words.alloc(), parameters) {
+                Ok(options) => options,
+                Err(e) => return Err(e),
+            };
+            match answer_versions(minor, &options, buf) {
+                Ok(_) => Ok(()),
+                Err(e) => Err(e),
+            }
+        }
+        _ => words.no_call(),
+    }
+}
+
 fn write_key<B: Buffer>(words: &mut Words<'_>, buf: &mut B) -> Result<(), Error> {
     let process_id = words.number();
     backend_key_data(process_id, words.bytes(), buf)
@@ -81,6 +101,7 @@ fn write_list<B: Buffer>(name: &str, words: &mut Words<'_>, buf: &mut B) -> Resu
         "copy_in_response" | "copy_out_response" => write_copy(name, words, buf),
         "data_row" => data_row(&words.list(), buf),
         "error_response" => error_response(&words.list(), buf),
+        "answer_versions" => write_versions(words, buf),
         "negotiate_protocol_version" => write_negotiation(words, buf),
         "notice_response" => notice_response(&words.list(), buf),
         "parameter_description" => parameter_description(&words.list(), buf),
