@@ -270,8 +270,8 @@ answered m (Err e) = Err e
 abbrev pub IsNext : Shown → Message → Type 0
 IsNext c m = (c.phase ≡ Started) × (is_longer (limit_of c) c.incoming ≡ false) × ((rest : List ℕ) × TakesFrame c.incoming (Ok m) rest)
 
--- The same of a call that leaves the message to be read in place, whatever it comes to: this is its frame then, and where none is taken there is none. It never lacks memory
--- for a message.
+-- The same of a call that leaves the message to be read in place, whatever it comes to: this is its frame then, and where none is taken there is none. It never
+-- lacks memory for a message.
 abbrev pub Advances : {A : Type 0} → Type 0 → Shown → Shown → List ℕ → Result (Option Event) (ConnectionError A) → Type 0
 Advances {A} lacks old new frame (Ok (Some e)) = (m : Message) × Reads frame (Some m) × Nexts {A = A} lacks old new (Ok (Some (e, m)))
 Advances {A} lacks old new frame (Ok None) = Reads frame None × Nexts {A = A} lacks old new (Ok None)

@@ -28,9 +28,11 @@ answered minor options = if has_all minor options then [] else bytes_of (negotia
 -- why the answer has no spelling: too many options, or too long ones
 abbrev pub cause_of : ℕ → List (List ℕ) → Cause
 cause_of minor options = if has_all minor options then None
-    else either (length_cause (length options)) (frame_cause (with_list (Int32 (version_code (spoken_at minor)) ∷ Rest (int32 (pos (length options))) ∷ []) (flat_map text_parts options) []))
+    else either (length_cause (length options))
+    (frame_cause (with_list (Int32 (version_code (spoken_at minor)) ∷ Rest (int32 (pos (length options))) ∷ []) (flat_map text_parts options) []))
 
 -- The answer was appended, and this version is spoken; or nothing was.
 abbrev pub AnswersVersions : {K : Type 0} → (Held K → ℕ → Type 0) → ℕ → List (List ℕ) → Held K → Held K → Result ProtocolVersion Error → Type 0
 AnswersVersions lacks minor options old new (Ok version) = (version ≡ spoken_at minor) × (cause_of minor options ≡ None) × (new ≡ old ⊕ answered minor options)
-AnswersVersions lacks minor options old new (Err e) = (WantsMemory (Wants lacks old (length (answered minor options))) e ⊎ (cause_of minor options ≡ Some e)) × Leaves old new
+AnswersVersions lacks minor options old new (Err e) = (WantsMemory (Wants lacks old (length (answered minor options))) e ⊎ (cause_of minor options ≡ Some e))
+    × Leaves old new

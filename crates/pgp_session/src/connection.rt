@@ -284,7 +284,8 @@ impl<'a, A: Memory> Connection<'a, A> {
     ///
     /// # Errors
     ///
-    /// On error nothing changes. `OutOfPhase` where no message is awaited; `OutOfMemory` if there is no memory for the bytes.
+    /// On error nothing changes, but `OutOfMemory` passes what `message` had. `OutOfPhase` where no message is awaited; `OutOfMemory` if there is no memory
+    /// for the bytes.
     pub fn feed(&mut self, piece: &[u8]) -> Result<(), ConnectionError<A>>
         ensures feeds { Feeds A.Lacks piece.now (shown self.old) (shown self.new) result }
         ensures passes { OnOk result (current self.new ≡ []) }

@@ -1,8 +1,8 @@
 //! A server's core from the first packet on: it is handed a client's messages, logs the client in, and says what each message
 //! comes to. It reads and writes nothing itself: the answers are appended to the caller's buffer.
 //!
-//! Once the startup packet came, the caller appends the answer about versions (`answer_versions`) and asks for the password. It answers the requests after the log-in itself,
-//! first with its settings and the ReadyForQuery.
+//! Once the startup packet came, the caller appends the answer about versions (`answer_versions`) and asks for the password. It
+//! answers the requests after the log-in itself, first with its settings and the ReadyForQuery.
 
 ghost use Rattle.std.specs.Prelude.{◌≡◌, ◌++◌, ◌∷◌, [], List, OnOk, OnErr};
 ghost use Rattle.pgp_message.specs.BackendMessage.{Authentication, AuthenticationCleartextPassword, AuthenticationMd5Password};
@@ -122,7 +122,8 @@ impl<A: Memory> Serving<A> {
     /// admission, or an error. A request is left to the caller, and so are the names of a startup packet. Whatever came before, where
     /// the session is then `Open`, the client has shown what it was asked for.
     ///
-    /// A startup packet may ask for any minor version of protocol 3: `answer_versions` says which is spoken. The first message of an exchange without a text has no place.
+    /// A startup packet may ask for any minor version of protocol 3: `answer_versions` says which is spoken. The first message of an
+    /// exchange without a text has no place.
     ///
     /// # Errors
     ///

@@ -50,9 +50,9 @@ fn keep<'m, A: Memory>(name: &'m [u8], names: &mut Vec<&'m [u8], A>) -> Result<(
     }
 }
 
-/// Says which version of the protocol is spoken with a client whose startup packet asks for 3, this minor version and these protocol options, and appends the answer about
-/// versions where one is due: another version is spoken, or there are options, of which a server here knows none. There is no 3.1, and none after 3.2. It goes out before
-/// the client is asked for a proof.
+/// Says which version of the protocol is spoken with a client whose startup packet asks for this minor version of 3, and for these protocol options, and
+/// appends the answer about versions where one is due: another version is spoken, or there are options, of which none is known. There is no 3.1, and none
+/// after 3.2. It goes out before the client is asked for a proof.
 ///
 /// # Errors
 ///
