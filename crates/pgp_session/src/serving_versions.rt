@@ -5,12 +5,15 @@ ghost use Rattle.std.specs.List.{filter};
 ghost use Rattle.pgp_base.specs.Cause.{WantsMemory, Writes};
 ghost use Rattle.pgp_frontend.specs.ClientMessage.{Startup};
 ghost use Rattle.pgp_session.specs.Connection.{is_option, options_of};
-ghost use Rattle.pgp_session.specs.ServingVersions.{AnswersVersions, answered, cause_of, has_all, spoken_at};
+ghost use Rattle.pgp_session.specs.ServingVersions.{AnswersVersions, answered, cause_of, has_all, number_at, spoken_at};
 
 use pgp_base::{Buffer, Error, FallibleIterator, Memory};
 use pgp_frontend::ProtocolVersion;
 use pgp_frontend_read::StartupParameters;
 use pgp_message_write as reply;
+
+/// The latest minor version.
+const LATEST: u16 = 2;
 
 /// The names of the packet's protocol options, which begin with `_pq_.`.
 ///
@@ -51,8 +54,8 @@ fn keep<'m, A: Memory>(name: &'m [u8], names: &mut Vec<&'m [u8], A>) -> Result<(
 }
 
 /// Says which version of the protocol is spoken with a client whose startup packet asks for this minor version of 3, and for these protocol options, and
-/// appends the answer about versions where one is due: another version is spoken, or there are options, of which none is known. There is no 3.1, and none
-/// after 3.2. It goes out before the client is asked for a proof.
+/// appends the answer about versions where one is due: a later version than 3.2 is asked for, or there are options, of which none is known. In 3.1 all is
+/// as in 3.0. It goes out before the client is asked for a proof.
 ///
 /// # Errors
 ///
@@ -81,17 +84,19 @@ fn spoken_at(minor: u16) -> ProtocolVersion
     }
 }
 
+/// Its number, as the answer names it.
+fn number_at(minor: u16) -> i32
+    ensures { result ≡ number_at minor }
+{
+    let spoken = if minor > LATEST { LATEST } else { minor };
+    196_608 + i32::from(spoken)
+}
+
 /// Whether that is all that is asked for.
 fn has_all(minor: u16, options: &[&[u8]]) -> bool
     ensures { result ≡ has_all minor (map (λ text. text.now) options.now) }
 {
-    if !options.is_empty() {
-        return false;
-    }
-    match spoken_at(minor) {
-        ProtocolVersion::V3_0 => minor == 0,
-        ProtocolVersion::V3_2 => minor == 2,
-    }
+    options.is_empty() && minor <= LATEST
 }
 
 /// Appends the answer, where one is due.
@@ -102,5 +107,5 @@ fn put_answer<B: Buffer>(minor: u16, options: &[&[u8]], out: &mut B) -> Result<(
     if has_all(minor, options) {
         return Ok(());
     }
-    reply::negotiate_protocol_version(spoken_at(minor).code(), options, out)
+    reply::negotiate_protocol_version(number_at(minor), options, out)
 }
