@@ -3,7 +3,7 @@
 use postgres_session::message::client::{ClientMessage, ClientParser, Limits};
 use postgres_session::message::reply::{self, Column};
 use postgres_session::scram::{ChannelOffer, SaslPrepRfc4013, ScramServer, StoredVerifier, ThreadRng};
-use postgres_session::serving::{Serving, ServingEvent};
+use postgres_session::serving::{answer_versions, startup_options, Serving, ServingEvent};
 use postgres_session::{BytesMut, Global};
 use std::error::Error;
 use std::io::{Read, Write};
@@ -19,9 +19,12 @@ fn echo(query: &[u8], out: &mut BytesMut) -> Result<(), postgres_session::Error>
 }
 
 /// What a message comes to: the log-in is the core's, and what is asked behind it this server's.
-fn answer(serving: &mut Serving, message: &ClientMessage<'_>, password: &[u8], out: &mut BytesMut) -> Result<bool, Box<dyn Error>> {
-    match serving.step(message, out)? {
+fn answer(serving: &mut Serving, message: ClientMessage<'_>, password: &[u8], out: &mut BytesMut) -> Result<bool, Box<dyn Error>> {
+    match serving.step(&message, out)? {
         ServingEvent::Named => {
+            if let ClientMessage::Startup { minor, parameters } = message {
+                answer_versions(minor, &startup_options(Global, parameters)?, out)?;
+            }
             let salt = (0..16).map(|_| rand()).collect();
             let stored = StoredVerifier::of_password(Global, password, salt, 4096, &SaslPrepRfc4013::new(Global))?;
             let exchange = ScramServer::new(Global, stored, ChannelOffer::NotOffered, &mut ThreadRng)?;
@@ -57,7 +60,7 @@ fn serve(mut client: TcpStream, password: &[u8]) -> Result<(), Box<dyn Error>> {
         let mut piece = &room[..count];
         while let Some(frame) = parser.next(&mut piece)? {
             let message = frame.message(serving.kind())?;
-            let goes_on = answer(&mut serving, &message, password, &mut out)?;
+            let goes_on = answer(&mut serving, message, password, &mut out)?;
             client.write_all(&out)?;
             out.clear();
             if !goes_on {
