@@ -5,11 +5,12 @@ use erased::kit::calls::Fail;
 use erased::kit::AsSlice as _;
 use erased::kit::Global;
 use erased::proved::pgp_session::serving::{
-    startup_names, Denial, Method, Serving, ServingEvent, ServingPhase, StartupNames,
+    answer_versions, startup_names, Denial, Method, Serving, ServingEvent, ServingPhase, StartupNames,
 };
 use erased::proved::postgres_protocol::authentication::sasl::{is_nonce, ChannelOffer, ScramServer, StoredVerifier};
 use erased::proved::postgres_protocol::message::client::{ClientMessage, ClientMessages, PasswordKind};
 use erased::proved::postgres_protocol::Error;
+use erased::proved::pgp_frontend::ProtocolVersion;
 
 const STORED: &[u8] =
     b"SCRAM-SHA-256$4096:W22ZaJ0SNY7soEsUEjb6gQ==$WG5d8oPm3OtcPnkdi4Uo7BkeZkBFzpcXkuLmtbsT4qY=:wfPLwcE6nTWhTAmQ7tl2KeoiWGPlZqQxSrmfPwDl2dU=";
@@ -88,6 +89,17 @@ fn a_client_opens() -> Result<(), Fail> {
 
 /// A startup packet that names the user twice, and a database.
 const NAMES: &[u8] = b"\0\0\0\x22\0\x03\0\0user\0a\0database\0b\0user\0c\0\0";
+
+// As PostgreSQL 18.6 has it: 3.1 is spoken as 3.0 is, and nothing is said of it.
+#[test]
+fn versions_that_are_spoken_have_no_answer() -> Result<(), Fail> {
+    for (minor, version) in [(0, ProtocolVersion::V3_0), (1, ProtocolVersion::V3_0), (2, ProtocolVersion::V3_2)] {
+        let mut out = BytesMut::new();
+        assert!(answer_versions(minor, &[], &mut out)? == version);
+        assert!(out.is_empty());
+    }
+    Ok(())
+}
 
 #[test]
 fn the_last_of_two_names_counts() -> Result<(), Fail> {
