@@ -11,12 +11,12 @@ pub record Streams : Type 0 where
   pub input : Option (List ℕ)
   pub output : Option (List ℕ)
 
--- What stands after a fault, where memory is refused and reads and writes fail so: a fault of reading or writing comes only where a call
--- of the reader or of the writer failed, and one of memory only where an allocation failed, or the reader failed for lack of memory.
-abbrev pub Caused : Type 0 → Type 0 → Type 0 → Fault → Type 0
-Caused lacks read_failed write_failed Memory = lacks ⊎ read_failed
-Caused lacks read_failed write_failed Read = read_failed
-Caused lacks read_failed write_failed Write = write_failed
+-- What stands after a fault, where memory is refused, reading stops with such faults, and writes fail so: one of memory comes only where an
+-- allocation failed, or reading stopped for lack of memory; one of reading only where it stopped otherwise; one of writing where a write failed.
+abbrev pub Caused : Type 0 → (Fault → Type 0) → Type 0 → Fault → Type 0
+Caused lacks ReadStops write_failed Memory = lacks ⊎ ReadStops Memory
+Caused lacks ReadStops write_failed Read = ReadStops Read
+Caused lacks ReadStops write_failed Write = write_failed
 
 -- The words aren't obeyed: this is reported, and nothing is read or written.
 pub record IsUnread (text : List ℕ) (code : ℕ) (before after : Streams) (status : ℕ) (complaint : List ℕ) : Type 0 where

@@ -2,7 +2,7 @@
 
 ghost use Rattle.std.specs.Prelude.{◌≡◌, ◌⊎◌, ◌≤◌, ◌<◌, ◌++◌, ◌∷◌, [], ℕ, List, drop, length, take, IfErr, IfOk, IfSome, OnErr, OnOk, string_bytes};
 ghost use Rattle.pgtrace_lines.specs.Common.{Appends, IsAtEnd, Keeps, Caused, AppendsFront, Columns, Json};
-ghost use Rattle.pgtool_line.specs.Interruptions.{GivesUp};
+ghost use Rattle.pgtool_line.specs.Interruptions.{GivesUp, NoRead, StopsReading};
 ghost use Rattle.pgtrace_lines.specs.Listing.{IsCutShort, ReadsWhenReady, WasListed, WritesListing, last_by, last_line, streams};
 ghost use Rattle.pgtrace_lines.specs.Steps.{Holds, ListsAll, ListsPiece, ListsSome, side_of, view_of};
 
@@ -62,7 +62,7 @@ pub fn list<A: Memory, R: Input, W: Output>(
     ensures passed { IfErr result (λ fault. fault ≡ Fault.Read → Keeps (W.contents output.old) (W.contents output.new) ⊎ W.Passed output.new) }
     ensures done { OnOk result (W.Passed output.new) }
     ensures cut { OnErr result (IsCutShort (view_of view.entry) (side_of side.entry) (streams (R.remaining input.old) (W.contents output.old)) (streams (R.remaining input.new) (W.contents output.new))) }
-    ensures cause { IfErr result (Caused A.Lacks (GivesUp R.Fails R.Called) (GivesUp W.Fails W.Interrupted)) }
+    ensures cause { IfErr result (Caused A.Lacks (StopsReading R.Fails R.Called) (GivesUp W.Fails W.Interrupted)) }
 {
     let mut piece = A::list_filled(alloc, 0, PIECE)?;
     list_stream(alloc, view, side, input, piece.as_mut_slice(), output)
@@ -85,7 +85,7 @@ fn list_stream<A: Memory, R: Input, W: Output>(
     ensures passed { IfErr result (λ fault. fault ≡ Fault.Read → Keeps (W.contents output.old) (W.contents output.new) ⊎ W.Passed output.new) }
     ensures done { OnOk result (W.Passed output.new) }
     ensures cut { OnErr result (IsCutShort (view_of view.entry) (side_of side.entry) (streams (R.remaining input.old) (W.contents output.old)) (streams (R.remaining input.new) (W.contents output.new))) }
-    ensures cause { IfErr result (Caused A.Lacks (GivesUp R.Fails R.Called) (GivesUp W.Fails W.Interrupted)) }
+    ensures cause { IfErr result (Caused A.Lacks (StopsReading R.Fails R.Called) (GivesUp W.Fails W.Interrupted)) }
 {
     let mut held = Held {
         side,
@@ -128,7 +128,7 @@ fn list_piece<A: Memory, W: Output>(
     ensures passed { OnOk result (W.Passed output.new) }
     ensures some { OnErr result ((rest : List ℕ) → Holds (record { side = side_of held.old.side; bytes = held.old.bytes.items; place = held.old.place; stopped = held.old.stopped; left = held.old.left }) rest →
         ListsSome (view_of view.entry) held.old.place (side_of held.old.side) (rest ++ piece.now) (W.contents output.old) (W.contents output.new)) }
-    ensures cause { IfErr result (Caused A.Lacks ⊥ (GivesUp W.Fails W.Interrupted)) }
+    ensures cause { IfErr result (Caused A.Lacks NoRead (GivesUp W.Fails W.Interrupted)) }
 {
     if held.stopped {
         held.left = held.left.saturating_add(piece.len() as u64);
@@ -222,7 +222,7 @@ fn list_rest<A: Memory, W: Output>(
     ensures all { OnOk result (Appends (W.contents output.old) (W.contents output.new) (last_line (view_of view.entry) stopped left)) }
     ensures some { OnErr result (AppendsFront (W.contents output.old) (W.contents output.new) (last_line (view_of view.entry) stopped left)) }
     ensures passed { OnOk result (W.Passed output.new) }
-    ensures cause { IfErr result (Caused A.Lacks ⊥ (GivesUp W.Fails W.Interrupted)) }
+    ensures cause { IfErr result (Caused A.Lacks NoRead (GivesUp W.Fails W.Interrupted)) }
 {
     line.clear();
     put_rest(view.style, stopped, left, line)?;

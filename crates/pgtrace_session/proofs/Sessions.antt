@@ -6,7 +6,7 @@ use Rattle.pgtrace_session.specs.declared.chunk.Part.TheVariants as part
 use Rattle.pgtrace_session.specs.declared.outcome.Ended.{Ended}
 use Rattle.pgtrace_session.specs.Pieces.{held_said}
 use Rattle.pgtrace_session.specs.Recording.{status_of}
-use Rattle.pgtrace_session.specs.Common.{Caused, Fault, Memory, Read, Write}
+use Rattle.pgtrace_session.specs.Common.{Caused, Fault, Memory, NoRead, Read, Write}
 use Rattle.pgtrace_session.specs.Session.{BreaksOff, said_of}
 use Rattle.pgtrace_session.specs.Several.{ListsRecording}
 use Rattle.pgtrace_session.proofs.Chunks.{magic_short}
@@ -381,7 +381,7 @@ module _ {E : Type 0} where
   last_broken (Err e) view marking before after output opened stopped held rest f all last = inr (last_cut view marking before after opened stopped held rest output f all last)
 
 -- nothing is read any more
-pub last_breaks : (r : Result Ended Fault) (passed lacks gives_up : Type 0) (view : View) (marking : Marking) (before after : Streams) → OnErr r (IsCutShort view marking before after) → IfErr r (Caused lacks ⊥ gives_up)
+pub last_breaks : (r : Result Ended Fault) (passed lacks gives_up : Type 0) (view : View) (marking : Marking) (before after : Streams) → OnErr r (IsCutShort view marking before after) → IfErr r (Caused lacks NoRead gives_up)
     → IfErr r (λ fault. BreaksOff passed view marking fault before after)
 last_breaks (Ok ended) passed lacks gives_up view marking before after cut cause = tt
 last_breaks (Err Memory) passed lacks gives_up view marking before after cut cause = cut

@@ -119,16 +119,17 @@ module _ (Gives : List ℕ → List ℕ → Type 0) (view : View) (marking : Mar
       let listing = listing_more (summarized true view) marking s.bytes file.more after its s.adds.output s.adds.listing s.all file.none in
       OneFile name all so_far (gives all file.all) (record { output = s.adds.output; listing = listing; added = s.adds.added })
 
--- reading it fails as reading of the reader does
-so : (lacks fails others writes : Type 0) (fault : Fault) → (fails → others) → Caused lacks fails writes fault → Caused lacks others writes fault
-so lacks fails others writes Memory f (inl l) = inl l
-so lacks fails others writes Memory f (inr x) = inr (f x)
-so lacks fails others writes Read f x = f x
-so lacks fails others writes Write f x = x
+-- reading it stops as reading of the reader does
+so : (lacks : Type 0) (stops others : Fault → Type 0) (writes : Type 0) (fault : Fault) → ((fault : Fault) → stops fault → others fault) → Caused lacks stops writes fault → Caused lacks others writes fault
+so lacks stops others writes Memory f (inl l) = inl l
+so lacks stops others writes Memory f (inr x) = inr (f Memory x)
+so lacks stops others writes Read f x = f Read x
+so lacks stops others writes Write f x = x
 
-pub caused_so : {X : Type 0} (r : Result X Fault) (lacks fails others writes : Type 0) → (fails → others) → IfErr r (Caused lacks fails writes) → IfErr r (Caused lacks others writes)
-caused_so (Ok x) lacks fails others writes f c = tt
-caused_so (Err fault) lacks fails others writes f c = so lacks fails others writes fault f c
+pub caused_so : {X : Type 0} (r : Result X Fault) (lacks : Type 0) (stops others : Fault → Type 0) (writes : Type 0) → ((fault : Fault) → stops fault → others fault) → IfErr r (Caused lacks stops writes)
+    → IfErr r (Caused lacks others writes)
+caused_so (Ok x) lacks stops others writes f c = tt
+caused_so (Err fault) lacks stops others writes f c = so lacks stops others writes fault f c
 
 nothing_written : (old new : Option (List ℕ)) (lines : List ℕ) → lines ≡ [] → Appends old new lines → Keeps old new
 nothing_written None new lines none w = tt

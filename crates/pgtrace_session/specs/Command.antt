@@ -1,7 +1,8 @@
 -- What the program does for its words.
 use Rattle.std.specs.Prelude.{◌≡◌, ⊤, ◌⊎◌, ◌||◌, ℕ, nat_lt, length, Bool, true, false, List, [], ◌∷◌, ◌++◌, Option, Some, None, IfSome, codes}
-use Rattle.pgtrace_session.specs.Common.{Keeps, Appends, IsAtEnd, Streams, Caused, IsUnread, AppendsFront, AreWords, Fault, Memory, Read, Write, AreOptions, Chosen, chosen_of, options_in, view_by, first_phase, View, Marking}
+use Rattle.pgtrace_session.specs.Common.{Keeps, Appends, IsAtEnd, Streams, Caused, StopsReading, IsUnread, AppendsFront, AreWords, Fault, Memory, Read, Write, AreOptions, Chosen, chosen_of, options_in, view_by, first_phase, View, Marking}
 use Rattle.pgtool_line.specs.Run as run
+use Rattle.std.specs.declared.io.ErrorKind.{ErrorKind}
 use Rattle.pgtrace_lines.specs.LineNames.{unknown_in}
 use Rattle.pgtrace_lines.specs.Listing as stream
 use Rattle.pgtrace_lines.specs.Sides as side
@@ -161,13 +162,15 @@ module _ {R W : Type 0} (remaining : R → Option (List ℕ)) (contents : W → 
   abbrev pub ReadsForOwn : (terminal : Bool) → (ℕ → List ℕ → Type 0) → (ℕ → Type 0) → R → W → Type 0
   ReadsForOwn terminal Stands Ends reader writer = (words : List (List ℕ)) → AreWords Stands Ends words → ReadsForWords terminal words reader writer
 
--- Where files gave such bytes, a terminal shows what is written or not, memory is refused and reads and writes fail so, and what was written is passed on so.
-module _ (Gives : List ℕ → List ℕ → Type 0) (terminal : Bool) (lacks read_failed write_failed passed : Type 0) where
+-- Where files gave such bytes, a terminal shows what is written or not, memory is refused, reads fail with errors of such kinds, so many
+-- of them come in a row, writes fail so, and what was written is passed on so.
+module _ (Gives : List ℕ → List ℕ → Type 0) (terminal : Bool) (lacks : Type 0) {S : Type 0} (read_fails : ErrorKind → Type 0) (called : S → ℕ → Type 0)
+    (write_failed passed : Type 0) where
   -- a fault was met, and is reported
   pub record IsFaulty (command : Command) (before after : Streams) (status : ℕ) (complaint : List ℕ) : Type 0 where
     pub fault : Fault
     pub stops : Stops Gives passed command fault before after
-    pub cause : Caused lacks read_failed write_failed fault
+    pub cause : Caused lacks (StopsReading read_fails called) write_failed fault
     pub reported : complaint ≡ complaint_of fault
     pub failed : status ≡ 1
 

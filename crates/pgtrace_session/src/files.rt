@@ -1,11 +1,12 @@
 //! Recordings in files.
 
 ghost use Rattle.std.specs.Prelude.{◌≡◌, ◌∷◌, ◌++◌, [], ℕ, List, Some, map, IfErr, IfOk, OnErr, OnOk};
-ghost use Rattle.pgtrace_session.specs.Common.{Appends, AppendsFront, Caused, Consumes, GivesUp, Keeps};
+ghost use Rattle.pgtrace_session.specs.Common.{Appends, AppendsFront, Caused, Consumes, Fault as Faults, GivesUp, Keeps, NoRead, StopsReading};
 ghost use Rattle.pgtrace_session.specs.Tables.{table};
 ghost use Rattle.pgtrace_session.specs.Recording.{complaint_of, status_of};
 ghost use Rattle.pgtrace_session.specs.Several.{AddsFiles, CutsFile, CutsTable, ListsFile, ListsTable, worst};
 ghost use Rattle.pgtrace_lines.specs.Steps.{view_of};
+ghost use Rattle.std.specs.IoError.{error_kind};
 
 use crate::ending::{End, complaint_of, status_of};
 use crate::outcome::{Ended, with_status};
@@ -36,16 +37,16 @@ pub trait Recordings: Input {
     fn open(&self, name: &str) -> io::Result<Self::File>
         ensures gives { IfOk result (λ file. (bytes : List ℕ) → Consumes (Self.File.remaining file) (Some []) bytes → Gives name.now bytes) }
         ensures live { OnOk result ((now : Self.File) → Self.File.MayRead now) }
-        ensures gives_up { OnOk result (GivesUp Self.File.Fails Self.File.Called → GivesUp Self.Fails Self.Called) }
-        ensures fails { OnErr result Self.Fails };
+        ensures stops { OnOk result ((fault : Faults) → StopsReading Self.File.Fails Self.File.Called fault → StopsReading Self.Fails Self.Called fault) }
+        ensures fails { IfErr result (λ e. Self.Fails (error_kind e)) };
 }
 
 /// Opens a file.
 fn open<R: Recordings>(name: &str, input: &R) -> Result<R::File, Fault>
     ensures gives { IfOk result (λ file. (bytes : List ℕ) → Consumes (R.File.remaining file) (Some []) bytes → R.Gives name.now bytes) }
     ensures live { OnOk result ((now : R.File) → R.File.MayRead now) }
-    ensures gives_up { OnOk result (GivesUp R.File.Fails R.File.Called → GivesUp R.Fails R.Called) }
-    ensures cause { IfErr result (Caused ⊥ (GivesUp R.Fails R.Called) ⊥) }
+    ensures stops { OnOk result ((fault : Faults) → StopsReading R.File.Fails R.File.Called fault → StopsReading R.Fails R.Called fault) }
+    ensures cause { IfErr result (Caused ⊥ (StopsReading R.Fails R.Called) ⊥) }
 {
     match input.open(name) {
         Ok(file) => Ok(file),
@@ -68,7 +69,7 @@ pub fn list_file<A: MapMemory, R: Recordings, W: Output>(
     ensures passed { OnOk result (W.Passed output.new) }
     ensures done { IfOk result (λ ended. ListsFile R.Gives (view_of view.entry) marking name.now (W.contents output.old) (W.contents output.new) ended.status (ended.first.now ++ ended.second.now ++ ended.third.now)) }
     ensures stops { OnErr result (CutsFile R.Gives (view_of view.entry) marking name.now (W.contents output.old) (W.contents output.new)) }
-    ensures cause { IfErr result (Caused A.Lacks (GivesUp R.Fails R.Called) (GivesUp W.Fails W.Interrupted)) }
+    ensures cause { IfErr result (Caused A.Lacks (StopsReading R.Fails R.Called) (GivesUp W.Fails W.Interrupted)) }
 {
     let mut file = open(name, input)?;
     list_session(alloc, view, marking, &mut file, output)
@@ -86,7 +87,7 @@ pub fn list_table<A: MapMemory, R: Recordings, W: Output>(
     ensures passed { OnOk result (W.Passed output.new) }
     ensures done { IfOk result (λ ended. ListsTable R.Gives (view_of view.entry) marking (map (λ name. name.now) names.now) (W.contents output.old) (W.contents output.new) ended.status (ended.first.now ++ ended.second.now ++ ended.third.now)) }
     ensures stops { OnErr result (CutsTable R.Gives (view_of view.entry) marking (map (λ name. name.now) names.now) (W.contents output.old) (W.contents output.new)) }
-    ensures cause { IfErr result (Caused A.Lacks (GivesUp R.Fails R.Called) (GivesUp W.Fails W.Interrupted)) }
+    ensures cause { IfErr result (Caused A.Lacks (StopsReading R.Fails R.Called) (GivesUp W.Fails W.Interrupted)) }
 {
     let mut table = Summary::new(alloc, marking.folded);
     list_added(alloc, view, marking, names, input, &mut table, output)
@@ -106,7 +107,7 @@ fn list_added<A: MapMemory, R: Recordings, W: Output>(
     ensures passed { OnOk result (W.Passed output.new) }
     ensures done { IfOk result (λ ended. ListsTable R.Gives (view_of view.entry) marking (map (λ name. name.now) names.now) (W.contents output.old) (W.contents output.new) ended.status (ended.first.now ++ ended.second.now ++ ended.third.now)) }
     ensures stops { OnErr result (CutsTable R.Gives (view_of view.entry) marking (map (λ name. name.now) names.now) (W.contents output.old) (W.contents output.new)) }
-    ensures cause { IfErr result (Caused A.Lacks (GivesUp R.Fails R.Called) (GivesUp W.Fails W.Interrupted)) }
+    ensures cause { IfErr result (Caused A.Lacks (StopsReading R.Fails R.Called) (GivesUp W.Fails W.Interrupted)) }
 {
     let end = add_files(alloc, view, marking, names, input, table, output)?;
     write_table(alloc, view, table, output)?;
@@ -123,7 +124,7 @@ fn write_table<A: MapMemory, W: Output>(
     ensures passed { OnOk result (W.Passed output.new) }
     ensures written { OnOk result (Appends (W.contents output.old) (W.contents output.new) (table (view_of view.entry) summary.now.tallies)) }
     ensures front { OnErr result (AppendsFront (W.contents output.old) (W.contents output.new) (table (view_of view.entry) summary.now.tallies)) }
-    ensures cause { IfErr result (Caused A.Lacks ⊥ (GivesUp W.Fails W.Interrupted)) }
+    ensures cause { IfErr result (Caused A.Lacks NoRead (GivesUp W.Fails W.Interrupted)) }
 {
     let mut part = String::new(alloc);
     let mut text = String::new(alloc);
@@ -144,7 +145,7 @@ fn add_files<A: MapMemory, R: Recordings, W: Output>(
     requires none { table.old.tallies ≡ [] }
     ensures added { IfOk result (λ end. AddsFiles R.Gives (view_of view.entry) marking (map (λ name. name.now) names.now) table.new.tallies end) }
     ensures kept { Keeps (W.contents output.old) (W.contents output.new) }
-    ensures cause { IfErr result (Caused A.Lacks (GivesUp R.Fails R.Called) (GivesUp W.Fails W.Interrupted)) }
+    ensures cause { IfErr result (Caused A.Lacks (StopsReading R.Fails R.Called) (GivesUp W.Fails W.Interrupted)) }
 {
     let mut end = End::Whole;
     for name in names {
@@ -166,7 +167,7 @@ fn add_file<A: MapMemory, R: Recordings, W: Output>(
 ) -> Result<End, Fault>
     ensures added { IfOk result (λ its. (names : List (List ℕ)) (end : End) → AddsFiles R.Gives (view_of view.entry) marking names table.old.tallies end → AddsFiles R.Gives (view_of view.entry) marking (names ++ name.now ∷ []) table.new.tallies (worst end its)) }
     ensures kept { Keeps (W.contents output.old) (W.contents output.new) }
-    ensures cause { IfErr result (Caused A.Lacks (GivesUp R.Fails R.Called) (GivesUp W.Fails W.Interrupted)) }
+    ensures cause { IfErr result (Caused A.Lacks (StopsReading R.Fails R.Called) (GivesUp W.Fails W.Interrupted)) }
 {
     let mut file = open(name, input)?;
     sum_session(alloc, view, marking, &mut file, table, output)

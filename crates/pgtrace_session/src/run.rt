@@ -1,7 +1,7 @@
 //! The program's words.
 
 ghost use Rattle.std.specs.Prelude.{◌≡◌, ◌⊎◌, ◌∷◌, ◌++◌, [], Some, codes, map, IfSome, IfNone, IfOk, IfErr, OnErr, OnOk};
-ghost use Rattle.pgtrace_session.specs.Common.{Appends, GivesUp, Caused, AppendsFront, streams, chosen_of, options_in, view_by};
+ghost use Rattle.pgtrace_session.specs.Common.{Appends, GivesUp, StopsReading, Caused, AppendsFront, streams, chosen_of, options_in, view_by};
 ghost use Rattle.pgtrace_lines.specs.Listing as stream;
 ghost use Rattle.pgtrace_lines.specs.Steps.{side_of, view_of};
 ghost use Rattle.pgtrace_session.specs.Command.{Asks, AsksSeveral, BreaksOff, Does, DoesSession, IsOther, Lists, Obeys, Prints, PrintsFront, ReadsFor, ReadsForOwn, ReadsForSession, ReadsForWords, Runs, RunsOwn, Stops, StopsSession, asked, complaint_of, is_fit, refusal, refusal_by, session_by, usage, word_of};
@@ -165,7 +165,7 @@ fn list_side<A: MapMemory, R: Input, W: Output>(
     ensures passed { OnOk result (W.Passed output.new) }
     ensures done { IfOk result (λ ended. Lists (view_of view.entry) (side_of side.entry) (streams (R.remaining input.old) (W.contents output.old)) (streams (R.remaining input.new) (W.contents output.new)) ended.status (ended.first.now ++ ended.second.now ++ ended.third.now)) }
     ensures stops { IfErr result (λ fault. BreaksOff (W.Passed output.new) (view_of view.entry) (side_of side.entry) fault (streams (R.remaining input.old) (W.contents output.old)) (streams (R.remaining input.new) (W.contents output.new))) }
-    ensures cause { IfErr result (Caused A.Lacks (GivesUp R.Fails R.Called) (GivesUp W.Fails W.Interrupted)) }
+    ensures cause { IfErr result (Caused A.Lacks (StopsReading R.Fails R.Called) (GivesUp W.Fails W.Interrupted)) }
 {
     match list(alloc, view, side, input, output) {
         Ok(said) => Ok(finished(said)),
@@ -199,7 +199,7 @@ fn list_by<A: MapMemory, R: Recordings, W: Output>(
     ensures passed { OnOk result (W.Passed output.new) }
     ensures done { IfOk result (λ ended. Does R.Gives (spec.Show listing (chosen_of options.now)) (streams (R.remaining input.old) (W.contents output.old)) (streams (R.remaining input.new) (W.contents output.new)) ended.status (ended.first.now ++ ended.second.now ++ ended.third.now)) }
     ensures stops { IfErr result (λ fault. Stops R.Gives (W.Passed output.new) (spec.Show listing (chosen_of options.now)) fault (streams (R.remaining input.old) (W.contents output.old)) (streams (R.remaining input.new) (W.contents output.new))) }
-    ensures cause { IfErr result (Caused A.Lacks (GivesUp R.Fails R.Called) (GivesUp W.Fails W.Interrupted)) }
+    ensures cause { IfErr result (Caused A.Lacks (StopsReading R.Fails R.Called) (GivesUp W.Fails W.Interrupted)) }
 {
     match listing {
         Listing::Server => {
@@ -229,7 +229,7 @@ fn list_sessions<A: MapMemory, R: Recordings, W: Output>(
     ensures passed { OnOk result (W.Passed output.new) }
     ensures done { IfOk result (λ ended. DoesSession R.Gives (chosen_of options.now).files (session_by (chosen_of options.now)) options.now.marking (streams (R.remaining input.old) (W.contents output.old)) (streams (R.remaining input.new) (W.contents output.new)) ended.status (ended.first.now ++ ended.second.now ++ ended.third.now)) }
     ensures stops { IfErr result (λ fault. StopsSession R.Gives (W.Passed output.new) (chosen_of options.now).files (session_by (chosen_of options.now)) options.now.marking fault (streams (R.remaining input.old) (W.contents output.old)) (streams (R.remaining input.new) (W.contents output.new))) }
-    ensures cause { IfErr result (Caused A.Lacks (GivesUp R.Fails R.Called) (GivesUp W.Fails W.Interrupted)) }
+    ensures cause { IfErr result (Caused A.Lacks (StopsReading R.Fails R.Called) (GivesUp W.Fails W.Interrupted)) }
 {
     let view = session_by(options);
     let marking = options.marking;
@@ -251,7 +251,7 @@ fn perform<A: MapMemory, R: Recordings, W: Output>(
     ensures passed { OnOk result (W.Passed output.new) }
     ensures done { IfOk result (λ ended. Does R.Gives (asked command.now) (streams (R.remaining input.old) (W.contents output.old)) (streams (R.remaining input.new) (W.contents output.new)) ended.status (ended.first.now ++ ended.second.now ++ ended.third.now)) }
     ensures stops { IfErr result (λ fault. Stops R.Gives (W.Passed output.new) (asked command.now) fault (streams (R.remaining input.old) (W.contents output.old)) (streams (R.remaining input.new) (W.contents output.new))) }
-    ensures cause { IfErr result (Caused A.Lacks (GivesUp R.Fails R.Called) (GivesUp W.Fails W.Interrupted)) }
+    ensures cause { IfErr result (Caused A.Lacks (StopsReading R.Fails R.Called) (GivesUp W.Fails W.Interrupted)) }
 {
     match command {
         Command::Show { listing, options } => list_by(alloc, *listing, options, input, output),
@@ -269,7 +269,7 @@ pub fn obey<'a, A: MapMemory, R: Recordings, W: Output>(
     output: &mut W,
 ) -> Ended<'a>
     requires live { ReadsForWords R.remaining W.contents W.Passed R.MayRead terminal (map (λ word. word.now) words.now) input.old output.old }
-    ensures { Obeys R.Gives terminal A.Lacks (GivesUp R.Fails R.Called) (GivesUp W.Fails W.Interrupted) (W.Passed output.new) (map (λ word. word.now) words.now) (streams (R.remaining input.old) (W.contents output.old)) (streams (R.remaining input.new) (W.contents output.new)) result.status (result.first.now ++ result.second.now ++ result.third.now) }
+    ensures { Obeys R.Gives terminal A.Lacks R.Fails R.Called (GivesUp W.Fails W.Interrupted) (W.Passed output.new) (map (λ word. word.now) words.now) (streams (R.remaining input.old) (W.contents output.old)) (streams (R.remaining input.new) (W.contents output.new)) result.status (result.first.now ++ result.second.now ++ result.third.now) }
 {
     let command = match command_of(alloc, terminal, words) {
         Ok(Some(command)) => command,
@@ -294,7 +294,7 @@ pub fn run<A: MapMemory, R: Recordings, W: Output, E: Output>(
     errors: &mut E,
 ) -> u8
     requires live { ReadsForWords R.remaining W.contents W.Passed R.MayRead terminal (map (λ word. word.now) words.now) input.old output.old }
-    ensures { Runs R.Gives terminal A.Lacks (GivesUp R.Fails R.Called) (GivesUp W.Fails W.Interrupted) (W.Passed output.new) (GivesUp E.Fails E.Interrupted) (E.Passed errors.new) (map (λ word. word.now) words.now) (streams (R.remaining input.old) (W.contents output.old)) (streams (R.remaining input.new) (W.contents output.new)) (E.contents errors.old) (E.contents errors.new) result }
+    ensures { Runs R.Gives terminal A.Lacks R.Fails R.Called (GivesUp W.Fails W.Interrupted) (W.Passed output.new) (GivesUp E.Fails E.Interrupted) (E.Passed errors.new) (map (λ word. word.now) words.now) (streams (R.remaining input.old) (W.contents output.old)) (streams (R.remaining input.new) (W.contents output.new)) (E.contents errors.old) (E.contents errors.new) result }
 {
     tell(obey(alloc, terminal, words, input, output), errors)
 }
@@ -309,7 +309,7 @@ pub fn run_own<A: MapMemory, V: Words, R: Recordings, W: Output, E: Output>(
     errors: &mut E,
 ) -> u8
     requires live { ReadsForOwn R.remaining W.contents W.Passed R.MayRead terminal (V.Stands env.now) (V.Ends env.now) input.old output.old }
-    ensures { RunsOwn R.Gives terminal A.Lacks (GivesUp R.Fails R.Called) (GivesUp W.Fails W.Interrupted) (W.Passed output.new) (V.Stands env.now) (V.Ends env.now) (V.Longer env.now) (GivesUp E.Fails E.Interrupted) (E.Passed errors.new) (streams (R.remaining input.old) (W.contents output.old)) (streams (R.remaining input.new) (W.contents output.new)) (E.contents errors.old) (E.contents errors.new) result }
+    ensures { RunsOwn R.Gives terminal A.Lacks R.Fails R.Called (GivesUp W.Fails W.Interrupted) (W.Passed output.new) (V.Stands env.now) (V.Ends env.now) (V.Longer env.now) (GivesUp E.Fails E.Interrupted) (E.Passed errors.new) (streams (R.remaining input.old) (W.contents output.old)) (streams (R.remaining input.new) (W.contents output.new)) (E.contents errors.old) (E.contents errors.new) result }
 {
     let texts = match texts(alloc, env) {
         Ok(Some(texts)) => texts,

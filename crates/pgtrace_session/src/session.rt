@@ -1,7 +1,7 @@
 //! The listing of a recording, as it comes.
 
 ghost use Rattle.std.specs.Prelude.{◌≡◌, ◌≤◌, ◌<◌, ◌++◌, ◌⊎◌, ℕ, Bool, List, [], false, true, drop, length, IfErr, IfOk, OnErr, OnOk, string_bytes};
-ghost use Rattle.pgtrace_session.specs.Common.{Appends, Keeps, GivesUp, Caused, AppendsFront, streams};
+ghost use Rattle.pgtrace_session.specs.Common.{Appends, Keeps, GivesUp, NoRead, StopsReading, Caused, AppendsFront, streams};
 ghost use Rattle.pgtrace_lines.specs.Steps.{view_of};
 ghost use Rattle.pgtrace_lines.specs.declared.marking.Marking.{Marking as Marks};
 ghost use Rattle.pgtrace_session.specs.Pieces.{Follows, IsFirst, ListsAllChunks, ListsPiece, ListsSome, SumsRecording, Tracks, held_first, held_last, held_nothing, held_said};
@@ -68,7 +68,7 @@ pub fn list_session<A: MapMemory, R: Input, W: Output>(
     ensures done { IfOk result (λ ended. ListsRecording (view_of view.entry) marking (streams (R.remaining input.old) (W.contents output.old)) (streams (R.remaining input.new) (W.contents output.new)) ended.status (ended.first.now ++ ended.second.now ++ ended.third.now)) }
     ensures stops { IfErr result (λ fault. BreaksOff (W.Passed output.new) (view_of view.entry) marking fault (streams (R.remaining input.old) (W.contents output.old)) (streams (R.remaining input.new) (W.contents output.new))) }
     ensures cut { OnErr result (IsCutShort (view_of view.entry) marking (streams (R.remaining input.old) (W.contents output.old)) (streams (R.remaining input.new) (W.contents output.new))) }
-    ensures cause { IfErr result (Caused A.Lacks (GivesUp R.Fails R.Called) (GivesUp W.Fails W.Interrupted)) }
+    ensures cause { IfErr result (Caused A.Lacks (StopsReading R.Fails R.Called) (GivesUp W.Fails W.Interrupted)) }
 {
     let mut piece = A::list_filled(alloc, 0, PIECE)?;
     let mut held = held_at_first(alloc, marking);
@@ -98,7 +98,7 @@ fn list_held<A: MapMemory, R: Input, W: Output>(
     ensures done { IfOk result (λ ended. ListsRecording (view_of view.entry) marking (streams (R.remaining input.old) (W.contents output.old)) (streams (R.remaining input.new) (W.contents output.new)) ended.status (ended.first.now ++ ended.second.now ++ ended.third.now)) }
     ensures stops { IfErr result (λ fault. BreaksOff (W.Passed output.new) (view_of view.entry) marking fault (streams (R.remaining input.old) (W.contents output.old)) (streams (R.remaining input.new) (W.contents output.new))) }
     ensures cut { OnErr result (IsCutShort (view_of view.entry) marking (streams (R.remaining input.old) (W.contents output.old)) (streams (R.remaining input.new) (W.contents output.new))) }
-    ensures cause { IfErr result (Caused A.Lacks (GivesUp R.Fails R.Called) (GivesUp W.Fails W.Interrupted)) }
+    ensures cause { IfErr result (Caused A.Lacks (StopsReading R.Fails R.Called) (GivesUp W.Fails W.Interrupted)) }
 {
     let stopped = list_pieces(view, marking, input, piece, held, output)?;
     list_last(view, stopped, held, output)
@@ -120,7 +120,7 @@ pub fn sum_session<A: MapMemory, R: Input, W: Output>(
     requires live { ReadsWhenReady R.remaining W.contents W.Passed R.MayRead (summarized true (view_of view)) marking input.old output.old }
     ensures added { IfOk result (λ end. SumsRecording (view_of view.entry) marking (R.remaining input.old) (R.remaining input.new) end table.old.tallies table.new.tallies) }
     ensures kept { Keeps (W.contents output.old) (W.contents output.new) }
-    ensures cause { IfErr result (Caused A.Lacks (GivesUp R.Fails R.Called) (GivesUp W.Fails W.Interrupted)) }
+    ensures cause { IfErr result (Caused A.Lacks (StopsReading R.Fails R.Called) (GivesUp W.Fails W.Interrupted)) }
 {
     let mut piece = A::list_filled(alloc, 0, PIECE)?;
     let mut held = held_at_first(alloc, marking);
@@ -150,7 +150,7 @@ fn sum_held<A: MapMemory, R: Input, W: Output>(
     requires live { ReadsWhenReady R.remaining W.contents W.Passed R.MayRead (summarized true (view_of view)) marking input.old output.old }
     ensures added { IfOk result (λ end. SumsRecording (view_of view.entry) marking (R.remaining input.old) (R.remaining input.new) end table.old.tallies table.new.tallies) }
     ensures kept { Keeps (W.contents output.old) (W.contents output.new) }
-    ensures cause { IfErr result (Caused A.Lacks (GivesUp R.Fails R.Called) (GivesUp W.Fails W.Interrupted)) }
+    ensures cause { IfErr result (Caused A.Lacks (StopsReading R.Fails R.Called) (GivesUp W.Fails W.Interrupted)) }
 {
     let quiet = summarized(view);
     let stopped = list_pieces(quiet, marking, input, piece, held, output)?;
@@ -240,7 +240,7 @@ fn list_pieces<A: MapMemory, R: Input, W: Output>(
     ensures live { IfErr result (λ fault. fault ≡ Fault.Read → WasListed (view_of view.entry) marking (streams (R.remaining input.old) (W.contents output.old)) (streams (R.remaining input.new) (W.contents output.new))) }
     ensures passed { IfErr result (λ fault. fault ≡ Fault.Read → Keeps (W.contents output.old) (W.contents output.new) ⊎ W.Passed output.new) }
     ensures cut { OnErr result (CutsLines (view_of view.entry) marking (streams (R.remaining input.old) (W.contents output.old)) (streams (R.remaining input.new) (W.contents output.new))) }
-    ensures cause { IfErr result (Caused A.Lacks (GivesUp R.Fails R.Called) (GivesUp W.Fails W.Interrupted)) }
+    ensures cause { IfErr result (Caused A.Lacks (StopsReading R.Fails R.Called) (GivesUp W.Fails W.Interrupted)) }
 {
     held.talk.start = first_start(marking.absolute);
     // Bounded, since each function has to end, and a reader may give pieces or be interrupted forever.
@@ -274,7 +274,7 @@ fn list_piece<A: MapMemory, W: Output>(
     ensures passed { OnOk result (W.Passed output.new) }
     ensures some { OnErr result ((marking : Marks) (bytes lines : List ℕ) → Tracks (view_of view.entry) marking bytes lines held.old.begun (kept_of held.old.talk) held.old.bytes.items →
         ListsSome (view_of view.entry) marking (bytes ++ piece.now) lines (W.contents output.old) (W.contents output.new)) }
-    ensures cause { IfErr result (Caused A.Lacks ⊥ (GivesUp W.Fails W.Interrupted)) }
+    ensures cause { IfErr result (Caused A.Lacks NoRead (GivesUp W.Fails W.Interrupted)) }
 {
     A::append(&mut held.bytes, piece)?;
     held.texts.lines.clear();
@@ -347,7 +347,7 @@ fn list_last<A: MapMemory, W: Output>(
     ensures all { OnOk result (Appends (W.contents output.old) (W.contents output.new) (held_last (view_of view.entry) (kept_of held.old.talk))) }
     ensures some { OnErr result (AppendsFront (W.contents output.old) (W.contents output.new) (held_last (view_of view.entry) (kept_of held.old.talk))) }
     ensures passed { OnOk result (W.Passed output.new) }
-    ensures cause { IfErr result (Caused A.Lacks ⊥ (GivesUp W.Fails W.Interrupted)) }
+    ensures cause { IfErr result (Caused A.Lacks NoRead (GivesUp W.Fails W.Interrupted)) }
 {
     held.texts.lines.clear();
     add_end(view, &held.talk, &mut held.texts)?;

@@ -1,6 +1,7 @@
 -- What the program does for its words.
 use Rattle.std.specs.Prelude.{◌≡◌, ◌≢◌, ⊤, ◌⊎◌, ◌↔◌, ℕ, true, false, List, [], ◌∷◌, Option, IfSome, Ok, Contains, codes}
 use Rattle.std.specs.Io.KnownBytes.{Keeps, Appends, IsAtEnd}
+use Rattle.std.specs.declared.io.ErrorKind.{ErrorKind}
 use Rattle.hex.specs.Hex.{decode_sized}
 use Rattle.pgp_auth.specs.Lexer.{Literal, Identifier, IsPlain, backslash}
 use Rattle.pgp_auth.specs.Verifier.{verifier, verifier_text}
@@ -9,6 +10,7 @@ use Rattle.pgtool_line.specs.declared.fault.Fault.{Fault}
 use Rattle.pgtool_line.specs.declared.fault.Fault.TheVariants.{Memory, Read, Write}
 use Rattle.pgwire_engines.specs.Output.{line, BackendOutput}
 use Rattle.pgwire_engines.specs.ClientOutput.{ClientOutput}
+use Rattle.pgtool_line.specs.Interruptions.{ReadFails}
 use Rattle.pgtool_line.specs.Taken.{AppendsFront}
 use Rattle.pgtool_line.specs.Run.{Streams, Caused, IsUnread}
 use Rattle.pgtool_line.specs.Run as run
@@ -98,12 +100,12 @@ MayRead command before after = Keeps before.input after.input
 abbrev pub IsOther : List (List ℕ) → Type 0
 IsOther words = (command : Command) → ¬ Asks words command
 
--- Where memory is refused and reads and writes fail so.
-module _ (lacks read_failed write_failed : Type 0) where
+-- Where memory is refused, reads fail with errors of such kinds, and writes fail so.
+module _ (lacks : Type 0) (read_fails : ErrorKind → Type 0) (write_failed : Type 0) where
   -- A command stopped at a fault: nothing was written, unless writing failed.
   pub record Stops (command : Command) (before after : Streams) (fault : Fault) : Type 0 where
     pub met : Meets command fault
-    pub cause : Caused lacks read_failed write_failed fault
+    pub cause : Caused lacks (ReadFails read_fails) write_failed fault
     pub input : MayRead command before after
     pub output : fault ≢ Write → Keeps before.output after.output
     pub cut : fault ≡ Write → IsCut command before after

@@ -4,7 +4,7 @@ ghost use Rattle.std.specs.Prelude.{◌≡◌, ◌≢◌, ◌<◌, ◌++◌, len
 ghost use Rattle.std.specs.Io.KnownBytes.{IsAtEnd, Keeps};
 ghost use Rattle.std.specs.List.{flat_map};
 ghost use Rattle.pgp_message.specs.Views.{seen};
-ghost use Rattle.pgtool_line.specs.Interruptions.{GivesUp};
+ghost use Rattle.pgtool_line.specs.Interruptions.{GivesUp, ReadFails};
 ghost use Rattle.pgwire_engines.specs.Output.{line, line_of, last_line, BackendOutput};
 ghost use Rattle.pgwire_engines.specs.Listing.{ListsPiece};
 ghost use Rattle.pgtool_line.specs.Run.{Caused};
@@ -46,7 +46,7 @@ pub fn backend<A: Memory, R: Input, W: Output>(
         (record { input = R.remaining input.old; output = W.contents output.old })
         (record { input = R.remaining input.new; output = W.contents output.new })) }
     ensures passed { OnOk result (W.Passed output.new) }
-    ensures cause { IfErr result (Caused A.Lacks R.Fails (GivesUp W.Fails W.Interrupted)) }
+    ensures cause { IfErr result (Caused A.Lacks (ReadFails R.Fails) (GivesUp W.Fails W.Interrupted)) }
 {
     let text = listing(alloc, input)?;
     put(text.as_bytes(), output)?;
@@ -57,7 +57,7 @@ pub fn backend<A: Memory, R: Input, W: Output>(
 fn listing<A: Memory, R: Input>(alloc: A, input: &mut R) -> Result<String<A>, Fault>
     ensures read { OnOk result (IsAtEnd (R.remaining input.new)) }
     ensures lines { IfOk result (λ text. IfSome (R.remaining input.old) (λ bytes. BackendOutput bytes (string_bytes text) 0)) }
-    ensures cause { IfErr result (Caused A.Lacks R.Fails ⊥) }
+    ensures cause { IfErr result (Caused A.Lacks (ReadFails R.Fails) ⊥) }
 {
     let mut piece = A::list_filled(alloc, 0, PIECE)?;
     lines_of(alloc, input, piece.as_mut_slice())
@@ -73,7 +73,7 @@ fn lines_of<A: Memory, R: Input>(
     requires { 0 < length piece.old }
     ensures read { OnOk result (IsAtEnd (R.remaining input.new)) }
     ensures lines { IfOk result (λ text. IfSome (R.remaining input.old) (λ bytes. BackendOutput bytes (string_bytes text) 0)) }
-    ensures cause { IfErr result (Caused A.Lacks R.Fails ⊥) }
+    ensures cause { IfErr result (Caused A.Lacks (ReadFails R.Fails) ⊥) }
 {
     let mut parser = StreamParser::new(alloc);
     let mut text = String::new(alloc);

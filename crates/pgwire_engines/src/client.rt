@@ -6,7 +6,7 @@ ghost use Rattle.std.specs.List.{slice_split};
 ghost use Rattle.hex.specs.Hex.{encode_lower};
 ghost use Rattle.pgp_frontend.specs.Reading.{IsNamed};
 ghost use Rattle.pgp_stream.specs.ClientStream.{AddsMessage};
-ghost use Rattle.pgtool_line.specs.Interruptions.{GivesUp};
+ghost use Rattle.pgtool_line.specs.Interruptions.{GivesUp, ReadFails};
 ghost use Rattle.pgwire_engines.specs.ClientOutput.{ClientOutput, reported};
 ghost use Rattle.pgtool_line.specs.Run.{Caused};
 ghost use Rattle.pgwire_engines.specs.Command.{Client, IsCut, IsWritten, LacksFor};
@@ -65,7 +65,7 @@ pub fn client<A: Memory, R: Input, W: Output>(
         (record { input = R.remaining input.old; output = W.contents output.old })
         (record { input = R.remaining input.new; output = W.contents output.new })) }
     ensures passed { OnOk result (W.Passed output.new) }
-    ensures cause { IfErr result (Caused A.Lacks R.Fails (GivesUp W.Fails W.Interrupted)) }
+    ensures cause { IfErr result (Caused A.Lacks (ReadFails R.Fails) (GivesUp W.Fails W.Interrupted)) }
 {
     let script = read_rest(alloc, input)?;
     let answer = answer_to(alloc, script.as_slice())?;

@@ -2,6 +2,7 @@
 
 ghost use Rattle.std.specs.Prelude.{◌≡◌, IfErr, IfOk, IfSome, OnOk};
 ghost use Rattle.std.specs.Io.KnownBytes.{Consumes, IsAtEnd};
+ghost use Rattle.pgtool_line.specs.Interruptions.{ReadFails};
 ghost use Rattle.pgtool_line.specs.Run.{Caused};
 
 use crate::ports::Input;
@@ -18,7 +19,7 @@ pub fn read_rest<A: Memory, R: Input>(alloc: A, input: &mut R) -> Result<Vec<u8,
     ensures rest { IfOk result (λ bytes. IfSome (R.remaining input.old) (λ rest. bytes.items ≡ rest)) }
     ensures consumes { IfOk result (λ bytes. Consumes (R.remaining input.old) (R.remaining input.new) bytes.items) }
     ensures end { OnOk result (IsAtEnd (R.remaining input.new)) }
-    ensures cause { IfErr result (Caused A.Lacks R.Fails ⊥) }
+    ensures cause { IfErr result (Caused A.Lacks (ReadFails R.Fails) ⊥) }
 {
     let mut bytes = Vec::new(alloc);
     match input.read_rest(&mut bytes) {

@@ -4,7 +4,7 @@ ghost use Rattle.std.specs.Prelude.{◌≡◌, ◌≢◌, ℕ, List, IfOk, IfErr
 ghost use Rattle.std.specs.Io.KnownBytes.{Appends, Keeps};
 ghost use Rattle.pgp_auth.specs.Lexer.{Identifier};
 ghost use Rattle.pgp_auth.specs.Verifier.{verifier, verifier_text};
-ghost use Rattle.pgtool_line.specs.Interruptions.{GivesUp};
+ghost use Rattle.pgtool_line.specs.Interruptions.{GivesUp, NoRead};
 ghost use Rattle.pgwire_engines.specs.Output.{line};
 ghost use Rattle.pgtool_line.specs.Run.{Caused};
 ghost use Rattle.pgwire_engines.specs.Command.{IsEscapedLiteral};
@@ -32,7 +32,7 @@ pub fn verifier<A: Memory, W: Output>(
     ensures cut { IfErr result (λ fault. fault ≡ Fault.Write → AppendsFront (W.contents output.old) (W.contents output.new)
         (line (verifier_text (verifier password.now salt 4096)))) }
     ensures passed { OnOk result (W.Passed output.new) }
-    ensures cause { IfErr result (Caused A.Lacks ⊥ (GivesUp W.Fails W.Interrupted)) }
+    ensures cause { IfErr result (Caused A.Lacks NoRead (GivesUp W.Fails W.Interrupted)) }
 {
     match password::scram_sha_256_salt(alloc, password.as_bytes(), salt, &NoPrep) {
         Ok(text) => print(text, output),
@@ -53,7 +53,7 @@ pub fn escape_literal<A: Memory, W: Output>(
     ensures cut { IfErr result (λ fault. fault ≡ Fault.Write → ((literal : List ℕ) × IsEscapedLiteral text.now literal
         × AppendsFront (W.contents output.old) (W.contents output.new) (line literal))) }
     ensures passed { OnOk result (W.Passed output.new) }
-    ensures cause { IfErr result (Caused A.Lacks ⊥ (GivesUp W.Fails W.Interrupted)) }
+    ensures cause { IfErr result (Caused A.Lacks NoRead (GivesUp W.Fails W.Interrupted)) }
 {
     match escape::escape_literal(alloc, text) {
         Ok(literal) => print(literal, output),
@@ -74,7 +74,7 @@ pub fn escape_identifier<A: Memory, W: Output>(
     ensures cut { IfErr result (λ fault. fault ≡ Fault.Write → ((identifier : List ℕ) × Identifier identifier text.now
         × AppendsFront (W.contents output.old) (W.contents output.new) (line identifier))) }
     ensures passed { OnOk result (W.Passed output.new) }
-    ensures cause { IfErr result (Caused A.Lacks ⊥ (GivesUp W.Fails W.Interrupted)) }
+    ensures cause { IfErr result (Caused A.Lacks NoRead (GivesUp W.Fails W.Interrupted)) }
 {
     match escape::escape_identifier(alloc, text) {
         Ok(identifier) => print(identifier, output),

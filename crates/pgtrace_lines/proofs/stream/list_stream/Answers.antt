@@ -1,3 +1,6 @@
+use Rattle.std.specs.IoError.{error_kind}
+use Rattle.std.specs.Prelude.{◌≢◌}
+use Rattle.std.specs.declared.io.ErrorKind.TheVariants.{OutOfMemory}
 use Rattle.pgtrace_lines.proofs.Common.{take, arith, rules, refl, subst, inl, inr, Consumes, Keeps-refl, side_of, view_of}
 use Rattle.pgtrace_lines.proofs.Traces.{tracks_start, tracks_same, tracks_piece, end_written, end_cut, piece_cut, cut_here, was_listed, called_more, ready}
 use Rattle.pgtrace_lines.proofs.stream.list_stream.Goals as goal
@@ -48,7 +51,8 @@ returns-in_default g c =
     let next = g.R.Read.remaining c.read_some.new.self in
     let out = g.W.Write.contents c.pieces.output in
     let t = tracks_same (view_of c.args.view) (side_of c.args.side) (record { input = g.R.Read.remaining c.args.input.now; output = g.W.Write.contents c.args.output.now }) (record { input = g.R.Read.remaining c.pieces.input; output = out }) (record { side = side_of c.pieces.held.side; bytes = c.pieces.held.bytes.items; place = c.pieces.held.place; stopped = c.pieces.held.stopped; left = c.pieces.held.left }) next c.pieces.invariant.0 c.in-Err.ensures.bytes in
-    let fails : g.R.Input.Fails = search rules in
+    let fails : g.R.Input.Fails (error_kind c.in-Err.e) = search rules in
+    let other : error_kind c.in-Err.e ≢ OutOfMemory = search rules in
     record {
       read = tt;
       listed = tt;
@@ -56,7 +60,7 @@ returns-in_default g c =
       passed = λ e. c.pieces.invariant.1;
       done = tt;
       cut = cut_here (view_of c.args.view) (side_of c.args.side) (record { input = g.R.Read.remaining c.args.input.now; output = g.W.Write.contents c.args.output.now }) (record { input = next; output = out }) (record { side = side_of c.pieces.held.side; bytes = c.pieces.held.bytes.items; place = c.pieces.held.place; stopped = c.pieces.held.stopped; left = c.pieces.held.left }) t;
-      cause = inl fails;
+      cause = inl (error_kind c.in-Err.e, other, fails);
     }
 
 pub pieces-preserved : goal.pieces-preserved

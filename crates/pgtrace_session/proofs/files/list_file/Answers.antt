@@ -11,4 +11,4 @@ returns-clause-stops g c =
     file_cut g.R.Recordings.Gives (view_of c.args.view) c.args.marking c.args.name.now _ _ c.in_ok-file.ensures.gives c.list_session.result (g.W.Write.contents c.args.output.now) (g.W.Write.contents c.list_session.new.output) c.list_session.ensures.cut
 
 pub returns-clause-cause : goal.returns-clause-cause
-returns-clause-cause g c = caused_so c.list_session.result _ _ _ _ c.in_ok-file.ensures.gives_up c.list_session.ensures.cause
+returns-clause-cause g c = caused_so c.list_session.result _ _ _ _ c.in_ok-file.ensures.stops c.list_session.ensures.cause

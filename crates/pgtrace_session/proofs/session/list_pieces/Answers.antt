@@ -1,3 +1,6 @@
+use Rattle.std.specs.IoError.{error_kind}
+use Rattle.std.specs.Prelude.{◌≢◌}
+use Rattle.std.specs.declared.io.ErrorKind.TheVariants.{OutOfMemory}
 use Rattle.pgtrace_session.proofs.Common.{true, false, ◌++◌, take, arith, rules, refl, subst, inl, inr, Consumes, Keeps-refl, on_err, Streams, view_of, ListsPiece, Stays, kept_of, called_more}
 use Rattle.pgtrace_session.proofs.Sessions.{first_held, follows_end, follows_piece, follows_same, follows_start, part_here, part_of_piece, read_all, read_rest, ready, was_listed}
 use Rattle.pgtrace_session.proofs.session.list_pieces.Goals as goal
@@ -70,14 +73,15 @@ returns-in_default g c =
     let held = c.pieces.held in
     let before : Streams = record { input = g.R.Read.remaining c.args.input.now; output = g.W.Write.contents c.args.output.now } in
     let f = follows_same (view_of c.args.view) c.args.marking before (record { input = g.R.Read.remaining c.pieces.input; output = out }) held.begun (kept_of held.talk) held.bytes.items next c.pieces.invariant.0 c.in-Err.ensures.bytes in
-    let fails : g.R.Input.Fails = search rules in
+    let fails : g.R.Input.Fails (error_kind c.in-Err.e) = search rules in
+    let other : error_kind c.in-Err.e ≢ OutOfMemory = search rules in
     record {
       listed = tt;
       all = tt;
       live = λ e. was_listed (view_of c.args.view) c.args.marking before (record { input = next; output = out }) held.begun (kept_of held.talk) held.bytes.items f;
       passed = λ e. c.pieces.invariant.1;
       cut = part_here (view_of c.args.view) c.args.marking before (record { input = next; output = out }) held.begun (kept_of held.talk) held.bytes.items f;
-      cause = inl fails;
+      cause = inl (error_kind c.in-Err.e, other, fails);
     }
 
 pub pieces-preserved : goal.pieces-preserved
