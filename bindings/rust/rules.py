@@ -134,8 +134,8 @@ def global_allocator(text):
     # (before Rust 1.67 an empty one asks for memory)
     text = text.replace('VecDeque::new()', 'Global::empty_queue()')
     text = re.sub(r'^use std::alloc::[^;]*;\n', '', text, flags=re.M)
-    text = re.sub(r'^(use (?:crate|pgp_base|pgtrace_names)::\{?[^;]*?)\b(?:(?:Map)?Memory, |, (?:Map)?Memory\b)', r'\1', text, flags=re.M)
-    text = re.sub(r'^use (?:pgp_base|pgtrace_names|crate::memory)::(?:Map)?Memory;\n', '', text, flags=re.M)
+    text = re.sub(r'^(use (?:crate|pgp_base|pgtrace_summary)::\{?[^;]*?)\b(?:(?:Map)?Memory, |, (?:Map)?Memory\b)', r'\1', text, flags=re.M)
+    text = re.sub(r'^use (?:pgp_base|pgtrace_summary|crate::memory)::(?:Map)?Memory;\n', '', text, flags=re.M)
     return re.sub(r'^(use [\w:]+::)\{(\w+)\};', r'\1\2;', text, flags=re.M)
 
 

@@ -28,7 +28,7 @@ pub use Rattle.pgtool_line.specs.declared.style.Form.TheVariants.{Columns, Json}
 pub use Rattle.pgtool_line.specs.declared.style.Style.{Style}
 pub use Rattle.pgp_message.specs.BackendMessage.{Authentication, AuthenticationCleartextPassword, AuthenticationGss, AuthenticationGssContinue, AuthenticationMd5Password, AuthenticationOk, AuthenticationSasl, AuthenticationSaslContinue, AuthenticationSaslFinal, AuthenticationSspi, BackendKeyData, BindComplete, Body, CloseComplete, DataRow, Message, NoData, ParameterDescription, ParseComplete, ReadyForQuery, RowDescription}
 pub use Rattle.pgp_message.specs.Table.{HasPlaces, IsPlaceIn, value_at}
-pub use Rattle.pgtrace_names.specs.Names.{found, put, without}
+pub use Rattle.pgtrace_summary.specs.Names.{found, put, without}
 pub use Rattle.pgtool_line.specs.Interruptions.{GivesUp, NoRead, StopsReading}
 pub use Rattle.pgtool_line.specs.Run.{Caused, IsSaid, IsUnread, Streams}
 pub use Rattle.pgtool_line.specs.Taken.{AppendsFront}

@@ -7,7 +7,7 @@ ghost use Rattle.pgtrace_session.specs.TypesKept.{awaited_of, queue_of};
 
 use crate::column::Column;
 use pgp_base::Memory;
-use pgtrace_names::MapMemory;
+use pgtrace_summary::MapMemory;
 use std::alloc::AllocError;
 use std::collections::VecDeque;
 

@@ -22,8 +22,7 @@ use pgtrace_lines::body::put_integer;
 use pgtrace_lines::client_lists::put_formats;
 use pgtrace_lines::frame::begin_line;
 use pgtrace_lines::lists::put_fault;
-use pgtrace_names::MapMemory;
-use pgtrace_summary::Summary;
+use pgtrace_summary::{MapMemory, Summary};
 use std::alloc::AllocError;
 
 /// Writes the line of a client's frame anew, whose mark says this of requests, where it is a Bind some of whose parameters come in binary format, and their

@@ -26,8 +26,7 @@ use pgp_base::Memory;
 use pgp_client::Request;
 use pgp_frontend_read::{ClientMessage, ClientMessages, Formats, PasswordKind};
 use pgtool_line::style::Style;
-use pgtrace_names::MapMemory;
-use pgtrace_summary::Work;
+use pgtrace_summary::{MapMemory, Work};
 use std::alloc::AllocError;
 
 /// Takes note of a client's frame, and writes its line anew where it has values whose types are known. Returns what its mark says of requests, and what it

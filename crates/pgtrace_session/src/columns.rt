@@ -1,14 +1,14 @@
 //! What is known under names.
 
 ghost use Rattle.std.specs.Prelude.{◌≡◌, IfOk, OnErr, OnOk};
-ghost use Rattle.pgtrace_names.specs.Names.{without};
+ghost use Rattle.pgtrace_summary.specs.Names.{without};
 ghost use Rattle.pgtrace_session.specs.Shelves.{bare, formatted, in_formats, kept};
 ghost use Rattle.pgtrace_session.specs.Typed.{column_of, with_field};
 
 use crate::column::{Column, binary_at, is_binary};
 use pgp_base::Memory;
 use pgp_message::Field;
-use pgtrace_names::{MapMemory, Names};
+use pgtrace_summary::{MapMemory, Names};
 use std::alloc::{AllocError, Allocator};
 use std::marker::Model;
 

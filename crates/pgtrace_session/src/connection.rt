@@ -15,7 +15,7 @@ use crate::state::Known;
 use bytes::{Buf, BytesMut};
 use pgp_base::Memory;
 use pgtrace_lines::view::View;
-use pgtrace_names::MapMemory;
+use pgtrace_summary::MapMemory;
 use std::alloc::AllocError;
 
 /// What is kept of what one side sent.

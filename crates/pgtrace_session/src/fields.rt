@@ -10,7 +10,7 @@ use crate::columns::{Columns, bare};
 use pgp_base::{FallibleIterator, Memory};
 use pgp_frontend_read::{Formats, ParamTypes};
 use pgp_message::{Fields, Parameters};
-use pgtrace_names::MapMemory;
+use pgtrace_summary::MapMemory;
 use std::alloc::AllocError;
 
 /// The columns of a description, if it doesn't break off, with their names where those are asked for.

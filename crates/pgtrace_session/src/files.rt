@@ -17,8 +17,7 @@ use pgtool_line::ports::Output;
 use pgtrace_lines::marking::Marking;
 use pgtrace_lines::ports::Input;
 use pgtrace_lines::view::View;
-use pgtrace_names::MapMemory;
-use pgtrace_summary::Summary;
+use pgtrace_summary::{MapMemory, Summary};
 use std::io::{self, ErrorKind};
 
 /// Where recordings are read from: a reader, and files by their names.

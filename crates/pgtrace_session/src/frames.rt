@@ -19,7 +19,7 @@ use pgtool_line::style::Style;
 use pgtrace_lines::client::expected;
 use pgtrace_lines::frame::{Next, begin_line, front_of};
 use pgtrace_lines::view::{View, add_shown, is_listed};
-use pgtrace_names::MapMemory;
+use pgtrace_summary::MapMemory;
 use std::alloc::AllocError;
 
 /// Memory for the texts of a listing.

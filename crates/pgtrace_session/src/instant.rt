@@ -9,7 +9,7 @@ use bytes::BytesMut;
 use pgp_base::Memory;
 use pgp_value_text::{TextError, date_to_text};
 use pgp_values::Moment;
-use pgtrace_names::MapMemory;
+use pgtrace_summary::MapMemory;
 use std::alloc::AllocError;
 use std::str;
 

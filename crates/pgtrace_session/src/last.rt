@@ -20,7 +20,7 @@ use pgp_base::Memory;
 use pgtool_line::line::add_line;
 use pgtrace_lines::stream::put_rest;
 use pgtrace_lines::view::View;
-use pgtrace_names::MapMemory;
+use pgtrace_summary::MapMemory;
 use std::alloc::AllocError;
 
 /// Adds what stands at the end of a recording: the last lines of both sides, or the table of a summary.

@@ -11,7 +11,7 @@ use bytes::BytesMut;
 use pgp_base::Memory;
 use pgtool_line::line::{add_line, put_blanks};
 use pgtool_line::style::Form;
-use pgtrace_names::MapMemory;
+use pgtrace_summary::MapMemory;
 use std::alloc::AllocError;
 
 /// The least number of characters of seconds.

@@ -9,8 +9,7 @@ use crate::placement::Told;
 use crate::role::Role;
 use pgp_base::Memory;
 use pgp_client::{Asked, Dialogue, Event, Kind, Request};
-use pgtrace_names::MapMemory;
-use pgtrace_summary::Summary;
+use pgtrace_summary::{MapMemory, Summary};
 use std::alloc::AllocError;
 use std::collections::VecDeque;
 

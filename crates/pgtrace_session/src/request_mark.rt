@@ -8,7 +8,7 @@ use crate::placement::Told;
 use pgp_base::Memory;
 use pgtool_line::line::put_blanks;
 use pgtool_line::style::Form;
-use pgtrace_names::MapMemory;
+use pgtrace_summary::MapMemory;
 use std::alloc::AllocError;
 
 /// How many characters a word takes.

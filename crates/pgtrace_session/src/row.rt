@@ -18,7 +18,7 @@ use pgtool_line::nesting::{end_list, put_count, put_key};
 use pgtool_line::style::Style;
 use pgtrace_lines::frame::begin_line;
 use pgtrace_lines::lists::put_fault;
-use pgtrace_names::MapMemory;
+use pgtrace_summary::MapMemory;
 use std::alloc::AllocError;
 use std::ops::Range;
 

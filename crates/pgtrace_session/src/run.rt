@@ -24,7 +24,7 @@ use pgtrace_lines::ports::Input;
 use pgtrace_lines::side::{Side, first_phase};
 use pgtrace_lines::stream::list;
 use pgtrace_lines::view::View;
-use pgtrace_names::MapMemory;
+use pgtrace_summary::MapMemory;
 use std::alloc::AllocError;
 
 const USAGE: &str =

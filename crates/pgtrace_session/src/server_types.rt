@@ -26,7 +26,7 @@ use pgp_base::Memory;
 use pgp_client::Kind;
 use pgp_message::{Message, Messages, ParameterDescriptionBody, RowDescriptionBody};
 use pgtool_line::style::Style;
-use pgtrace_names::MapMemory;
+use pgtrace_summary::MapMemory;
 use std::alloc::AllocError;
 
 /// Takes note of a server's frame, and writes the line of a row anew where its types are known. Returns what its mark says of requests, and what it says of

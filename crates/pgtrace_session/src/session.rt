@@ -31,8 +31,7 @@ use pgtrace_lines::marking::Marking;
 use pgtrace_lines::ports::Input;
 use pgtrace_lines::side::Side;
 use pgtrace_lines::view::View;
-use pgtrace_names::MapMemory;
-use pgtrace_summary::Summary;
+use pgtrace_summary::{MapMemory, Summary};
 use std::alloc::AllocError;
 use std::io::ErrorKind;
 

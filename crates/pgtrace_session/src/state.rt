@@ -17,7 +17,7 @@ use pgtrace_lines::frame::Next;
 use pgtrace_lines::marking::Marking;
 use pgtrace_lines::next::server_line;
 use pgtrace_lines::side::Phase;
-use pgtrace_names::MapMemory;
+use pgtrace_summary::MapMemory;
 use std::alloc::AllocError;
 
 /// What is known of both sides.

@@ -13,8 +13,7 @@ use crate::role::Role;
 use pgp_base::Memory;
 use pgp_client::Kind;
 use pgp_frontend_read::ClientMessage;
-use pgtrace_names::MapMemory;
-use pgtrace_summary::{Reply, Summary, Work};
+use pgtrace_summary::{MapMemory, Reply, Summary, Work};
 use std::alloc::AllocError;
 
 /// Finds the place of a frame among the requests, by what it is to them, and takes note of it in what they ran, where that is asked for: of a request by its

@@ -13,8 +13,7 @@ use pgtool_line::line::put_blanks;
 use pgtool_line::quote::{put_cut_text, put_json};
 use pgtool_line::style::{Form, Style};
 use pgtrace_lines::view::View;
-use pgtrace_names::MapMemory;
-use pgtrace_summary::{Entry, Line, Summary, sum_of};
+use pgtrace_summary::{Entry, Line, MapMemory, Summary, sum_of};
 use std::alloc::AllocError;
 
 /// How many characters a count of runs or of errors takes, and how many a count of rows, or a time.

@@ -20,7 +20,7 @@ use bytes::BytesMut;
 use pgp_base::Memory;
 use pgp_frontend_read::PasswordKind;
 use pgtool_line::style::Style;
-use pgtrace_names::MapMemory;
+use pgtrace_summary::MapMemory;
 use std::alloc::AllocError;
 
 /// Before the first frame, where values are shown as their bytes or not, and names are asked for or not.

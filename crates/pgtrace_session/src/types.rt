@@ -11,8 +11,7 @@ use crate::awaited::{Awaited, Object, first, reach, wait_bound};
 use crate::column::Column;
 use crate::columns::{Columns, bare, keep};
 use pgp_base::Memory;
-use pgtrace_names::{MapMemory, Names};
-use pgtrace_summary::{Reply, Summary, Work};
+use pgtrace_summary::{MapMemory, Names, Reply, Summary, Work};
 use std::alloc::AllocError;
 use std::collections::VecDeque;
 

@@ -10,7 +10,7 @@ use pgp_base::Memory;
 use pgp_value_text::put_value;
 use pgtool_line::line::{put_null, put_some, put_unread};
 use pgtool_line::style::Style;
-use pgtrace_names::MapMemory;
+use pgtrace_summary::MapMemory;
 use std::alloc::AllocError;
 
 /// Adds a value under its column, by way of a buffer for its text; or that it is a null.

@@ -1,6 +1,6 @@
 -- The text that a portal has once the requests that wait have succeeded is what the last of them gives it, or what it has.
 use Rattle.pgtrace_summary.proofs.Common.{◌≡◌, ℕ, zero, suc, ◌≤◌, length, Bool, true, false, List, [], ◌∷◌, Some, None, Option, refl, sym, ap, ◌∙◌, inl, inr, if◌then◌else◌, bytes_eq, cases_Bool, Request, State, done, put, found, ◌&&◌, take, slice_get, unwrap_or, take_all, did, ends, given, given_at, gives, granted, last_given, text_due, text_under, unknown, Work, Query, Parse, Bind, Execute}
-use Rattle.pgtrace_names.proofs.FoundLemmas.{found_put}
+use Rattle.pgtrace_summary.proofs.FoundLemmas.{found_put}
 use Rattle.pgtrace_summary.specs.declared.work.Reply.TheVariants.{ParseComplete, BindComplete}
 
 -- one request more

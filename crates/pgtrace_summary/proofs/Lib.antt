@@ -2,6 +2,8 @@ mod Adding
 mod Common
 mod Due
 mod Falling
+pub mod FoundLemmas
+mod NameLemmas
 mod Places
 pub mod Ranks
 mod Sorting

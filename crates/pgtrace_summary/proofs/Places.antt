@@ -1,6 +1,6 @@
 -- One more run of a statement.
 use Rattle.pgtrace_summary.proofs.Common.{◌≡◌, ℕ, Bool, true, false, List, [], ◌∷◌, Some, None, refl, sym, ap, ◌∙◌, inl, inr, if◌then◌else◌, bytes_eq, bytes_eq-Decides, cases_Bool, found, put, Ran, more_of, no_run, tallies_of, tally_of, tallied, nat_list_eq_equiv}
-use Rattle.pgtrace_names.proofs.FoundLemmas.{no_none}
+use Rattle.pgtrace_summary.proofs.FoundLemmas.{no_none}
 
 pub turned : (x y : List ℕ) (b : Bool) → bytes_eq x y ≡ b → bytes_eq y x ≡ b
 turned x y b e = nat_list_eq_equiv.symm y x ∙ e

@@ -1,3 +1,4 @@
+pub mod Names
 pub mod Runs
 pub mod Summary
 pub mod Places

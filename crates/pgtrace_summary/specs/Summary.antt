@@ -1,7 +1,7 @@
 -- What requests ran, by the messages that ended their answers.
 use Rattle.std.specs.Prelude.{ℕ, zero, suc, ◌+◌, ◌-◌, max, Bool, true, false, ◌&&◌, ◌==◌, nat_lt, if◌then◌else◌, List, [], ◌∷◌, ◌++◌, Option, None, Some, bytes_eq, codes, slice_get}
 use Rattle.std.specs.Option.{unwrap_or}
-use Rattle.pgtrace_names.specs.Names.{found, put}
+use Rattle.pgtrace_summary.specs.Names.{found, put}
 use Rattle.pgtrace_summary.specs.Fold.{folded}
 use Rattle.pgtrace_summary.specs.Runs.{Tally, capped, tallied, tally_after}
 use Rattle.pgtrace_summary.specs.declared.work.Work.{Work}

@@ -5,8 +5,9 @@ ghost use Rattle.std.specs.Option.{option_to_list};
 ghost use Rattle.pgtrace_summary.specs.Runs.{ascending, capped, line_of, median_of, share_of, tallied, tally_after};
 ghost use Rattle.pgtrace_summary.specs.Places.{more_of, no_run, tallies_of, tally_of};
 
+use crate::memory::MapMemory;
+use crate::names::Names;
 use pgp_base::Memory;
-use pgtrace_names::{MapMemory, Names};
 use std::alloc::{AllocError, Allocator};
 use std::marker::Model;
 

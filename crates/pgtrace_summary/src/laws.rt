@@ -1,9 +1,11 @@
-//! Laws of summaries.
+//! Laws of summaries, and of what is known under names.
 
 ghost use Rattle.std.specs.Prelude.{◌≡◌, ◌≤◌, ◌+◌, ◌-◌, ◌++◌, max, ℕ, Bool, List};
 ghost use Rattle.pgtrace_summary.specs.Calls.{AreApart, Call, Falls, GoesOn, after, found, of_total, runs_in, said_of, time_of};
 ghost use Rattle.pgtrace_summary.specs.Runs.{Tally, ranked, tally, tally_after};
 ghost use Rattle.pgtrace_summary.specs.Summary.{State, nothing};
+
+pub mod names;
 
 /// Whatever calls were made: the statements are those of the runs that they ended and of their errors, and no others.
 pub fn runs_are_tallied()

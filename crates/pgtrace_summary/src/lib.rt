@@ -5,13 +5,17 @@
 mod entry;
 mod fold;
 pub mod laws;
+mod memory;
 mod named;
+mod names;
 mod ranking;
 mod summary;
 mod waiting;
 mod work;
 
 pub use entry::{Entry, Line};
+pub use memory::MapMemory;
+pub use names::Names;
 pub use ranking::sum_of;
 pub use summary::Summary;
 pub use work::{Reply, Work};

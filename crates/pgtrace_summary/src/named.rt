@@ -3,7 +3,8 @@
 ghost use Rattle.std.specs.Prelude.{◌≡◌, OnErr, OnOk};
 ghost use Rattle.pgtrace_summary.specs.Summary.{named, text_under};
 
-use pgtrace_names::{MapMemory, Names};
+use crate::memory::MapMemory;
+use crate::names::Names;
 use std::alloc::{AllocError, Allocator};
 use std::marker::Model;
 

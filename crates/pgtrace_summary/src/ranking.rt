@@ -6,7 +6,8 @@ ghost use Rattle.pgtrace_summary.specs.Places.{Fits, FitsAt, key, key_at, picked
 ghost use Rattle.pgtrace_summary.specs.Runs.{ranked, sum_of};
 
 use crate::entry::{Entry, Ran, entry_at, plus};
-use pgtrace_names::{MapMemory, Names};
+use crate::memory::MapMemory;
+use crate::names::Names;
 use std::alloc::AllocError;
 
 /// The keys of all statements in ascending order.

@@ -6,12 +6,13 @@ ghost use Rattle.pgtrace_summary.specs.Summary.{asked, did, ended, failed, laste
 
 use crate::entry::{Entry, More, Ran, plus, tally, tally_all};
 use crate::fold::fold;
+use crate::memory::MapMemory;
 use crate::named::{Text, put, text_under};
+use crate::names::Names;
 use crate::ranking::{entries_by, sorted_keys};
 use crate::waiting::{Asked, first_of, last_given, push, skip, take};
 use crate::work::{Reply, Work, ends};
 use pgp_base::Memory;
-use pgtrace_names::{MapMemory, Names};
 use std::alloc::{AllocError, Global};
 use std::collections::VecDeque;
 use std::marker::Model;

@@ -4,9 +4,9 @@ ghost use Rattle.std.specs.Prelude.{◌≡◌, ◌++◌, ◌∷◌, [], nat_lt, 
 ghost use Rattle.std.specs.Option.{option_map};
 ghost use Rattle.pgtrace_summary.specs.Summary.{first_of, given, gives, is_ended, is_first_before, is_first_ended, last_given, skipped, taken};
 
+use crate::memory::MapMemory;
 use crate::work::{Reply, Work, ends};
 use pgp_base::Memory;
-use pgtrace_names::MapMemory;
 use std::alloc::{AllocError, Allocator};
 use std::collections::VecDeque;
 use std::marker::Model;

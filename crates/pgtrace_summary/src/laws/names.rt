@@ -2,7 +2,7 @@
 
 ghost use Rattle.std.specs.Prelude.{◌≡◌, ℕ, List, None, Some, if◌then◌else◌};
 ghost use Rattle.std.specs.Str.{bytes_eq};
-ghost use Rattle.pgtrace_names.specs.Names.{AreApart, found, put, without};
+ghost use Rattle.pgtrace_summary.specs.Names.{AreApart, found, put, without};
 
 /// A name has what it was given last; all others have what they had.
 pub fn a_name_has_what_it_was_given<V>()

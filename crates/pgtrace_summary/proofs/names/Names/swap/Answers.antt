@@ -1,7 +1,7 @@
-use Rattle.pgtrace_names.proofs.Common.{◌∙◌, ap, sym, Some, found, put, read}
-use Rattle.pgtrace_names.proofs.NameLemmas.{found_read, set_read}
-use Rattle.pgtrace_names.proofs.names.Names.swap.Goals as goal
-use Rattle.pgtrace_names.proofs.names.Names.swap.Goals.{in-Some, in-None}
+use Rattle.pgtrace_summary.proofs.Common.{◌∙◌, ap, sym, Some, found, put, read}
+use Rattle.pgtrace_summary.proofs.NameLemmas.{found_read, set_read}
+use Rattle.pgtrace_summary.proofs.names.Names.swap.Goals as goal
+use Rattle.pgtrace_summary.proofs.names.Names.swap.Goals.{in-Some, in-None}
 
 pub returns-clause-put : goal.returns-clause-put
 returns-clause-put g c = elim c.match-get_mut.branch [

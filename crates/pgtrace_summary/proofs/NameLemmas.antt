@@ -1,8 +1,8 @@
 -- A map whose keys are read as names.
-use Rattle.pgtrace_names.proofs.Common.{◌≡◌, ℕ, suc, ◌+◌, Bool, true, false, List, [], ◌∷◌, length, Option, Some, None, refl, ap, sym, ◌∙◌, arith, swap_remove, if◌then◌else◌, not, option_map_or, position_or_len, keys_of, lookup, set_value, bytes_eq, insert_entry, swap_remove_entry, found, names_of, put, read, without}
+use Rattle.pgtrace_summary.proofs.Common.{◌≡◌, ℕ, suc, ◌+◌, Bool, true, false, List, [], ◌∷◌, length, Option, Some, None, refl, ap, sym, ◌∙◌, arith, swap_remove, if◌then◌else◌, not, option_map_or, position_or_len, keys_of, lookup, set_value, bytes_eq, insert_entry, swap_remove_entry, found, names_of, put, read, without}
 use Rattle.std.specs.Prelude.{position}
 use Rattle.indexmap.proofs.SetLemmas.{map-swap_remove}
-use Rattle.pgtrace_names.proofs.FoundLemmas.{no_none}
+use Rattle.pgtrace_summary.proofs.FoundLemmas.{no_none}
 
 module _ {K V : Type 0} (name : K → List ℕ) where
   pub found_read : (n : List ℕ) (es : List (K × V)) → lookup (λ k. bytes_eq n (name k)) es ≡ found n (read name es)

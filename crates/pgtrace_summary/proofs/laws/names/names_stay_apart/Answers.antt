@@ -1,5 +1,5 @@
-use Rattle.pgtrace_names.proofs.FoundLemmas.{apart_put, apart_without}
-use Rattle.pgtrace_names.proofs.laws.names_stay_apart.Goals as goal
+use Rattle.pgtrace_summary.proofs.FoundLemmas.{apart_put, apart_without}
+use Rattle.pgtrace_summary.proofs.laws.names.names_stay_apart.Goals as goal
 
 pub returns-clause-put : goal.returns-clause-put
 returns-clause-put g c = apart_put

@@ -2,7 +2,7 @@
 
 ghost use Rattle.std.specs.Prelude.{◌≡◌, [], length, slice_get, None, Some, IfErr, IfOk, OnErr, OnOk};
 ghost use Rattle.std.specs.Option.{option_copied, option_map};
-ghost use Rattle.pgtrace_names.specs.Names.{found, put, without};
+ghost use Rattle.pgtrace_summary.specs.Names.{found, put, without};
 
 use crate::memory::MapMemory;
 use indexmap::IndexMap;
@@ -20,7 +20,7 @@ pub struct Names<V, A: MapMemory> {
 
 impl<V, A: MapMemory> Model for Names<V, A> {
     ghost use Rattle.std.specs.Prelude.{ℕ, List};
-    ghost use Rattle.pgtrace_names.specs.Names.{read};
+    ghost use Rattle.pgtrace_summary.specs.Names.{read};
 
     ghost Value = { List (List ℕ × V) };
 

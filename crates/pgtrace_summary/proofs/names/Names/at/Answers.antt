@@ -1,5 +1,5 @@
-use Rattle.pgtrace_names.proofs.Common.{◌∙◌, ap, sym, Some, slice_get, option_map, slice_get-map}
-use Rattle.pgtrace_names.proofs.names.Names.at.Goals as goal
+use Rattle.pgtrace_summary.proofs.Common.{◌∙◌, ap, sym, Some, slice_get, option_map, slice_get-map}
+use Rattle.pgtrace_summary.proofs.names.Names.at.Goals as goal
 
 pub returns-in-Some : goal.returns-in-Some
 returns-in-Some g c = ap (λ k. Some (k, c.in-Some.value.now)) c.as_slice.ensures.value ∙ ap (option_map (λ e. (e.0.items, e.1))) c.in-Some.ensures.entry

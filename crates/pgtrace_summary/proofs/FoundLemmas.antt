@@ -1,5 +1,5 @@
 -- What is found once something is put under a name, or let go.
-use Rattle.pgtrace_names.proofs.Common.{◌≡◌, ℕ, Bool, true, false, List, [], ◌∷◌, Option, Some, None, refl, ap, sym, subst, ◌∙◌, ◌⊎◌, inl, inr, position, if◌then◌else◌, AllByRecursion, IsDistinct, lookup, bytes_eq, slice_get-get_or, swap_remove_entry, AreApart, found, names_of, put, without}
+use Rattle.pgtrace_summary.proofs.Common.{◌≡◌, ℕ, Bool, true, false, List, [], ◌∷◌, Option, Some, None, refl, ap, sym, subst, ◌∙◌, ◌⊎◌, inl, inr, position, if◌then◌else◌, AllByRecursion, IsDistinct, lookup, bytes_eq, slice_get-get_or, swap_remove_entry, AreApart, found, names_of, put, without}
 use Rattle.std.proofs.lemmas.Bool.{cases_Bool}
 use Rattle.std.proofs.lemmas.Cmp.{nat_list_eq_equiv}
 use Rattle.indexmap.proofs.MapLemmas.{Found-position, swap_remove_entry-found, swap_remove_entry-missing}

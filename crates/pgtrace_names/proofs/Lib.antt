@@ -1,3 +1,0 @@
-mod Common
-mod NameLemmas
-pub mod FoundLemmas

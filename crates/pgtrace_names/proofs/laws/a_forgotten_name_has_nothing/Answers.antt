@@ -1,5 +1,0 @@
-use Rattle.pgtrace_names.proofs.FoundLemmas.{found_without}
-use Rattle.pgtrace_names.proofs.laws.a_forgotten_name_has_nothing.Goals as goal
-
-pub returns : goal.returns
-returns g c = found_without

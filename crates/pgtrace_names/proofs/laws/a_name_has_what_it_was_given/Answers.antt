@@ -1,5 +1,0 @@
-use Rattle.pgtrace_names.proofs.FoundLemmas.{found_put}
-use Rattle.pgtrace_names.proofs.laws.a_name_has_what_it_was_given.Goals as goal
-
-pub returns : goal.returns
-returns g c = found_put

@@ -1,6 +1,0 @@
-use Rattle.pgtrace_names.proofs.Common.{◌∙◌, ap, found}
-use Rattle.pgtrace_names.proofs.NameLemmas.{found_read}
-use Rattle.pgtrace_names.proofs.names.Names.get.Goals as goal
-
-pub returns : goal.returns
-returns g c = c.get.ensures.value ∙ found_read (λ k. k.items) c.args.name.now _ ∙ ap (found c.args.name.now) c.self.view_is
