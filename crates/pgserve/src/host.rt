@@ -1,9 +1,10 @@
 //! What is the same for each client: the users, the nonce, the certificate and the script.
 
-ghost use Rattle.std.specs.Prelude.{◌≡◌, ◌≢◌, IfNone, IfOk, IfSome};
+ghost use Rattle.std.specs.Prelude.{◌≡◌, ◌≢◌, ◌⊎◌, IfNone, IfOk, IfSome, None, OnOk};
 ghost use Rattle.std.specs.List.{All};
 ghost use Rattle.pgp_auth.specs.ScramServerView.{verifier_of};
-ghost use Rattle.pgserve.specs.LogIn.{HasExchange, IsAccount, OpensForUser, StandsFor, StandsForMd5, seen};
+ghost use Rattle.pgp_session.specs.Serving.{Replies};
+ghost use Rattle.pgserve.specs.LogIn.{AsksBy, AsksUser, HasExchange, IsAccount, OpensFor, OpensForUser, StandsFor, StandsForMd5, asked_after, asked_by, awaits, mechanisms, question, seen};
 
 use crate::fault::Fault;
 use crate::outbox::Outbox;
@@ -13,6 +14,7 @@ use crate::words::Words;
 use pgp_auth::authentication::sasl::{
     ChannelOffer, SCRAM_SHA_256, ScramServer, StoredVerifier, is_nonce,
 };
+use pgp_base::{Buffer, Error};
 use pgp_message_write as reply;
 use pgp_session::serving::{Method, Serving, ServingPhase};
 use std::alloc::{AllocError, Global};
@@ -64,6 +66,86 @@ impl Account<'_> {
             return Vec::from_slice(alloc, self.verifier.as_bytes());
         }
         Ok(Vec::new(alloc))
+    }
+
+    /// An exchange with a user of this name. One who isn't there is asked like the one who is, and rejected in the end.
+    fn exchange(
+        self,
+        alloc: Global,
+        user: &[u8],
+        nonce: &str,
+        offer: ChannelOffer,
+    ) -> Result<ScramServer, Fault>
+        ensures { IfOk result (OpensFor (seen self.entry)) }
+    {
+        let verifier = self.stored(alloc, user)?;
+        let nonce = String::from_str(alloc, nonce)?;
+        if !is_nonce(&nonce) {
+            return Err(Fault::Nonce);
+        }
+        Ok(ScramServer::with_nonce(verifier, offer, nonce))
+    }
+
+    /// What is asked of a user of this name; `None` where the client has to choose a mechanism first.
+    fn asks(self, alloc: Global, user: &[u8], nonce: &str) -> Result<Option<Method>, Fault>
+        ensures { IfOk result (AsksBy self.entry.auth (seen self.entry)) }
+    {
+        match self.auth {
+            Auth::Trust => Ok(Some(Method::Nothing)),
+            Auth::Password => match self.stored(alloc, user) {
+                Ok(stored) => Ok(Some(Method::Password(stored))),
+                Err(fault) => Err(fault),
+            },
+            Auth::Md5 => match self.md5(alloc) {
+                Ok(stored) => Ok(Some(Method::Md5 { salt: SALT, stored })),
+                Err(fault) => Err(Fault::from(fault)),
+            },
+            Auth::Scram => match self.exchange(alloc, user, nonce, ChannelOffer::NotOffered) {
+                Ok(exchange) => Ok(Some(Method::Exchange(exchange))),
+                Err(fault) => Err(fault),
+            },
+            Auth::ScramPlus => Ok(None),
+        }
+    }
+}
+
+/// Asks for what the client has to show by this method.
+fn ask_by<B: Buffer>(method: Method, serving: &mut Serving, out: &mut B) -> Result<(), Error>
+    requires { serving.old.phase ≡ ServingPhase.Named }
+    ensures sent { Replies (asked_by method) B.Lacks (B.held out.old) (B.held out.new) result }
+    ensures asked { OnOk result (serving.new ≡ record { phase = awaits method; method = method }) }
+{
+    match method {
+        Method::Nothing => serving.trust(out),
+        Method::Password(stored) => serving.ask_password(stored, out),
+        Method::Md5 { salt, stored } => serving.ask_md5(salt, stored, out),
+        Method::Exchange(exchange) => serving.ask_scram(exchange, out),
+    }
+}
+
+/// Offers the mechanisms, bound to the certificate and not.
+fn offer_mechanisms<B: Buffer>(out: &mut B) -> Result<(), Error>
+    ensures { Replies mechanisms B.Lacks (B.held out.old) (B.held out.new) result }
+{
+    reply::authentication_sasl(&[SCRAM_PLUS, SCRAM_SHA_256.as_bytes()], out)
+}
+
+/// Asks by the method, or offers the mechanisms where there is none yet.
+fn put_question<B: Buffer>(
+    asked: Option<Method>,
+    serving: &mut Serving,
+    out: &mut B,
+) -> Result<(), Error>
+    requires { serving.old.phase ≡ ServingPhase.Named }
+    ensures sent { Replies (question asked) B.Lacks (B.held out.old) (B.held out.new) result }
+    ensures asked { OnOk result (serving.new ≡ asked_after asked serving.old.method) }
+{
+    match asked {
+        Some(method) => ask_by(method, serving, out),
+        None => {
+            serving.phase = ServingPhase::AwaitsFirst;
+            offer_mechanisms(out)
+        }
     }
 }
 
@@ -163,34 +245,34 @@ impl<'h> Host<'h> {
     }
 
     /// Asks a user of this name for what has to be shown.
-    pub(crate) fn ask(&self, user: &[u8], serving: &mut Serving, out: &mut Outbox) {
+    pub(crate) fn ask(&self, user: &[u8], serving: &mut Serving, out: &mut Outbox)
+        ensures asked { serving.old.phase ≡ ServingPhase.Named → AsksUser self.now.script.now.users.items self.now.user.now (seen self.now.account) user.now
+            serving.old serving.new out.old.bytes.items out.new.bytes.items ⊎ (out.new.fault ≢ None) }
+        ensures kept { serving.old.phase ≢ ServingPhase.Named → serving.new ≡ serving.old }
+    {
+        if serving.phase != ServingPhase::Named {
+            return;
+        }
         if let Err(fault) = self.demand(user, serving, out) {
             out.fail(fault);
         }
     }
 
     /// The same; a fault is returned.
-    fn demand(&self, user: &[u8], serving: &mut Serving, out: &mut Outbox) -> Result<(), Fault> {
-        if serving.phase != ServingPhase::Named {
-            return Ok(());
-        }
+    #[tactic(auto, unfolding(pgp_base::specs::Held::lengthened))]
+    fn demand(&self, user: &[u8], serving: &mut Serving, out: &mut Outbox) -> Result<(), Fault>
+        requires { serving.old.phase ≡ ServingPhase.Named }
+        ensures { IfOk result (λ done. AsksUser self.now.script.now.users.items self.now.user.now (seen self.now.account) user.now
+            serving.old serving.new out.old.bytes.items out.new.bytes.items) }
+    {
         let (account, alloc) = (self.account(user), out.alloc);
-        let put = match account.auth {
-            Auth::Trust => serving.trust(&mut out.bytes),
-            Auth::Password => serving.ask_password(account.stored(alloc, user)?, &mut out.bytes),
-            Auth::Md5 => serving.ask_md5(SALT, account.md5(alloc)?, &mut out.bytes),
-            Auth::Scram => {
-                let exchange = self.with_offer(alloc, user, ChannelOffer::NotOffered)?;
-                serving.ask_scram(exchange, &mut out.bytes)
-            }
-            Auth::ScramPlus => {
-                serving.phase = ServingPhase::AwaitsFirst;
-                let mechanisms = [SCRAM_PLUS, SCRAM_SHA_256.as_bytes()];
-                reply::authentication_sasl(&mechanisms, &mut out.bytes)
-            }
-        };
-        out.put(put);
-        Ok(())
+        match account.asks(alloc, user, self.nonce) {
+            Ok(asked) => match put_question(asked, serving, &mut out.bytes) {
+                Ok(()) => Ok(()),
+                Err(why) => Err(Fault::from(why)),
+            },
+            Err(fault) => Err(fault),
+        }
     }
 
     /// An exchange of a server that offers a binding, which the client chose, or didn't.
@@ -249,11 +331,6 @@ impl<'h> Host<'h> {
     ) -> Result<ScramServer, Fault>
         ensures { IfOk result (λ exchange. OpensForUser self.now.script.now.users.items self.now.user.now (seen self.now.account) user.now exchange) }
     {
-        let verifier = self.account(user).stored(alloc, user)?;
-        let nonce = String::from_str(alloc, self.nonce)?;
-        if !is_nonce(&nonce) {
-            return Err(Fault::Nonce);
-        }
-        Ok(ScramServer::with_nonce(verifier, offer, nonce))
+        self.account(user).exchange(alloc, user, self.nonce, offer)
     }
 }
