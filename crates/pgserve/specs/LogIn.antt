@@ -93,6 +93,7 @@ question (Some method) = asked_by method
 question None = mechanisms
 
 -- A user of this name was asked for what its account says, and for nothing else.
-abbrev pub AsksUser : {A : Type 0} (users : List User) (named : List ℕ) (others : Account) (name : List ℕ) (old new : Serving A) (before behind : List ℕ) → Type 0
+abbrev pub AsksUser : {A : Type 0} (users : List User) (named : List ℕ) (others : Account) (name : List ℕ)
+    → (old new : Serving A) (before behind : List ℕ) → Type 0
 AsksUser {A} users named others name old new before behind = (account : Account) × (asked : Option (Method A)) × IsAccount users named others name account
     × AsksBy account.auth account asked × (new ≡ asked_after asked old.method) × (behind ≡ before ++ bytes_of (question asked))

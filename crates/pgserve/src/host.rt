@@ -4,7 +4,8 @@ ghost use Rattle.std.specs.Prelude.{◌≡◌, ◌≢◌, ◌⊎◌, IfNone, IfO
 ghost use Rattle.std.specs.List.{All};
 ghost use Rattle.pgp_auth.specs.ScramServerView.{verifier_of};
 ghost use Rattle.pgp_session.specs.Serving.{Replies};
-ghost use Rattle.pgserve.specs.LogIn.{AsksBy, AsksUser, HasExchange, IsAccount, OpensFor, OpensForUser, StandsFor, StandsForMd5, asked_after, asked_by, awaits, mechanisms, question, seen};
+ghost use Rattle.pgserve.specs.LogIn.{AsksBy, AsksUser, HasExchange, IsAccount, OpensFor, OpensForUser, StandsFor, StandsForMd5};
+ghost use Rattle.pgserve.specs.LogIn.{asked_after, asked_by, awaits, mechanisms, question, seen};
 
 use crate::fault::Fault;
 use crate::outbox::Outbox;
