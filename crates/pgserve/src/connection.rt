@@ -5,7 +5,7 @@ ghost use Rattle.pgp_frontend_read.specs.Pieces.{IsWhole};
 use crate::asked::{Refusal, malformed, refuse_as};
 use crate::fault::Fault;
 use crate::host::{Host, SCRAM_PLUS};
-use crate::opening::{Opening, opening_of, spoken};
+use crate::opening::{Opening, minor_of, opening_of};
 use crate::outbox::Outbox;
 use crate::pause::Pause;
 use crate::rejection::rejection;
@@ -150,8 +150,7 @@ impl<'h> Connection<'h> {
 
     /// The same for this user.
     fn begin(&mut self, user: &[u8], opening: &Opening<'_>, minor: u16, out: &mut Outbox) {
-        opening.negotiate(minor, out);
-        self.session.has_long_key = minor >= 2;
+        self.session.has_long_key = opening.negotiate(minor, out);
         self.set(user, opening, out);
         if self.session.rejects_login(true, out) {
             return;
@@ -212,7 +211,7 @@ impl<'h> Connection<'h> {
     fn take(&mut self, message: &mut ClientMessage<'_>, tag: u8, out: &mut Outbox) {
         self.note(Request::of(message), out);
         let phase = self.serving.phase;
-        let minor = spoken(message);
+        let minor = minor_of(message);
         self.choose_by(message, out);
         match self.serving.step(message, &mut out.bytes) {
             Ok(ServingEvent::Refused) => self.explain(phase, message, tag, out),

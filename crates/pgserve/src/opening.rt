@@ -2,10 +2,11 @@
 //!
 //! PostgreSQL manual, "Message Flow", "Start-up"; NegotiateProtocolVersion of "Message Formats".
 
+use crate::fault::Fault;
 use crate::outbox::{Outbox, push};
-use pgp_frontend::codes::VERSION_3_0;
 use pgp_frontend_read::ClientMessage;
-use pgp_message_write as reply;
+use pgp_session::ProtocolVersion;
+use pgp_session::serving::answer_versions;
 
 /// What a startup packet asks for.
 #[derive(Drop)]
@@ -16,15 +17,10 @@ pub(crate) struct Opening<'m> {
     unknown: Vec<&'m [u8]>,
 }
 
-/// The minor version that a startup packet asks for, in the place of which the one stands from then on that is spoken; 0 of another message. As PostgreSQL 18 has
-/// it, 3.1 is 3.0 under another number.
-pub(crate) fn spoken(message: &mut ClientMessage<'_>) -> u16 {
+/// The minor version that a startup packet asks for; 0 of another message.
+pub(crate) fn minor_of(message: &ClientMessage<'_>) -> u16 {
     match message {
-        ClientMessage::Startup { minor, .. } => {
-            let asked = *minor;
-            *minor = if asked < 2 { 0 } else { 2 };
-            asked
-        }
+        ClientMessage::Startup { minor, .. } => *minor,
         _ => 0,
     }
 }
@@ -41,15 +37,15 @@ impl<'m> Opening<'m> {
         }
     }
 
-    /// Appends which version of the protocol is spoken, and which options aren't known, unless the client has what it asks for.
-    pub(crate) fn negotiate(&self, minor: u16, out: &mut Outbox) {
-        let spoken = minor.min(2);
-        if spoken == minor && self.unknown.is_empty() {
-            return;
+    /// Appends which version of the protocol is spoken, and which options aren't known, unless the client has what it asks for. Returns whether that is 3.2.
+    pub(crate) fn negotiate(&self, minor: u16, out: &mut Outbox) -> bool {
+        match answer_versions(minor, &self.unknown, &mut out.bytes) {
+            Ok(version) => version == ProtocolVersion::V3_2,
+            Err(why) => {
+                out.fail(Fault::from(why));
+                false
+            }
         }
-        let version = VERSION_3_0.saturating_add(u32::from(spoken)).cast_signed();
-        let put = reply::negotiate_protocol_version(version, &self.unknown, &mut out.bytes);
-        out.put(put);
     }
 }
 
