@@ -14,6 +14,7 @@ use Rattle.pgp_session.specs.declared.serving.Serving.{Serving}
 use Rattle.pgp_session.specs.declared.serving.ServingPhase.{ServingPhase}
 use Rattle.pgp_session.specs.declared.serving.ServingPhase.TheVariants.{AwaitsPassword, AwaitsFirst as AwaitsText, Open}
 use Rattle.pgserve.specs.declared.host.Account.{Account as Held}
+use Rattle.pgserve.specs.First.{IsFirst}
 use Rattle.pgserve.specs.declared.user.Auth.{Auth}
 use Rattle.pgserve.specs.declared.user.Auth.TheVariants.{Trust, Password, Md5, Scram, ScramPlus}
 use Rattle.pgserve.specs.declared.user.User.{User}
@@ -28,10 +29,11 @@ abbrev pub seen : Held → Account
 seen held = record { auth = held.auth; stored = held.verifier.now; is_known = held.is_known }
 
 -- Where the script has users, and the words name one and what any other has to show, this is the account of a user of this name: that of
--- one of the script's of the name; or none has it, and it is the words', and there is such a user where it is the one that they name.
+-- the script's first of the name; or none has it, and it is the words', and there is such a user where it is the one that they name.
 abbrev pub IsAccount : (users : List User) (named : List ℕ) (others : Account) (name : List ℕ) → Account → Type 0
 IsAccount users named others name account =
-    ((user : User) × (user.name.items ≡ name) × (account.auth ≡ user.auth) × (account.stored ≡ string_bytes user.verifier) × (account.is_known ≡ true))
+    ((user : User) × IsFirst (λ (other : User). other.name.items ≡ name) users user
+    × (account.auth ≡ user.auth) × (account.stored ≡ string_bytes user.verifier) × (account.is_known ≡ true))
     ⊎ (All (λ (user : User). user.name.items ≢ name) users × (account.auth ≡ others.auth) × (account.stored ≡ others.stored)
     × (account.is_known ≡ true → name ≡ named) × (name ≡ named → account.is_known ≡ true))
 

@@ -6,6 +6,8 @@ ghost use Rattle.std.specs.Prelude.{◌≡◌, ◌≢◌, IfNone, IfSome, Some, 
 ghost use Rattle.std.specs.List.{All};
 ghost use Rattle.pgp_frontend.specs.Payload.{Nullable};
 ghost use Rattle.pgp_frontend.specs.View.{part_of};
+ghost use Rattle.pgserve.specs.Called.{IsCalled, IsCalledNow};
+ghost use Rattle.pgserve.specs.First.{IsFirst};
 ghost use Rattle.pgserve.specs.Ready.{HasEnd};
 ghost use Rattle.pgserve.specs.Sent.{Puts, Returns, returned};
 ghost use Rattle.pgserve.specs.declared.script.By.TheVariants.{Function};
@@ -84,18 +86,32 @@ fn put_end(statement: &Statement, format: i16, out: &mut Outbox) -> Went
 }
 
 impl<'h> Session<'h> {
-    /// The script's answer of this time to a call of this function.
-    fn called(&self, function: Oid) -> Option<&'h Statement>
-        ensures some { IfSome result (λ statement. statement.now.by ≡ Function function) }
-        ensures none { IfNone result (All (λ statement. statement.by ≢ Function function) self.now.script.now.statements.items) }
+    /// The script's first answer to a call of this function.
+    fn first_called(&self, function: Oid) -> Option<&'h Statement>
+        ensures some { IfSome result (λ first. IsFirst (λ other. other.by ≡ Function function) self.now.script.now.statements.items first.now) }
+        ensures none { IfNone result (All (λ other. other.by ≢ Function function) self.now.script.now.statements.items) }
     {
         let wanted = By::Function(function);
-        let first = self.script.statements.iter().find(|s| s.by == wanted)?;
+        self.script.statements.iter().find(|s| s.by == wanted)
+    }
+
+    /// The answer of this time, by the first one. One to something else is none.
+    fn called_now(&self, first: &'h Statement) -> &'h Statement
+        ensures by { result.now.by ≡ first.now.by }
+        ensures now { IsCalledNow self.now.turns.items self.now.script.now.statements.items first.now result.now }
+    {
         let found = self.now(first);
-        if found.by == wanted {
-            Some(found)
-        } else {
-            Some(first)
+        if found.by == first.by { found } else { first }
+    }
+
+    /// The script's answer of this time to a call of this function.
+    fn called(&self, function: Oid) -> Option<&'h Statement>
+        ensures some { IfSome result (λ statement. IsCalled function self.now.turns.items self.now.script.now.statements.items statement.now) }
+        ensures none { IfNone result (All (λ other. other.by ≢ Function function) self.now.script.now.statements.items) }
+    {
+        match self.first_called(function) {
+            Some(first) => Some(self.called_now(first)),
+            None => None,
         }
     }
 

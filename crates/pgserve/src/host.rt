@@ -4,6 +4,7 @@ ghost use Rattle.std.specs.Prelude.{◌≡◌, ◌≢◌, ◌⊎◌, IfNone, IfO
 ghost use Rattle.std.specs.List.{All};
 ghost use Rattle.pgp_auth.specs.ScramServerView.{verifier_of};
 ghost use Rattle.pgp_session.specs.Serving.{Replies};
+ghost use Rattle.pgserve.specs.First.{IsFirst};
 ghost use Rattle.pgserve.specs.LogIn.{AsksBy, AsksUser, HasExchange, IsAccount, OpensFor, OpensForUser, StandsFor, StandsForMd5};
 ghost use Rattle.pgserve.specs.LogIn.{asked_after, asked_by, awaits, mechanisms, question, seen};
 
@@ -108,6 +109,14 @@ impl Account<'_> {
             Auth::ScramPlus => Ok(None),
         }
     }
+}
+
+/// The first of these users of this name.
+fn first_named<'u>(users: &'u [User], name: &[u8]) -> Option<&'u User>
+    ensures some { IfSome result (λ known. IsFirst (λ other. other.name.items ≡ name.now) users.now known.now) }
+    ensures none { IfNone result (All (λ other. other.name.items ≢ name.now) users.now) }
+{
+    users.iter().find(|known| known.name.as_slice() == name)
 }
 
 /// Asks for what the client has to show by this method.
@@ -216,15 +225,12 @@ impl<'h> Host<'h> {
         self.account.auth == auth
     }
 
-    /// The script's user of this name.
+    /// The script's first user of this name.
     fn named(&self, user: &[u8]) -> Option<&'h User>
-        ensures some { IfSome result (λ known. known.now.name.items ≡ user.now) }
+        ensures some { IfSome result (λ known. IsFirst (λ other. other.name.items ≡ user.now) self.now.script.now.users.items known.now) }
         ensures none { IfNone result (All (λ known. known.name.items ≢ user.now) self.now.script.now.users.items) }
     {
-        self.script
-            .users
-            .iter()
-            .find(|known| known.name.as_slice() == user)
+        first_named(&self.script.users, user)
     }
 
     /// What a user of this name has to show.

@@ -1,5 +1,10 @@
 //! Which of the script's answers to a statement is that of this time.
 
+ghost use Rattle.std.specs.Prelude.{◌≡◌, ◌≢◌, IfNone, IfSome};
+ghost use Rattle.std.specs.List.{All};
+ghost use Rattle.pgserve.specs.Called.{IsOfNow};
+ghost use Rattle.pgserve.specs.First.{IsFirst};
+
 use crate::outbox::Outbox;
 use crate::script::Statement;
 use crate::session::{Asks, Session};
@@ -14,14 +19,22 @@ impl<'h> Session<'h> {
         }
     }
 
+    /// The turn of the statement whose first answer stands at this place.
+    fn turn_of(&self, first: usize) -> Option<&(usize, usize)>
+        ensures some { IfSome result (λ turn. IsFirst (λ other. other.0 ≡ first) self.now.turns.items turn.now) }
+        ensures none { IfNone result (All (λ other. other.0 ≢ first) self.now.turns.items) }
+    {
+        self.turns.iter().find(|turn| turn.0 == first)
+    }
+
     /// The answer of this time, by the first one.
-    pub(crate) fn now(&self, first: &'h Statement) -> &'h Statement {
-        for (of, place) in &self.turns {
-            if *of == first.place {
-                return self.script.statements.get(*place).unwrap_or(first);
-            }
+    pub(crate) fn now(&self, first: &'h Statement) -> &'h Statement
+        ensures { IsOfNow self.now.turns.items self.now.script.now.statements.items first.now result.now }
+    {
+        match self.turn_of(first.place) {
+            Some(turn) => self.script.statements.get(turn.1).unwrap_or(first),
+            None => first,
         }
-        first
     }
 
     /// Has the next answer to a statement as that of the next time, once this one was given. The last is that of all times from then on.
