@@ -10,6 +10,12 @@ pub reported : {F : Type 0} {old new : List ℕ} (name value : List ℕ) (fault 
 reported name value fault (inl p) = subst (Informs _) (sym p) (Reports name value Nothing)
 reported name value fault (inr p) = subst (Informs _) (sym p.0) Nothing
 
+pub same : {old new : List ℕ} → new ≡ old → Informs old new
+same p = subst (Informs _) (sym p) Nothing
+
+pub behind_same : {old mid new : List ℕ} → mid ≡ old → Informs mid new → Informs old new
+behind_same {new = new} p i = subst (λ z. Informs z new) p i
+
 also : {old mid new : List ℕ} → Informs old mid → Informs mid new → Informs old new
 also i Nothing = i
 also i (Notifies process channel text more) = Notifies process channel text (also i more)

@@ -7,7 +7,8 @@ use Rattle.pgserve.specs.declared.script.Statement.{Statement}
 
 -- Beside the places of some first answers stands that of the answer of this time: it is that one; or of any other the first itself.
 abbrev pub IsOfNow : (turns : List (ℕ × ℕ)) → List Statement → (first now : Statement) → Type 0
-IsOfNow turns statements first now = ((turn : ℕ × ℕ) × IsFirst (λ (other : ℕ × ℕ). other.0 ≡ first.place) turns turn × (now ≡ get_or statements turn.1 first))
+IsOfNow turns statements first now =
+    ((turn : ℕ × ℕ) × IsFirst (λ (other : ℕ × ℕ). other.0 ≡ first.place) turns turn × (now ≡ get_or statements turn.1 first))
     ⊎ (All (λ (other : ℕ × ℕ). other.0 ≢ first.place) turns × (now ≡ first))
 
 -- The answer of this time by the first one; where that is one to something else, the first itself.

@@ -8,7 +8,7 @@ ghost use Rattle.pgp_frontend.specs.Payload.{Nullable};
 ghost use Rattle.pgp_frontend.specs.View.{part_of};
 ghost use Rattle.pgserve.specs.Called.{IsCalled, IsCalledNow};
 ghost use Rattle.pgserve.specs.First.{IsFirst};
-ghost use Rattle.pgserve.specs.Ready.{HasEnd};
+ghost use Rattle.pgserve.specs.Ready.{IsEnded};
 ghost use Rattle.pgserve.specs.Sent.{Puts, Returns, returned};
 ghost use Rattle.pgserve.specs.declared.script.By.TheVariants.{Function};
 
@@ -141,7 +141,7 @@ impl<'h> Session<'h> {
 
     /// Answers a call of this function, whose arguments stand as the values of a binding.
     pub(crate) fn call(&mut self, function: Oid, call: &Binding<'_>, out: &mut Outbox)
-        ensures { HasEnd self.new.transaction.status self.new.later.items out.new.bytes.items out.new.fault }
+        ensures { IsEnded self.new.transaction.status self.new.later.items out.new.bytes.items out.new.fault }
     {
         match self.called(function) {
             _ if self.transaction.status.rejects(false) => self.stop(aborted(), out),

@@ -2,7 +2,8 @@
 //!
 //! PostgreSQL manual, "LISTEN", "NOTIFY", "UNLISTEN".
 
-ghost use Rattle.pgserve.specs.Sent.{Puts, notification};
+ghost use Rattle.std.specs.Prelude.{◌≡◌};
+ghost use Rattle.pgserve.specs.Sent.{Informs, Puts, notification};
 
 use crate::fault::Fault;
 use crate::outbox::Outbox;
@@ -98,21 +99,30 @@ impl Channels {
     }
 
     /// The transaction is committed.
-    pub(crate) fn commit(&mut self, out: &mut Outbox) {
+    pub(crate) fn commit(&mut self, out: &mut Outbox)
+        ensures { out.new.bytes ≡ out.old.bytes }
+    {
         for place in 0..self.asked.len() {
-            let Some(asked) = self.asked.get(place) else {
-                break;
-            };
-            let (act, name) = (asked.act, out.copy(&asked.pair.name));
-            let value = out.copy(&asked.pair.value);
-            match act {
-                Act::Unlisten => self.unlisten(&name),
-                Act::Listen if self.listens(&name) => {}
-                Act::Listen => out.add(&mut self.listened, name),
-                Act::Notify => out.add(&mut self.sent, Pair { name, value }),
-            }
+            self.effect(place, out);
         }
         self.asked.clear();
+    }
+
+    /// Does what was asked for at this place.
+    fn effect(&mut self, place: usize, out: &mut Outbox)
+        ensures { out.new.bytes ≡ out.old.bytes }
+    {
+        let Some(asked) = self.asked.get(place) else {
+            return;
+        };
+        let (act, name) = (asked.act, out.copy(&asked.pair.name));
+        let value = out.copy(&asked.pair.value);
+        match act {
+            Act::Unlisten => self.unlisten(&name),
+            Act::Listen if self.listens(&name) => {}
+            Act::Listen => out.add(&mut self.listened, name),
+            Act::Notify => out.add(&mut self.sent, Pair { name, value }),
+        }
     }
 
     /// The transaction is rolled back, or the part of it where so many savepoints are.
@@ -128,16 +138,25 @@ impl Channels {
     }
 
     /// Outside of a transaction does what was asked for, and appends the notifications of channels to which the session listens.
-    pub(crate) fn settle(&mut self, status: Status, out: &mut Outbox) {
-        if status != Status::Idle {
-            return;
+    #[tactic(auto, using(crate::proofs::Informs::same, crate::proofs::Informs::behind_same))]
+    pub(crate) fn settle(&mut self, status: Status, out: &mut Outbox)
+        ensures { Informs out.old.bytes.items out.new.bytes.items }
+    {
+        if status == Status::Idle {
+            self.commit(out);
+            self.deliver(out);
+            self.sent.clear();
         }
-        self.commit(out);
+    }
+
+    /// Appends the notifications of channels to which the session listens.
+    fn deliver(&self, out: &mut Outbox)
+        ensures { Informs out.old.bytes.items out.new.bytes.items }
+    {
         for pair in &self.sent {
             if self.listens(&pair.name) {
                 put_notification(1, pair, out);
             }
         }
-        self.sent.clear();
     }
 }

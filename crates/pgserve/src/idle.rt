@@ -3,7 +3,7 @@
 //! PostgreSQL manual, "Asynchronous Operations" of the protocol.
 
 ghost use Rattle.pgp_session.specs.declared.transaction.Status.TheVariants.{Idle};
-ghost use Rattle.pgserve.specs.Ready.{IsReady, Says};
+ghost use Rattle.pgserve.specs.Ready.{EndsReady, Says};
 ghost use Rattle.pgserve.specs.Sent.{Informs};
 
 use crate::channels::put_notification;
@@ -56,7 +56,7 @@ pub(crate) fn later_of(line: &str, reader: &mut Reader) -> Later {
 /// Appends that the server is ready, and returns whether idle time begins: whether that was appended, and no transaction is open.
 #[tactic(auto, unfolding(pgp_base::specs::Held::lengthened))]
 pub(crate) fn put_ready(status: Status, out: &mut Outbox) -> bool
-    ensures { Says status result out.new.bytes.items out.new.fault }
+    ensures { Says status result out.old.bytes.items out.new.bytes.items out.new.fault }
 {
     match reply::ready_for_query(status.letter(), &mut out.bytes) {
         Ok(()) => status == Status::Idle,
@@ -74,7 +74,7 @@ pub(crate) fn put_later(
     pauses: &mut Vec<Pause>,
     out: &mut Outbox,
 )
-    requires { IsReady Idle out.old.bytes.items }
+    requires { EndsReady Idle out.old.bytes.items }
     ensures { Informs out.old.bytes.items out.new.bytes.items }
 {
     for later in list {

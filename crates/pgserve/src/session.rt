@@ -6,7 +6,8 @@
 ghost use Rattle.std.specs.Prelude.{◌≡◌, ◌≢◌, false};
 ghost use Rattle.pgp_session.specs.Transaction.{ends_portals};
 ghost use Rattle.pgp_session.specs.declared.transaction.Status.TheVariants.{Idle};
-ghost use Rattle.pgserve.specs.Ready.{HasEnd};
+ghost use Rattle.pgserve.specs.Ready.{HasEnd, IsEnded};
+ghost use Rattle.pgserve.specs.Sent.{Informs};
 
 use crate::answer::Went;
 use crate::asked::{Refusal, aborted, malformed, put_error, refuse};
@@ -127,17 +128,27 @@ impl<'h> Session<'h> {
     fn ready(&mut self, out: &mut Outbox)
         ensures portals { self.new.portals ≡ self.old.portals }
         ensures waits { self.old.transaction.status ≢ Idle → self.new.later ≡ self.old.later }
-        ensures ends { HasEnd self.new.transaction.status self.new.later.items out.new.bytes.items out.new.fault }
+        ensures ends { HasEnd self.new.transaction.status self.new.later.items out.old.bytes.items out.new.bytes.items out.new.fault }
+    {
+        self.inform(out);
+        if put_ready(self.transaction.status, out) {
+            put_later(&self.later, &mut self.settings, &mut self.pauses, out);
+            self.later.clear();
+        }
+    }
+
+    /// Appends the notifications, and which settings changed.
+    fn inform(&mut self, out: &mut Outbox)
+        ensures portals { self.new.portals ≡ self.old.portals }
+        ensures waits { self.new.later ≡ self.old.later }
+        ensures status { self.new.transaction ≡ self.old.transaction }
+        ensures informs { Informs out.old.bytes.items out.new.bytes.items }
     {
         self.channels.settle(self.transaction.status, out);
         put_notifications(&self.notifications, out);
         self.notifications.clear();
         self.settings.end_request(self.transaction.status, out);
         self.settings.report(out);
-        if put_ready(self.transaction.status, out) {
-            put_later(&self.later, &mut self.settings, &mut self.pauses, out);
-            self.later.clear();
-        }
     }
 
     /// What the statement asks for.
@@ -250,7 +261,7 @@ impl<'h> Session<'h> {
 
     /// Ends a simple query, or a call of a function.
     pub(crate) fn end_query(&mut self, out: &mut Outbox)
-        ensures { HasEnd self.new.transaction.status self.new.later.items out.new.bytes.items out.new.fault }
+        ensures { HasEnd self.new.transaction.status self.new.later.items out.old.bytes.items out.new.bytes.items out.new.fault }
     {
         self.end_portals();
         self.ready(out);
@@ -259,7 +270,7 @@ impl<'h> Session<'h> {
     /// Ends an extended query. Where a transaction was begun, portals live on.
     fn sync(&mut self, out: &mut Outbox)
         ensures portals { ends_portals self.old.transaction.status ≡ false → self.new.portals ≡ self.old.portals }
-        ensures ends { HasEnd self.new.transaction.status self.new.later.items out.new.bytes.items out.new.fault }
+        ensures ends { HasEnd self.new.transaction.status self.new.later.items out.old.bytes.items out.new.bytes.items out.new.fault }
     {
         self.is_skipping = false;
         self.end_portals();
@@ -268,7 +279,7 @@ impl<'h> Session<'h> {
 
     /// Answers a request that stands alone with an error.
     pub(crate) fn stop_alone(&mut self, refusal: Refusal<'_>, out: &mut Outbox)
-        ensures { HasEnd self.new.transaction.status self.new.later.items out.new.bytes.items out.new.fault }
+        ensures { IsEnded self.new.transaction.status self.new.later.items out.new.bytes.items out.new.fault }
     {
         self.stop(refusal, out);
         self.end_query(out);
@@ -372,7 +383,9 @@ impl<'h> Session<'h> {
     }
 }
 
-fn put_notifications(notifications: &[&Pair], out: &mut Outbox) {
+fn put_notifications(notifications: &[&Pair], out: &mut Outbox)
+    ensures { Informs out.old.bytes.items out.new.bytes.items }
+{
     for pair in notifications {
         put_notification(1, pair, out);
     }

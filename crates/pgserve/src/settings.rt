@@ -214,21 +214,30 @@ impl Settings {
     }
 
     /// Undoes what was set for the transaction alone, unless it was set again for the session.
-    pub(crate) fn commit(&mut self, out: &mut Outbox) {
+    pub(crate) fn commit(&mut self, out: &mut Outbox)
+        ensures { out.new.bytes ≡ out.old.bytes }
+    {
         let mut kept = Vec::new(out.alloc);
-        for _ in 0..self.undo.len() {
-            match self.undo.pop() {
-                Some(undo) if !undo.is_local => out.add(&mut kept, undo.place),
-                Some(undo) if !kept.contains(&undo.place) => {
-                    self.put(undo.place, &undo.value, out);
-                }
-                _ => {}
-            }
+        'undone: for _ in 0..self.undo.len() {
+            self.keep(&mut kept, out);
+        }
+    }
+
+    /// Undoes the newest change, if it is one for the transaction alone, and the setting of its place isn't kept.
+    fn keep(&mut self, kept: &mut Vec<usize>, out: &mut Outbox)
+        ensures { out.new.bytes ≡ out.old.bytes }
+    {
+        match self.undo.pop() {
+            Some(undo) if !undo.is_local => out.add(kept, undo.place),
+            Some(undo) if !kept.contains(&undo.place) => self.put(undo.place, &undo.value, out),
+            _ => {}
         }
     }
 
     /// Keeps what a request outside of a transaction has set.
-    pub(crate) fn end_request(&mut self, status: Status, out: &mut Outbox) {
+    pub(crate) fn end_request(&mut self, status: Status, out: &mut Outbox)
+        ensures { out.new.bytes ≡ out.old.bytes }
+    {
         if status == Status::Idle {
             self.commit(out);
         }
