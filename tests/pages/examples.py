@@ -253,7 +253,7 @@ LISTING = 'a listing: crates/pgtrace/expected and tests/programs have such'
 LINES = '.ci/callers compares it with the lines of '
 OF_RT = 'rt proves it: make check-vendor'
 PAGES = {
-    'docs/C.md': [('make -C', c_client), ('    if (pgp_stream_startup', LINES + 'client.c, which runs above'),
+    'docs/C.md': [('make -C', c_client), ('    if (!send_written(pgp_connection_startup', LINES + 'client.c, which runs above'),
                   *[(start, LINES + 'pooler.c, which make check-c runs') for start in ('    while ((status', '    return pgp')]],
     'docs/PYTHON.md': [('make quick', pip), ('from postgres_protocol.client', python_program('7 Ann 2026-11-26\n')), ('        while True', sockets)],
     'README.md': [('tools/relay.py', recording), ('use bytes', rust(ASKED)), ('#include', c_program), ('import', python_program(ASKED)),
