@@ -179,7 +179,10 @@ def check_direct(same):
             def serve():
                 peer = context.wrap_socket(listening.accept()[0], server_side=True)
                 peer.settimeout(5)
-                packet = peer.recv(1000)
+                try:
+                    packet = peer.recv(1000)
+                except OSError:  # the client has turned the server down, and is gone
+                    packet = b''
                 seen.append((peer.selected_alpn_protocol(), packet[4:8]))
                 if packet:
                     peer.sendall(frame(b'R', b'\0\0\0\0') + READY)
